@@ -3,11 +3,12 @@
 
 usage: lines.py PROGRAM
 
-Each mistake stands alone, as the line behind two good ones, and as the last line of a history of several blocks, whose line
-before it is longer than a block; each also with `-q`. Standard output has to be the answer alone, the status 2, and standard
-error one line. Then what is told where a history is given to a command that reads bundles, and that nothing is told of a
-history that can be read. Ends with status 1 at a difference, which it prints. Takes some seconds.
+Each mistake stands alone, behind two good lines, and in a history of several blocks behind a line that is longer than a block,
+there as the last line, and with `-q` in front of another one. Standard output has to be the answer alone (nothing with `-q`),
+the status 2, and standard error one line. Then what is told where a history is given to a command that reads bundles, and that nothing is told of a
+history that can be read. Ends with status 1 at a difference, which it prints. Four at a time; takes some seconds.
 """
+import concurrent.futures
 import subprocess
 import sys
 
@@ -67,50 +68,45 @@ MISTAKES = [
 ]
 
 
-def run(program, words, text):
-    done = subprocess.run([program] + words, input=text, capture_output=True)
-    return done.returncode, done.stdout, done.stderr
+def cases():
+    """What is run: a name, the words behind the program, the text, and what has to come of it."""
+    two = GOOD % 1 + GOOD % 2
+    long = b'{"tx":4,"end":"commit","ops":[],"note":"%s"}\n' % (b"n" * 200_000)
+    many = b"".join(GOOD % n for n in range(10, 3000)) + long
+    every = [(bad, b"L1", words) for bad, words in MISTAKES]
+    every.append((line("", tx="10"), b"L3", '"tx" is 10, which an earlier line has'))
+    for bad, fault, words in every:
+        places = [(many, 2992, bad, ["check"]), (many, 2992, bad + b"\r\n" + GOOD % 9, ["check", "-q"])]
+        if fault == b"L1":
+            places += [(b"", 1, bad + b"\n", ["check"]), (two, 3, bad + b"\n" + GOOD % 9, ["check"])]
+        for front, number, behind, asked in places:
+            if behind:
+                answer = b"" if "-q" in asked else b"! %s line %d\n" % (fault, number)
+                yield words, asked, front + behind, (2, answer, ("sgt: line %d: %s\n" % (number, words)).encode())
+    words = "longer than 16777216 bytes, without its LF"
+    yield words, ["check"], b" " * 16_777_217, (2, b"! L2 line 1\n", ("sgt: line 1: %s\n" % words).encode())
+    yield "good", ["check"], many, (0, b"yes 2991 committed 0 aborted\n", b"")
+    hint = b"sgt: standard input looks like a history, which sgt check judges\n"
+    for command in ("audit", "serial", "certify", "explain", "draw"):
+        yield "a history", [command], two, (1, None, hint)
 
 
-failures = 0
-
-
-def compare(what, found, wanted):
-    global failures
-    if found != wanted:
-        failures += 1
-        print("%s\n  found  %r\n  wanted %r" % (what, found, wanted))
-
-
-def told(program, front, number, bad, fault, words):
-    wanted = ("sgt: line %d: %s\n" % (number, words)).encode()
-    for behind in (b"\n", b"", b"\n" + GOOD % 9):
-        if not bad and not behind:
-            continue
-        text = front + bad + behind
-        answer = b"! %s line %d\n" % (fault, number)
-        compare(bad[:60], run(program, ["check"], text), (2, answer, wanted))
-    compare(bad[:60], run(program, ["check", "-q"], front + bad), (2, b"", wanted)) if bad else None
+def differs(case):
+    name, asked, text, wanted = case
+    done = subprocess.run([sys.argv[1]] + asked, input=text, capture_output=True)
+    found = (done.returncode, done.stdout if wanted[1] is not None else None, done.stderr)
+    if found == wanted:
+        return 0
+    print("%s: %s\n  found  %r\n  wanted %r" % (asked, name, found, wanted), flush=True)
+    return 1
 
 
 def main():
-    program = sys.argv[1]
-    two = GOOD % 1 + GOOD % 2
-    long = b'{"tx":4,"end":"commit","ops":[],"note":"%s"}\n' % (b"n" * 200_000)
-    many = b"".join(GOOD % n for n in range(10, 9000)) + long
-    for bad, words in MISTAKES:
-        told(program, b"", 1, bad, b"L1", words)
-        told(program, two, 3, bad, b"L1", words)
-        told(program, many, 8992, bad, b"L1", words)
-    told(program, two, 3, line("", tx="2"), b"L3", '"tx" is 2, which an earlier line has')
-    told(program, b"", 1, b" " * 16_777_217, b"L2", "longer than 16777216 bytes, without its LF")
-    compare("good", run(program, ["check"], many), (0, b"yes 8991 committed 0 aborted\n", b""))
-    hint = b"sgt: standard input looks like a history, which sgt check judges\n"
-    for command in ("audit", "serial", "certify", "explain", "draw"):
-        status, _, errors = run(program, [command], two)
-        compare(command, (status, errors), (1, hint))
-    print("%d mistakes, %d differences" % (len(MISTAKES) + 2, failures))
-    return 1 if failures else 0
+    every = list(cases())
+    with concurrent.futures.ThreadPoolExecutor(4) as pool:
+        differences = sum(pool.map(differs, every))
+    print("%d runs, %d differences" % (len(every), differences))
+    return 1 if differences else 0
 
 
 if __name__ == "__main__":

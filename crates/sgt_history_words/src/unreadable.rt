@@ -14,8 +14,8 @@ use std::alloc::{AllocError, Global};
 
 // Why there is no JSON from this place on.
 fn not_json(line: &[u8], at: usize) -> Mistake {
-    let rest = line.get(at..).unwrap_or(&[]);
-    if rest.trim_ascii().is_empty() {
+    let rest = line.get(at..).unwrap_or(&[]).trim_ascii_end();
+    if rest.is_empty() {
         return Mistake::Ends;
     }
     let why = match rest.strip_prefix(b"\"") {
