@@ -3,6 +3,7 @@
 ghost use Rattle.std.specs.Prelude.{None};
 
 use crate::progress::Progress;
+use sgt_history_words::Tail;
 use sgt_names::{Failed, Sink};
 use std::alloc::Global;
 use std::cell::Cell;
@@ -67,23 +68,54 @@ impl Read for Input {
     }
 }
 
-/// A reader that begins a read again where a signal interrupted it, keeps why a read failed, and tells of what was read.
+/// A reader that begins a read again where a signal interrupted it, keeps why a read failed and which byte came first, and tells of
+/// what was read.
 #[derive(Drop)]
 pub struct Steady<'a, R> {
     inner: R,
     progress: Option<Progress<'a>>,
+    tail: Option<Tail>,
     hush: &'a Hush,
+    pub first: Option<u8>,
     pub why: Option<io::Error>,
 }
 
 impl<'a, R: Read> Steady<'a, R> {
     /// The reader, which has not failed.
-    pub(crate) fn new(inner: R, progress: Option<Progress<'a>>, hush: &'a Hush) -> Steady<'a, R> {
+    pub(crate) fn new(
+        inner: R,
+        progress: Option<Progress<'a>>,
+        tail: Option<Tail>,
+        hush: &'a Hush,
+    ) -> Steady<'a, R> {
         Steady {
             inner,
             progress,
+            tail,
             hush,
+            first: None,
             why: None,
+        }
+    }
+
+    /// The line of this number, if it was read last and is kept.
+    pub(crate) fn line(&self, number: u64) -> Option<&[u8]> {
+        match &self.tail {
+            Some(tail) => tail.line(number),
+            None => None,
+        }
+    }
+
+    // These bytes were read.
+    fn pass(&mut self, bytes: &[u8]) {
+        if self.first.is_none() {
+            self.first = bytes.first().copied();
+        }
+        if let Some(progress) = &mut self.progress {
+            progress.pass(bytes);
+        }
+        if let Some(tail) = &mut self.tail {
+            tail.pass(bytes);
         }
     }
 }
@@ -101,9 +133,7 @@ impl<R: Read> Read for &mut Steady<'_, R> {
             match self.inner.read(buffer) {
                 Err(e) if e.kind() == io::ErrorKind::Interrupted => {}
                 Ok(n) => {
-                    if let Some(progress) = &mut self.progress {
-                        progress.pass(buffer.get(..n).unwrap_or(&[]));
-                    }
+                    self.pass(buffer.get(..n).unwrap_or(&[]));
                     return Ok(n);
                 }
                 Err(e) => {

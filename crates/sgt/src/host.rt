@@ -2,6 +2,7 @@
 
 use crate::devices::{Hush, Input, LastWords, Steady};
 use crate::progress::Progress;
+use crate::unreadable::{Fronted, Watched, tell_unreadable};
 use sgt_names::{FromRead, Sink, ToWrite};
 use sgt_program::program;
 use std::fs::File;
@@ -10,13 +11,14 @@ use std::io::IsTerminal;
 use std::sync::Wait;
 use std::thread::Threads;
 
-/// The system: its files and streams, and its threads; what is awaited from a terminal, if something is read; whether lines are told
-/// as they are read, and whether last words are wanted.
+/// The system: its files and streams, and its threads; what is awaited from a terminal, if something is read, and what words are of
+/// use where it can't be; whether lines are told as they are read, and whether last words are wanted.
 #[derive(Drop)]
 pub struct Host<'a, H> {
     pub rt: &'a HostRuntime,
     pub threads: &'a H,
     pub awaits: Option<&'static str>,
+    pub watched: Watched,
     pub tells_lines: bool,
     pub hush: &'a Hush,
 }
@@ -58,7 +60,8 @@ pub(crate) fn open<'a, H>(host: &Host<'a, H>, name: &str) -> Result<Steady<'a, I
         None
     };
     host.hush.lift();
-    Ok(Steady::new(input, progress, host.hush))
+    let tail = host.watched.tail(host.rt.alloc());
+    Ok(Steady::new(input, progress, tail, host.hush))
 }
 
 /// The status of what ended with this one; why a read failed is told.
@@ -86,6 +89,7 @@ pub(crate) fn over<H: Threads + Wait + Sync, W: Sink>(
         Err(status) => return status,
     };
     let mut errors = ToWrite::new(LastWords::new(host.rt.stderr(), host.hush));
+    let mut fronted = Fronted::new(writer);
     let status = {
         let mut reader = FromRead::new(&mut steady);
         program(
@@ -93,9 +97,10 @@ pub(crate) fn over<H: Threads + Wait + Sync, W: Sink>(
             host.rt.alloc(),
             words,
             &mut reader,
-            writer,
+            &mut fronted,
             &mut errors,
         )
     };
+    tell_unreadable(host, &steady, steady.name(name), fronted.front());
     ended(host, &steady, name, status)
 }

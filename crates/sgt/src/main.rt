@@ -8,12 +8,14 @@ mod host;
 mod ordinary;
 mod progress;
 mod talk;
+mod unreadable;
 
 use crate::chain::audit_chain;
 use crate::devices::{Hush, LastWords, Retrying};
 use crate::host::{Host, over};
 use crate::ordinary::{audit_each, judge, run_held};
 use crate::talk::serve_events;
+use crate::unreadable::Watched;
 use sgt_line::Line;
 use sgt_names::{EngineFail, ToWrite};
 use sgt_program::{give_up, refuse_words};
@@ -127,6 +129,7 @@ fn main(rt: HostRuntime) -> ExitCode {
         rt: &rt,
         threads: &rt,
         awaits: awaited(&line, &choice),
+        watched: Watched::of(&choice),
         tells_lines: line.tells_lines || is_told,
         hush: &hush,
     };
