@@ -44,15 +44,19 @@ fn digit_of(byte: u8) -> Option<u16> {
 impl Scan {
     // A plain byte, or one that begins or ends something.
     fn plain(self, place: usize, byte: u8) -> Moved {
-        match (byte, self.half) {
-            (b'\\', _) => Moved::On(Scan {
+        if byte == b'\\' {
+            return Moved::On(Scan {
                 step: Step::Slash,
                 escape: place,
                 half: self.half,
-            }),
-            (_, Some(half)) => Moved::Stopped(Broken::Half(half)),
-            (b'"', None) => Moved::Ended,
-            (0..=31, None) => Moved::Stopped(Broken::Control(place)),
+            });
+        }
+        if let Some(half) = self.half {
+            return Moved::Stopped(Broken::Half(half));
+        }
+        match byte {
+            b'"' => Moved::Ended,
+            0..=31 => Moved::Stopped(Broken::Control(place)),
             _ => Moved::On(self),
         }
     }
