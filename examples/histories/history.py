@@ -19,7 +19,8 @@ NOTHING = object()
 def plain(value):
     """The value as a history can have it: a string, a whole number, true, false or null. Of any other its text (so 5.0 is 5)."""
     if isinstance(value, (float, Decimal)) and math.isfinite(value):
-        value = int(value) if value == value // 1 else format(Decimal(str(value)).normalize(), "f")
+        exact = Decimal(str(value))
+        value = int(exact) if exact == exact.to_integral_value() else format(exact, "f").rstrip("0")
     is_plain = value is None or isinstance(value, (str, bool)) or isinstance(value, int) and -2**63 <= value < 2**64
     return value if is_plain else str(value)
 
