@@ -81,8 +81,8 @@ def killed_before_a_call(program, folder):
     killed(it)
     it.process.wait()
     until.set()
-    return [(other.end(), "Lost"), (Call(it.cut).end(), "Lost"), (Call(it.begin).end(), "Lost"), (Call(lambda: it.run(print)).end(), "Lost"),
-            (Call(it.end).end(), -9)]
+    return [(other.end(), "Lost"), (Call(it.cut).end(), "Lost"), (Call(it.begin).end(), "Lost"),
+            (Call(lambda: it.run(print)).end(), "Lost"), (Call(it.end).end(), -9)]
 
 
 def killed_while_calls_wait(program, folder):
@@ -127,7 +127,8 @@ def thread_ends_without_an_end(program, folder):
     time.sleep(0.2)
     found = [(Call(lambda: it.run(lambda tx: tx.read("a"))).end(), 10), (cut.end(), "Stuck"),
              (f"open: {number} of the thread leaver, which has ended" in names[0], True)]
-    return found + [(Call(it.end).end(), 0), (client.audit(folder, ["00000001.sgt"], program), ["yes 1 committed 0 refused 1 withdrawn"])]
+    said = "yes 1 committed 0 refused 1 withdrawn"
+    return found + [(Call(it.end).end(), 0), (client.audit(folder, ["00000001.sgt"], program), [said])]
 
 
 def started_too_soon(program, folder):
@@ -190,8 +191,8 @@ def sites_that_are_none(program, folder):
     return [(outcome(it.begin), "Lost"), (it.end(), 2)]
 
 
-PYTHON = [killed_before_a_call, killed_while_calls_wait, killed_within_a_with, thread_ends_without_an_end, started_too_soon, refused_is_told,
-          refusals_have_their_line, sites_that_are_none]
+PYTHON = [killed_before_a_call, killed_while_calls_wait, killed_within_a_with, thread_ends_without_an_end, started_too_soon,
+          refused_is_told, refusals_have_their_line, sites_that_are_none]
 
 
 # ---- C and Rust: a program each, whose `sgt serve` is killed once it has said `open`
