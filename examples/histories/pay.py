@@ -50,7 +50,9 @@ def make_table(where):
 
 
 def main():
-    where, path, clients, payments, level = (sys.argv[1:] + ["pay.history", "4", "25", "SERIALIZABLE"][len(sys.argv) - 2:])
+    if len(sys.argv) < 2:
+        sys.exit(__doc__)
+    where, path, clients, payments, level = sys.argv[1:] + ["pay.history", "4", "25", "SERIALIZABLE"][len(sys.argv) - 2:]
     make_table(where)
     history = History(path)
 
