@@ -1,7 +1,8 @@
 #!/bin/sh
 # Builds the library and the examples in C, Rust and Python, runs each on the stored bundle and on a broken one, and compares what
 # they print with what the program prints, by the README and, where it is built, by itself. Where it is built, a bank of eight threads
-# runs over `sgt serve` in each language, and its bundles are audited as a chain. Ends with status 1 at a difference.
+# runs over `sgt serve` in each language, and its bundles are audited as a chain; and the clients' calls end where it is killed. Ends
+# with status 1 at a difference.
 set -eu
 export PYTHONDONTWRITEBYTECODE=1
 cd "$(dirname "$0")/.."
@@ -113,6 +114,7 @@ if [ -x crates/sgt/out/sgt ]; then
     run_bank 'C, threads watched' $out/bank_tsan
     run_bank Rust $out/cargo/release/bank
     run_bank Python python3 examples/python/bank.py
+    python3 bench/serve/clients.py crates/sgt/out/sgt || failed=1
 fi
 [ $failed = 0 ] && echo 'all agree'
 exit $failed

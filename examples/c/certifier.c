@@ -1,6 +1,8 @@
 #define _GNU_SOURCE
 #include "certifier.h"
 
+#include <errno.h>
+#include <fcntl.h>
 #include <inttypes.h>
 #include <pthread.h>
 #include <spawn.h>
@@ -8,11 +10,14 @@
 #include <stdio.h>
 #include <stdlib.h>
 #include <string.h>
+#include <sys/file.h>
 #include <sys/socket.h>
+#include <sys/stat.h>
 #include <sys/wait.h>
+#include <time.h>
 #include <unistd.h>
 
-enum { LINE = 128 };
+enum { LINE = 128, EPOCH = 4096 };
 
 extern char **environ;
 
@@ -23,10 +28,13 @@ struct certifier {
     char held[LINE];
     size_t held_len;
     bool is_lost;
+    unsigned patience; /* seconds */
     pthread_mutex_t lock; /* for these */
     pthread_cond_t change;
     size_t open;
     bool is_waited_for; /* somebody waits until none is open */
+    uint32_t numbers[EPOCH]; /* of those that are open */
+    size_t known;
 };
 
 static bool send_all(int talk, const char *bytes, size_t len) {
@@ -69,39 +77,100 @@ static certifier_answer ask(certifier *it, const char *line, char *said) {
     return said[0] == '!' ? CERTIFIER_REFUSED : CERTIFIER_OK;
 }
 
-static void begun_or_ended(certifier *it, bool begins) {
+static bool has_ended(const certifier *it) {
+    siginfo_t info = {0};
+    return waitid(P_PID, (id_t)it->process, &info, WEXITED | WNOHANG | WNOWAIT) == 0 && info.si_pid != 0;
+}
+
+/* Waits, under the lock, until nobody waits for none being open; or until none is. */
+static certifier_answer wait_until(certifier *it, bool none_is_open) {
+    struct timespec now, end;
+    clock_gettime(CLOCK_MONOTONIC, &end);
+    end.tv_sec += it->patience;
+    while (none_is_open ? it->open > 0 : it->is_waited_for) {
+        clock_gettime(CLOCK_MONOTONIC, &now);
+        if (has_ended(it)) return CERTIFIER_LOST;
+        if (now.tv_sec > end.tv_sec || (now.tv_sec == end.tv_sec && now.tv_nsec >= end.tv_nsec)) return CERTIFIER_STUCK;
+        now.tv_nsec += 200000000;
+        now.tv_sec += now.tv_nsec / 1000000000;
+        now.tv_nsec %= 1000000000;
+        pthread_cond_timedwait(&it->change, &it->lock, &now);
+    }
+    return CERTIFIER_OK;
+}
+
+static certifier_answer begins(certifier *it) {
     pthread_mutex_lock(&it->lock);
-    while (begins && it->is_waited_for) pthread_cond_wait(&it->change, &it->lock);
-    it->open += begins ? 1 : (size_t)-1;
+    certifier_answer answer = wait_until(it, false);
+    if (answer == CERTIFIER_OK) it->open++;
+    pthread_mutex_unlock(&it->lock);
+    return answer;
+}
+
+/* One that began has a number now, or has none and is over. */
+static void has_begun(certifier *it, uint32_t tx) {
+    pthread_mutex_lock(&it->lock);
+    if (tx == 0) it->open--;
+    else if (it->known < EPOCH) it->numbers[it->known++] = tx;
     pthread_cond_broadcast(&it->change);
+    pthread_mutex_unlock(&it->lock);
+}
+
+static void ended(certifier *it, uint32_t tx) {
+    pthread_mutex_lock(&it->lock);
+    size_t at = 0;
+    while (at < it->known && it->numbers[at] != tx) at++;
+    if (at < it->known) {
+        it->numbers[at] = it->numbers[--it->known];
+        it->open--;
+        pthread_cond_broadcast(&it->change);
+    }
     pthread_mutex_unlock(&it->lock);
 }
 
 /* Asks a line once no transaction is open. */
 static certifier_answer ask_when_none_is_open(certifier *it, const char *line, char *said) {
     pthread_mutex_lock(&it->lock);
-    while (it->is_waited_for) pthread_cond_wait(&it->change, &it->lock);
-    it->is_waited_for = true;
-    while (it->open > 0) pthread_cond_wait(&it->change, &it->lock);
-    pthread_mutex_unlock(&it->lock);
-    certifier_answer answer = ask(it, line, said);
-    pthread_mutex_lock(&it->lock);
-    it->is_waited_for = false;
-    pthread_cond_broadcast(&it->change);
+    certifier_answer answer = wait_until(it, false);
+    if (answer == CERTIFIER_OK) {
+        it->is_waited_for = true;
+        answer = wait_until(it, true);
+        pthread_mutex_unlock(&it->lock);
+        if (answer == CERTIFIER_OK) answer = ask(it, line, said);
+        pthread_mutex_lock(&it->lock);
+        it->is_waited_for = false;
+        pthread_cond_broadcast(&it->change);
+    }
     pthread_mutex_unlock(&it->lock);
     return answer;
+}
+
+void certifier_wait_at_most(certifier *it, unsigned seconds) {
+    it->patience = seconds;
+}
+
+uint32_t certifier_oldest(certifier *it) {
+    uint32_t oldest = 0;
+    pthread_mutex_lock(&it->lock);
+    for (size_t at = 0; at < it->known; at++) {
+        if (oldest == 0 || it->numbers[at] < oldest) oldest = it->numbers[at];
+    }
+    pthread_mutex_unlock(&it->lock);
+    return oldest;
 }
 
 certifier_answer certifier_begin(certifier *it, uint32_t *tx) {
     char said[LINE];
     for (;;) {
-        begun_or_ended(it, true);
-        certifier_answer answer = ask(it, "b", said);
+        certifier_answer answer = begins(it);
+        if (answer != CERTIFIER_OK) return answer;
+        answer = ask(it, "b", said);
         if (answer == CERTIFIER_OK) {
             *tx = (uint32_t)strtoul(said + 1, NULL, 10);
+            has_begun(it, *tx);
             return answer;
         }
-        begun_or_ended(it, false);
+        has_begun(it, 0);
         if (answer != CERTIFIER_REFUSED) return answer;
         bool is_full = strcmp(said, "! E7") == 0;
         if (!is_full && strcmp(said, "! E11") != 0) return answer;
@@ -137,7 +206,7 @@ static certifier_answer end_by(certifier *it, char kind, uint32_t tx) {
     snprintf(line, sizeof line, "%c%" PRIu32, kind, tx);
     certifier_answer answer = ask(it, line, line);
     if (answer == CERTIFIER_REFUSED) return answer;
-    begun_or_ended(it, false);
+    ended(it, tx);
     return answer == CERTIFIER_OK && strstr(line, " no") != NULL ? CERTIFIER_NO : answer;
 }
 
@@ -169,16 +238,43 @@ certifier_answer certifier_cut(certifier *it, uint64_t *number) {
     return answer;
 }
 
-/* Starts the program with this end of the talk as its standard input and output. */
-static bool start(certifier *it, const char *program, const char *folder, int its_end) {
+/* Makes a folder with those above it, and locks it: a descriptor, or -1. Who inherits the lock keeps it: the certifier, to its end. */
+static int lock_folder(const char *folder) {
+    char *path = strdup(folder);
+    for (char *slash = path; path != NULL && (slash = strchr(slash + 1, '/')) != NULL; *slash = '/') {
+        *slash = '\0';
+        mkdir(path, 0777);
+    }
+    free(path);
+    mkdir(folder, 0777);
+    int lock = open(folder, O_RDONLY | O_DIRECTORY | O_CLOEXEC);
+    if (lock >= 0 && flock(lock, LOCK_EX | LOCK_NB) != 0) {
+        int why = errno;
+        close(lock);
+        errno = why;
+        return -1;
+    }
+    return lock;
+}
+
+/* Starts the program with this end of the talk as its standard input and output, out of reach of a terminal's ^C. */
+static int start(certifier *it, const char *program, const char *folder, int its_end) {
     char *words[] = {(char *)program, "serve", folder ? "--bundles" : NULL, (char *)folder, NULL};
+    int lock = folder ? lock_folder(folder) : -1;
+    if (folder != NULL && lock < 0) return errno;
     posix_spawn_file_actions_t actions;
+    posix_spawnattr_t attributes;
+    posix_spawnattr_init(&attributes);
+    posix_spawnattr_setflags(&attributes, POSIX_SPAWN_SETPGROUP);
     posix_spawn_file_actions_init(&actions);
     posix_spawn_file_actions_adddup2(&actions, its_end, STDIN_FILENO);
     posix_spawn_file_actions_adddup2(&actions, its_end, STDOUT_FILENO);
-    bool is_started = posix_spawnp(&it->process, program, &actions, NULL, words, environ) == 0;
+    if (lock >= 0) posix_spawn_file_actions_adddup2(&actions, lock, 3);
+    int why = posix_spawnp(&it->process, program, &actions, &attributes, words, environ);
     posix_spawn_file_actions_destroy(&actions);
-    return is_started;
+    posix_spawnattr_destroy(&attributes);
+    if (lock >= 0) close(lock);
+    return why;
 }
 
 certifier *certifier_open(const char *program, const char *const *sites, size_t count, const char *folder) {
@@ -188,15 +284,21 @@ certifier *certifier_open(const char *program, const char *const *sites, size_t 
         free(it);
         return NULL;
     }
+    pthread_condattr_t clock;
     it->talk = ends[0];
+    it->patience = 60;
     pthread_mutex_init(&it->line, NULL);
     pthread_mutex_init(&it->lock, NULL);
-    pthread_cond_init(&it->change, NULL);
-    bool is_started = start(it, program, folder, ends[1]);
+    pthread_condattr_init(&clock);
+    pthread_condattr_setclock(&clock, CLOCK_MONOTONIC);
+    pthread_cond_init(&it->change, &clock);
+    pthread_condattr_destroy(&clock);
+    int why = start(it, program, folder, ends[1]);
     close(ends[1]);
-    if (!is_started) {
+    if (why != 0) {
         close(it->talk);
         free(it);
+        errno = why;
         return NULL;
     }
     for (size_t n = 0; n < count; n++) {

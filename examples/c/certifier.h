@@ -2,7 +2,8 @@
  *
  * A site is told by the words of a replay's line: its items by rising name, each with its first value, as "a=10 b=0". Any thread may
  * call any of these. Transactions come in epochs of at most 4,096, and a full one is closed by itself: who begins one more then waits
- * until none is open. So does certifier_cut. So no transaction is begun or cut inside the body of another one: it would wait for itself. */
+ * until none is open. So does certifier_cut. So no transaction is begun or cut inside the body of another one: it would wait for itself.
+ * Nobody waits for longer than a minute (CERTIFIER_STUCK), nor for a certifier that has ended (CERTIFIER_LOST). */
 #ifndef CERTIFIER_H
 #define CERTIFIER_H
 
@@ -13,14 +14,23 @@ typedef enum certifier_answer {
     CERTIFIER_OK,
     CERTIFIER_NO,          /* the transaction is refused: it is over, and what it did may be tried as another one */
     CERTIFIER_REFUSED,     /* what was asked for is refused, E1 to E12 or L1, and nothing has changed */
-    CERTIFIER_NOT_WRITTEN, /* the bundle can't be written; nothing is lost */
-    CERTIFIER_LOST         /* the certifier has ended */
+    CERTIFIER_NOT_WRITTEN, /* the bundle can't be written; while the certifier lives nothing is lost */
+    CERTIFIER_LOST,        /* the certifier has ended */
+    CERTIFIER_STUCK        /* a transaction that somebody has open didn't end: certifier_oldest names it. Nothing has changed */
 } certifier_answer;
 
 typedef struct certifier certifier;
 
-/* Over these sites. Bundles go to the folder, which is made; with NULL they go nowhere. NULL where it can't be started, by errno. */
+/* Over these sites. Bundles go to the folder, which is made; with NULL they go nowhere. NULL where it can't be started, by errno:
+ * EWOULDBLOCK where another service has the folder, also one whose program died and that writes its last bundle. So read the values to go
+ * on from (the last bundle's finals) again behind that, or the service is forked. */
 certifier *certifier_open(const char *program, const char *const *sites, size_t count, const char *folder);
+
+/* How many seconds anybody waits, 60 until it is told. Before other threads are started. */
+void certifier_wait_at_most(certifier *it, unsigned seconds);
+
+/* The least number of the transactions that are open, 0 where none is. */
+uint32_t certifier_oldest(certifier *it);
 
 certifier_answer certifier_begin(certifier *it, uint32_t *tx);
 certifier_answer certifier_read(certifier *it, uint32_t tx, unsigned site, const char *item, uint64_t *value);

@@ -5,7 +5,12 @@ Two ways. `Versions`: the table has a column `version`, which each change counts
 committed. Run as a program it plays the bank of bank.py at each isolation level:
 
     python3 postgres.py "host=127.0.0.1 dbname=bank user=me" [--unchanged]
+
+Where a run of `Unchanged` ended before its versions were told, they are told behind it, from FILE.raw:
+
+    python3 postgres.py "host=127.0.0.1 dbname=bank user=me" --close FILE
 """
+import json
 import sys
 
 import psycopg2
@@ -52,11 +57,13 @@ class Versions:
         self.transaction.write(item, version, value)
 
     def commit(self):
+        # behind an error that was passed over the server answers COMMIT with ROLLBACK, and psycopg2 raises nothing
+        has_failed = self.connection.info.transaction_status == extensions.TRANSACTION_STATUS_INERROR
         try:
             self.connection.commit()
         except errors.SerializationFailure as refusal:
             raise bank.Refused from refusal
-        self.transaction.end(committed=True)
+        self.transaction.end(committed=not has_failed)
 
     def rollback(self):
         self.connection.rollback()
@@ -64,7 +71,8 @@ class Versions:
 
 
 class Unchanged(Versions):
-    """The same for a table without a column for versions. The versions are told behind the run, by `Times`."""
+    """The same for a table without a column for versions. The versions are told behind the run, by `Times`. INSERT tells the xmin of its
+    row as UPDATE does. DELETE would tell that of the row that goes: take pg_current_xact_id()::xid::text::bigint there."""
 
     def begin(self):
         super().begin()
@@ -83,78 +91,86 @@ class Unchanged(Versions):
         self.transaction.write(item, (self.own, self.written[item]), value)
 
 
-class Times:
-    """Keeps the lines of a run of `Unchanged`, and writes them once the server has told in what order the writers committed.
+class Times(History):
+    """A history of `Unchanged`: each line goes to PATH.raw, and `close` writes PATH, once the server has told in what order the writers
+    committed. What was written before it was begun is the value at the start, so none but recorded transactions may be open then.
 
     A version is 1024 times the writer's place in that order, and how often the writer has written the item by then."""
 
-    def __init__(self, path):
-        self.history, self.lines = History(path), []
-        self.begin = lambda session: self._begun(session)
-
-    def _begun(self, session):
-        transaction = self.history.begin(session)
-        transaction.history = self
-        return transaction
-
-    def add(self, line):
-        self.lines.append(line)
-
-    def close(self, where, loader):
-        """`loader`: the transaction that filled the table, whose rows are the values at the start."""
-        last = {}
-        for line in self.lines:
-            for kind, item, (writer, times), *_ in line["ops"]:
-                if kind == "w":
-                    last[writer, item] = times
-        places = {writer: place for place, writer in enumerate(self.in_commit_order(where, {writer for writer, _ in last}), 1)}
-        for line in self.lines:
-            for operation in line["ops"]:
-                writer, times = operation[2]
-                if writer == loader:
-                    operation[2] = 0
-                elif writer in places:
-                    operation[2] = 1024 * places[writer] + (last.get((writer, operation[1]), 0) if times is None else times)
-                else:
-                    sys.exit(f"transaction {writer} wrote {operation[1]}, and was not recorded")
-            self.history.add(line)
-        self.history.close()
-
-    def in_commit_order(self, where, writers):
-        """Committed writers in the order of their commits, and behind them those that did not commit."""
+    def __init__(self, path, where):
         cursor = psycopg2.connect(where).cursor()
-        cursor.execute("SELECT x, pg_xact_commit_timestamp(x::text::xid) FROM unnest(%s) AS x", [sorted(writers)])
-        told = cursor.fetchall()
-        committed = sorted((time, writer) for writer, time in told if time is not None)
-        return [writer for _, writer in committed] + [writer for writer, time in told if time is None]
+        cursor.execute("SHOW track_commit_timestamp")
+        if cursor.fetchone() != ("on",):
+            raise RuntimeError("track_commit_timestamp is off: set it to on in postgresql.conf, and restart the server")
+        cursor.execute("SELECT pg_snapshot_xmax(pg_current_snapshot())::xid::text::bigint")
+        super().__init__(path + ".raw")
+        self.path, self.where = path, where
+        self.add(cursor.fetchone()[0])
+
+    def close(self):
+        super().close()
+        tell_versions(self.path, self.where)
+
+
+def tell_versions(path, where):
+    """Writes the history from PATH.raw."""
+    with open(path + ".raw", encoding="utf-8") as file:
+        start, *lines = (json.loads(line) for line in file if line.endswith("\n"))
+    last, read = {}, {}
+    for line in lines:
+        for kind, item, (writer, times), *_ in line["ops"]:
+            if kind == "w":
+                last[writer, item] = times
+            elif writer > 2 and (writer - start) % 2**32 < 2**31:
+                read[writer] = item
+    known = {writer for writer, _ in last}
+    for writer in sorted(read.keys() - known):
+        print(f"transaction {writer} wrote {read[writer]}, and was not recorded: its version is told as unwritten", file=sys.stderr)
+    places = {writer: place for place, writer in enumerate(in_commit_order(where, known | read.keys()), 1)}
+    history = History(path)
+    for line in lines:
+        for operation in line["ops"]:
+            writer, times = operation[2]
+            times = last.get((writer, operation[1]), 0) if times is None else times
+            operation[2] = 1024 * places[writer] + times if writer in places else 0
+        history.add(line)
+    history.close()
+
+
+def in_commit_order(where, writers):
+    """Committed writers in the order of their commits, and behind them those that did not commit."""
+    cursor = psycopg2.connect(where).cursor()
+    cursor.execute("SELECT x, pg_xact_commit_timestamp(x::text::xid) FROM unnest(%s::bigint[]) AS x", [sorted(writers)])
+    told = cursor.fetchall()
+    committed = sorted((time, writer) for writer, time in told if time is not None)
+    return [writer for _, writer in committed] + [writer for writer, time in told if time is None]
 
 
 def fill(where, column):
-    """Makes the table anew, and gives the transaction that filled it."""
+    """Makes the table anew."""
     connection = psycopg2.connect(where)
     cursor = connection.cursor()
     cursor.execute("DROP TABLE IF EXISTS account")
     cursor.execute(f"CREATE TABLE account (name text PRIMARY KEY, balance bigint NOT NULL{column})")
     cursor.executemany("INSERT INTO account (name, balance) VALUES (%s, %s)", [(it, bank.START) for it in bank.ACCOUNTS])
-    cursor.execute("SELECT DISTINCT xmin::text::bigint FROM account")
-    (loader,) = cursor.fetchone()
     connection.commit()
     connection.close()
-    return loader
 
 
 def main():
     where, unchanged = sys.argv[1], "--unchanged" in sys.argv
+    if sys.argv[2:3] == ["--close"]:
+        return tell_versions(sys.argv[3], where)
 
     def play(level, path, rounds):
-        loader = fill(where, "" if unchanged else ", version bigint NOT NULL DEFAULT 0")
-        history = Times(path) if unchanged else History(path)
+        fill(where, "" if unchanged else ", version bigint NOT NULL DEFAULT 0")
+        history = Times(path, where) if unchanged else History(path)
         kind = Unchanged if unchanged else Versions
         clients = [kind(history, where, level, f"client {n}") for n in range(bank.CLIENTS)]
         bank.run(clients, rounds)
         for client in clients:
             client.connection.close()
-        history.close(where, loader) if unchanged else history.close()
+        history.close()
 
     bank.demonstrate(LEVELS, play)
 

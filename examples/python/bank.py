@@ -1,19 +1,18 @@
 """Eight threads move money between accounts, each move a transaction that `sgt serve` certifies; and the bundles are audited.
 
 Four threads move money between any two accounts, and four between the same two, so that many are refused and tried again. Meanwhile
-the bank is cut into bundles. No move loses money: the sum is the same in the end.
+the bank is cut into bundles. No move loses money: the sum is the same in the end. In a folder with bundles it goes on from the last one.
 
 usage: python3 bank.py [FOLDER [MOVES]]       (SGT: the program, else `sgt`; MOVES of each thread)
 """
 import os
 import random
-import subprocess
 import sys
 import tempfile
 import threading
 import time
 
-from certifier import Certifier
+from certifier import Certifier, audit, bundles_in, finals_of
 
 ACCOUNTS = [f"account_{number}" for number in range(8)]
 FIRST, THREADS = 1000, 8
@@ -22,16 +21,18 @@ FIRST, THREADS = 1000, 8
 def move(certifier, giver, taker, amount):
     """Moves money, where the giver has so much; how often it was tried."""
     tries = 0
-    for attempt in certifier.transaction():
+
+    def does(tx):
+        nonlocal tries
         tries += 1
-        with attempt as tx:
-            has = tx.read(giver)
-            if has < amount:
-                tx.withdraw()
-            else:
-                tx.put(giver, has - amount)
-                tx.put(taker, tx.read(taker) + amount)
-                tx.add("moves", 1, site=1)
+        has = tx.read(giver)
+        if has < amount:
+            return tx.withdraw()
+        tx.put(giver, has - amount)
+        tx.put(taker, tx.read(taker) + amount)
+        tx.add("moves", 1, site=1)
+
+    certifier.run(does)
     return tries
 
 
@@ -47,7 +48,7 @@ def customer(certifier, number, moves, tries):
 def run(folder, moves):
     """The sum of the accounts at the end, and how many transactions were refused."""
     tries = [0] * THREADS
-    with Certifier([dict.fromkeys(ACCOUNTS, FIRST), {"moves": 0}], bundles=folder) as certifier:
+    with Certifier.resume(folder, [dict.fromkeys(ACCOUNTS, FIRST), {"moves": 0}], audited=True) as certifier:
         threads = [threading.Thread(target=customer, args=(certifier, number, moves, tries)) for number in range(THREADS)]
         for thread in threads:
             thread.start()
@@ -56,8 +57,7 @@ def run(folder, moves):
             certifier.cut()
         for thread in threads:
             thread.join()
-        with next(certifier.transaction()) as tx:
-            total = sum(tx.read(account) for account in ACCOUNTS)
+        total = certifier.run(lambda tx: sum(tx.read(account) for account in ACCOUNTS))
     return total, sum(tries) - THREADS * moves
 
 
@@ -65,16 +65,16 @@ def main():
     moves = int(sys.argv[2]) if len(sys.argv) > 2 else 250
     with tempfile.TemporaryDirectory() as folder:
         folder = sys.argv[1] if len(sys.argv) > 1 else folder
+        is_new = not os.path.isdir(folder) or not bundles_in(folder)
         total, refused = run(folder, moves)
-        bundles = sorted(os.path.join(folder, name) for name in os.listdir(folder) if name.endswith(".sgt"))
-        with open(bundles[-1]) as last:
-            finals = [int(line.partition("=")[2]) for line in last if line.startswith("final account_")]
-        audit = subprocess.run([os.environ.get("SGT", "sgt"), "audit", "--chain", *bundles], capture_output=True, text=True)
+        bundles = bundles_in(folder)
+        finals = finals_of(os.path.join(folder, bundles[-1]))[0]
+        said = audit(folder, bundles)
     print(f"{THREADS * moves} moves, {refused} refused and tried again, in {len(bundles)} bundles")
     print(f"{total} of {FIRST * len(ACCOUNTS)} are there")
-    print(audit.stdout.rstrip("\n"))
-    holds = total == sum(finals) == FIRST * len(ACCOUNTS) and f" {refused} refused " in audit.stdout
-    return audit.returncode if holds else 1
+    print(*said, sep="\n")
+    has_all = f" {refused} refused " in said[0] or not is_new
+    return 0 if total == sum(finals.values()) == FIRST * len(ACCOUNTS) and has_all else 1
 
 
 if __name__ == "__main__":

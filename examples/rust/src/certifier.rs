@@ -16,13 +16,18 @@
 //!
 //! A site is told by the words of a replay's line: its items by rising name, each with its first value. Transactions come in epochs of at
 //! most 4,096. A certifier closes a full one by itself: who begins one more then waits until none is open. So does `cut`. So no transaction
-//! is begun or cut inside the closure of another one: it would wait for itself.
+//! is begun or cut inside the closure of another one: it would wait for itself. Nobody waits for longer than `patience` allows
+//! ([`Error::Stuck`]), nor for a certifier that has ended ([`Error::Lost`]).
 
 use std::ffi::OsStr;
 use std::fmt;
+use std::fs::{self, File};
 use std::io::{self, BufRead, BufReader, Write};
+use std::os::fd::AsRawFd;
+use std::os::unix::process::CommandExt;
 use std::process::{Child, ChildStdin, ChildStdout, Command, Stdio};
 use std::sync::{Condvar, Mutex, MutexGuard, PoisonError};
+use std::time::{Duration, Instant};
 
 /// Why there is no answer.
 #[derive(Debug)]
@@ -31,8 +36,10 @@ pub enum Error {
     Refused(String),
     /// The transaction was refused at each of its tries.
     NotCommitted,
-    /// The bundle can't be written. Nothing is lost.
+    /// The bundle can't be written. While the certifier lives nothing is lost.
     NotWritten,
+    /// These transactions, which somebody has open, didn't end. Nothing has changed: it may be asked again.
+    Stuck(Vec<String>),
     /// The certifier has ended, or never began.
     Lost(io::Error),
 }
@@ -43,6 +50,7 @@ impl fmt::Display for Error {
             Error::Refused(why) => write!(f, "refused: {why}"),
             Error::NotCommitted => write!(f, "refused at each try"),
             Error::NotWritten => write!(f, "the bundle can't be written"),
+            Error::Stuck(open) => write!(f, "open for too long: {}", open.join(", ")),
             Error::Lost(why) => write!(f, "the certifier is lost: {why}"),
         }
     }
@@ -89,11 +97,29 @@ impl Pipe {
     }
 }
 
-/// How many transactions are open, and whether somebody waits until none is.
+/// How many transactions are open, the numbers of those that have begun, and whether somebody waits until none is open.
 #[derive(Default)]
 struct Open {
     count: usize,
+    numbers: Vec<String>,
     is_waited_for: bool,
+}
+
+extern "C" {
+    fn flock(file: i32, how: i32) -> i32;
+    fn dup(file: i32) -> i32;
+}
+
+/// Makes the folder and locks it. Who inherits the lock keeps it, so the certifier has it to its end.
+fn lock_folder(folder: &OsStr) -> io::Result<File> {
+    const EXCLUSIVE_AND_NO_WAITING: i32 = 2 | 4;
+    fs::create_dir_all(folder)?;
+    let file = File::open(folder)?;
+    // SAFETY: a call of the system about a descriptor that is open
+    match unsafe { flock(file.as_raw_fd(), EXCLUSIVE_AND_NO_WAITING) } {
+        0 => Ok(file),
+        _ => Err(io::Error::last_os_error()),
+    }
 }
 
 /// `sgt serve` behind a pipe.
@@ -102,6 +128,8 @@ pub struct Certifier {
     pipe: Mutex<Pipe>,
     open: Mutex<Open>,
     change: Condvar,
+    /// For how long anybody waits: a minute until it is told.
+    pub patience: Duration,
 }
 
 fn lock<T>(mutex: &Mutex<T>) -> MutexGuard<'_, T> {
@@ -109,14 +137,22 @@ fn lock<T>(mutex: &Mutex<T>) -> MutexGuard<'_, T> {
 }
 
 impl Certifier {
-    /// Over these sites. Bundles go to the folder, which is made; without one they go nowhere.
+    /// Over these sites. Bundles go to the folder, which is made; without one they go nowhere. Where another service has the folder,
+    /// also one whose program died and that writes its last bundle, it is [`io::ErrorKind::WouldBlock`]: read the values to go on from
+    /// (the last bundle's finals) again behind that, or the service is forked.
     pub fn new(program: impl AsRef<OsStr>, sites: &[&str], bundles: Option<&OsStr>) -> Result<Certifier, Error> {
         let mut command = Command::new(program);
-        command.arg("serve").stdin(Stdio::piped()).stdout(Stdio::piped());
+        // out of reach of a terminal's ^C, which would end it before its last bundle
+        command.arg("serve").stdin(Stdio::piped()).stdout(Stdio::piped()).process_group(0);
+        let mut held = None;
         if let Some(folder) = bundles {
             command.arg("--bundles").arg(folder);
+            let lock = held.insert(lock_folder(folder)?).as_raw_fd();
+            // SAFETY: between fork and exec one call of the system: the copy stays open in the program
+            unsafe { command.pre_exec(move || if dup(lock) < 0 { Err(io::Error::last_os_error()) } else { Ok(()) }) };
         }
         let mut process = command.spawn()?;
+        drop(held);
         let mut input = process.stdin.take().ok_or_else(gone)?;
         let output = BufReader::new(process.stdout.take().ok_or_else(gone)?);
         for (number, items) in sites.iter().enumerate() {
@@ -127,6 +163,7 @@ impl Certifier {
             pipe: Mutex::new(Pipe { input: Some(input), output }),
             open: Mutex::default(),
             change: Condvar::new(),
+            patience: Duration::from_secs(60),
         })
     }
 
@@ -135,15 +172,27 @@ impl Certifier {
         lock(&self.pipe).ask(line)
     }
 
-    fn wait_while(&self, mut waits: impl FnMut(&Open) -> bool) -> MutexGuard<'_, Open> {
-        self.change.wait_while(lock(&self.open), |open| waits(open)).unwrap_or_else(PoisonError::into_inner)
+    /// Waits for no longer than the patience allows and the certifier lives.
+    fn wait_while(&self, waits: impl Fn(&Open) -> bool) -> Result<MutexGuard<'_, Open>, Error> {
+        let until = Instant::now() + self.patience;
+        let mut open = lock(&self.open);
+        while waits(&open) {
+            if lock(&self.process).try_wait()?.is_some() {
+                return Err(gone());
+            }
+            if Instant::now() >= until {
+                return Err(Error::Stuck(open.numbers.clone()));
+            }
+            let slice = Duration::from_millis(200);
+            open = self.change.wait_timeout(open, slice).unwrap_or_else(PoisonError::into_inner).0;
+        }
+        Ok(open)
     }
 
     /// The reply to a line that is asked once no transaction is open.
     fn ask_when_none_is_open(&self, line: &str) -> Result<String, Error> {
-        self.wait_while(|open| open.is_waited_for).is_waited_for = true;
-        drop(self.wait_while(|open| open.count > 0));
-        let said = self.ask(line);
+        self.wait_while(|open| open.is_waited_for)?.is_waited_for = true;
+        let said = self.wait_while(|open| open.count > 0).map(drop).and_then(|()| self.ask(line));
         lock(&self.open).is_waited_for = false;
         self.change.notify_all();
         said
@@ -152,11 +201,12 @@ impl Certifier {
     /// A new transaction, which is withdrawn where it is dropped before it has ended.
     pub fn begin(&self) -> Result<Transaction<'_>, Error> {
         loop {
-            self.wait_while(|open| open.is_waited_for).count += 1;
-            let mut tx = Transaction { certifier: self, number: String::new() };
+            self.wait_while(|open| open.is_waited_for)?.count += 1;
+            let mut tx = Transaction { certifier: self, number: String::new(), is_over: false };
             let line = match self.ask("b") {
                 Ok(said) => {
                     tx.number.push_str(&said[1..]);
+                    lock(&self.open).numbers.push(tx.number.clone());
                     return Ok(tx);
                 }
                 Err(Error::Refused(why)) if why == "E7" => "z",
@@ -203,8 +253,9 @@ impl Drop for Certifier {
 /// A transaction that is open.
 pub struct Transaction<'a> {
     certifier: &'a Certifier,
-    /// Empty where it has not begun or has ended.
+    /// Empty where it has not begun.
     number: String,
+    is_over: bool,
 }
 
 impl Transaction<'_> {
@@ -228,17 +279,20 @@ impl Transaction<'_> {
     /// Whether it is committed. Where it isn't it is over, and what it did may be tried as another one.
     pub fn commit(mut self) -> Result<bool, Error> {
         let said = self.certifier.ask(&format!("c{}", self.number))?;
-        self.number.clear();
+        self.is_over = true;
         Ok(said.ends_with(" yes"))
     }
 }
 
 impl Drop for Transaction<'_> {
     fn drop(&mut self) {
-        if !self.number.is_empty() {
+        if !self.number.is_empty() && !self.is_over {
             let _ = self.certifier.ask(&format!("a{}", self.number));
         }
-        lock(&self.certifier.open).count -= 1;
+        let mut open = lock(&self.certifier.open);
+        open.count -= 1;
+        open.numbers.retain(|number| *number != self.number);
+        drop(open);
         self.certifier.change.notify_all();
     }
 }
