@@ -26,7 +26,7 @@ def text_of(path):
 
 def missing():
     """The names of commands that are none of this version."""
-    arms = re.findall(r"(CommandName::.*) => return None", text_of(f"{WORDS}/behind.rt"))
+    arms = re.findall(r"(CommandName::.*) => command\(alloc\)", text_of(f"{WORDS}/commands.rt"))
     return {name for arm in arms for name in re.findall(r"CommandName::(\w+)", arm)}
 
 
@@ -38,7 +38,8 @@ def commands():
 
 def options():
     """The options that the code knows, by their long names."""
-    named = re.findall(r'\.long\("(\w+)"\)', text_of(f"{WORDS}/commands.rt"))
+    words = text_of(f"{WORDS}/commands.rt")
+    named = re.findall(r'\.long\("(\w+)"\)', words) + re.findall(r'= flag\(\s*alloc,\s*"([\w-]+)"', words)
     named += re.findall(r'number_option\(\s*alloc,\s*"(\w+)"', text_of(f"{WORDS}/options.rt"))
     lines = text_of(f"{LINE}/kind.rt").splitlines()
     of_others = {line for line in lines if (names := set(re.findall(r"CommandName::(\w+)", line))) and names <= missing()}
@@ -155,7 +156,7 @@ def more_words():
     told = {word for line in re.findall(r"^\.It Cm (.*)$", manual, flags=re.M) for word in line.split()}
     for word in sorted(told - {*commands(), *rewritten()}):
         yield f"docs/sgt.1: there is no command {word}"
-    for word in sorted({f"-{word}" for word in re.findall(r"Fl (-\w+)", manual)} - set(options())):
+    for word in sorted({f"-{word}" for word in re.findall(r"Fl (-[\w-]+)", manual)} - set(options())):
         yield f"docs/sgt.1: there is no option {word}"
     known = {*options(), *commands(), *rewritten(), *topics(), "-q"}
     for word in sorted(completed() - known):
