@@ -105,19 +105,6 @@ impl<'a, R: Read> Steady<'a, R> {
             None => None,
         }
     }
-
-    // These bytes were read.
-    fn pass(&mut self, bytes: &[u8]) {
-        if self.first.is_none() {
-            self.first = bytes.first().copied();
-        }
-        if let Some(progress) = &mut self.progress {
-            progress.pass(bytes);
-        }
-        if let Some(tail) = &mut self.tail {
-            tail.pass(bytes);
-        }
-    }
 }
 
 impl Steady<'_, Input> {
@@ -133,7 +120,16 @@ impl<R: Read> Read for &mut Steady<'_, R> {
             match self.inner.read(buffer) {
                 Err(e) if e.kind() == io::ErrorKind::Interrupted => {}
                 Ok(n) => {
-                    self.pass(buffer.get(..n).unwrap_or(&[]));
+                    let bytes = buffer.get(..n).unwrap_or(&[]);
+                    if self.first.is_none() {
+                        self.first = bytes.first().copied();
+                    }
+                    if let Some(progress) = &mut self.progress {
+                        progress.pass(bytes);
+                    }
+                    if let Some(tail) = &mut self.tail {
+                        tail.pass(bytes);
+                    }
                     return Ok(n);
                 }
                 Err(e) => {

@@ -75,7 +75,7 @@ impl<'a> FolderBundles<'a> {
     pub(crate) fn open(rt: &'a HostRuntime, folder: &'a str) -> io::Result<FolderBundles<'a>> {
         fs::create_dir_all(rt, folder)?;
         let last = greatest(rt, folder)?;
-        let (trial, _) = new_beside(rt, folder, last + 1)?;
+        let (trial, _) = new_beside(rt, folder, last.saturating_add(1))?;
         fs::remove_file(rt, trial.as_str())?;
         Ok(FolderBundles {
             rt,
