@@ -144,7 +144,7 @@ module _ (sites : List SiteLog) (stuck : StuckSet) (decided rest : BTreeSet ℕ)
       )
 
   pub shows-stuck : AreUncommitted sites rest → HasFree sites decided → AreShown sites stuck decided → ShowsStuck sites stuck
-  shows-stuck none (log, here, k, tx, first, next) shown = record {
+  shows-stuck none (log, here, (k, tx, first, next)) shown = record {
     others = λ t among is.
         let at = Contains_at is.0.entries (Commit t) is.2 in
         none is.0 is.1 at.0 t at.1 (has_rest t among);
@@ -162,7 +162,7 @@ module _ (sites : List SiteLog) (stuck : StuckSet) (decided rest : BTreeSet ℕ)
       let t = shows.free.0 in
       let free = shows.free.1 in
       let w = first-of t free in
-      (w.0, w.1, w.2, t, w.3, λ u earlier. has u (free.next u earlier))
+      (w.0, w.1, (w.2, t, w.3, λ u earlier. has u (free.next u earlier)))
 
   pub shows-shown : ShowsStuck sites stuck → AreShown sites stuck decided
   shows-shown shows log here k tx first next = shows.refused tx (free-of log here k tx first next)

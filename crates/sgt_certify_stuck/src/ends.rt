@@ -95,23 +95,29 @@ pub fn has_free(sites: &[SiteLog], decided: &BTreeSet<Tx>) -> bool
     false
 }
 
-fn has_refusal(entries: &[Entry], refusal: &Entry) -> bool
-    ensures { IsTrue result ↔ Contains entries.now refusal.now }
+fn has_entry(entries: &[Entry], entry: &Entry) -> bool
+    ensures { IsTrue result ↔ Contains entries.now entry.now }
 {
-    entries.contains(refusal)
+    entries.contains(entry)
+}
+
+/// Whether the entry stands in one of the logs.
+fn stands_in(sites: &[SiteLog], entry: &Entry) -> bool
+    ensures { IsTrue result ↔ IsIn sites.now entry.now }
+{
+    for log in sites {
+        if has_entry(log.entries.as_slice(), entry) {
+            return true;
+        }
+    }
+    false
 }
 
 /// Whether a log refuses the transaction.
 pub fn is_refused(sites: &[SiteLog], tx: Tx) -> bool
     ensures { IsTrue result ↔ IsIn sites.now (Refused tx) }
 {
-    let refusal = Entry::Refuse { tx };
-    for log in sites {
-        if has_refusal(log.entries.as_slice(), &refusal) {
-            return true;
-        }
-    }
-    false
+    stands_in(sites, &Entry::Refuse { tx })
 }
 
 /// Whether no log commits one of these.
