@@ -33,21 +33,19 @@ fn order_of(kind: Kind) -> u8 {
 
 /// The conflict of two operations, if they are on one item and in conflict in this order.
 fn conflict_of(history: &History, first: &Place, second: &Place) -> Option<Conflict> {
-    if first.item != second.item || first.at >= second.at {
+    if first.item != second.item || first.line >= second.line {
         return None;
     }
     let kind = kind_of(first.act, second.act)?;
     let named = history.items.get(usize::from(first.item))?;
-    let from = history.operations.get(first.at as usize)?;
-    let to = history.operations.get(second.at as usize)?;
     Some(Conflict {
         label: Label {
             site: named.site,
             item: named.item,
             kind,
         },
-        first: from.line,
-        second: to.line,
+        first: first.line,
+        second: second.line,
     })
 }
 

@@ -57,10 +57,10 @@ pub struct Named {
     pub item: Item,
 }
 
-/// Where an operation stands: its item, and its place among all operations.
+/// Where an operation stands: its item, and its line.
 #[derive(Clone, Copy, Debug)]
 pub struct Place {
-    pub at: u32,
+    pub line: u32,
     pub item: u16,
     pub act: Act,
 }
@@ -100,7 +100,7 @@ pub struct History {
     /// The operations by item, those on an item in the order of its log.
     pub operations: Vec<Operation>,
     pub by_item: Groups,
-    /// Where they stand by transaction, in the order in which these were met, those of one as they stand among all.
+    /// Where they stand by transaction, in the order in which these were met, those of one by item and line.
     pub places: Vec<Place>,
     /// The ends in the order of the logs.
     pub ends: Vec<End>,
@@ -173,17 +173,6 @@ impl History {
         };
         match self.places.get(life.places()) {
             Some(places) => places,
-            None => &[],
-        }
-    }
-
-    /// The operations on the place's item behind it, as far as behind the place `low`.
-    pub fn ahead(&self, place: &Place, low: u32) -> &[Operation] {
-        let end = self.by_item.span(usize::from(place.item)).end;
-        let from = (place.at as usize).saturating_add(1);
-        let to = end.min((low as usize).saturating_add(1));
-        match self.operations.get(from..to) {
-            Some(operations) => operations,
             None => &[],
         }
     }

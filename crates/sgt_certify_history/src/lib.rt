@@ -10,7 +10,9 @@ mod lists;
 mod logs;
 mod numbers;
 mod ranks;
+mod sides;
 mod sorting;
+mod targets;
 mod waiting;
 mod walks;
 
@@ -20,8 +22,10 @@ pub use groups::Groups;
 pub use history::{
     Act, End, Ending, Fate, History, Life, Named, Operation, Place, act_of, fate_of,
 };
-pub use lists::{is_marked, number_at, set_mark, set_number, short};
+pub use lists::{clear_mark, is_marked, number_at, set_mark, set_number, short};
 pub use logs::Logs;
 pub use ranks::rank_order;
+pub use sides::{Bounds, Spread};
+pub use targets::Targets;
 pub use waiting::Waiting;
-pub use walks::{Asked, Bounds, Link, Marks, Spread, ask, met_from, walk_of};
+pub use walks::{Asked, Link, Marks, ask, met_from, walk_of};

@@ -60,3 +60,10 @@ pub fn set_mark(marks: &mut [bool], place: usize) {
         *old = true;
     }
 }
+
+/// Takes the mark at this place away.
+pub fn clear_mark(marks: &mut [bool], place: usize) {
+    if let Some(old) = marks.get_mut(place) {
+        *old = false;
+    }
+}

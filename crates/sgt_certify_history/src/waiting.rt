@@ -1,91 +1,43 @@
 //! Refused transactions from which a search led to no walk, and whether later commits change that.
 
-use crate::conflicts::{kind_of, least_conflict};
-use crate::history::{Act, History, Operation, Place};
+use crate::conflicts::least_conflict;
+use crate::history::{History, Place};
 use crate::lists::is_marked;
+use crate::sides::Spread;
+use crate::targets::{ACTS, Target, Way, do_clash, group_of};
 use std::alloc::{AllocError, Global};
 use std::collections::BTreeMap;
 
-/// For each act the least place on an item of an operation that has led on.
-#[derive(Clone, Copy)]
-pub struct Lows {
-    read: u32,
-    put: u32,
-    add: u32,
-}
-
-/// Nothing has led on.
-pub const NO_LOWS: Lows = Lows {
-    read: u32::MAX,
-    put: u32::MAX,
-    add: u32::MAX,
-};
-
-impl Lows {
-    /// The least place for the act.
-    fn of(&self, act: Act) -> u32 {
-        match act {
-            Act::Read => self.read,
-            Act::Put => self.put,
-            Act::Add => self.add,
-        }
-    }
-
-    /// This place leads on. Answers the least one for its act before.
-    pub fn lower(&mut self, place: &Place) -> u32 {
-        let before = self.of(place.act);
-        if place.at < before {
-            match place.act {
-                Act::Read => self.read = place.at,
-                Act::Put => self.put = place.at,
-                Act::Add => self.add = place.at,
-            }
-        }
-        before
-    }
-
-    /// Whether one of these leads to the place.
-    fn lead_to(&self, place: &Place) -> bool {
-        for act in [Act::Read, Act::Put, Act::Add] {
-            if self.of(act) < place.at && kind_of(act, place.act).is_some() {
-                return true;
-            }
-        }
-        false
-    }
-}
-
-/// How far a search from a refused transaction has come, that led to no walk.
+/// How far a search from a refused transaction has come, that led to no walk: the way in which it met all that there was.
 #[derive(Drop)]
 pub struct Waiting {
-    tx: u32,
-    /// Of each item that it came to, what has led on.
-    low: BTreeMap<u16, Lows>,
+    way: Way,
+    /// Of each group of targets that it came to, how far it was met.
+    reach: BTreeMap<u32, u32>,
     /// How many were committed then.
     seen: usize,
 }
 
 impl Waiting {
-    /// The search has come to no item, when so many were committed.
-    pub fn new(alloc: Global, tx: u32, seen: usize) -> Waiting {
-        Waiting {
-            tx,
-            low: BTreeMap::new(alloc),
-            seen,
+    /// The search has come so far on these groups, when so many were committed.
+    pub fn new(
+        alloc: Global,
+        way: Way,
+        reaches: &[(u32, u32)],
+        seen: usize,
+    ) -> Result<Waiting, AllocError> {
+        let mut reach = BTreeMap::new(alloc);
+        for (group, line) in reaches {
+            reach.insert(*group, *line)?;
         }
+        Ok(Waiting { way, reach, seen })
     }
 
-    /// The search has come so far on the item.
-    pub fn add(&mut self, item: u16, lows: Lows) -> Result<(), AllocError> {
-        self.low.insert(item, lows)?;
-        Ok(())
-    }
-
-    /// Whether an operation that has led on leads to the transaction.
-    fn leads_to(&self, history: &History, tx: u32) -> bool {
+    /// Whether what was met includes an operation of the transaction.
+    fn includes(&self, history: &History, tx: u32) -> bool {
         for place in history.places(tx) {
-            if let Some(lows) = self.low.get(&place.item) {
-                if lows.lead_to(place) {
+            if let Some(reach) = self.reach.get(&group_of(place.item, place.act)) {
+                if self.way.includes(*reach, place) {
                     return true;
                 }
             }
@@ -93,54 +45,68 @@ impl Waiting {
         false
     }
 
-    /// The operations behind the place that no earlier one has led to.
-    fn ahead<'a>(
+    /// Those of the group that the operation at this place leads to and that weren't met.
+    fn beyond<'a>(
         &mut self,
-        history: &'a History,
+        spread: &Spread<'a>,
         place: &Place,
-    ) -> Result<&'a [Operation], AllocError> {
-        let mut lows = match self.low.get(&place.item) {
-            Some(lows) => *lows,
-            None => NO_LOWS,
+        group: u32,
+    ) -> Result<&'a [Target], AllocError> {
+        let reach = match self.reach.get(&group) {
+            Some(reach) => *reach,
+            None => self.way.start(),
         };
-        let low = lows.lower(place);
-        self.low.insert(place.item, lows)?;
-        Ok(history.ahead(place, low))
+        let further = self.way.further(place.line, reach);
+        if further == reach {
+            return Ok(&[]);
+        }
+        self.reach.insert(group, further)?;
+        let lines = self.way.lines(place.line, reach);
+        Ok(spread.targets.at(spread.targets.span(group, &lines)))
     }
 
     /// Adds those that the transaction leads to.
     fn spread(
         &mut self,
-        history: &History,
-        allowed: &[bool],
+        spread: &Spread<'_>,
         tx: u32,
         reached: &mut Vec<u32>,
     ) -> Result<(), AllocError> {
-        for place in history.places(tx) {
-            for operation in self.ahead(history, place)? {
-                if kind_of(place.act, operation.act).is_some()
-                    && is_marked(allowed, operation.tx as usize)
-                    && operation.tx != self.tx
-                {
-                    reached.push(operation.tx)?;
+        for place in spread.history.places(tx) {
+            for act in ACTS {
+                if do_clash(place.act, act) {
+                    for target in self.beyond(spread, place, group_of(place.item, act))? {
+                        if target.tx != spread.start
+                            && is_marked(spread.bounds.allowed, target.tx as usize)
+                        {
+                            reached.push(target.tx)?;
+                        }
+                    }
                 }
             }
         }
         Ok(())
     }
 
-    /// Whether there may be a walk now that these are committed: one of those that the search didn't come to leads back.
+    /// Whether the transaction closes a walk.
+    fn closes(&self, spread: &Spread<'_>, tx: u32) -> bool {
+        match self.way {
+            Way::Onward => least_conflict(spread.history, tx, spread.start).is_some(),
+            Way::Back => least_conflict(spread.history, spread.start, tx).is_some(),
+        }
+    }
+
+    /// Whether there may be a walk now that these are committed: one of those that the search didn't come to closes one.
     pub fn may_return(
         &mut self,
         alloc: Global,
-        history: &History,
-        allowed: &[bool],
+        spread: &Spread<'_>,
         commits: &[u32],
     ) -> Result<bool, AllocError> {
         let mut reached = Vec::new(alloc);
         if let Some(new) = commits.get(self.seen..) {
             for tx in new {
-                if self.leads_to(history, *tx) {
+                if self.includes(spread.history, *tx) {
                     reached.push(*tx)?;
                 }
             }
@@ -150,10 +116,10 @@ impl Waiting {
             let Some(tx) = reached.pop() else {
                 return Ok(false);
             };
-            if least_conflict(history, tx, self.tx).is_some() {
+            if self.closes(spread, tx) {
                 return Ok(true);
             }
-            self.spread(history, allowed, tx, &mut reached)?;
+            self.spread(spread, tx, &mut reached)?;
         }
         Ok(false)
     }

@@ -1,10 +1,10 @@
 //! The least of the shortest cycles of conflicts through a transaction.
 
-use crate::conflicts::{Conflict, kind_of, least_conflict};
-use crate::history::{Act, History, Operation, Place};
-use crate::lists::{is_marked, number_at, set_number};
-use crate::waiting::{Lows, NO_LOWS, Waiting};
-use sgt_names::SiteNo;
+use crate::conflicts::{Conflict, least_conflict};
+use crate::history::History;
+use crate::sides::{Side, Spread};
+use crate::targets::{Targets, Way};
+use crate::waiting::Waiting;
 use std::alloc::{AllocError, Global};
 
 /// A step of a cycle: a conflict with the transaction that it leads to.
@@ -15,182 +15,81 @@ pub struct Link {
     pub conflict: Conflict,
 }
 
-/// Who a search may go through.
-#[derive(Clone, Copy)]
-pub struct Bounds<'a> {
-    /// These transactions alone.
-    pub allowed: &'a [bool],
-    /// At each site's place a line that none of them has an operation at or behind, where one is known.
-    pub ends: &'a [u32],
-}
-
-impl Bounds<'_> {
-    /// The line for the site.
-    fn end_of(&self, site: SiteNo) -> u32 {
-        match self.ends.get(site.number() as usize) {
-            Some(line) => *line,
-            None => u32::MAX,
-        }
-    }
-}
-
-/// What searches keep, one after another. Between two of them it is as it was made.
+/// What searches keep, one after another: what was met from the transaction on, and what leads to it. Between two of them it is as
+/// it was made.
 #[derive(Drop)]
 pub struct Marks {
-    /// Of each transaction that was met one more than from whom it was met first, else 0.
-    parents: Vec<u32>,
-    /// Of each item, what has led on.
-    low: Vec<Lows>,
-    /// Who was met, in the order of the search, behind the one that it began with.
-    met: Vec<u32>,
-    /// Of which items there is a least place.
-    items: Vec<u16>,
+    onward: Side,
+    back: Side,
+}
+
+/// How a search ended.
+enum Round {
+    /// With a path from the start back to it.
+    Closed(Vec<u32>),
+    /// With none: this way all was met.
+    Open(Way),
 }
 
 impl Marks {
     /// Nothing is marked.
-    pub fn new(alloc: Global, history: &History) -> Result<Marks, AllocError> {
+    pub fn new(alloc: Global, history: &History, targets: &Targets) -> Result<Marks, AllocError> {
         Ok(Marks {
-            parents: vec![in alloc; 0u32; history.count()]?,
-            low: vec![in alloc; NO_LOWS; history.items.len()]?,
-            met: Vec::new(alloc),
-            items: Vec::new(alloc),
+            onward: Side::new(alloc, history, targets, Way::Onward)?,
+            back: Side::new(alloc, history, targets, Way::Back)?,
         })
-    }
-
-    /// Whether the transaction was met.
-    fn has(&self, tx: u32) -> bool {
-        number_at(self.parents.as_slice(), tx as usize) > 0
-    }
-
-    /// The transaction is met from its parent.
-    fn meet(&mut self, tx: u32, parent: u32) -> Result<(), AllocError> {
-        set_number(
-            self.parents.as_mut_slice(),
-            tx as usize,
-            parent.saturating_add(1),
-        );
-        self.met.push(tx)?;
-        Ok(())
-    }
-
-    /// From whom the transaction was met first.
-    fn parent(&self, tx: u32) -> Option<u32> {
-        number_at(self.parents.as_slice(), tx as usize).checked_sub(1)
-    }
-
-    /// This place leads on. Answers the least one for its act before.
-    fn lower(&mut self, place: &Place) -> Result<u32, AllocError> {
-        let Some(lows) = self.low.get_mut(usize::from(place.item)) else {
-            return Ok(0);
-        };
-        let before = lows.lower(place);
-        if place.at < before {
-            self.items.push(place.item)?;
-        }
-        Ok(before)
-    }
-
-    /// How far the search from the transaction has come, when so many were committed.
-    fn waiting(&self, alloc: Global, tx: u32, seen: usize) -> Result<Waiting, AllocError> {
-        let mut waiting = Waiting::new(alloc, tx, seen);
-        for item in self.items.as_slice() {
-            if let Some(lows) = self.low.get(usize::from(*item)) {
-                waiting.add(*item, *lows)?;
-            }
-        }
-        Ok(waiting)
     }
 
     /// Nothing is marked any more.
     fn clear(&mut self) {
-        for tx in self.met.as_slice() {
-            set_number(self.parents.as_mut_slice(), *tx as usize, 0);
+        self.onward.clear();
+        self.back.clear();
+    }
+
+    /// Whether a member of the last layer onward closes a cycle: it was met by the other side, or leads to the start, if that side
+    /// has met nobody.
+    fn closes(&self, spread: &Spread<'_>, tx: u32) -> bool {
+        if self.back.depth() == 0 {
+            least_conflict(spread.history, tx, spread.start).is_some()
+        } else {
+            self.back.has(tx)
         }
-        for item in self.items.as_slice() {
-            if let Some(lows) = self.low.get_mut(usize::from(*item)) {
-                *lows = NO_LOWS;
+    }
+
+    /// The first member of the last layer onward that closes a cycle.
+    fn closing(&self, spread: &Spread<'_>) -> Option<u32> {
+        for tx in self.onward.layer(self.onward.depth()) {
+            if self.closes(spread, *tx) {
+                return Some(*tx);
             }
         }
-        self.met.clear();
-        self.items.clear();
-    }
-}
-
-/// A search from one transaction, layer by layer, within these bounds.
-#[derive(Clone, Copy)]
-pub struct Spread<'a> {
-    pub history: &'a History,
-    pub bounds: Bounds<'a>,
-    pub start: u32,
-}
-
-impl<'a> Spread<'a> {
-    /// The operations behind the place that no earlier one has led to.
-    fn ahead(&self, marks: &mut Marks, place: &Place) -> Result<&'a [Operation], AllocError> {
-        let low = marks.lower(place)?;
-        Ok(self.history.ahead(place, low))
+        None
     }
 
-    /// Whether the search goes on to the transaction of the operation, that stands behind one of this act.
-    fn meets(&self, marks: &Marks, act: Act, operation: &Operation) -> bool {
-        kind_of(act, operation.act).is_some()
-            && is_marked(self.bounds.allowed, operation.tx as usize)
-            && operation.tx != self.start
-            && !marks.has(operation.tx)
-    }
-
-    /// Meets those that the operation leads to and that were not met yet.
-    fn list(&self, marks: &mut Marks, parent: u32, place: &Place) -> Result<(), AllocError> {
-        let end = match self.history.items.get(usize::from(place.item)) {
-            Some(named) => self.bounds.end_of(named.site),
-            None => u32::MAX,
-        };
-        for operation in self.ahead(marks, place)? {
-            if operation.line >= end {
-                break;
-            }
-            if self.meets(marks, place.act, operation) {
-                marks.meet(operation.tx, parent)?;
+    /// Whether a member of the last layer back does.
+    fn is_closed_back(&self, spread: &Spread<'_>) -> bool {
+        for tx in self.back.layer(self.back.depth()) {
+            let closes = if self.onward.depth() == 0 {
+                least_conflict(spread.history, spread.start, *tx).is_some()
+            } else {
+                self.onward.has(*tx)
+            };
+            if closes {
+                return true;
             }
         }
-        Ok(())
+        false
     }
 
-    /// Meets those that the transaction leads to and that were not met yet, the least number first.
-    fn spread_one(&self, marks: &mut Marks, parent: u32) -> Result<(), AllocError> {
-        let start = marks.met.len();
-        for place in self.history.places(parent) {
-            self.list(marks, parent, place)?;
-        }
-        if let Some(children) = marks.met.as_mut_slice().get_mut(start..) {
-            children.sort_unstable();
-        }
-        Ok(())
-    }
-
-    /// Meets the next layer, that of those that the layer from this place on leads to. Answers its place.
-    fn spread(&self, marks: &mut Marks, layer: usize) -> Result<usize, AllocError> {
-        let end = marks.met.len();
-        for at in layer..end {
-            let parent = number_at(marks.met.as_slice(), at);
-            self.spread_one(marks, parent)?;
-        }
-        Ok(end)
-    }
-
-    /// The path from the start to the transaction and back to the start.
-    fn path(&self, alloc: Global, marks: &Marks, last: u32) -> Result<Vec<u32>, AllocError> {
-        let mut path = vec![in alloc; self.start, last]?;
+    /// The path from the start to the transaction, that was met onward.
+    fn front(&self, alloc: Global, spread: &Spread<'_>, last: u32) -> Result<Vec<u32>, AllocError> {
+        let mut path = vec![in alloc; last]?;
         let mut tx = last;
-        for _ in 0..marks.met.len() {
-            match marks.parent(tx) {
+        for _ in 0..self.onward.depth() {
+            match self.onward.parent_of(tx) {
                 Some(parent) => {
                     tx = parent;
                     path.push(tx)?;
-                    if tx == self.start {
-                        break;
-                    }
                 }
                 None => break,
             }
@@ -199,30 +98,87 @@ impl<'a> Spread<'a> {
         Ok(path)
     }
 
-    /// The first of the layer from this place on with a conflict into the start, if there is one.
-    fn closing(&self, marks: &Marks, layer: usize) -> Option<u32> {
-        for last in marks.met.get(layer..)? {
-            if least_conflict(self.history, *last, self.start).is_some() {
-                return Some(*last);
+    /// The least member of the layer back that the transaction leads to.
+    fn next_back(&self, spread: &Spread<'_>, tx: u32, depth: usize) -> Option<u32> {
+        let mut least: Option<u32> = None;
+        for other in self.back.layer(depth) {
+            let is_less = match least {
+                Some(best) => *other < best,
+                None => true,
+            };
+            if is_less && least_conflict(spread.history, tx, *other).is_some() {
+                least = Some(*other);
             }
         }
-        None
+        least
     }
 
-    /// The least of the shortest paths from the start back to it; empty where there is none.
-    fn round(&self, alloc: Global, marks: &mut Marks) -> Result<Vec<u32>, AllocError> {
-        self.spread_one(marks, self.start)?;
-        let mut layer = 0;
-        for _ in 0..self.history.count() {
-            if let Some(last) = self.closing(marks, layer) {
-                return self.path(alloc, marks, last);
+    /// The least of the shortest paths from the start back to it, where both sides have met.
+    fn path(&self, alloc: Global, spread: &Spread<'_>) -> Result<Vec<u32>, AllocError> {
+        let (mut path, mut depth) = if self.onward.depth() == 0 {
+            (vec![in alloc; spread.start]?, self.back.depth())
+        } else {
+            match self.closing(spread) {
+                Some(last) => (
+                    self.front(alloc, spread, last)?,
+                    self.back.depth().saturating_sub(1),
+                ),
+                None => return Ok(Vec::new(alloc)),
             }
-            if layer >= marks.met.len() {
+        };
+        for _ in 0..self.back.depth() {
+            if depth == 0 {
                 break;
             }
-            layer = self.spread(marks, layer)?;
+            let next = match path.last() {
+                Some(tx) => self.next_back(spread, *tx, depth),
+                None => None,
+            };
+            if let Some(tx) = next {
+                path.push(tx)?;
+            }
+            depth = depth.saturating_sub(1);
         }
-        Ok(Vec::new(alloc))
+        path.push(spread.start)?;
+        Ok(path)
+    }
+
+    /// Meets the next layer of the side that will then have gone over fewer targets. Whether the sides have met.
+    fn step(&mut self, spread: &Spread<'_>) -> Result<bool, AllocError> {
+        if self.onward.cost() <= self.back.cost() {
+            self.onward.advance(spread)?;
+            Ok(self.closing(spread).is_some())
+        } else {
+            self.back.advance(spread)?;
+            Ok(self.is_closed_back(spread))
+        }
+    }
+
+    /// The least of the shortest paths from the start back to it, if there is one.
+    fn round(&mut self, alloc: Global, spread: &Spread<'_>) -> Result<Round, AllocError> {
+        self.onward.begin(spread)?;
+        self.back.begin(spread)?;
+        let most = spread.history.count().saturating_mul(2).saturating_add(2);
+        for _ in 0..most {
+            if self.onward.is_done() {
+                return Ok(Round::Open(Way::Onward));
+            }
+            if self.back.is_done() {
+                return Ok(Round::Open(Way::Back));
+            }
+            if self.step(spread)? {
+                return Ok(Round::Closed(self.path(alloc, spread)?));
+            }
+        }
+        Ok(Round::Open(Way::Onward))
+    }
+
+    /// How far the search has come this way.
+    fn reaches(&self, alloc: Global, way: Way) -> Result<Vec<(u32, u32)>, AllocError> {
+        match way {
+            Way::Onward => self.onward.reaches(alloc),
+            Way::Back => self.back.reaches(alloc),
+        }
     }
 }
 
@@ -243,17 +199,6 @@ fn links_of(alloc: Global, history: &History, path: &[u32]) -> Result<Vec<Link>,
     Ok(links)
 }
 
-/// The least of the shortest cycles through the transaction, within the bounds; empty where there is none.
-pub fn walk_of(
-    alloc: Global,
-    spread: &Spread<'_>,
-    marks: &mut Marks,
-) -> Result<Vec<Link>, AllocError> {
-    let path = spread.round(alloc, marks)?;
-    marks.clear();
-    links_of(alloc, spread.history, path.as_slice())
-}
-
 /// What is found of a refused transaction.
 #[derive(Drop)]
 pub enum Asked {
@@ -263,22 +208,34 @@ pub enum Asked {
     Waits(Waiting),
 }
 
-/// The same of a refused transaction, when so many were committed.
+/// The least of the shortest cycles through the transaction, within the bounds, if there is one, when so many were committed.
 pub fn ask(
     alloc: Global,
     spread: &Spread<'_>,
     marks: &mut Marks,
     seen: usize,
 ) -> Result<Asked, AllocError> {
-    let path = spread.round(alloc, marks)?;
-    if path.is_empty() {
-        let waiting = marks.waiting(alloc, spread.start, seen)?;
-        marks.clear();
-        return Ok(Asked::Waits(waiting));
-    }
+    let asked = match marks.round(alloc, spread)? {
+        Round::Closed(path) => Asked::Walk(links_of(alloc, spread.history, path.as_slice())?),
+        Round::Open(way) => {
+            let reaches = marks.reaches(alloc, way)?;
+            Asked::Waits(Waiting::new(alloc, way, reaches.as_slice(), seen)?)
+        }
+    };
     marks.clear();
-    let walk = links_of(alloc, spread.history, path.as_slice())?;
-    Ok(Asked::Walk(walk))
+    Ok(asked)
+}
+
+/// The same, empty where there is none.
+pub fn walk_of(
+    alloc: Global,
+    spread: &Spread<'_>,
+    marks: &mut Marks,
+) -> Result<Vec<Link>, AllocError> {
+    match ask(alloc, spread, marks, 0)? {
+        Asked::Walk(walk) => Ok(walk),
+        Asked::Waits(_waiting) => Ok(Vec::new(alloc)),
+    }
 }
 
 /// All that conflicts lead to from the transaction on, within the bounds.
@@ -287,15 +244,14 @@ pub fn met_from(
     spread: &Spread<'_>,
     marks: &mut Marks,
 ) -> Result<Vec<u32>, AllocError> {
-    spread.spread_one(marks, spread.start)?;
-    let mut layer = 0;
+    marks.onward.begin(spread)?;
     for _ in 0..spread.history.count() {
-        if layer >= marks.met.len() {
+        if marks.onward.is_done() {
             break;
         }
-        layer = spread.spread(marks, layer)?;
+        marks.onward.advance(spread)?;
     }
-    let met = Vec::from_slice(alloc, marks.met.as_slice())?;
+    let met = Vec::from_slice(alloc, marks.onward.met())?;
     marks.clear();
     Ok(met)
 }

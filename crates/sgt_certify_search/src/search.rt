@@ -2,8 +2,8 @@
 
 use sgt_cert::{Decision, Step};
 use sgt_certify_history::{
-    Asked, Before, Bounds, Fate, Front, History, Link, Marks, Spread, Waiting, ask, is_marked,
-    met_from, number_at, rank_order, set_mark, set_number, short, walk_of,
+    Asked, Before, Bounds, Fate, Front, History, Link, Marks, Spread, Targets, Waiting, ask,
+    clear_mark, is_marked, met_from, number_at, rank_order, set_mark, set_number, short, walk_of,
 };
 use sgt_certify_stuck::{Circle, StuckSet};
 use sgt_names::{Listed, Tx};
@@ -57,6 +57,7 @@ struct Greedy {
     commits: Vec<u32>,
     /// Who was asked for a walk and had none.
     waiting: BTreeMap<u32, Waiting>,
+    targets: Targets,
     marks: Marks,
     decisions: Vec<Decision>,
 }
@@ -95,41 +96,62 @@ fn order_of_ends(alloc: Global, history: &History) -> Result<Ends, AllocError> {
 /// A search from the transaction through the allowed ones, as far as the ends.
 fn spread_from<'a>(
     history: &'a History,
-    allowed: &'a [bool],
-    ends: &'a [u32],
+    targets: &'a Targets,
+    bounds: Bounds<'a>,
     start: u32,
 ) -> Spread<'a> {
-    let bounds = Bounds { allowed, ends };
     Spread {
         history,
+        targets,
         bounds,
         start,
     }
 }
 
-/// The cycle of the least transaction that lies on one, of those that have no rank.
-fn rank_cycle(alloc: Global, history: &History, order: &[u32]) -> Result<Vec<Link>, AllocError> {
-    let mut ranked = vec![in alloc; false; history.count()]?;
-    for tx in order {
-        set_mark(ranked.as_mut_slice(), *tx as usize);
-    }
-    let mut allowed = vec![in alloc; false; history.count()]?;
+/// The committed ones that have no place in the order.
+fn unranked(alloc: Global, history: &History, order: &[u32]) -> Result<Vec<bool>, AllocError> {
+    let mut left = vec![in alloc; false; history.count()]?;
     for tx in 0..short(history.count()) {
-        if history.is_committed(tx) && !is_marked(ranked.as_slice(), tx as usize) {
-            set_mark(allowed.as_mut_slice(), tx as usize);
+        if history.is_committed(tx) {
+            set_mark(left.as_mut_slice(), tx as usize);
         }
     }
-    let mut marks = Marks::new(alloc, history)?;
+    for tx in order {
+        clear_mark(left.as_mut_slice(), *tx as usize);
+    }
+    Ok(left)
+}
+
+/// The cycle of the least transaction that lies on one, of those that have no rank. Who lies on none is left out from then on.
+fn rank_cycle(alloc: Global, history: &History, order: &[u32]) -> Result<Vec<Link>, AllocError> {
+    let mut left = unranked(alloc, history, order)?;
+    let targets = Targets::new(alloc, history)?;
+    let mut marks = Marks::new(alloc, history, &targets)?;
     for tx in 0..short(history.count()) {
-        if is_marked(allowed.as_slice(), tx as usize) {
-            let spread = spread_from(history, allowed.as_slice(), &[], tx);
+        if is_marked(left.as_slice(), tx as usize) {
+            let bounds = Bounds {
+                allowed: left.as_slice(),
+                ends: &[],
+            };
+            let spread = spread_from(history, &targets, bounds, tx);
             let walk = walk_of(alloc, &spread, &mut marks)?;
             if !walk.is_empty() {
                 return Ok(walk);
             }
+            clear_mark(left.as_mut_slice(), tx as usize);
         }
     }
     Ok(Vec::new(alloc))
+}
+
+/// What the searches for walks go over: nothing, where nobody is refused.
+fn targets_of(alloc: Global, history: &History) -> Result<Targets, AllocError> {
+    for life in history.lives.as_slice() {
+        if life.fate == Some(Fate::Refuse) {
+            return Targets::new(alloc, history);
+        }
+    }
+    Targets::none(alloc)
 }
 
 impl Greedy {
@@ -139,13 +161,16 @@ impl Greedy {
         for (rank, tx) in order.iter().enumerate() {
             set_number(ranks.as_mut_slice(), *tx as usize, short(rank));
         }
+        let targets = targets_of(alloc, history)?;
+        let marks = Marks::new(alloc, history, &targets)?;
         Ok(Greedy {
             front: Front::new(alloc, history)?,
             ranks,
             committed: vec![in alloc; false; many]?,
             commits: Vec::new(alloc),
             waiting: BTreeMap::new(alloc),
-            marks: Marks::new(alloc, history)?,
+            targets,
+            marks,
             decisions: Vec::with_capacity(alloc, many)?,
         })
     }
@@ -174,12 +199,13 @@ impl Greedy {
     ) -> Result<Vec<Link>, AllocError> {
         let allowed = self.committed.as_slice();
         let commits = self.commits.as_slice();
+        let bounds = Bounds { allowed, ends };
+        let spread = spread_from(history, &self.targets, bounds, tx);
         if let Some(waiting) = self.waiting.get_mut(&tx) {
-            if !waiting.may_return(alloc, history, allowed, commits)? {
+            if !waiting.may_return(alloc, &spread, commits)? {
                 return Ok(Vec::new(alloc));
             }
         }
-        let spread = spread_from(history, allowed, ends, tx);
         match ask(alloc, &spread, &mut self.marks, commits.len())? {
             Asked::Walk(walk) => Ok(walk),
             Asked::Waits(waiting) => {
@@ -280,8 +306,11 @@ impl Greedy {
         let mut circles = Vec::new(alloc);
         for place in self.front.free.as_slice() {
             if let Some(life) = history.life(*place) {
-                let allowed = self.committed.as_slice();
-                let spread = spread_from(history, allowed, ends.as_slice(), *place);
+                let bounds = Bounds {
+                    allowed: self.committed.as_slice(),
+                    ends: ends.as_slice(),
+                };
+                let spread = spread_from(history, &self.targets, bounds, *place);
                 let met = met_from(alloc, &spread, &mut self.marks)?;
                 circles.push(Circle {
                     tx: life.tx,
@@ -325,26 +354,23 @@ fn decide_all(alloc: Global, history: &History, order: &[u32]) -> Result<Greedy,
 
 /// The decisions, or the first of the reasons why there are none.
 pub fn search(alloc: Global, history: &History) -> Result<Finding, AllocError> {
+    let ends = match order_of_ends(alloc, history)? {
+        Ends::Order(ends) => ends,
+        Ends::Cycle(cycle) => return Ok(Finding::Order(cycle)),
+    };
     let order = rank_order(alloc, history)?;
     if order.len() < committed_count(history) {
-        return match order_of_ends(alloc, history)? {
-            Ends::Cycle(cycle) => Ok(Finding::Order(cycle)),
-            Ends::Order(ends) => Ok(Finding::Ranks(
-                rank_cycle(alloc, history, order.as_slice())?,
-                ends,
-            )),
-        };
+        let cycle = rank_cycle(alloc, history, order.as_slice())?;
+        return Ok(Finding::Ranks(cycle, ends));
     }
     let mut greedy = decide_all(alloc, history, order.as_slice())?;
     if greedy.front.decided >= history.count() {
         return Ok(Finding::Decided(greedy.decisions));
     }
-    match order_of_ends(alloc, history)? {
-        Ends::Cycle(cycle) => Ok(Finding::Order(cycle)),
-        Ends::Order(ends) => Ok(Finding::Walk(Stuck {
-            set: greedy.stuck_set(alloc, history)?,
-            ends,
-            ranks: order,
-        })),
-    }
+    let set = greedy.stuck_set(alloc, history)?;
+    Ok(Finding::Walk(Stuck {
+        set,
+        ends,
+        ranks: order,
+    }))
 }

@@ -83,18 +83,31 @@ seen-next entries n sources barred first second seen next e had at misses kept a
       ];
 }
 
--- the four passes find each conflict
+-- the four passes find each clash
 pub apart-from : (entries : List Entry) (sources barred : BTreeSet ℕ) → IsClear entries sources barred class.Change class.Read
     → IsClear entries sources barred class.Read class.Change → IsClear entries sources barred class.Change class.Put
     → IsClear entries sources barred class.Put class.Change → AreApart entries sources barred
-apart-from entries sources barred reads changes puts over Wr x a b c source bars =
-    reads c.p c.q c.e c.f x c.before c.first c.second (subst (HasTx sources) (sym c.from) source) (subst (HasTx barred) (sym c.to) bars) c.clash.0 c.clash.1
-apart-from entries sources barred reads changes puts over Rw x a b c source bars =
-    changes c.p c.q c.e c.f x c.before c.first c.second (subst (HasTx sources) (sym c.from) source) (subst (HasTx barred) (sym c.to) bars) c.clash.0 c.clash.1
-apart-from entries sources barred reads changes puts over Ww x a b c source bars =
-    let from = subst (HasTx sources) (sym c.from) source in
-    let to = subst (HasTx barred) (sym c.to) bars in
-    elim (bool_cases (is_increment c.e)) [
-      | inl adds ↦ puts c.p c.q c.e c.f x c.before c.first c.second from to c.clash.0 (c.clash.1, λ (both : IsTrue (is_increment c.f)). c.clash.2 adds both)
-      | inr writes ↦ over c.p c.q c.e c.f x c.before c.first c.second from to (c.clash.0, λ (adds : IsTrue (is_increment c.e)). true≢false (sym adds ∙ writes)) c.clash.1
+apart-from entries sources barred reads changes puts over Wr x p q e f lt at_p at_q source bars clash =
+    reads p q e f x lt at_p at_q source bars clash.0 clash.1
+apart-from entries sources barred reads changes puts over Rw x p q e f lt at_p at_q source bars clash =
+    changes p q e f x lt at_p at_q source bars clash.0 clash.1
+apart-from entries sources barred reads changes puts over Ww x p q e f lt at_p at_q source bars clash =
+    elim (bool_cases (is_increment e)) [
+      | inl adds ↦ puts p q e f x lt at_p at_q source bars clash.0 (clash.1, λ (both : IsTrue (is_increment f)). clash.2 adds both)
+      | inr writes ↦ over p q e f x lt at_p at_q source bars (clash.0, λ (adds : IsTrue (is_increment e)). true≢false (sym adds ∙ writes)) clash.1
     ]
+
+-- and find nothing else
+pub clear-reads : (entries : List Entry) (sources barred : BTreeSet ℕ) → AreApart entries sources barred → IsClear entries sources barred class.Change class.Read
+clear-reads entries sources barred apart p q e f x lt at_p at_q source bars does then = apart Wr x p q e f lt at_p at_q source bars (does, then)
+
+pub clear-changes : (entries : List Entry) (sources barred : BTreeSet ℕ) → AreApart entries sources barred → IsClear entries sources barred class.Read class.Change
+clear-changes entries sources barred apart p q e f x lt at_p at_q source bars does then = apart Rw x p q e f lt at_p at_q source bars (does, then)
+
+pub clear-puts : (entries : List Entry) (sources barred : BTreeSet ℕ) → AreApart entries sources barred → IsClear entries sources barred class.Change class.Put
+clear-puts entries sources barred apart p q e f x lt at_p at_q source bars does then =
+    apart Ww x p q e f lt at_p at_q source bars (does, then.0, λ adds both. then.1 both)
+
+pub clear-over : (entries : List Entry) (sources barred : BTreeSet ℕ) → AreApart entries sources barred → IsClear entries sources barred class.Put class.Change
+clear-over entries sources barred apart p q e f x lt at_p at_q source bars does then =
+    apart Ww x p q e f lt at_p at_q source bars (does.0, then, λ adds both. does.1 adds)

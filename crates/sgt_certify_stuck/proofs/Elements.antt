@@ -1,5 +1,5 @@
 -- Elements and keys, one after another.
-use Rattle.std.proofs.Common.{◌≡◌, ◌≢◌, inl, inr, ◌⊎◌, ℕ, ◌+◌, ◌<◌, ◌≤◌, Bool, true, false, cond, List, Some, refl, sym, ap, ◌∙◌, subst, arith, length, Contains}
+use Rattle.std.proofs.Common.{◌≡◌, ◌≢◌, inl, inr, ◌⊎◌, ℕ, zero, suc, ◌+◌, ◌<◌, ◌≤◌, Bool, true, false, cond, List, [], ◌∷◌, Some, refl, sym, ap, ◌∙◌, subst, arith, length, Contains}
 use Rattle.std.specs.Prelude.{slice_get}
 use Rattle.std.specs.Ordering.{nat_cmp, is_eq}
 use Rattle.std.specs.Cmp.{nat_cmp_is}
@@ -10,7 +10,7 @@ use Rattle.std.proofs.lemmas.Bool.{cases_eq, cases_order}
 use Rattle.std.proofs.lemmas.Map.Text.{is_eq-slice_cmp}
 use Rattle.std.proofs.lemmas.Slice.Eq.{bytes_eq-Decides}
 use Rattle.std.proofs.lemmas.Option.{same_Some, slice_get_within}
-use Rattle.sgt_names.proofs.Places.{Contains_at}
+use Rattle.sgt_names.proofs.Places.{Contains_at, Contains-from_at}
 
 pub bool_cases : (b : Bool) → (b ≡ true) ⊎ (b ≡ false)
 bool_cases true = inl refl
@@ -52,3 +52,34 @@ same-or-other xs ys =
       | inl same ↦ inl ((bytes_eq-Decides xs ys).0 same)
       | inr other ↦ inr (is_eq-slice_cmp xs ys ∙ other)
     ]
+
+-- ---- members of a list of numbers
+
+at-cons : (x : ℕ) (xs : List ℕ) (t k : ℕ) → slice_get (x ∷ xs) k ≡ Some t → (x ≡ t) ⊎ Contains xs t
+at-cons x xs t zero at = inl (same_Some x t at)
+at-cons x xs t (suc k) at = inr (Contains-from_at xs k t at)
+
+in-cons : (x : ℕ) (xs : List ℕ) (t : ℕ) → Contains (x ∷ xs) t → (x ≡ t) ⊎ Contains xs t
+in-cons x xs t has = let at = Contains_at (x ∷ xs) t has in at-cons x xs t at.0 at.1
+
+in-none : (t : ℕ) → Contains [] t → ⊥
+in-none t has = let at = Contains_at [] t has in let within = slice_get_within [] at.0 t at.1 in omega (arith, within)
+
+pub contains_cases : (xs : List ℕ) (t : ℕ) → Contains xs t ⊎ (Contains xs t → ⊥)
+contains_cases [] t = inr (in-none t)
+contains_cases (x ∷ xs) t =
+    elim (cases_eq x t) [
+      | inl here ↦ inl (Contains-from_at (x ∷ xs) 0 t (ap Some here))
+      | inr other ↦
+          elim (contains_cases xs t) [
+            | inl later ↦ let at = Contains_at xs t later in inl (Contains-from_at (x ∷ xs) (suc at.0) t at.1)
+            | inr none ↦ inr (λ has. elim (in-cons x xs t has) [ inl here ↦ other here | inr later ↦ none later ])
+          ]
+    ]
+
+-- the only member of a list of one
+pub only-one : (x t : ℕ) → Contains (x ∷ []) t → t ≡ x
+only-one x t has = elim (in-cons x [] t has) [ inl same ↦ sym same | inr none ↦ absurd (in-none t none) ]
+
+pub the-one : (x t : ℕ) → t ≡ x → Contains (x ∷ []) t
+the-one x t is = Contains-from_at (x ∷ []) 0 t (ap Some (sym is))

@@ -1,3 +1,4 @@
+pub mod Circles
 pub mod Clear
 pub mod Elements
 pub mod Orders

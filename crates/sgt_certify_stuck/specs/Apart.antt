@@ -5,8 +5,7 @@ use Rattle.std.specs.BTreeSet.{BTreeSet, contains}
 use Rattle.std.specs.Ordering.{nat_cmp}
 use Rattle.std.specs.Cmp.Lexicographic.{slice_cmp}
 use Rattle.sgt_names.specs.Name.{Name}
-use Rattle.sgt_names.specs.Entry.{tx_of, is_increment, Reads, Writes}
-use Rattle.sgt_names.specs.Log.{Conflicts}
+use Rattle.sgt_names.specs.Entry.{tx_of, is_increment, Clash, Reads, Writes}
 use Rattle.sgt_names.specs.declared.entry.Entry.{Entry}
 use Rattle.sgt_names.specs.declared.entry.Kind.{Kind}
 use Rattle.sgt_cert.specs.Certificate.{stops}
@@ -37,10 +36,11 @@ IsClear entries sources barred first second = (p q : ℕ) (e f : Entry) (x : Nam
     → slice_get entries p ≡ Some e → slice_get entries q ≡ Some f
     → HasTx sources (tx_of e) → HasTx barred (tx_of f) → Does first x e → Does second x f → ⊥
 
--- no conflict leads from one of the first to one of the second
+-- no entry of one of the first stands before one of the second that it clashes with
 abbrev pub AreApart : List Entry → (sources barred : BTreeSet ℕ) → Type 0
-AreApart entries sources barred = (kind : Kind) (x : Name) (a b : ℕ) → Conflicts entries kind x a b
-    → HasTx sources a → HasTx barred b → ⊥
+AreApart entries sources barred = (kind : Kind) (x : Name) (p q : ℕ) (e f : Entry) → p < q
+    → slice_get entries p ≡ Some e → slice_get entries q ≡ Some f
+    → HasTx sources (tx_of e) → HasTx barred (tx_of f) → Clash kind x e f → ⊥
 
 -- no walk of logged conflicts leads from the transaction back to it through these
 abbrev pub HasNoWalk : List SiteLog → List ℕ → ℕ → Type 0

@@ -1,4 +1,5 @@
 pub mod Apart
+pub mod Circles
 pub mod Ends
 pub mod Onward
 pub mod private

@@ -131,14 +131,14 @@ fn is_clear(
     Ok(true)
 }
 
-/// Whether no conflict of the log leads from a source to a barred one.
+/// Whether no entry of a source stands in the log before one of a barred one that it clashes with.
 fn are_apart(
     alloc: Global,
     entries: &[Entry],
     sources: &BTreeSet<Tx>,
     barred: &BTreeSet<Tx>,
 ) -> Result<bool, AllocError>
-    ensures { IfOk result (λ apart. IsTrue apart → AreApart entries.now sources.now barred.now) }
+    ensures { IfOk result (λ apart. IsTrue apart ↔ AreApart entries.now sources.now barred.now) }
 {
     let free_of_reads = is_clear(alloc, entries, sources, barred, READS)?;
     if !free_of_reads {
@@ -155,7 +155,7 @@ fn are_apart(
     is_clear(alloc, entries, sources, barred, PUT_OVER)
 }
 
-/// Whether no conflict of any log leads from a source to a barred one.
+/// Whether none does in any log.
 pub fn are_all_apart(
     alloc: Global,
     sites: &[SiteLog],
@@ -163,8 +163,8 @@ pub fn are_all_apart(
     barred: &BTreeSet<Tx>,
 ) -> Result<bool, AllocError>
     ensures { IfOk result
-        (λ apart. IsTrue apart → (log : Log) → Contains sites.now log
-        → AreApart log.entries sources.now barred.now) }
+        (λ apart. IsTrue apart ↔ ((log : Log) → Contains sites.now log
+        → AreApart log.entries sources.now barred.now)) }
 {
     for log in sites {
         if !are_apart(alloc, log.entries.as_slice(), sources, barred)? {

@@ -1,13 +1,13 @@
 //! Ends of logs against a set of decided transactions.
 
-ghost use Rattle.std.specs.Prelude.{◌≡◌, ◌↔◌, ℕ, ◌<◌, false, IsTrue, IfSome, IfNone, Some, length, slice_get};
+ghost use Rattle.std.specs.Prelude.{◌≡◌, ◌↔◌, ℕ, false, Contains, IsTrue, IfSome, IfNone, length};
 ghost use Rattle.std.specs.BTreeSet.{contains};
 ghost use Rattle.std.specs.Ordering.{nat_cmp};
 ghost use Rattle.sgt_names.specs.declared.entry.Entry.TheVariants.{Commit as Committed, Refuse as Refused};
 ghost use Rattle.sgt_certify_logs.specs.Witness.{EndsBefore, IsIn};
 ghost use Rattle.sgt_certify_stuck.specs.Apart.{HasTx};
 ghost use Rattle.sgt_certify_stuck.specs.Ends.{AllDecided, IsFirstLeft};
-ghost use Rattle.sgt_certify_stuck.specs.private.Ends.{EndsBehind, IsBehind, IsFreeBy, IsNext};
+ghost use Rattle.sgt_certify_stuck.specs.private.Ends.{AreUncommitted, EndsBehind, HasFree, HasNoCommit, IsBehind, IsFreeIn, IsNext, IsNextInAll};
 
 use sgt_cert::SiteLog;
 use sgt_names::{Entry, Tx};
@@ -63,15 +63,51 @@ pub fn waits(sites: &[SiteLog], decided: &BTreeSet<Tx>, tx: Tx) -> bool
     false
 }
 
-/// Whether some log ends a transaction that isn't decided, before which none does.
+/// Whether whoever ends before the transaction is decided.
+fn is_next(sites: &[SiteLog], decided: &BTreeSet<Tx>, tx: Tx) -> bool
+    ensures { IsTrue result ↔ IsNextInAll sites.now decided.now tx }
+{
+    if waits(sites, decided, tx) {
+        return false;
+    }
+    true
+}
+
+/// Whether the first end of this log of those that aren't decided is of one that can be decided next.
+fn is_free_in(sites: &[SiteLog], decided: &BTreeSet<Tx>, log: &SiteLog) -> bool
+    ensures { IsTrue result ↔ IsFreeIn sites.now decided.now log.now }
+{
+    match first_left(log.entries.as_slice(), decided) {
+        Some(left) => is_next(sites, decided, left.1),
+        None => false,
+    }
+}
+
+/// Whether that is so in some log.
 pub fn has_free(sites: &[SiteLog], decided: &BTreeSet<Tx>) -> bool
-    ensures { IsTrue result → IsFreeBy sites.now decided.now }
+    ensures { IsTrue result ↔ HasFree sites.now decided.now }
 {
     for log in sites {
-        if let Some(left) = first_left(log.entries.as_slice(), decided) {
-            if !waits(sites, decided, left.1) {
-                return true;
-            }
+        if is_free_in(sites, decided, log) {
+            return true;
+        }
+    }
+    false
+}
+
+fn has_entry(entries: &[Entry], entry: &Entry) -> bool
+    ensures { IsTrue result ↔ Contains entries.now entry.now }
+{
+    entries.contains(entry)
+}
+
+/// Whether the entry stands in one of the logs.
+fn stands_in(sites: &[SiteLog], entry: &Entry) -> bool
+    ensures { IsTrue result ↔ IsIn sites.now entry.now }
+{
+    for log in sites {
+        if has_entry(log.entries.as_slice(), entry) {
+            return true;
         }
     }
     false
@@ -79,23 +115,14 @@ pub fn has_free(sites: &[SiteLog], decided: &BTreeSet<Tx>) -> bool
 
 /// Whether a log refuses the transaction.
 pub fn is_refused(sites: &[SiteLog], tx: Tx) -> bool
-    ensures { IsTrue result → IsIn sites.now (Refused tx) }
+    ensures { IsTrue result ↔ IsIn sites.now (Refused tx) }
 {
-    let refusal = Entry::Refuse { tx };
-    for log in sites {
-        for entry in log.entries.as_slice() {
-            if *entry == refusal {
-                return true;
-            }
-        }
-    }
-    false
+    stands_in(sites, &Entry::Refuse { tx })
 }
 
 /// Whether no log commits one of these.
 pub fn are_uncommitted(sites: &[SiteLog], others: &BTreeSet<Tx>) -> bool
-    ensures { IsTrue result → (t : ℕ) → IsIn sites.now (Committed t)
-        → contains nat_cmp others.now t ≡ false }
+    ensures { IsTrue result ↔ AreUncommitted sites.now others.now }
 {
     for log in sites {
         if !has_no_commit(log.entries.as_slice(), others) {
@@ -105,15 +132,26 @@ pub fn are_uncommitted(sites: &[SiteLog], others: &BTreeSet<Tx>) -> bool
     true
 }
 
+/// Whether the entry commits none of these.
+fn commits_none(entry: &Entry, others: &BTreeSet<Tx>) -> bool
+    ensures { IsTrue result ↔ ((t : ℕ) → entry.now ≡ Committed t → HasTx others.now t → ⊥) }
+{
+    let Entry::Commit { tx } = entry else {
+        return true;
+    };
+    if others.contains(tx) {
+        return false;
+    }
+    true
+}
+
+/// Whether none of the entries does.
 fn has_no_commit(entries: &[Entry], others: &BTreeSet<Tx>) -> bool
-    ensures { IsTrue result → (k t : ℕ) → slice_get entries.now k ≡ Some (Committed t)
-        → contains nat_cmp others.now t ≡ false }
+    ensures { IsTrue result ↔ HasNoCommit entries.now others.now }
 {
     for entry in entries {
-        if let Entry::Commit { tx } = entry {
-            if others.contains(tx) {
-                return false;
-            }
+        if !commits_none(entry, others) {
+            return false;
         }
     }
     true

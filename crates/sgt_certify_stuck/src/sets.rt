@@ -23,8 +23,11 @@ pub fn set_of(alloc: Global, txs: &[Tx]) -> Result<BTreeSet<Tx>, AllocError>
 
 /// Those of the transactions that the set doesn't have.
 pub fn others_of(alloc: Global, txs: &[Tx], met: &BTreeSet<Tx>) -> Result<BTreeSet<Tx>, AllocError>
-    ensures { IfOk result
+    ensures has { IfOk result
         (λ set. (t : ℕ) → Contains txs.now t → contains nat_cmp met.now t ≡ false → HasTx set t) }
+    ensures only { IfOk result
+        (λ set. (t : ℕ) → HasTx set t
+        → Contains txs.now t × (contains nat_cmp met.now t ≡ false)) }
 {
     let mut set = BTreeSet::new(alloc);
     for tx in txs {

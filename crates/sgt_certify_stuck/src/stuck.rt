@@ -1,8 +1,9 @@
 //! Whether a set of transactions is stuck.
 
-ghost use Rattle.std.specs.Prelude.{◌≡◌, ℕ, ◌++◌, Contains, IsTrue, IfOk, IfSome};
+ghost use Rattle.std.specs.Prelude.{◌≡◌, ◌↔◌, ℕ, ◌++◌, Contains, IsTrue, IfOk};
 ghost use Rattle.sgt_certify_logs.specs.Witness.{IsStuck};
-ghost use Rattle.sgt_certify_stuck.specs.Apart.{HasNoWalk, HasTx};
+ghost use Rattle.sgt_certify_stuck.specs.Apart.{HasTx};
+ghost use Rattle.sgt_certify_stuck.specs.Circles.{HasCircle, IsCircle, ShowsStuck};
 ghost use Rattle.sgt_certify_stuck.specs.private.Ends.{AreShown, IsLogShown, IsShown};
 
 use crate::apart::are_all_apart;
@@ -28,18 +29,17 @@ pub struct StuckSet {
     pub circles: Vec<Circle>,
 }
 
-/// Whether no walk of conflicts leads from the transaction back to it through these. Those that were met show it.
-fn has_no_walk(
+/// Whether no conflict leads out of the circle to one of these, nor back to its transaction.
+fn is_circle(
     alloc: Global,
     sites: &[SiteLog],
     committed: &[Tx],
-    tx: Tx,
-    met: &[Tx],
+    circle: &Circle,
 ) -> Result<bool, AllocError>
-    ensures { IfOk result (λ none. IsTrue none → HasNoWalk sites.now committed.now tx) }
+    ensures { IfOk result (λ is. IsTrue is ↔ IsCircle sites.now committed.now circle.now) }
 {
-    let own = set_of(alloc, &[tx])?;
-    let met = set_of(alloc, met)?;
+    let own = set_of(alloc, &[circle.tx])?;
+    let met = set_of(alloc, circle.met.as_slice())?;
     let beyond = others_of(alloc, committed, &met)?;
     let first = are_all_apart(alloc, sites, &own, &beyond)?;
     if !first {
@@ -52,40 +52,45 @@ fn has_no_walk(
     are_all_apart(alloc, sites, &met, &own)
 }
 
-/// The circle of the transaction, if there is one.
-fn circle_of(circles: &[Circle], tx: Tx) -> Option<&Circle>
-    ensures { IfSome result (λ circle. circle.now.tx ≡ tx) }
+/// Whether the circle is the transaction's, and is one.
+fn encircles(
+    alloc: Global,
+    sites: &[SiteLog],
+    committed: &[Tx],
+    circle: &Circle,
+    tx: Tx,
+) -> Result<bool, AllocError>
+    ensures { IfOk result
+        (λ is. IsTrue is
+        ↔ (circle.now.tx ≡ tx) × IsCircle sites.now committed.now circle.now) }
 {
-    for circle in circles {
-        if circle.tx == tx {
-            return Some(circle);
-        }
+    if circle.tx != tx {
+        return Ok(false);
     }
-    None
+    is_circle(alloc, sites, committed, circle)
 }
 
-/// Whether the circle of the transaction shows that no walk leads from it back to it through committed ones of the set.
+/// Whether one of the circles is the transaction's.
 fn has_circle(
     alloc: Global,
     sites: &[SiteLog],
-    stuck: &StuckSet,
+    committed: &[Tx],
+    circles: &[Circle],
     tx: Tx,
 ) -> Result<bool, AllocError>
-    ensures { IfOk result (λ none. IsTrue none → HasNoWalk sites.now stuck.now.committed.items tx) }
+    ensures { IfOk result
+        (λ has. IsTrue has ↔ HasCircle sites.now committed.now circles.now tx) }
 {
-    match circle_of(stuck.circles.as_slice(), tx) {
-        Some(circle) => has_no_walk(
-            alloc,
-            sites,
-            stuck.committed.as_slice(),
-            tx,
-            circle.met.as_slice(),
-        ),
-        None => Ok(false),
+    for circle in circles {
+        let encircled = encircles(alloc, sites, committed, circle, tx)?;
+        if encircled {
+            return Ok(true);
+        }
     }
+    Ok(false)
 }
 
-/// Whether the transaction can't be decided next, or is refused and no walk leads from it back to it.
+/// Whether the transaction can't be decided next, or is refused and has a circle.
 fn is_shown(
     alloc: Global,
     sites: &[SiteLog],
@@ -94,7 +99,7 @@ fn is_shown(
     tx: Tx,
 ) -> Result<bool, AllocError>
     ensures { IfOk result
-        (λ shown. IsTrue shown → IsShown sites.now decided.now stuck.now.committed.items tx) }
+        (λ shown. IsTrue shown ↔ IsShown sites.now stuck.now decided.now tx) }
 {
     if waits(sites, decided, tx) {
         return Ok(true);
@@ -102,7 +107,9 @@ fn is_shown(
     if !is_refused(sites, tx) {
         return Ok(false);
     }
-    has_circle(alloc, sites, stuck, tx)
+    let committed = stuck.committed.as_slice();
+    let circles = stuck.circles.as_slice();
+    has_circle(alloc, sites, committed, circles, tx)
 }
 
 /// Whether that is so of whoever ends first in this log of those that aren't decided.
@@ -114,8 +121,7 @@ fn is_log_shown(
     log: &SiteLog,
 ) -> Result<bool, AllocError>
     ensures { IfOk result
-        (λ shown. IsTrue shown
-        → IsLogShown sites.now decided.now stuck.now.committed.items log.now) }
+        (λ shown. IsTrue shown ↔ IsLogShown sites.now stuck.now decided.now log.now) }
 {
     match first_left(log.entries.as_slice(), decided) {
         Some(left) => is_shown(alloc, sites, stuck, decided, left.1),
@@ -130,8 +136,7 @@ fn are_shown(
     stuck: &StuckSet,
     decided: &BTreeSet<Tx>,
 ) -> Result<bool, AllocError>
-    ensures { IfOk result
-        (λ shown. IsTrue shown → AreShown sites.now decided.now stuck.now.committed.items) }
+    ensures { IfOk result (λ shown. IsTrue shown ↔ AreShown sites.now stuck.now decided.now) }
 {
     for log in sites {
         let shown = is_log_shown(alloc, sites, stuck, decided, log)?;
@@ -156,10 +161,11 @@ fn decided_of(alloc: Global, stuck: &StuckSet) -> Result<BTreeSet<Tx>, AllocErro
     set_of(alloc, all.as_slice())
 }
 
-/// Whether the set is stuck in these logs: some transaction can be decided next, and each that can is refused and lies on no cycle of
-/// conflicts through committed ones of the set. The circles show it. Err: memory ran out.
+/// Whether the set is stuck in these logs, and its circles show it: some transaction can be decided next, and each that can is refused
+/// and has a circle. Such a one lies on no cycle of conflicts through committed ones of the set. Err: memory ran out.
 pub fn is_stuck(alloc: Global, sites: &[SiteLog], stuck: &StuckSet) -> Result<bool, AllocError>
-    ensures { IfOk result
+    ensures exact { IfOk result (λ is. IsTrue is ↔ ShowsStuck sites.now stuck.now) }
+    ensures stuck { IfOk result
         (λ is. IsTrue is
         → IsStuck sites.now (stuck.now.committed.items ++ stuck.now.others.items)) }
 {

@@ -1,11 +1,7 @@
-use Rattle.std.proofs.Common.{◌≡◌, ℕ, ◌<◌, false, Some}
-use Rattle.std.specs.Prelude.{slice_get}
-use Rattle.std.specs.BTreeSet.{contains}
-use Rattle.std.specs.Ordering.{nat_cmp}
-use Rattle.sgt_names.specs.declared.entry.Entry.TheVariants.{Commit}
+use Rattle.std.proofs.Common.{take, All}
 use Rattle.sgt_cert.specs.declared.bundle.SiteLog.{SiteLog}
+use Rattle.sgt_certify_stuck.specs.private.Ends.{HasNoCommit}
 use Rattle.sgt_certify_stuck.proofs.ends.are_uncommitted.Given as goal
 
 abbrev pub invariant-loop-log : goal.invariant-loop-log
-invariant-loop-log l = (i : ℕ) (log : SiteLog) → i < l.log-index → slice_get l.sites i ≡ Some log
-    → (k t : ℕ) → slice_get log.entries k ≡ Some (Commit t) → contains nat_cmp l.others t ≡ false
+invariant-loop-log l = All (λ (log : SiteLog). HasNoCommit log.entries l.others) (take l.log-index l.sites)

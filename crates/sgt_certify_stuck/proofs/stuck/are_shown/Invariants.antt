@@ -1,9 +1,6 @@
-use Rattle.std.proofs.Common.{◌≡◌, ℕ, ◌<◌, Some}
-use Rattle.std.specs.Prelude.{slice_get}
-use Rattle.sgt_cert.specs.declared.bundle.SiteLog.{SiteLog}
+use Rattle.std.proofs.Common.{take, All}
 use Rattle.sgt_certify_stuck.specs.private.Ends.{IsLogShown}
 use Rattle.sgt_certify_stuck.proofs.stuck.are_shown.Given as goal
 
 abbrev pub invariant-loop-log : goal.invariant-loop-log
-invariant-loop-log l = (k : ℕ) (log : SiteLog) → k < l.log-index → slice_get l.sites k ≡ Some log
-    → IsLogShown l.sites l.decided l.stuck.committed.items log
+invariant-loop-log l = All (IsLogShown l.sites l.stuck l.decided) (take l.log-index l.sites)
