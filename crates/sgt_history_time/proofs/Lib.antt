@@ -1,0 +1,4 @@
+pub mod Replicated
+pub mod InTime
+pub mod InSessions
+pub mod Forward

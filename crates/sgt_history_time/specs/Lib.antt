@@ -1,0 +1,4 @@
+pub mod Kept
+pub mod Checks
+pub mod Serializable
+pub mod Steps
