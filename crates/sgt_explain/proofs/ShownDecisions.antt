@@ -8,6 +8,7 @@ use Rattle.sgt_notation.specs.declared.SectionLine.{SectionLine}
 use Rattle.sgt_notation.specs.declared.SectionLine.TheVariants.{Logged}
 use Rattle.sgt_cert.specs.Text.{certificate_text, format_line, IsCertificate}
 use Rattle.sgt_cert.specs.declared.certificate.Certificate.{Certificate}
+use Rattle.sgt_cert.specs.Certificate.{IsDecidedOnce}
 use Rattle.sgt_cert.specs.declared.certificate.Decision.{Decision}
 use Rattle.sgt_cert.proofs.OneText.{format-one_line, line_front}
 use Rattle.sgt_audit.specs.declared.faults.Fault.{Fault}
@@ -89,6 +90,22 @@ module _ (bytes : List ℕ) (n : ℕ) where
 
   pub walk-held : (first : FirstFault bytes n fault.WalkShape) → (c : Certificate) → IsCertificate c → bytes_of first.next ≡ certificate_text c → HoldsCertificate bytes c
   walk-held first = walk-headed bytes first.rest first.stage first.next first.comes first.text first.breaks.broken
+
+-- the certificate that was read keeps no more than the line
+twice-kept : (stage : Stage) (next : Piece) (d : Certificate) → ((c : Certificate) → IsCertificate c → bytes_of next ≡ certificate_text c → d ≡ c) → IsDecidedOnce d.decisions
+    → Rule stage next fault.DecidedTwice
+twice-kept start (whole l) d one once = tt
+twice-kept start (last l) d one once = tt
+twice-kept (headed second) (whole l) d one once = λ c is e. subst (λ (k : Certificate). IsDecidedOnce k.decisions) (one c is e) once
+twice-kept (headed second) (last l) d one once = tt
+twice-kept (within second c before) (whole l) d one once = λ m is e. tt
+twice-kept (within second c before) (last l) d one once = tt
+twice-kept (complete second c before) (whole l) d one once = tt
+twice-kept (complete second c before) (last l) d one once = tt
+
+pub twice-broken : (bytes : List ℕ) (n : ℕ) (first : FirstFault bytes n fault.DecidedTwice) (d : Certificate) → Reads bytes (Some d) → IsDecidedOnce d.decisions → ⊥
+twice-broken bytes n first d reads once =
+    first.breaks.broken (twice-kept first.stage first.next d (λ c is e. same_Some d c (read-held bytes (Some d) c reads (twice-held bytes n first c is e))) once)
 
 -- what is told of the certificate that was read
 pub tells-read_certificate : {T E : Type 0} (r : Result T E) (bytes line : List ℕ) (d : Certificate) (P : List Decision → Type 0) → Reads bytes (Some d)

@@ -1,21 +1,23 @@
 -- The decisions up to one more, each with its number; and those on one transaction.
-use Rattle.std.proofs.Common.{◌≡◌, ◌≢◌, ℕ, zero, suc, ◌+◌, ◌<◌, ◌≤◌, true, false, List, [], ◌∷◌, ◌++◌, length, map, take, Option, Some, None, inl, inr, refl, sym, ap, ◌∙◌, subst, arith, All, Contains}
-use Rattle.std.specs.Prelude.{slice_get, IsPermutation, IfNone}
+use Rattle.std.proofs.Common.{◌≡◌, ◌≢◌, ℕ, zero, suc, ◌+◌, ◌-◌, ◌<◌, ◌≤◌, true, false, List, [], ◌∷◌, ◌++◌, length, map, take, Option, Some, None, inl, inr, refl, sym, ap, ◌∙◌, subst, arith, All, Contains}
+use Rattle.std.specs.Prelude.{slice_get, get_or, IsPermutation, IfNone, IfSome}
 use Rattle.std.specs.List.{enumerate_from}
-use Rattle.std.specs.List.Sorted.{IsNonDecreasingBy, IsPartitionPoint}
+use Rattle.std.specs.List.Sorted.{IsNonDecreasingBy, IsPartitionPoint, IsSortedByKey, IsStableByKey}
+use Rattle.std.specs.Ordering.{nat_cmp, is_lt}
+use Rattle.std.specs.Cmp.{nat_cmp_is}
+use Rattle.std.specs.declared.cmp.Ordering.TheVariants.{Equal, Greater}
 use Rattle.std.proofs.Math.Dec.{ltb}
-use Rattle.std.proofs.lemmas.Bool.{ltb-true, ltb-false, cases_order}
+use Rattle.std.proofs.lemmas.Bool.{ltb-true, ltb-false, cases_order, cases_lt}
 use Rattle.std.proofs.lemmas.List.{length-take-le, map-append}
-use Rattle.std.proofs.lemmas.List.Sorted.{Contains-permutation, IsPermutation-sym}
+use Rattle.std.proofs.lemmas.List.Sorted.{Contains-permutation, IsPermutation-sym, ties_still_rise}
 use Rattle.std.proofs.lemmas.Option.{same_Some, none-some, slice_get_within, get_or_from_slice_get}
 use Rattle.sgt_names.proofs.Lists.{take_next, within_at, All_in}
-use Rattle.sgt_names.proofs.Places.{All-from_at, AllPairs_at, Contains_at, Contains-from_at}
+use Rattle.sgt_names.proofs.Places.{All-from_at, AllPairs_at, Contains_at, Contains-from_at, slice_get-take}
 use Rattle.sgt_cert.specs.Certificate.{decided_tx, IsCommitted, IsDecidedOnce, rank_in}
 use Rattle.sgt_cert.specs.declared.certificate.Decision.{Decision}
 use Rattle.sgt_cert.specs.declared.certificate.Decision.TheVariants.{Commit, Refuse, Withdraw}
 use Rattle.sgt_explain_decisions.specs.declared.placed.Placed.{Placed}
-use Rattle.sgt_explain_decisions.specs.Placed.{placed_of, all_placed, ArePlaced, StandBefore, IsDecisionOn, IsUndecided, IsUncommitted}
-use Rattle.sgt_explain_decisions.specs.Twice.{AreOfOne, IsTwice}
+use Rattle.sgt_explain_decisions.specs.Placed.{placed_of, all_placed, TiesRise, ArePlaced, StandBefore, IsDecisionOn, IsFirstOn, IsUndecided, IsUncommitted}
 
 numbers-append : (n : ℕ) (xs ys : List Decision) → enumerate_from n (xs ++ ys) ≡ enumerate_from n xs ++ enumerate_from (n + length xs) ys
 numbers-append n [] ys = ap (λ k. enumerate_from k ys) (omega arith)
@@ -50,13 +52,6 @@ placed-is ds ps p moved has =
     let found = placed-at 0 ds at.0 p at.1 in
     let e : 0 + found.0 ≡ found.0 = omega arith in
     (found.1, subst (λ n. slice_get ds n ≡ Some found.1) (sym (found.2 ∙ e)) found.3, found.4)
-
-pub twice-is : (ds : List Decision) (ps placed : List Placed) (one other : Placed) → IsPermutation (all_placed ds) ps → placed ≡ ps → Contains placed one → Contains placed other
-    → AreOfOne one other → IsTwice ds one.number other.number
-twice-is ds ps placed one other moved same has has' of-one =
-    let p = placed-is ds ps one moved (subst (λ xs. Contains xs one) same has) in
-    let q = placed-is ds ps other moved (subst (λ xs. Contains xs other) same has') in
-    record { one = p.0; other = q.0; first = p.1; second = q.1; apart = of-one.apart; same = p.2 ∙ of-one.same ∙ sym q.2 }
 
 -- a decision stands among all with its number
 placed-from : (k : ℕ) (ds : List Decision) (n : ℕ) (d : Decision) → slice_get ds n ≡ Some d → Contains (map placed_of (enumerate_from k ds)) (placed_of (k + n, d))
@@ -96,6 +91,94 @@ none-placed ps tx at rising stand first = All-from_at (λ (p : Placed). p.tx ≢
           let b = ap (λ (q : Placed). q.tx) (get_or_from_slice_get ps n p one.0 is) in
           first one.0 one.1 (omega (arith, far, rises, a, b, same)))
     ])
+
+-- ---- by their numbers
+
+pub le-not_less : (a b : ℕ) → a ≤ b → is_lt (nat_cmp b a) ≡ false
+le-not_less a b le =
+    elim (cases_order b a) [
+      | inl same ↦ sym (ap is_lt (nat_cmp_is b a Equal same))
+      | inr (inl less) ↦ absurd (omega (arith, le, less))
+      | inr (inr more) ↦ sym (ap is_lt (nat_cmp_is b a Greater more))
+    ]
+
+-- all decisions stand by their numbers
+pub numbers-rise : (ds : List Decision) → IsSortedByKey (λ (p : Placed). p.number) nat_cmp (all_placed ds)
+numbers-rise ds k d low less =
+    let all = all_placed ds in
+    let one = within_at all k (omega (arith, less)) in
+    let other = within_at all (k + 1) less in
+    let a = number-at ds k one.0 one.1 in
+    let b = number-at ds (k + 1) other.0 other.1 in
+    let p = ap (λ (q : Placed). q.number) (get_or_from_slice_get all k one.0 d one.1) in
+    let q = ap (λ (q : Placed). q.number) (get_or_from_slice_get all (k + 1) other.0 d other.1) in
+    le-not_less (get_or all k d).number (get_or all (k + 1) d).number (omega (arith, a, b, p, q))
+  where
+    number-from : (n : ℕ) (es : List Decision) (m : ℕ) (p : Placed) → slice_get (map placed_of (enumerate_from n es)) m ≡ Some p → p.number ≡ n + m
+    number-from n [] m p at = absurd (none-some p at)
+    number-from n (e ∷ es) zero p at = ap (λ (q : Placed). q.number) (sym (same_Some (placed_of (n, e)) p at)) ∙ (let e : n ≡ n + 0 = omega arith in e)
+    number-from n (e ∷ es) (suc m) p at = number-from (n + 1) es m p at ∙ (let e : n + 1 + m ≡ n + suc m = omega arith in e)
+
+    number-at : (es : List Decision) (m : ℕ) (p : Placed) → slice_get (all_placed es) m ≡ Some p → p.number ≡ m
+    number-at es m p at = number-from 0 es m p at ∙ (let e : 0 + m ≡ m = omega arith in e)
+
+-- a stable sort by transaction leaves those of one transaction by their numbers
+pub ties-rise : (ds : List Decision) (ps : List Placed) → IsStableByKey (λ (p : Placed). p.tx) nat_cmp (all_placed ds) ps → TiesRise ps
+ties-rise ds ps stable k p q at at' same =
+    let a = get_or_from_slice_get ps k p p at in
+    let b = get_or_from_slice_get ps (k + 1) q p at' in
+    let tie = ap (λ (r : Placed). r.tx) a ∙ same ∙ sym (ap (λ (r : Placed). r.tx) b) in
+    let rise = ties_still_rise (λ (r : Placed). r.number) (λ (r : Placed). r.tx) (all_placed ds) ps (numbers-rise ds) stable k p (slice_get_within ps (k + 1) q at') tie in
+    let m = ap (λ (r : Placed). r.number) a in
+    let n = ap (λ (r : Placed). r.number) b in
+    omega (arith, rise, m, n)
+
+tx-between : (ps : List Placed) (i j : ℕ) (p q : Placed) → IsNonDecreasingBy (λ p. p.tx) ps → i ≤ j → slice_get ps i ≡ Some p → slice_get ps j ≡ Some q → p.tx ≤ q.tx
+tx-between ps i j p q rising le at at' =
+    let rises = rising i j p le (slice_get_within ps j q at') in
+    let a = ap (λ (r : Placed). r.tx) (get_or_from_slice_get ps i p p at) in
+    let b = ap (λ (r : Placed). r.tx) (get_or_from_slice_get ps j q p at') in
+    omega (arith, rises, a, b)
+
+ties-far : (ps : List Placed) → IsNonDecreasingBy (λ p. p.tx) ps → TiesRise ps → (i k : ℕ) (p q : Placed) → slice_get ps i ≡ Some p → slice_get ps (i + k) ≡ Some q
+    → p.tx ≡ q.tx → p.number ≤ q.number
+ties-far ps rising ties i zero p q at at' same =
+    let here : i + 0 ≡ i = omega arith in
+    let one = ap (λ (r : Placed). r.number) (same_Some p q (sym at ∙ ap (slice_get ps) (sym here) ∙ at')) in
+    omega (arith, one)
+ties-far ps rising ties i (suc k) p q at at' same =
+    let next : i + suc k ≡ i + k + 1 = omega arith in
+    let there = sym (ap (slice_get ps) next) ∙ at' in
+    let r = within_at ps (i + k) (omega (arith, next, slice_get_within ps (i + suc k) q at')) in
+    let low = tx-between ps i (i + k) p r.0 rising (omega arith) at r.1 in
+    let high = tx-between ps (i + k) (i + k + 1) r.0 q rising (omega arith) r.1 there in
+    let far = ties-far ps rising ties i k p r.0 at r.1 (omega (arith, low, high, same)) in
+    let near = ties (i + k) r.0 q r.1 there (omega (arith, low, high, same)) in
+    omega (arith, far, near)
+
+-- what stands first of a transaction is the first decision on it
+pub first-on : (ds : List Decision) (ps : List Placed) (tx at n : ℕ) → ArePlaced ds ps → StandBefore ps tx at → slice_get ps at ≡ Some (record { tx = tx; number = n })
+    → IsFirstOn ds tx n
+first-on ds ps tx at n placed stand there =
+    let own : Placed = record { tx = tx; number = n } in
+    let d = placed-is ds ps own placed.all (Contains-from_at ps at own there) in
+    record {
+      decision = d.0;
+      on = record { there = d.1; on = d.2 };
+      before = All-from_at (λ (e : Decision). decided_tx e ≢ tx) (take n ds) (λ m e is same.
+          let inside = slice_get-take ds n m e is in
+          let other : Placed = record { tx = tx; number = m } in
+          let has = Contains-permutation (all_placed ds) ps (placed_of (0 + m, e)) placed.all (placed-from 0 ds m e inside.1) in
+          let e' : 0 + m ≡ m = omega arith in
+          let has' : Contains ps other = subst (λ t. Contains ps (record { tx = t; number = m })) same (subst (λ k. Contains ps (record { tx = decided_tx e; number = k })) e' has) in
+          let k = Contains_at ps other has' in
+          elim (cases_lt k.0 at) [
+            | inl less ↦ (let below = stand.before k.0 other less k.1 in absurd (omega (arith, below)))
+            | inr more ↦ (let gap : at + (k.0 - at) ≡ k.0 = omega (arith, more) in
+                let rise = ties-far ps placed.rising placed.ties at (k.0 - at) own other there (ap (slice_get ps) gap ∙ k.1) refl in
+                omega (arith, rise, inside.0))
+          ]);
+    }
 
 -- ---- the decision on a transaction
 
@@ -138,6 +221,10 @@ one-rank ds tx m n r s once one other =
 pub on-none : {A : Type 0} (o : Option A) (P Q : Type 0) → (P → Q) → IfNone o P → IfNone o Q
 on-none (Some a) P Q f p = p
 on-none None P Q f p = f p
+
+pub on-some : {A : Type 0} (o : Option A) (P Q : A → Type 0) → ((a : A) → P a → Q a) → IfSome o P → IfSome o Q
+on-some (Some a) P Q f p = f a p
+on-some None P Q f p = tt
 
 pub if-none : {A : Type 0} (o : Option A) (P : Type 0) → P → IfNone o P
 if-none (Some a) P p = tt

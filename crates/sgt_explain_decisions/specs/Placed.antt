@@ -1,5 +1,5 @@
 -- The decisions, each with its number, and those on one transaction.
-use Rattle.std.specs.Prelude.{◌≡◌, ◌≢◌, ℕ, ◌<◌, ◌≤◌, List, All, IsPermutation, map, Some, slice_get}
+use Rattle.std.specs.Prelude.{◌≡◌, ◌≢◌, ℕ, ◌+◌, ◌<◌, ◌≤◌, List, All, IsPermutation, map, take, Some, slice_get}
 use Rattle.std.specs.List.{enumerate_from}
 use Rattle.std.specs.List.Sorted.{IsNonDecreasingBy}
 use Rattle.sgt_cert.specs.Certificate.{decided_tx, IsCommitted}
@@ -12,10 +12,15 @@ placed_of (n, d) = record { tx = decided_tx d; number = n }
 abbrev pub all_placed : List Decision → List Placed
 all_placed decisions = map placed_of (enumerate_from 0 decisions)
 
--- these are all decisions, each once with its number, by their transactions
+-- neighbours of one transaction stand by their numbers
+abbrev pub TiesRise : List Placed → Type 0
+TiesRise placed = (k : ℕ) (p q : Placed) → slice_get placed k ≡ Some p → slice_get placed (k + 1) ≡ Some q → p.tx ≡ q.tx → p.number ≤ q.number
+
+-- these are all decisions, each once with its number, by their transactions, and those of one transaction by their numbers
 pub record ArePlaced (decisions : List Decision) (placed : List Placed) : Type 0 where
   pub all : IsPermutation (all_placed decisions) placed
   pub rising : IsNonDecreasingBy (λ p. p.tx) placed
+  pub ties : TiesRise placed
 
 -- so many stand before those of the transaction, whose places are behind them
 pub record StandBefore (placed : List Placed) (tx count : ℕ) : Type 0 where
@@ -30,6 +35,12 @@ pub record IsDecisionOn (decisions : List Decision) (tx number : ℕ) (decision 
 -- no decision is on the transaction
 abbrev pub IsUndecided : List Decision → ℕ → Type 0
 IsUndecided decisions tx = All (λ d. decided_tx d ≢ tx) decisions
+
+-- the decision of this number is the first on the transaction
+pub record IsFirstOn (decisions : List Decision) (tx number : ℕ) : Type 0 where
+  pub decision : Decision
+  pub on : IsDecisionOn decisions tx number decision
+  pub before : IsUndecided (take number decisions) tx
 
 -- no decision commits it
 abbrev pub IsUncommitted : List Decision → ℕ → Type 0

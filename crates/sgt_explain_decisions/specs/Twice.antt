@@ -1,14 +1,8 @@
 -- What is said of two decisions on one transaction.
-use Rattle.std.specs.Prelude.{◌≡◌, ℕ, ◌<◌, ◌⊎◌, List, ◌++◌, slice_get, codes, Some}
-use Rattle.sgt_cert.specs.Certificate.{decided_tx}
+use Rattle.std.specs.Prelude.{◌≡◌, ℕ, ◌<◌, List, ◌++◌, take, slice_get, codes, Some}
+use Rattle.sgt_cert.specs.Certificate.{decided_tx, IsDecidedOnce}
 use Rattle.sgt_cert.specs.declared.certificate.Decision.{Decision}
-use Rattle.sgt_explain_decisions.specs.declared.placed.Placed.{Placed}
 use Rattle.sgt_explain_decisions.specs.Told.{decision_text}
-
--- two numbers that are placed by one transaction
-pub record AreOfOne (one other : Placed) : Type 0 where
-  pub same : one.tx ≡ other.tx
-  pub apart : one.number < other.number
 
 -- two decisions of these numbers are on one transaction
 pub record IsTwice (decisions : List Decision) (m n : ℕ) : Type 0 where
@@ -28,7 +22,12 @@ twice_text m n one other = decision_line m one ++ decision_line n other
 abbrev pub decided_twice_head : List ℕ
 decided_twice_head = codes "DecidedTwice: a transaction has one decision\n"
 
--- behind the rule stand two decisions on one transaction, where any were found
+-- the second is the first decision on a transaction that was decided before
+pub record IsFirstTwice (decisions : List Decision) (m n : ℕ) : Type 0 where
+  pub two : IsTwice decisions m n
+  pub before : IsDecidedOnce (take n decisions)
+
+-- behind the rule stand two decisions on one transaction
 abbrev pub TellsTwice : List Decision → (old new : List ℕ) → Type 0
-TellsTwice decisions old new = (new ≡ old ++ decided_twice_head) ⊎ ((m n : ℕ) × (two : IsTwice decisions m n)
-    × (new ≡ old ++ (decided_twice_head ++ twice_text m n two.one two.other)))
+TellsTwice decisions old new = (m n : ℕ) × (first : IsFirstTwice decisions m n)
+    × (new ≡ old ++ (decided_twice_head ++ twice_text m n first.two.one first.two.other))

@@ -1,10 +1,10 @@
 //! Which decision is on a transaction.
 
-ghost use Rattle.std.specs.Prelude.{◌≡◌, ◌≢◌, Some, IfOk, IfSome, IfNone, All, Contains, slice_get};
+ghost use Rattle.std.specs.Prelude.{◌≡◌, ◌≢◌, List, Some, IfOk, IfSome, IfNone, All, Contains, slice_get};
 ghost use Rattle.std.specs.List.Sorted.{IsNonDecreasingBy};
 ghost use Rattle.sgt_cert.specs.Certificate.{decided_tx, IsCommitted, IsDecidedOnce};
 ghost use Rattle.sgt_cert.specs.declared.certificate.Decision.{Decision};
-ghost use Rattle.sgt_explain_decisions.specs.Placed.{ArePlaced, StandBefore, IsDecisionOn, IsUndecided, IsUncommitted};
+ghost use Rattle.sgt_explain_decisions.specs.Placed.{ArePlaced, StandBefore, IsDecisionOn, IsFirstOn, IsUndecided, IsUncommitted};
 
 use sgt_cert::Decision;
 use sgt_names::Tx;
@@ -43,6 +43,8 @@ fn count_before(placed: &[Placed], tx: Tx) -> usize
 
 /// The number at this place, if it is the transaction's.
 fn number_at(placed: &[Placed], at: usize, tx: Tx) -> Option<usize>
+    ensures there { IfSome result
+        (λ n. slice_get placed.now at ≡ Some (record { tx = tx; number = n })) }
     ensures some { IfSome result (λ n. Contains placed.now (record { tx = tx; number = n })) }
     ensures none { IfNone result ((p : Placed) → slice_get placed.now at ≡ Some p → p.tx ≢ tx) }
 {
@@ -55,6 +57,10 @@ fn number_at(placed: &[Placed], at: usize, tx: Tx) -> Option<usize>
 /// The number of the first decision on the transaction, where these are sorted by transaction.
 pub fn number_on(placed: &[Placed], tx: Tx) -> Option<usize>
     ensures some { IfSome result (λ n. Contains placed.now (record { tx = tx; number = n })) }
+    ensures first { (decisions : List Decision) → ArePlaced decisions placed.now
+        → IfSome result (IsFirstOn decisions tx) }
+    ensures undecided { (decisions : List Decision) → ArePlaced decisions placed.now
+        → IfNone result (IsUndecided decisions tx) }
     ensures none { IsNonDecreasingBy (λ p. p.tx) placed.now
         → IfNone result (All (λ p. p.tx ≢ tx) placed.now) }
 {
@@ -63,6 +69,7 @@ pub fn number_on(placed: &[Placed], tx: Tx) -> Option<usize>
 
 /// The decision of this number, if it is on the transaction.
 fn numbered_on(decisions: &[Decision], number: usize, tx: Tx) -> Option<(usize, &Decision)>
+    ensures same { IfSome result (λ d. d.0 ≡ number) }
     ensures some { IfSome result (λ d. IsDecisionOn decisions.now tx d.0 d.1.now) }
     ensures none { IfNone result ((d : Decision) → slice_get decisions.now number ≡ Some d
         → decided_tx d ≢ tx) }
@@ -73,13 +80,15 @@ fn numbered_on(decisions: &[Decision], number: usize, tx: Tx) -> Option<(usize, 
     }
 }
 
-/// The decision on the transaction, with its number.
+/// The first decision on the transaction, with its number.
 pub fn decision_on<'a>(
     decisions: &'a [Decision],
     placed: &[Placed],
     tx: Tx,
 ) -> Option<(usize, &'a Decision)>
     ensures some { IfSome result (λ d. IsDecisionOn decisions.now tx d.0 d.1.now) }
+    ensures first { ArePlaced decisions.now placed.now
+        → IfSome result (λ d. IsFirstOn decisions.now tx d.0) }
     ensures none { ArePlaced decisions.now placed.now
         → IfNone result (IsUndecided decisions.now tx) }
 {

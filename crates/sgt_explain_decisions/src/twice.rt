@@ -1,52 +1,46 @@
 //! What is said of a transaction that is decided twice.
 
-ghost use Rattle.std.specs.Prelude.{◌≡◌, ◌⊎◌, ◌++◌, IfOk, IfSome, OnOk, Some, Contains, slice_get, string_bytes};
+ghost use Rattle.std.specs.Prelude.{◌≡◌, ◌++◌, ◌<◌, List, Some, IfSome, IfNone, OnOk, slice_get, string_bytes, take};
+ghost use Rattle.sgt_cert.specs.Certificate.{IsDecidedOnce};
 ghost use Rattle.sgt_cert.specs.declared.certificate.Decision.{Decision};
-ghost use Rattle.sgt_explain_decisions.specs.Twice.{AreOfOne, IsTwice, decision_line, twice_text, TellsTwice};
+ghost use Rattle.sgt_explain_decisions.specs.Placed.{ArePlaced, IsFirstOn, IsUndecided};
+ghost use Rattle.sgt_explain_decisions.specs.Twice.{IsTwice, IsFirstTwice, decided_twice_head, decision_line, twice_text, TellsTwice};
 
-use crate::placed::{Placed, placed_in};
+use crate::placed::{Placed, number_on, placed_in};
 use crate::words::push_decision;
 use sgt_cert::Decision;
+use sgt_names::Tx;
 use std::alloc::{AllocError, Global};
 
-/// Whichever pair has the smaller second number.
-fn earlier_of(found: Option<(Placed, Placed)>, one: Placed, other: Placed) -> (Placed, Placed)
-    ensures { (result ≡ (one, other)) ⊎ (found ≡ Some result) }
+/// The number of the first decision on the transaction, if that is before the decision of this number.
+fn earlier_on(placed: &[Placed], tx: Tx, number: usize) -> Option<usize>
+    ensures some { (decisions : List Decision) → ArePlaced decisions placed.now
+        → IfSome result (λ first. (first < number) × IsFirstOn decisions tx first) }
+    ensures none { (decisions : List Decision) → ArePlaced decisions placed.now
+        → IfNone result (IsUndecided (take number decisions) tx) }
 {
-    match found {
-        Some(before) if before.1.number <= other.number => before,
-        _ => (one, other),
+    let Some(first) = number_on(placed, tx) else {
+        return None;
+    };
+    if first < number {
+        return Some(first);
     }
-}
-
-/// Two of one transaction, the second the least that there is.
-fn placed_twice(placed: &[Placed]) -> Option<(Placed, Placed)>
-    ensures { IfSome result (λ two. Contains placed.now two.0 × Contains placed.now two.1
-        × AreOfOne two.0 two.1) }
-{
-    let mut before: Option<Placed> = None;
-    let mut found: Option<(Placed, Placed)> = None;
-    for one in placed {
-        match before {
-            Some(first) if first.tx == one.tx && first.number < one.number => {
-                found = Some(earlier_of(found, first, *one));
-            }
-            _ => {}
-        }
-        before = Some(*one);
-    }
-    found
+    None
 }
 
 /// The numbers of two decisions on one transaction, the second the least that there is.
-fn twice_in(alloc: Global, decisions: &[Decision]) -> Result<Option<(usize, usize)>, AllocError>
-    ensures { IfOk result (λ found. IfSome found (λ two. IsTwice decisions.now two.0 two.1)) }
+fn twice_in(decisions: &[Decision], placed: &[Placed]) -> Option<(usize, usize)>
+    ensures some { ArePlaced decisions.now placed.now
+        → IfSome result (λ two. IsFirstTwice decisions.now two.0 two.1) }
+    ensures none { ArePlaced decisions.now placed.now
+        → IfNone result (IsDecidedOnce decisions.now) }
 {
-    let placed = placed_in(alloc, decisions)?;
-    match placed_twice(placed.as_slice()) {
-        Some((one, other)) => Ok(Some((one.number, other.number))),
-        None => Ok(None),
+    for (number, decision) in decisions.iter().enumerate() {
+        if let Some(first) = earlier_on(placed, decision.tx(), number) {
+            return Some((first, number));
+        }
     }
+    None
 }
 
 /// A decision, as a line.
@@ -88,11 +82,14 @@ pub fn push_decided_twice(
     out: &mut String,
     decisions: &[Decision],
 ) -> Result<(), AllocError>
-    ensures { OnOk result (TellsTwice decisions.now (string_bytes out.old) (string_bytes out.new)) }
+    ensures twice { (IsDecidedOnce decisions.now → ⊥)
+        → OnOk result (TellsTwice decisions.now (string_bytes out.old) (string_bytes out.new)) }
+    ensures once { IsDecidedOnce decisions.now
+        → OnOk result (string_bytes out.new ≡ string_bytes out.old ++ decided_twice_head) }
 {
-    let found = twice_in(alloc, decisions)?;
+    let placed = placed_in(alloc, decisions)?;
     out.push_str("DecidedTwice: a transaction has one decision\n")?;
-    let Some((first, second)) = found else {
+    let Some((first, second)) = twice_in(decisions, placed.as_slice()) else {
         return Ok(());
     };
     push_two(out, decisions, first, second)
