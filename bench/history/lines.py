@@ -63,7 +63,7 @@ MISTAKES = [
     (b"\xef\xbb\xbf" + line(""), "it begins with a byte order mark (bytes ef bb bf)"),
     (line("") + b" {}", "behind the object stands {}"),
     (b"{'tx':1}", "not JSON: column 2: 'tx':1}"),
-    (line('["r","x",1],'), "not JSON: column 46: ]}"),
+    (line('["r","x",1],'), "not JSON: column 45: ]}"),
     (line("", tx='"b","deep":' + "[" * 1000 + "]" * 1000, end="null"), '"end" is null, and has to be "commit" or "abort"'),
 ]
 
