@@ -82,7 +82,8 @@ def cases():
         for front, number, behind, asked in places:
             if behind:
                 answer = b"" if "-q" in asked else b"! %s line %d\n" % (fault, number)
-                yield words, asked, front + behind, (2, answer, ("sgt: line %d: %s\n" % (number, words)).encode())
+                rest = "\\x0d" if "UTF-8" in words and behind.startswith(bad + b"\r") else ""       # no text: all is shown
+                yield words, asked, front + behind, (2, answer, ("sgt: line %d: %s%s\n" % (number, words, rest)).encode())
     words = "longer than 16777216 bytes, without its LF"
     yield words, ["check"], b" " * 16_777_217, (2, b"! L2 line 1\n", ("sgt: line 1: %s\n" % words).encode())
     yield "good", ["check"], many, (0, b"yes 2991 committed 0 aborted\n", b"")
