@@ -7,7 +7,7 @@ use Rattle.sgt_history.specs.Cut.{cut}
 use Rattle.sgt_history.specs.Transaction.{Transaction}
 use Rattle.sgt_history.specs.declared.history.Line.{Line}
 use Rattle.sgt_history.specs.declared.history.Operation.{Operation}
-use Rattle.sgt_history_evidence.proofs.Cutting.{length-cut}
+use Rattle.sgt_history_faults.proofs.Bounds.{length-cut}
 use Rattle.sgt_history_verdict.specs.Verdict.{committed_in, with_committed}
 use Rattle.sgt_check.specs.Text.{Spelling, aborted_of, committed_of, counts_text, id_line, order_part}
 use Rattle.sgt_check.specs.Told.{commits_at, commits_in, id_part, ids_text, spelled, yes_text}

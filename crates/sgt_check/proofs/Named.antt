@@ -1,17 +1,18 @@
 -- What is told of a numbered history answers the bytes that spell it.
-use Rattle.std.proofs.Common.{◌≡◌, ℕ, ◌<◌, Bool, true, false, List, ◌++◌, Some, map, refl, sym, ap, ap₂, ◌∙◌, subst, inl, inr, ◌⊎◌, All}
+use Rattle.std.proofs.Common.{◌≡◌, ℕ, ◌<◌, Bool, true, false, List, ◌++◌, Some, map, take, refl, sym, ap, ap₂, ◌∙◌, subst, inl, inr, ◌⊎◌, All}
 use Rattle.std.specs.Prelude.{slice_get}
 use Rattle.json.specs.Json.{Json}
 use Rattle.sgt_names.specs.declared.outcome.Outcome.{Outcome}
 use Rattle.sgt_names.specs.declared.outcome.Outcome.TheVariants.{Yes, No, Unreadable}
-use Rattle.sgt_names.proofs.Lists.{All-weaken}
+use Rattle.sgt_names.proofs.Lists.{All-weaken, map_at}
 use Rattle.sgt_history.proofs.Renaming.{serves-on}
 use Rattle.sgt_history.specs.Conflicts.{HasCycle}
 use Rattle.sgt_history.specs.History.{closed_of}
 use Rattle.sgt_history.specs.Serial.{KeepApart}
 use Rattle.sgt_history.specs.Transaction.{Transaction, renamed, renamed_operation}
 use Rattle.sgt_history.specs.declared.named.Graph.{Graph}
-use Rattle.sgt_history_evidence.proofs.Renamed.{conflict-on, cycle-back, cycle-on, operation-on}
+use Rattle.sgt_history.specs.declared.named.Graph.TheVariants.{Whole}
+use Rattle.sgt_history_evidence.proofs.Renamed.{conflict-on, conflict_in-on, cycle-back, cycle-on, operation-on}
 use Rattle.sgt_history_evidence.proofs.RenamedEvidence.{evidence-on}
 use Rattle.sgt_history_evidence.proofs.RenamedFlaws.{faultless-on, first_fault-on}
 use Rattle.sgt_history_text.specs.Name.{compact}
@@ -19,6 +20,7 @@ use Rattle.sgt_history_text.specs.Reading.{IsReading, nth}
 use Rattle.sgt_history_text.specs.Text.{Spells}
 use Rattle.sgt_history_text.specs.declared.reading.Reading.{Reading}
 use Rattle.sgt_history_verdict.specs.Steps.{AreSteps, IsStep}
+use Rattle.sgt_history_verdict.specs.Verdict.{MayFollow}
 use Rattle.sgt_history_verdict.specs.declared.step.Step.{Step}
 use Rattle.sgt_check.specs.Answer.{AreStepsOf, IsAnswer, IsCycleTold, IsFaultTold, IsStepOf, IsYes, by_number, compactly}
 use Rattle.sgt_check.specs.Text.{aborted_of, committed_of, counts_text, cycle_text, fault_text, order_part, Spelling}
@@ -39,6 +41,16 @@ module _ (options : Options) (bytes : List ℕ) (r : Reading) (is : IsReading by
   spelled_as : spelled n ≡ numbered is.ids is.items is.values
   spelled_as = spelled-is n is.ids is.items is.values (ids_are ∙ is.id_texts) (items_are ∙ is.item_texts) (values_are ∙ is.value_texts)
 
+  follow-back : (written : List ℕ) (line : ℕ) → MayFollow named written line → MayFollow m written line
+  follow-back written line may =
+      let at = map_at (renamed (nth is.items) (nth is.values)) m line may.t may.committed.0 in
+      record {
+        t = at.0;
+        committed = (at.1, ap (λ (u : Transaction Json Json). u.commits) at.2 ∙ may.committed.1);
+        left = may.left;
+        behind = λ from c. may.behind from (conflict_in-on (nth is.items) (nth is.values) m is.apart Whole from line c);
+      }
+
   serial-answer : (text : List ℕ) → IsSerialTold options n m text → IsYes options bytes text
   serial-answer text a = record {
     ids = is.ids;
@@ -46,6 +58,7 @@ module _ (options : Options) (bytes : List ℕ) (r : Reading) (is : IsReading by
     spells = is.spells;
     order = a.order;
     serves = serves-on (nth is.items) (nth is.values) m is.apart a.order a.serves;
+    least = λ place line other at may. a.least place line other at (follow-back (take place a.order) other may);
     text_is = a.text_is
         ∙ ap (λ (s : Spelling ℕ ℕ). counts_text (committed_of m) (aborted_of m) ++ order_part options.order s a.order) spelled_as
         ∙ ap₂ (λ (c d : ℕ). counts_text c d ++ order_part options.order (numbered is.ids is.items is.values) a.order)
@@ -101,7 +114,7 @@ module _ (options : Options) (bytes : List ℕ) (r : Reading) (is : IsReading by
       each = All-weaken (IsStep m a.graph) (IsStepOf named (nth is.items) a.graph) a.steps (λ s step. step-on s step) a.are.each;
       onward = a.are.onward;
     };
-    text_is = a.text_is ∙ ap (λ (s : Spelling ℕ ℕ). cycle_text s a.graph a.steps) spelled_as;
+    text_is = a.text_is ∙ ap (λ (s : Spelling ℕ ℕ). cycle_text s a.steps) spelled_as;
   }
 
   pub told-answer : (outcome : Outcome) (text : List ℕ) → IsTold options n m outcome text → IsAnswer options bytes outcome text

@@ -19,7 +19,7 @@ use Rattle.sgt_history_text.specs.Reading.{nth}
 use Rattle.sgt_history_text.specs.Text.{IsFirstUnreadable, Spells}
 use Rattle.sgt_history_text.specs.declared.fault.LineFault.{LineFault}
 use Rattle.sgt_history_verdict.specs.Steps.{place_behind}
-use Rattle.sgt_history_verdict.specs.Verdict.{IsBelow}
+use Rattle.sgt_history_verdict.specs.Verdict.{IsBelow, IsLeastFirst}
 use Rattle.sgt_history_verdict.specs.declared.step.Step.{Step}
 use Rattle.sgt_check.specs.Text.{Spelling, aborted_of, committed_of, counts_text, cycle_text, fault_text, order_part, unreadable_text}
 use Rattle.sgt_check.specs.declared.options.Options.{Options}
@@ -34,13 +34,15 @@ by_number ids items = record { id = λ line. compact (nth ids line); item = λ n
 
 -- ---- yes
 
--- the history that the bytes spell is serializable: an order serves; it is told where it is asked for
+-- the history that the bytes spell is serializable: an order serves; it is told where it is asked for, and has the least line first
+-- of those that may stand behind those before
 pub record IsYes (options : Options) (bytes text : List ℕ) : Type 0 where
   pub ids : List Json
   pub h : List (Transaction Json Json)
   pub spells : Spells bytes ids h
   pub order : List ℕ
   pub serves : Serves h order
+  pub least : IsLeastFirst h order
   pub text_is : text ≡ counts_text (committed_of h) (aborted_of h) ++ order_part options.order (compactly ids) order
 
 -- ---- no
@@ -73,7 +75,7 @@ pub record AreStepsOf {I V : Type 0} (h : List (Transaction I V)) (item_of : ℕ
   pub onward : (place : ℕ) (s t : Step) → slice_get steps place ≡ Some s
       → slice_get steps (place_behind place (length steps)) ≡ Some t → s.to ≡ t.from
 
--- it has no fault, and these conflicts form a cycle in the least graph that has one
+-- it has no fault, and these conflicts form a cycle in the least graph that has one; they alone make its name
 pub record IsCycleTold (bytes text : List ℕ) : Type 0 where
   pub ids : List Json
   pub h : List (Transaction Json Json)
@@ -85,7 +87,7 @@ pub record IsCycleTold (bytes text : List ℕ) : Type 0 where
   pub items : List Json
   pub steps : List Step
   pub are : AreStepsOf h (nth items) graph steps
-  pub text_is : text ≡ cycle_text (by_number ids items) graph steps
+  pub text_is : text ≡ cycle_text (by_number ids items) steps
 
 -- ---- a line that can't be read
 

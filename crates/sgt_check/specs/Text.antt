@@ -8,7 +8,6 @@ use Rattle.sgt_history.specs.declared.named.Conflict.{Conflict}
 use Rattle.sgt_history.specs.declared.named.Conflict.TheVariants.{WriteWrite, WriteRead, ReadWrite}
 use Rattle.sgt_history.specs.declared.named.Flaw.{Flaw}
 use Rattle.sgt_history.specs.declared.named.Flaw.TheVariants.{Internal, Duplicate, AbortedRead, Unwritten, IntermediateRead, Value}
-use Rattle.sgt_history.specs.declared.named.Graph.{Graph}
 use Rattle.sgt_history.specs.Transaction.{Transaction}
 use Rattle.sgt_history.specs.Serial.{operations_in}
 use Rattle.sgt_history_evidence.specs.declared.evidence.Evidence.{Evidence}
@@ -142,5 +141,5 @@ abbrev pub step_text : {V : Type 0} → Spelling ℕ V → Step → List ℕ
 step_text s step = ends_text s step ++ (versions_text s step ++ (codes " lines "
     ++ (number_text step.from ++ (codes " " ++ (number_text step.to ++ codes "\n")))))
 
-abbrev pub cycle_text : {V : Type 0} → Spelling ℕ V → Graph → List Step → List ℕ
-cycle_text s g steps = anomaly_text (named g steps) ++ flat_map (step_text s) steps
+abbrev pub cycle_text : {V : Type 0} → Spelling ℕ V → List Step → List ℕ
+cycle_text s steps = anomaly_text (named steps) ++ flat_map (step_text s) steps

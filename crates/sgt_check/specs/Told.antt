@@ -14,7 +14,7 @@ use Rattle.sgt_history_evidence.specs.Evidence.{IsEvidence}
 use Rattle.sgt_history_evidence.specs.declared.evidence.Evidence.{Evidence}
 use Rattle.sgt_history_faults.specs.declared.fault.Fault.{Fault}
 use Rattle.sgt_history_verdict.specs.Steps.{AreSteps}
-use Rattle.sgt_history_verdict.specs.Verdict.{IsBelow}
+use Rattle.sgt_history_verdict.specs.Verdict.{IsBelow, IsLeastFirst}
 use Rattle.sgt_history_verdict.specs.declared.step.Step.{Step}
 use Rattle.sgt_check.specs.Text.{Spelling, aborted_of, committed_of, counts_text, cycle_text, fault_text, id_line, order_part}
 use Rattle.sgt_check.specs.declared.naming.Naming.{Naming}
@@ -57,6 +57,7 @@ pub record IsToldAs (h : List (Transaction ℕ ℕ)) (f : Fault) : Type 0 where
 pub record IsSerialTold (options : Options) (n : Naming) (h : List (Transaction ℕ ℕ)) (text : List ℕ) : Type 0 where
   pub order : List ℕ
   pub serves : Serves h order
+  pub least : IsLeastFirst h order
   pub text_is : text ≡ counts_text (committed_of h) (aborted_of h) ++ order_part options.order (spelled n) order
 
 pub record IsFaultyTold (n : Naming) (h : List (Transaction ℕ ℕ)) (text : List ℕ) : Type 0 where
@@ -72,7 +73,7 @@ pub record IsCyclicTold (n : Naming) (h : List (Transaction ℕ ℕ)) (text : Li
   pub least : (less : Graph) → IsBelow less graph → HasCycle h less → ⊥
   pub steps : List Step
   pub are : AreSteps h graph steps
-  pub text_is : text ≡ cycle_text (spelled n) graph steps
+  pub text_is : text ≡ cycle_text (spelled n) steps
 
 abbrev pub IsTold : Options → Naming → List (Transaction ℕ ℕ) → Outcome → List ℕ → Type 0
 IsTold options n h Yes text = IsSerialTold options n h text

@@ -4,9 +4,10 @@ ghost use Rattle.std.specs.Prelude.{◌≡◌, ℕ, List, IfOk};
 ghost use Rattle.sgt_check.specs.Answer.{IsAnswer};
 ghost use Rattle.sgt_check.specs.Text.{line_fault_text, unreadable_text};
 ghost use Rattle.sgt_check.specs.Told.{IsCyclicTold, IsFaultyTold, IsTold, yes_text};
-ghost use Rattle.sgt_history.specs.Flaws.{IsFaultless, IsFirstFault};
+ghost use Rattle.sgt_history.specs.Flaws.{IsFirstFault};
 ghost use Rattle.sgt_history.specs.History.{closed_of};
 ghost use Rattle.sgt_history.specs.Transaction.{Transaction};
+ghost use Rattle.sgt_history_faults.specs.Judged.{IsFaultlessBy};
 ghost use Rattle.sgt_history_text.specs.Reading.{IsReading, IsToldOf};
 ghost use Rattle.sgt_history_verdict.specs.Verdict.{IsCyclic};
 
@@ -17,9 +18,9 @@ use crate::options::Options;
 use crate::ranks::ranks_of;
 use crate::yes::{push_counts, push_order};
 use sgt_history::{History, Line};
-use sgt_history_faults::{Fault, Judged, judge};
+use sgt_history_faults::{Fault, Judged, Touch, judge};
 use sgt_history_text::{HistoryText, LineFault, Reading};
-use sgt_history_verdict::{Cyclic, Decided, Verdict, decide, steps_of};
+use sgt_history_verdict::{Cyclic, Decided, Verdict, decide_judged, steps_of};
 use sgt_names::Outcome;
 use sgt_notation::push_number;
 use std::alloc::{AllocError, Global};
@@ -55,7 +56,7 @@ fn cyclic_text(alloc: Global, naming: &Naming, cyclic: &Cyclic) -> Result<Vec<u8
     let ranks = ranks_of(alloc, &naming.items)?;
     let steps = steps_of(alloc, cyclic, ranks.as_slice())?;
     let mut text = Vec::new(alloc);
-    push_cycle(&mut text, naming, cyclic.graph, steps.as_slice())?;
+    push_cycle(&mut text, naming, steps.as_slice())?;
     Ok(text)
 }
 
@@ -77,17 +78,18 @@ fn serial_text(
     Ok(text)
 }
 
-/// The answer to a history without faults.
+/// The answer to a history without faults, by its touches.
 fn faultless_answer(
     alloc: Global,
     naming: &Naming,
     history: History,
+    touches: Vec<Touch>,
     options: Options,
 ) -> Result<Answer, AllocError>
-    requires { IsFaultless (closed_of history) }
+    requires { IsFaultlessBy (closed_of history) touches.items }
     ensures { IfOk result (λ a. IsTold options naming.now (closed_of history) a.outcome a.text.items) }
 {
-    let Decided { verdict, lines } = decide(alloc, history)?;
+    let Decided { verdict, lines } = decide_judged(alloc, history, touches)?;
     match verdict {
         Verdict::Serial(order) => Ok(Answer {
             outcome: Outcome::Yes,
@@ -116,10 +118,7 @@ fn history_answer(
             outcome: Outcome::No,
             text: faulty_text(alloc, naming, &history, fault)?,
         }),
-        Judged::Faultless(touches) => {
-            drop(touches);
-            faultless_answer(alloc, naming, history, options)
-        }
+        Judged::Faultless(touches) => faultless_answer(alloc, naming, history, touches, options),
     }
 }
 

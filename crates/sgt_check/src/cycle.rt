@@ -6,7 +6,7 @@ ghost use Rattle.sgt_check.specs.Told.{spelled};
 ghost use Rattle.sgt_check.specs.Text.{anomaly_text, conflict_text, cycle_text, ends_text, step_text, versions_text};
 
 use crate::naming::{Naming, push_line_number, push_name};
-use sgt_history::{Conflict, Graph};
+use sgt_history::Conflict;
 use sgt_history_verdict::{Anomaly, Step, anomaly_of};
 use sgt_notation::push_number;
 use std::alloc::AllocError;
@@ -68,16 +68,11 @@ fn push_step(out: &mut Vec<u8>, naming: &Naming, step: &Step) -> Result<(), Allo
     out.extend_from_slice(b"\n")
 }
 
-/// Puts the name of a cycle of the least graph that has one, and its steps.
-pub fn push_cycle(
-    out: &mut Vec<u8>,
-    naming: &Naming,
-    graph: Graph,
-    steps: &[Step],
-) -> Result<(), AllocError>
-    ensures { OnOk result (out.new.items ≡ out.old.items ++ cycle_text (spelled naming.now) graph steps.now) }
+/// Puts the name of a cycle, and its steps.
+pub fn push_cycle(out: &mut Vec<u8>, naming: &Naming, steps: &[Step]) -> Result<(), AllocError>
+    ensures { OnOk result (out.new.items ≡ out.old.items ++ cycle_text (spelled naming.now) steps.now) }
 {
-    out.extend_from_slice(anomaly_line(anomaly_of(graph, steps)))?;
+    out.extend_from_slice(anomaly_line(anomaly_of(steps)))?;
     for step in steps {
         push_step(out, naming, step)?;
     }

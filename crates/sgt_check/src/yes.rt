@@ -71,7 +71,8 @@ pub fn push_order(
     lines: &[Line],
     order: &[u32],
 ) -> Result<(), AllocError>
-    ensures { OnOk result (out.new.items ≡ out.old.items ++ (codes "---\n" ++ flat_map (id_part (spelled naming.now) lines.now) order.now)) }
+    ensures { OnOk result (out.new.items ≡ out.old.items
+        ++ (codes "---\n" ++ flat_map (id_part (spelled naming.now) lines.now) order.now)) }
 {
     out.extend_from_slice(b"---\n")?;
     for line in order {

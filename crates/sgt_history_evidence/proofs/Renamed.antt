@@ -236,31 +236,33 @@ module _ {I J V W : Type 0} (f : I → J) (g : V → W) (h : List (Transaction I
   named WriteRead from to x' v w c = writes-named from x' v c.1
   named ReadWrite from to x' v w c = reads-named from x' v c.1
 
+  -- a conflict of the other history is one of this
+  pub conflict-named : (kind : Conflict) (from to : ℕ) (x' : J) (v w : ℕ) → HaveConflict (map (renamed f g) h) kind from to x' v w
+      → (x : I) × HaveConflict h kind from to x v w
+  conflict-named kind from to x' v w c =
+      let old = named kind from to x' v w c in (
+        old.x,
+        conflict-back kind from to old.x v w old.there
+            (subst (λ (y : J). HaveConflict (map (renamed f g) h) kind from to y v w) (sym old.is) c),
+      )
+
   conflict_in-back : (k : Graph) (from to : ℕ) → ConflictIn (map (renamed f g) h) k from to → ConflictIn h k from to
   conflict_in-back k from to c =
-      let old = named c.kind from to c.x c.v c.w c.conflict in
-      record {
-        kind = c.kind;
-        among = c.among;
-        x = old.x;
-        v = c.v;
-        w = c.w;
-        conflict = conflict-back c.kind from to old.x c.v c.w old.there
-            (subst (λ (y : J). HaveConflict (map (renamed f g) h) c.kind from to y c.v c.w) (sym old.is) c.conflict);
-      }
+      let old = conflict-named c.kind from to c.x c.v c.w c.conflict in
+      record { kind = c.kind; among = c.among; x = old.0; v = c.v; w = c.w; conflict = old.1 }
 
   chain-back : (k : Graph) (a : ℕ) (bs : List ℕ) → IsChain (ConflictIn (map (renamed f g) h) k) a bs → IsChain (ConflictIn h k) a bs
   chain-back k a [] c = tt
   chain-back k a (b ∷ bs) (one, rest) = (conflict_in-back k a b one, chain-back k b bs rest)
 
-  cycle_is-back : (k : Graph) (cycle : List ℕ) → IsCycle (ConflictIn (map (renamed f g) h) k) cycle → IsCycle (ConflictIn h k) cycle
+  pub cycle_is-back : (k : Graph) (cycle : List ℕ) → IsCycle (ConflictIn (map (renamed f g) h) k) cycle → IsCycle (ConflictIn h k) cycle
   cycle_is-back k [] c = absurd c
   cycle_is-back k (a ∷ between) c = chain-back k a (between ++ a ∷ []) c
 
   pub cycle-back : (k : Graph) → HasCycle (map (renamed f g) h) k → HasCycle h k
   cycle-back k (cycle, is) = (cycle, cycle_is-back k cycle is)
 
-  conflict_in-on : (k : Graph) (from to : ℕ) → ConflictIn h k from to → ConflictIn (map (renamed f g) h) k from to
+  pub conflict_in-on : (k : Graph) (from to : ℕ) → ConflictIn h k from to → ConflictIn (map (renamed f g) h) k from to
   conflict_in-on k from to c = record {
     kind = c.kind;
     among = c.among;
@@ -274,7 +276,7 @@ module _ {I J V W : Type 0} (f : I → J) (g : V → W) (h : List (Transaction I
   chain-on k a [] c = tt
   chain-on k a (b ∷ bs) (one, rest) = (conflict_in-on k a b one, chain-on k b bs rest)
 
-  cycle_is-on : (k : Graph) (cycle : List ℕ) → IsCycle (ConflictIn h k) cycle → IsCycle (ConflictIn (map (renamed f g) h) k) cycle
+  pub cycle_is-on : (k : Graph) (cycle : List ℕ) → IsCycle (ConflictIn h k) cycle → IsCycle (ConflictIn (map (renamed f g) h) k) cycle
   cycle_is-on k [] c = absurd c
   cycle_is-on k (a ∷ between) c = chain-on k a (between ++ a ∷ []) c
 

@@ -45,9 +45,11 @@ fn own_evidence(operations: &[Operation<u32, u32>], place: u32) -> Evidence
 
 /// The first line that writes what an operation writes or reads: one that commits, or one that doesn't.
 fn writer(history: &History, commits: bool, operation: Operation<u32, u32>) -> Evidence
-    ensures duplicate { (line place : ℕ) (t : Transaction ℕ ℕ) → commits ≡ true → HasFlaw (closed_of history.now) line place t operation Flaw.Duplicate
+    ensures duplicate { (line place : ℕ) (t : Transaction ℕ ℕ) → commits ≡ true
+        → HasFlaw (closed_of history.now) line place t operation Flaw.Duplicate
         → IsEvidence (closed_of history.now) line place t operation Flaw.Duplicate result }
-    ensures aborted { (line place : ℕ) (t : Transaction ℕ ℕ) → commits ≡ false → HasFlaw (closed_of history.now) line place t operation Flaw.AbortedRead
+    ensures aborted { (line place : ℕ) (t : Transaction ℕ ℕ) → commits ≡ false
+        → HasFlaw (closed_of history.now) line place t operation Flaw.AbortedRead
         → IsEvidence (closed_of history.now) line place t operation Flaw.AbortedRead result }
 {
     match first_writer(history, commits, operation.item, operation.version) {

@@ -6,3 +6,9 @@ pub mod Placing
 pub mod Releasing
 pub mod Placed
 pub mod Trails
+pub mod Cycles
+pub mod Targets
+pub mod Ways
+pub mod Spreading
+pub mod Levels
+pub mod Nearby

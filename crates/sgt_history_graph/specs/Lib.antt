@@ -3,3 +3,5 @@ pub mod Rows
 pub mod Sorting
 pub mod Walks
 pub mod Ordered
+pub mod First
+pub mod Nearest

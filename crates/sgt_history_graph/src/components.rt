@@ -1,7 +1,8 @@
-//! The nodes that lie on cycles, by their strongly connected components.
+//! Ranks of nodes, by their strongly connected components. What they are is not proved: who asks for them checks them.
 
 ghost use Rattle.std.specs.Prelude.{◌≤◌, ◌^◌};
 
+use crate::nearest::{number_at, set_number};
 use crate::rows::Rows;
 use std::alloc::{AllocError, Global};
 
@@ -26,23 +27,10 @@ struct Walk {
     open: Vec<u32>,
     /// When the first node of each component that isn't closed was come to.
     firsts: Vec<u32>,
-    /// Of each node on a cycle one more than the number of one of its component, else 0.
-    components: Vec<u32>,
-}
-
-/// The number at this place, or 0.
-pub(crate) fn number_at(numbers: &[u32], place: u32) -> u32 {
-    match numbers.get(place as usize) {
-        Some(number) => *number,
-        None => 0,
-    }
-}
-
-/// Puts the number at this place.
-pub(crate) fn set_number(numbers: &mut [u32], place: u32, number: u32) {
-    if let Some(old) = numbers.get_mut(place as usize) {
-        *old = number;
-    }
+    /// How many components are closed.
+    closed: u32,
+    /// Of each node how many were closed before its own.
+    ranks: Vec<u32>,
 }
 
 impl Walk {
@@ -54,7 +42,8 @@ impl Walk {
             count: 0,
             open: Vec::new(alloc),
             firsts: Vec::new(alloc),
-            components: vec![in alloc; 0u32; nodes]?,
+            closed: 0,
+            ranks: vec![in alloc; 0u32; nodes]?,
         })
     }
 
@@ -78,18 +67,17 @@ impl Walk {
     }
 
     /// All edges of the node were followed: if it is the first of its component, that is closed.
-    fn leave(&mut self, rows: &Rows, node: u32) {
+    fn leave(&mut self, node: u32) {
         let since = number_at(self.since.as_slice(), node);
         if self.firsts.as_slice().last() != Some(&since) {
             return;
         }
         self.firsts.pop();
-        let alone = self.open.as_slice().last() == Some(&node)
-            && !rows.targets_of(node).contains(&node);
-        let label = if alone { 0 } else { node.saturating_add(1) };
+        let rank = self.closed;
+        self.closed = rank.saturating_add(1);
         'closing: while let Some(member) = self.open.pop() {
             set_number(self.since.as_mut_slice(), member, CLOSED);
-            set_number(self.components.as_mut_slice(), member, label);
+            set_number(self.ranks.as_mut_slice(), member, rank);
             if member == node {
                 return;
             }
@@ -122,7 +110,7 @@ impl Walk {
                 })?;
                 self.follow(*target)?;
             }
-            None => self.leave(rows, stop.node),
+            None => self.leave(stop.node),
         }
         Ok(true)
     }
@@ -142,8 +130,8 @@ impl Walk {
     }
 }
 
-/// Of each of so many nodes that lies on a cycle one more than the number of a node of its component, else 0.
-pub(crate) fn components_of(
+/// A rank of each of so many nodes: those on a cycle have one, and an edge that is on none leads to a lesser one.
+pub(crate) fn ranks_of(
     alloc: Global,
     rows: &Rows,
     nodes: usize,
@@ -156,6 +144,6 @@ pub(crate) fn components_of(
     for node in 0..nodes {
         walk.walk_from(rows, node as u32, steps)?;
     }
-    let Walk { components, .. } = walk;
-    Ok(components)
+    let Walk { ranks, .. } = walk;
+    Ok(ranks)
 }

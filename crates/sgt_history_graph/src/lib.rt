@@ -3,6 +3,9 @@
 
 mod components;
 mod edge;
+mod homeward;
+mod measuring;
+mod nearest;
 mod rows;
 mod shown;
 mod sorting;

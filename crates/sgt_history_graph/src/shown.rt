@@ -1,61 +1,60 @@
-//! The cycle that is shown of a graph that has one. Which one it is isn't proved: who asks for it checks it.
+//! The first cycle of a graph.
 
-ghost use Rattle.std.specs.Prelude.{◌≤◌, ◌^◌, All, IfOk};
+ghost use Rattle.std.specs.Prelude.{◌≡◌, ◌≤◌, ◌^◌, All, IfOk, IfSome};
+ghost use Rattle.sgt_history_graph.specs.First.{IsFirstCycle, TellsFirst};
 ghost use Rattle.sgt_history_graph.specs.Graph.{JoinsNodes};
+ghost use Rattle.sgt_history_graph.specs.Nearest.{AreRowsOf};
 
-use crate::components::{components_of, number_at, set_number};
+use crate::components::ranks_of;
 use crate::edge::Edge;
+use crate::homeward::{FAR, way_home};
+use crate::measuring::measured;
+use crate::nearest::{are_closed, are_falling, distance_at, least_level};
 use crate::rows::Rows;
 use std::alloc::{AllocError, Global};
 
-/// How far it is from a node from which no walk leads.
-const FAR: u32 = u32::MAX;
-
-/// The first node that is in a component.
-fn first_marked(components: &[u32]) -> Option<u32> {
-    let at = components.iter().position(|component| *component != 0)?;
-    u32::try_from(at).ok()
-}
-
-/// The edges between nodes of this component, turned round.
-fn turned_edges(
-    alloc: Global,
-    nodes: usize,
-    edges: &[Edge],
-    components: &[u32],
-    component: u32,
-) -> Result<Vec<Edge>, AllocError>
+/// The edges turned round.
+fn turned(alloc: Global, nodes: usize, edges: &[Edge]) -> Result<Vec<Edge>, AllocError>
     requires { All (JoinsNodes nodes) edges.now }
     ensures { IfOk result (λ turned. All (JoinsNodes nodes) turned.items) }
 {
-    let mut turned = Vec::new(alloc);
+    let mut turned = Vec::with_capacity(alloc, edges.len())?;
     for edge in edges {
-        if number_at(components, edge.from) == component
-            && number_at(components, edge.to) == component
-        {
-            turned.push(Edge {
-                from: edge.to,
-                to: edge.from,
-            })?;
-        }
+        turned.push(Edge {
+            from: edge.to,
+            to: edge.from,
+        })?;
     }
     Ok(turned)
 }
 
-/// How many edges it is from each node to this one, on the shortest walk; `back` are the edges turned round.
-fn distances(alloc: Global, back: &Rows, nodes: usize, node: u32) -> Result<Vec<u32>, AllocError> {
+/// Puts the distance of a node.
+fn set_distance(distances: &mut [usize], node: u32, distance: usize) {
+    if let Some(old) = distances.get_mut(node as usize) {
+        *old = distance;
+    }
+}
+
+/// How many edges it is from each node to this one, on the shortest walk; `back` are the edges turned round. What is found is not proved:
+/// who asks for it checks it.
+fn distances(
+    alloc: Global,
+    back: &Rows,
+    nodes: usize,
+    node: u32,
+) -> Result<Vec<usize>, AllocError> {
     let mut distances = vec![in alloc; FAR; nodes]?;
-    set_number(distances.as_mut_slice(), node, 0);
+    set_distance(distances.as_mut_slice(), node, 0);
     let mut met = vec![in alloc; node]?;
     for at in 0..nodes {
         let Some(here) = met.get(at) else {
             break;
         };
         let here = *here;
-        let next = number_at(distances.as_slice(), here).saturating_add(1);
+        let next = distance_at(distances.as_slice(), here).saturating_add(1);
         for source in back.targets_of(here) {
-            if number_at(distances.as_slice(), *source) == FAR {
-                set_number(distances.as_mut_slice(), *source, next);
+            if distance_at(distances.as_slice(), *source) == FAR {
+                set_distance(distances.as_mut_slice(), *source, next);
                 met.push(*source)?;
             }
         }
@@ -63,44 +62,58 @@ fn distances(alloc: Global, back: &Rows, nodes: usize, node: u32) -> Result<Vec<
     Ok(distances)
 }
 
-/// Of the targets of the node that are nearest the least.
-fn nearest(rows: &Rows, distances: &[u32], node: u32) -> Option<u32> {
-    let mut best: Option<(u32, u32)> = None;
-    for target in rows.targets_of(node) {
-        let this = (number_at(distances, *target), *target);
-        best = match best {
-            Some(other) if other <= this => Some(other),
-            _ => Some(this),
-        };
+/// The first cycle, where ranks and distances are what they are to be.
+fn quick_cycle(
+    alloc: Global,
+    nodes: usize,
+    edges: &[Edge],
+    rows: &Rows,
+) -> Result<Option<Vec<u32>>, AllocError>
+    requires few { nodes ≤ 2 ^ 32 }
+    requires rows { AreRowsOf nodes edges.now rows.now.starts.items rows.now.targets.items }
+    ensures { IfOk result (λ found. IfSome found (λ cycle. IsFirstCycle edges.now cycle.items)) }
+{
+    let ranks = ranks_of(alloc, rows, nodes, edges.len())?;
+    if !are_falling(edges, ranks.as_slice()) {
+        return Ok(None);
     }
-    match best {
-        Some((distance, target)) if distance != FAR => Some(target),
-        _ => None,
+    let Some(node) = least_level(edges, ranks.as_slice()) else {
+        return Ok(None);
+    };
+    drop(ranks);
+    let turned = turned(alloc, nodes, edges)?;
+    let back = Rows::new(alloc, nodes, turned.as_slice())?;
+    drop(turned);
+    let distances = distances(alloc, &back, nodes, node)?;
+    if !are_closed(edges, distances.as_slice()) {
+        return Ok(None);
     }
+    way_home(alloc, rows, distances.as_slice(), node)
 }
 
-/// Of the shortest cycles through the node the one whose nodes are, from it on, the least.
-fn least_cycle(
+/// The first cycle, looked for from node after node.
+fn plain_cycle(
     alloc: Global,
+    nodes: usize,
+    edges: &[Edge],
     rows: &Rows,
-    distances: &[u32],
-    node: u32,
-) -> Result<Option<Vec<u32>>, AllocError> {
-    let mut cycle = Vec::new(alloc);
-    let mut here = node;
-    for _ in 0..distances.len() {
-        cycle.push(here)?;
-        match nearest(rows, distances, here) {
-            None => return Ok(None),
-            Some(next) if next == node => return Ok(Some(cycle)),
-            Some(next) => here = next,
+) -> Result<Option<Vec<u32>>, AllocError>
+    requires few { nodes ≤ 2 ^ 32 }
+    requires rows { AreRowsOf nodes edges.now rows.now.starts.items rows.now.targets.items }
+    ensures { IfOk result (λ found. TellsFirst edges.now found) }
+{
+    for node in 0..nodes {
+        let distances = measured(alloc, nodes, edges, node as u32)?;
+        let found = way_home(alloc, rows, distances.as_slice(), node as u32)?;
+        if found.is_some() {
+            return Ok(found);
         }
     }
     Ok(None)
 }
 
-/// The cycle to show, if the graph has one: of the least node that lies on one the shortest, of several the one whose nodes are, from it
-/// on, the least. Takes time in proportion to nodes and edges. What is found is not proved. Err: memory ran out.
+/// The first cycle: of the least node that lies on one the shortest, of several the one whose nodes are, from it on, the least. Takes time
+/// in proportion to nodes and edges where there is one. Err: memory ran out.
 pub fn shown_cycle(
     alloc: Global,
     nodes: usize,
@@ -108,15 +121,12 @@ pub fn shown_cycle(
 ) -> Result<Option<Vec<u32>>, AllocError>
     requires few { nodes ≤ 2 ^ 32 }
     requires ends { All (JoinsNodes nodes) edges.now }
+    ensures { IfOk result (λ found. TellsFirst edges.now found) }
 {
     let rows = Rows::new(alloc, nodes, edges)?;
-    let components = components_of(alloc, &rows, nodes, edges.len())?;
-    let Some(node) = first_marked(components.as_slice()) else {
-        return Ok(None);
-    };
-    let component = number_at(components.as_slice(), node);
-    let turned = turned_edges(alloc, nodes, edges, components.as_slice(), component)?;
-    let back = Rows::new(alloc, nodes, turned.as_slice())?;
-    let distances = distances(alloc, &back, nodes, node)?;
-    least_cycle(alloc, &rows, distances.as_slice(), node)
+    let quick = quick_cycle(alloc, nodes, edges, &rows)?;
+    if quick.is_some() {
+        return Ok(quick);
+    }
+    plain_cycle(alloc, nodes, edges, &rows)
 }

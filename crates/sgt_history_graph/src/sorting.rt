@@ -60,7 +60,8 @@ impl Sorting {
         ensures tally { OnOk result
             (IsTallied (last + 1) self.new.waits.items (numbers (heap_items self.new.free)) self.new.order.items) }
         ensures heap { OnOk result (IsHeap (λ x y. nat_cmp y.0 x.0) (heap_items self.new.free)) }
-        ensures fewer { OnOk result (sum self.new.waits.items + heap_len self.new.free ≤ sum self.old.waits.items + heap_len self.old.free) }
+        ensures fewer { OnOk result (sum self.new.waits.items + heap_len self.new.free
+            ≤ sum self.old.waits.items + heap_len self.old.free) }
     {
         'releasing: for target in targets {
             let at = *target as usize;

@@ -1,8 +1,9 @@
 -- Lines whose transactions commit, kept in their order.
-use Rattle.std.proofs.Common.{◌≡◌, ℕ, zero, suc, ◌<◌, Bool, true, false, List, [], ◌∷◌, Some, None, refl, sym, ap, ◌∙◌, subst, arith, inl, inr, ◌⊎◌}
+use Rattle.std.proofs.Common.{◌≡◌, ℕ, zero, suc, ◌<◌, Bool, true, false, List, [], ◌∷◌, Some, None, take, Contains, refl, sym, ap, ◌∙◌, subst, arith, inl, inr, ◌⊎◌}
 use Rattle.std.specs.Prelude.{slice_get}
 use Rattle.std.proofs.lemmas.Option.{same_Some}
 use Rattle.sgt_names.proofs.Lists.{option_cases}
+use Rattle.sgt_names.proofs.Places.{Contains_at, Contains-from_at}
 use Rattle.sgt_history.specs.Transaction.{Transaction}
 use Rattle.sgt_history.specs.Serial.{IsCommitted, StandOnce}
 use Rattle.sgt_history_verdict.specs.Verdict.{with_committed, committed_in}
@@ -141,3 +142,46 @@ kept-once h (x ∷ xs) once i j y at at' = from (decide h x) i j at at' (kept-on
         (ap (λ ys. slice_get ys (suc j)) (sym (kept-first h x c.0 xs c.1)) ∙ f))
     from (inr not) i j e f rest =
         rest i j y (ap (λ ys. slice_get ys i) (sym (left-first h x xs not)) ∙ e) (ap (λ ys. slice_get ys j) (sym (left-first h x xs not)) ∙ f)
+
+-- what is among the lines and commits is kept, and what is kept is among them
+pub kept-among : (h : List (Transaction ℕ ℕ)) (xs : List ℕ) (line : ℕ) (t : Transaction ℕ ℕ) → IsCommitted h line t → Contains xs line → Contains (committed_in h xs) line
+kept-among h xs line t c among =
+    let at = Contains_at xs line among in
+    let k = kept_at h xs at.0 line t at.1 c in
+    Contains-from_at (committed_in h xs) k.0 line k.1
+
+pub kept-back : (h : List (Transaction ℕ ℕ)) (xs : List ℕ) (line : ℕ) → Contains (committed_in h xs) line → Contains xs line
+kept-back h xs line among =
+    let at = Contains_at (committed_in h xs) line among in
+    let k = kept-from h xs at.0 line at.1 in
+    Contains-from_at xs k.i line k.at
+
+-- where a line that is kept stands, and what is kept of those before it
+pub record IsKeptAt (h : List (Transaction ℕ ℕ)) (xs : List ℕ) (place line : ℕ) : Type 0 where
+  pub j : ℕ
+  pub at : slice_get xs j ≡ Some line
+  pub front : take place (committed_in h xs) ≡ committed_in h (take j xs)
+
+pub kept-place : (h : List (Transaction ℕ ℕ)) (xs : List ℕ) (place line : ℕ) → slice_get (committed_in h xs) place ≡ Some line → IsKeptAt h xs place line
+kept-place h [] place line at = absurd (cc (at))
+kept-place h (x ∷ xs) place line at = from (decide h x) place at (λ m e. kept-place h xs m line e)
+  where
+    from : ((t : Transaction ℕ ℕ) × IsCommitted h x t) ⊎ ((t : Transaction ℕ ℕ) → IsCommitted h x t → ⊥) → (n : ℕ) → slice_get (committed_in h (x ∷ xs)) n ≡ Some line
+        → ((m : ℕ) → slice_get (committed_in h xs) m ≡ Some line → IsKeptAt h xs m line) → IsKeptAt h (x ∷ xs) n line
+    from (inl c) zero e rest =
+        let same : x ≡ line = same_Some x line (ap (λ ys. slice_get ys 0) (sym (kept-first h x c.0 xs c.1)) ∙ e) in
+        record { j = 0; at = ap Some same; front = refl }
+    from (inl c) (suc n) e rest =
+        let r = rest n (ap (λ ys. slice_get ys (suc n)) (sym (kept-first h x c.0 xs c.1)) ∙ e) in
+        record {
+          j = suc r.j;
+          at = r.at;
+          front = ap (take (suc n)) (kept-first h x c.0 xs c.1) ∙ ap (λ ys. x ∷ ys) r.front ∙ sym (kept-first h x c.0 (take r.j xs) c.1);
+        }
+    from (inr not) n e rest =
+        let r = rest n (ap (λ ys. slice_get ys n) (sym (left-first h x xs not)) ∙ e) in
+        record {
+          j = suc r.j;
+          at = r.at;
+          front = ap (take n) (left-first h x xs not) ∙ r.front ∙ sym (left-first h x (take r.j xs) not);
+        }

@@ -20,7 +20,7 @@ use Rattle.sgt_history_graph.specs.declared.edge.Edge.{Edge}
 use Rattle.sgt_history_graph.specs.Graph as nodes
 use Rattle.sgt_history_verdict.specs.Decided.{IsDecidedFrom}
 use Rattle.sgt_history_verdict.specs.Verdict.{IsBelow, IsLeastCycle, IsSerialBy}
-use Rattle.sgt_history_verdict.proofs.Served.{cycle-of, order-excludes, order-serves}
+use Rattle.sgt_history_verdict.proofs.Served.{cycle-of, order-excludes, order-least, order-serves}
 
 -- the edges of a graph join nodes
 pub edges-join : (h : List (Transaction ℕ ℕ)) (count : ℕ) (p : Parts) (g : Graph) (edges : List Edge) → HasEdges h p → length h ≡ count
@@ -72,9 +72,7 @@ serial-by h count touches p edges order from has is o =
     let o' = subst (λ n. nodes.IsOrder n edges order) (sym from.size) o in
     record {
       serves = order-serves h from.positive from.faultless.faultless edges are order o';
-      edges = edges;
-      conflicts = are;
-      ordered = o';
+      least = order-least h edges are order o';
     }
 
 -- ---- a history that is kept

@@ -1,5 +1,6 @@
 -- What an order of all nodes of a history's conflicts comes to, and a cycle of them.
-use Rattle.std.proofs.Common.{ℕ, List, [], ◌∷◌, ◌++◌, length}
+use Rattle.std.proofs.Common.{◌≡◌, ℕ, ◌≤◌, List, [], ◌∷◌, ◌++◌, length, take, Some, sym, subst, Contains}
+use Rattle.std.specs.Prelude.{slice_get}
 use Rattle.std.proofs.lemmas.Option.{slice_get_within}
 use Rattle.sgt_names.proofs.Places.{Contains_at, Contains-from_at}
 use Rattle.sgt_history.specs.declared.named.Conflict.{Conflict}
@@ -15,8 +16,8 @@ use Rattle.sgt_history.proofs.Complete.{serves}
 use Rattle.sgt_history_conflicts.specs.Edges.{AreEdgesOf}
 use Rattle.sgt_history_graph.specs.declared.edge.Edge.{Edge}
 use Rattle.sgt_history_graph.specs.Graph as nodes
-use Rattle.sgt_history_verdict.specs.Verdict.{committed_in}
-use Rattle.sgt_history_verdict.proofs.Kept.{kept-from, kept_at, kept-both, kept-once}
+use Rattle.sgt_history_verdict.specs.Verdict.{IsLeastFirst, committed_in}
+use Rattle.sgt_history_verdict.proofs.Kept.{kept-among, kept-back, kept-from, kept_at, kept-both, kept-once, kept-place}
 
 -- ---- cycles
 
@@ -66,3 +67,22 @@ order-serves h positive faultless edges are order o =
     let p = o.onward a b (are.all a b (record { kind = kind; among = tt; x = x; v = v; w = w; conflict = c })) in
     let r = kept-both h order p.i p.j a b both.0.0 both.1.0 p.before p.first_at p.second_at both.0.1 both.1.1 in
     record { i = r.i; j = r.j; before = r.before; first_at = r.first_at; second_at = r.second_at })
+
+-- ---- the least line first
+
+kept-conflict : (h : List (Transaction ℕ ℕ)) (from to : ℕ) → ConflictIn h graph.Whole from to → (t : Transaction ℕ ℕ) × IsCommitted h from t
+kept-conflict h from to c = (committed-both h c.kind from to c.x c.v c.w c.conflict).0
+
+pub order-least : (h : List (Transaction ℕ ℕ)) (edges : List Edge) → AreEdgesOf h graph.Whole edges → (order : List ℕ)
+    → nodes.IsOrder (length h) edges order → IsLeastFirst h (committed_in h order)
+order-least h edges are order o place line other at may =
+    let k = kept-place h order place line at in
+    let free : nodes.IsFree (length h) edges (take k.j order) other = record {
+      node = slice_get_within h other may.t may.committed.0;
+      left = λ among. may.left (subst (λ (xs : List ℕ). Contains xs other) (sym k.front)
+          (kept-among h (take k.j order) other may.t may.committed among));
+      behind = λ a goes.
+          let c = are.sound (record { from = a; to = other }) goes in
+          kept-back h (take k.j order) a (subst (λ (xs : List ℕ). Contains xs a) k.front (may.behind a c));
+    } in
+    (o.least k.j line k.at).least other free

@@ -1,15 +1,13 @@
 -- What a history is decided to be.
-use Rattle.std.specs.Prelude.{ℕ, if◌then◌else◌, List, [], ◌∷◌, length, Option, None, Some, slice_get}
+use Rattle.std.specs.Prelude.{◌≡◌, ℕ, ◌≤◌, if◌then◌else◌, List, [], ◌∷◌, take, Option, None, Some, slice_get, Contains}
 use Rattle.sgt_history.specs.declared.named.Graph.{Graph}
 use Rattle.sgt_history.specs.declared.named.Graph.TheVariants.{WriteWrite, WithReads, Whole}
 use Rattle.sgt_history.specs.Transaction.{Transaction}
-use Rattle.sgt_history.specs.Serial.{Serves}
+use Rattle.sgt_history.specs.Serial.{IsCommitted, Serves}
 use Rattle.sgt_history.specs.Conflicts.{ConflictIn, IsCycle, HasCycle}
 use Rattle.sgt_history.specs.Flaws.{IsFirstFault}
-use Rattle.sgt_history_conflicts.specs.Edges.{AreEdgesOf, HasPairs}
+use Rattle.sgt_history_conflicts.specs.Edges.{HasPairs}
 use Rattle.sgt_history_faults.specs.Judged.{IsFaultlessBy}
-use Rattle.sgt_history_graph.specs.Graph.{IsOrder}
-use Rattle.sgt_history_graph.specs.declared.edge.Edge.{Edge}
 use Rattle.sgt_history_verdict.specs.declared.cyclic.Cyclic.{Cyclic}
 use Rattle.sgt_history_verdict.specs.declared.deciding.Verdict.{Verdict}
 use Rattle.sgt_history_verdict.specs.declared.deciding.Verdict.TheVariants as verdict
@@ -26,12 +24,22 @@ abbrev pub committed_in : List (Transaction ℕ ℕ) → List ℕ → List ℕ
 committed_in h [] = []
 committed_in h (line ∷ lines) = with_committed (slice_get h line) line (committed_in h lines)
 
+-- the line may stand behind those written: it commits, isn't one of them, and each that has a conflict
+-- with it is
+pub record MayFollow {I V : Type 0} (h : List (Transaction I V)) (written : List ℕ) (line : ℕ) : Type 0 where
+  pub t : Transaction I V
+  pub committed : IsCommitted h line t
+  pub left : Contains written line → ⊥
+  pub behind : (from : ℕ) → ConflictIn h Whole from line → Contains written from
+
+-- each is the least that may stand behind those before it
+abbrev pub IsLeastFirst : {I V : Type 0} → List (Transaction I V) → List ℕ → Type 0
+IsLeastFirst h order = (place line other : ℕ) → slice_get order place ≡ Some line → MayFollow h (take place order) other → line ≤ other
+
 -- the order serves, and has the least line first of those that may stand behind those before
 pub record IsSerialBy (h : List (Transaction ℕ ℕ)) (order : List ℕ) : Type 0 where
   pub serves : Serves h (committed_in h order)
-  pub edges : List Edge
-  pub conflicts : AreEdgesOf h Whole edges
-  pub ordered : IsOrder (length h) edges order
+  pub least : IsLeastFirst h (committed_in h order)
 
 -- ---- a cycle
 

@@ -1,10 +1,10 @@
 //! The names of cycles.
 
 ghost use Rattle.std.specs.Prelude.{◌≡◌};
-ghost use Rattle.sgt_history_verdict.specs.Named.{is_read_write, named, read_writes};
+ghost use Rattle.sgt_history_verdict.specs.Named.{is_read_write, is_write_read, named, named_by, read_writes, write_reads};
 
 use crate::step::Step;
-use sgt_history::{Conflict, Graph};
+use sgt_history::Conflict;
 
 /// The name that the field gives to a cycle, where no graph with less conflicts has one.
 #[derive(Clone, Copy, Debug, PartialEq, Eq)]
@@ -19,6 +19,16 @@ pub enum Anomaly {
     G2Item,
 }
 
+/// Whether the conflict is a wr.
+fn is_wr(kind: Conflict) -> bool
+    ensures { result ≡ is_write_read kind }
+{
+    match kind {
+        Conflict::WriteRead => true,
+        _ => false,
+    }
+}
+
 /// Whether the conflict is a rw.
 fn is_rw(kind: Conflict) -> bool
     ensures { result ≡ is_read_write kind }
@@ -27,6 +37,19 @@ fn is_rw(kind: Conflict) -> bool
         Conflict::ReadWrite => true,
         _ => false,
     }
+}
+
+/// How many of the steps are wr.
+fn count_wr(steps: &[Step]) -> usize
+    ensures { result ≡ write_reads steps.now }
+{
+    let mut count = 0;
+    for step in steps {
+        if is_wr(step.kind) {
+            count += 1;
+        }
+    }
+    count
 }
 
 /// How many of the steps are rw.
@@ -42,19 +65,22 @@ fn count_rw(steps: &[Step]) -> usize
     count
 }
 
-/// The name of a cycle of these steps, where this is the least graph that has a cycle.
-pub fn anomaly_of(graph: Graph, steps: &[Step]) -> Anomaly
-    ensures { result ≡ named graph steps.now }
+/// The name of a cycle by how many of its steps are wr, and rw.
+fn anomaly_by(wr: usize, rw: usize) -> Anomaly
+    ensures { result ≡ named_by wr rw }
 {
-    match graph {
-        Graph::WriteWrite => Anomaly::G0,
-        Graph::WithReads => Anomaly::G1c,
-        Graph::Whole => {
-            if count_rw(steps) == 1 {
-                Anomaly::GSingle
-            } else {
-                Anomaly::G2Item
-            }
-        }
+    if rw == 0 {
+        if wr == 0 { Anomaly::G0 } else { Anomaly::G1c }
+    } else if rw == 1 {
+        Anomaly::GSingle
+    } else {
+        Anomaly::G2Item
     }
+}
+
+/// The name of a cycle of these steps.
+pub fn anomaly_of(steps: &[Step]) -> Anomaly
+    ensures { result ≡ named steps.now }
+{
+    anomaly_by(count_wr(steps), count_rw(steps))
 }

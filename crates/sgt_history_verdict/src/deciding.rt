@@ -98,6 +98,23 @@ fn decide_faultless(alloc: Global, nodes: usize, touches: Vec<Touch>) -> Result<
     }
 }
 
+/// Decides whether a history that was judged to have no fault is serializable, by its touches.
+pub fn decide_judged(
+    alloc: Global,
+    history: History,
+    touches: Vec<Touch>,
+) -> Result<Decided, AllocError>
+    requires { IsFaultlessBy (closed_of history) touches.items }
+    ensures verdict { IfOk result (λ decided. IsVerdict (closed_of history) decided.verdict) }
+    ensures exact { IfOk result (λ decided. IsSerial decided.verdict ↔ IsSerializable (closed_of history)) }
+    ensures lines { IfOk result (λ decided. decided.lines ≡ history.lines) }
+{
+    let History { operations, lines } = history;
+    drop(operations);
+    let verdict = decide_faultless(alloc, lines.len(), touches)?;
+    Ok(Decided { verdict, lines })
+}
+
 /// Decides whether a history is serializable.
 pub fn decide(alloc: Global, history: History) -> Result<Decided, AllocError>
     ensures verdict { IfOk result (λ decided. IsVerdict (closed_of history) decided.verdict) }
@@ -106,11 +123,11 @@ pub fn decide(alloc: Global, history: History) -> Result<Decided, AllocError>
     ensures lines { IfOk result (λ decided. decided.lines ≡ history.lines) }
 {
     let judged = judge(alloc, &history)?;
-    let History { operations, lines } = history;
-    drop(operations);
-    let verdict = match judged {
-        Judged::Faulty(fault) => Verdict::Faulty(fault),
-        Judged::Faultless(touches) => decide_faultless(alloc, lines.len(), touches)?,
-    };
-    Ok(Decided { verdict, lines })
+    match judged {
+        Judged::Faulty(fault) => Ok(Decided {
+            verdict: Verdict::Faulty(fault),
+            lines: history.lines,
+        }),
+        Judged::Faultless(touches) => decide_judged(alloc, history, touches),
+    }
 }

@@ -14,7 +14,7 @@ mod tests;
 
 pub use anomaly::{Anomaly, anomaly_of};
 pub use cyclic::Cyclic;
-pub use deciding::{Decided, Verdict, decide};
+pub use deciding::{Decided, Verdict, decide, decide_judged};
 pub use laws::steps_exclude_every_order;
 pub use step::Step;
 pub use steps::steps_of;

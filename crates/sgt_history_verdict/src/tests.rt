@@ -88,7 +88,7 @@ fn tells_a_cycle_of_writes(rt: HostRuntime) -> Result<(), Fail> {
         Verdict::Cyclic(cyclic) => {
             let steps = steps_of(rt.alloc(), &cyclic, &[0, 1])?;
             assert_eq!(rt; steps.len(), 2);
-            assert_eq!(rt; anomaly_of(cyclic.graph, steps.as_slice()), Anomaly::G0);
+            assert_eq!(rt; anomaly_of(steps.as_slice()), Anomaly::G0);
         }
         _ => assert!(rt; false),
     }
@@ -126,10 +126,7 @@ fn tells_the_steps_of_a_cycle_with_one_rw(rt: HostRuntime) -> Result<(), Fail> {
         Verdict::Cyclic(cyclic) => {
             let steps = steps_of(rt.alloc(), &cyclic, &[0, 2, 1])?;
             assert_eq!(rt; steps.as_slice(), [away, back].as_slice());
-            assert_eq!(rt;
-                anomaly_of(cyclic.graph, steps.as_slice()),
-                Anomaly::GSingle
-            );
+            assert_eq!(rt; anomaly_of(steps.as_slice()), Anomaly::GSingle);
         }
         _ => assert!(rt; false),
     }

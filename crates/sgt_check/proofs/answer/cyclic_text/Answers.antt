@@ -15,6 +15,6 @@ returns c h is =
       least = is.cycle_is.least;
       steps = c.in_ok-steps.steps.items;
       are = c.in_ok-steps.ensures.steps h is;
-      text_is = c.in_ok-push_cycle.ensures ∙ ap (λ (t : List ℕ). t ++ cycle_text s cyclic.graph c.as_slice-2.result.now) c.new-text.ensures.items
-          ∙ ap (λ (steps : List Step). cycle_text s cyclic.graph steps) c.as_slice-2.ensures.value;
+      text_is = c.in_ok-push_cycle.ensures ∙ ap (λ (t : List ℕ). t ++ cycle_text s c.as_slice-2.result.now) c.new-text.ensures.items
+          ∙ ap (λ (steps : List Step). cycle_text s steps) c.as_slice-2.ensures.value;
     }

@@ -15,6 +15,7 @@ returns-in-Serial c =
     record {
       order = committed_in (closed_of history) c.in-Serial.order.items;
       serves = v.serves;
+      least = v.least;
       text_is = c.in_ok-serial_text-in-Serial.ensures
           ∙ ap₂ (λ (ls : List Line) (order : List ℕ). yes_text c.args.options c.args.naming.now ls order) lines c.as_slice-in-Serial.ensures.value
           ∙ yes-cut c.args.options c.args.naming.now history.lines.items history.operations.items c.in-Serial.order.items;
@@ -24,4 +25,4 @@ pub unreachable-requires : goal.unreachable-requires
 unreachable-requires c =
     let f = c.in-Faulty.field-0 in
     let first = rw c.in-Faulty.is at c.in_ok-verdict.ensures.verdict in
-    c.requires f.line f.flaw f.place first.faulty
+    c.requires.faultless f.line f.flaw f.place first.faulty

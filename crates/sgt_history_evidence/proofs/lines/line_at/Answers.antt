@@ -1,6 +1,6 @@
 use Rattle.std.proofs.Common.{◌≤◌, subst, sym}
 use Rattle.sgt_names.proofs.Lists.{element_at}
-use Rattle.sgt_history_evidence.proofs.Cutting.{begin-most}
+use Rattle.sgt_history_faults.proofs.Bounds.{begin-most}
 use Rattle.sgt_history_evidence.proofs.lines.line_at.Goals as goal
 
 pub returns-clause-begin : goal.returns-clause-begin

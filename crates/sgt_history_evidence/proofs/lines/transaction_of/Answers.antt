@@ -1,4 +1,4 @@
-use Rattle.sgt_history_evidence.proofs.Cutting.{line-is}
+use Rattle.sgt_history_faults.proofs.Bounds.{line-is}
 use Rattle.sgt_history_evidence.proofs.lines.transaction_of.Goals as goal
 
 pub returns-clause-is : goal.returns-clause-is
