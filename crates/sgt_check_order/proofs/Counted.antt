@@ -1,5 +1,5 @@
 -- How many lines commit.
-use Rattle.std.proofs.Common.{◌≡◌, ℕ, ◌-◌, false, List, [], ◌++◌, length, sym, ◌∙◌, append-nil}
+use Rattle.std.proofs.Common.{◌≡◌, ℕ, ◌-◌, false, List, [], length, sym, ◌∙◌, append-nil}
 use Rattle.std.specs.Prelude.{count_by}
 use Rattle.sgt_history.specs.Cut.{cut}
 use Rattle.sgt_history.specs.declared.history.Line.{Line}

@@ -1,5 +1,5 @@
 -- What is told, whether or not the readers tell their bytes.
-use Rattle.std.proofs.Common.{◌≡◌, ℕ, ◌+◌, length, true, List, Option, Some, None, refl, sym, subst, inl, inr}
+use Rattle.std.proofs.Common.{◌≡◌, ℕ, ◌+◌, length, true, List, Option, Some, None, sym, subst, inl, inr}
 use Rattle.std.specs.Prelude.{IfSome, slice_get}
 use Rattle.json.specs.Json.{Json}
 use Rattle.sgt_names.specs.declared.outcome.Outcome.{Outcome}

@@ -1,11 +1,11 @@
 -- An answer is a yes exactly where the order names each committed transaction once, and serves.
-use Rattle.std.proofs.Common.{◌≡◌, ℕ, List, Option, Some, None, refl, sym, ap, ◌∙◌, subst, inl, inr, ◌↔◌}
+use Rattle.std.proofs.Common.{◌≡◌, ℕ, List, Option, Some, None, refl, sym, subst, inl, inr, ◌↔◌}
 use Rattle.std.specs.Prelude.{IfSome}
 use Rattle.json.specs.Json.{Json}
 use Rattle.sgt_names.specs.declared.outcome.Outcome.{Outcome}
 use Rattle.sgt_names.specs.declared.outcome.Outcome.TheVariants.{Yes, No, Unreadable}
 use Rattle.sgt_history.proofs.Excluded.{fault-excludes}
-use Rattle.sgt_history.specs.Serial.{IsSerializable, Serves}
+use Rattle.sgt_history.specs.Serial.{Serves}
 use Rattle.sgt_history.specs.Transaction.{Transaction}
 use Rattle.sgt_history_text.specs.Reading.{IsToldOf}
 use Rattle.sgt_history_text.specs.Text.{Spells}

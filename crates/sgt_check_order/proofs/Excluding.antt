@@ -1,11 +1,11 @@
 -- What excludes that an order serves.
-use Rattle.std.proofs.Common.{◌≡◌, ℕ, ◌+◌, ◌<◌, ◌≤◌, List, Option, Some, None, length, take, refl, sym, ap, ◌∙◌, subst, arith, inl, inr}
+use Rattle.std.proofs.Common.{◌≡◌, ℕ, List, Option, Some, None, length, take, sym, ap, ◌∙◌, subst, arith, inl, inr}
 use Rattle.std.specs.Prelude.{slice_get, Contains}
 use Rattle.std.proofs.lemmas.List.{take_all}
 use Rattle.json.specs.Json.{Json}
 use Rattle.sgt_names.proofs.Lists.{option_cases}
 use Rattle.sgt_names.proofs.Places.{Contains_at, Contains-from_at, slice_get-none, slice_get-take}
-use Rattle.sgt_history.specs.Serial.{IsCommitted, Serves, StandOnce}
+use Rattle.sgt_history.specs.Serial.{Serves, StandOnce}
 use Rattle.sgt_history.specs.Transaction.{Transaction}
 use Rattle.sgt_history.specs.declared.history.Operation.{Operation}
 use Rattle.sgt_check_order.specs.Order.{IsFirstStray, IsStray, NameEach, lines_of}

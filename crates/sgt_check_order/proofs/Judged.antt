@@ -1,12 +1,11 @@
 -- What is told of an order that breaks.
-use Rattle.std.proofs.Common.{◌≡◌, ℕ, true, List, Option, Some, None, refl, sym, ap, ◌∙◌, subst}
+use Rattle.std.proofs.Common.{◌≡◌, ℕ, List, Option, sym, ap, ◌∙◌}
 use Rattle.std.specs.Prelude.{slice_get}
 use Rattle.json.specs.Json.{Json}
 use Rattle.sgt_names.proofs.Places.{Contains-from_at}
 use Rattle.sgt_history.specs.Flaws.{IsFaultless}
 use Rattle.sgt_history.specs.Serial.{IsOrder, operations_in}
 use Rattle.sgt_history.specs.Transaction.{Transaction}
-use Rattle.sgt_history.specs.declared.history.Operation.{Operation}
 use Rattle.sgt_check.specs.Text.{Spelling}
 use Rattle.sgt_check_order.specs.Answer.{IsBreakTold}
 use Rattle.sgt_check_order.specs.Order.{NameEach, lines_of}

@@ -1,7 +1,7 @@
 -- What is told of an order and a numbered history is told of the history with its names.
-use Rattle.std.proofs.Common.{◌≡◌, ℕ, suc, ◌+◌, ◌<◌, Bool, true, false, List, [], ◌∷◌, ◌++◌, Option, Some, None, map, length, take, refl, sym, ap, ap₂, ◌∙◌, subst, inl, inr, ◌⊎◌, All}
+use Rattle.std.proofs.Common.{◌≡◌, ℕ, ◌+◌, false, List, [], ◌∷◌, Option, Some, None, map, length, take, sym, ap, ap₂, ◌∙◌, subst, inl, inr}
 use Rattle.std.specs.List.{AllByRecursion}
-use Rattle.std.specs.Prelude.{slice_get, Contains, IfSome}
+use Rattle.std.specs.Prelude.{slice_get, IfSome}
 use Rattle.std.proofs.lemmas.List.{length-map}
 use Rattle.std.proofs.lemmas.List.Elements.{All-from_recursion}
 use Rattle.json.specs.Json.{Json}
@@ -16,18 +16,18 @@ use Rattle.sgt_history.specs.declared.history.Operation.{Operation}
 use Rattle.sgt_history_evidence.proofs.Renamed.{operation-on}
 use Rattle.sgt_history_evidence.proofs.RenamedFlaws.{faultless-on}
 use Rattle.sgt_history_text.specs.Ids.{AreIds}
-use Rattle.sgt_history_text.specs.Name.{IsId, compact}
+use Rattle.sgt_history_text.specs.Name.{IsId}
 use Rattle.sgt_history_text.specs.Reading.{IsReading, nth}
-use Rattle.sgt_history_text.specs.Text.{SpellEach, Spells}
+use Rattle.sgt_history_text.specs.Text.{SpellEach}
 use Rattle.sgt_history_text.specs.declared.reading.Reading.{Reading}
 use Rattle.sgt_check.proofs.Named.{faulty-answer}
 use Rattle.sgt_check.proofs.Spelled.{aborted-same, committed-same, numbered, spelled-is}
 use Rattle.sgt_check.specs.Answer.{compactly}
-use Rattle.sgt_check.specs.Text.{Spelling, aborted_of, committed_of, counts_text}
-use Rattle.sgt_check.specs.Told.{IsFaultyTold, spelled}
+use Rattle.sgt_check.specs.Text.{Spelling, counts_text}
+use Rattle.sgt_check.specs.Told.{spelled}
 use Rattle.sgt_check.specs.declared.naming.Naming.{Naming}
 use Rattle.sgt_check_order.specs.Answer.{IsAnswer, IsBreakTold, IsJudged, IsServed, IsStrayTold}
-use Rattle.sgt_check_order.specs.Order.{AreCommitted, IsFirstStray, IsStray, Names}
+use Rattle.sgt_check_order.specs.Order.{IsFirstStray, IsStray}
 use Rattle.sgt_check_order.specs.Run.{IsBreak, IsFirstBreak}
 use Rattle.sgt_check_order.specs.Text.{break_text}
 use Rattle.sgt_check_order.specs.Told.{IsTold}

@@ -1,10 +1,10 @@
 -- Who was called.
-use Rattle.std.proofs.Common.{◌≡◌, ◌≢◌, ℕ, zero, suc, ◌+◌, ◌<◌, ◌≤◌, Bool, true, false, List, [], ◌∷◌, ◌++◌, Option, Some, None, length, take, drop, refl, sym, ap, ◌∙◌, subst, arith, inl, inr, ◌↔◌, ◌⊎◌}
+use Rattle.std.proofs.Common.{◌≡◌, ◌≢◌, ℕ, zero, suc, ◌+◌, ◌<◌, ◌≤◌, Bool, true, false, List, [], ◌∷◌, ◌++◌, Some, length, refl, sym, ap, ◌∙◌, subst, arith, inl, inr, ◌↔◌, ◌⊎◌}
 use Rattle.std.specs.Prelude.{slice_get, slice_set, Contains, replicate, not}
 use Rattle.std.specs.Bool.{MatchBool}
 use Rattle.std.proofs.lemmas.Bool.{cases_eq}
 use Rattle.std.proofs.lemmas.Option.{same_Some, slice_get_within}
-use Rattle.sgt_names.proofs.Lists.{element_at, front_at, middle_at}
+use Rattle.sgt_names.proofs.Lists.{front_at, middle_at}
 use Rattle.sgt_names.proofs.Places.{Contains_at, Contains-from_at}
 use Rattle.sgt_history.specs.Cut.{cut}
 use Rattle.sgt_history.specs.Serial.{IsCommitted, StandOnce}
@@ -13,7 +13,6 @@ use Rattle.sgt_history.specs.declared.history.Line.{Line}
 use Rattle.sgt_history.specs.declared.history.Operation.{Operation}
 use Rattle.sgt_history_evidence.proofs.Cutting.{cut_at, length-cut, line-within}
 use Rattle.sgt_history_text.proofs.Lookups.{get-push_cases, get-set_other, get-set_same, length-slice_set, once-push}
-use Rattle.sgt_check_order.specs.Order.{AreCommitted}
 use Rattle.sgt_check_order.specs.Told.{IsRoll}
 use Rattle.sgt_check_order.specs.declared.roll.Roll.{Roll}
 

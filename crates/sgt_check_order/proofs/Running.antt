@@ -1,15 +1,15 @@
 -- The run of an order: what its operations find.
-use Rattle.std.proofs.Common.{Result, Ok, Err, ◌≡◌, ◌≢◌, ℕ, zero, suc, ◌+◌, ◌-◌, ◌<◌, ◌≤◌, Bool, true, false, List, [], ◌∷◌, ◌++◌, Option, Some, None, length, take, drop, get_or, refl, sym, ap, ◌∙◌, subst, arith, inl, inr, ◌↔◌, ◌⊎◌, IsTrue, append_assoc, append-nil, length-append}
+use Rattle.std.proofs.Common.{Result, Ok, Err, ◌≡◌, ◌≢◌, ℕ, suc, ◌+◌, ◌-◌, ◌<◌, ◌≤◌, List, [], ◌∷◌, ◌++◌, Some, None, length, take, drop, get_or, refl, sym, ap, ◌∙◌, subst, arith, inl, inr, ◌↔◌, append_assoc, append-nil, length-append}
 use Rattle.std.specs.Prelude.{slice_get, replicate, if◌then◌else◌}
 use Rattle.std.specs.Result.{is_ok}
 use Rattle.std.proofs.lemmas.Bool.{cases_eq, cases_lt}
 use Rattle.std.proofs.lemmas.List.{take_all, length-take-le, get_or-replicate, get_or_append_left, get_or_past, get_or-append_right, length-replicate}
 use Rattle.std.proofs.lemmas.Option.{same_Some, slice_get_within}
-use Rattle.sgt_names.proofs.Lists.{back_at, front_at, middle_at, within_at, take_next}
+use Rattle.sgt_names.proofs.Lists.{front_at, middle_at, within_at, take_next}
 use Rattle.sgt_names.proofs.Places.{split_at}
 use Rattle.sgt_history.specs.declared.history.Kind.TheVariants.{Read, Write}
 use Rattle.sgt_history.specs.declared.history.Operation.{Operation}
-use Rattle.sgt_history.specs.Serial.{Follows, Has, IsLastWritten, IsWriteOf, NoneWrites, RunsRight, operations_in, run_of}
+use Rattle.sgt_history.specs.Serial.{Follows, Has, IsWriteOf, RunsRight, operations_in, run_of}
 use Rattle.sgt_history.specs.Transaction.{Transaction}
 use Rattle.sgt_history.proofs.Runs.{one_version}
 use Rattle.sgt_history_text.proofs.Lookups.{get-push_cases}

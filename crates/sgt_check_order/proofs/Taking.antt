@@ -1,11 +1,10 @@
 -- What a line of an order names.
-use Rattle.std.proofs.Common.{◌≡◌, ℕ, Bool, true, false, List, ◌++◌, Some, sym, subst}
+use Rattle.std.proofs.Common.{ℕ, Bool, true, false, List, Some, sym, subst}
 use Rattle.std.specs.Prelude.{Contains}
 use Rattle.json.specs.Json.{Json}
 use Rattle.sgt_history.specs.Serial.{IsCommitted, StandOnce}
 use Rattle.sgt_history.specs.Transaction.{Transaction}
 use Rattle.sgt_history_text.specs.Ids.{IsFoundAs}
-use Rattle.sgt_check_order.specs.Order.{Names}
 use Rattle.sgt_check_order.specs.Told.{IsCalled, IsTaken}
 use Rattle.sgt_check_order.specs.declared.roll.Roll.{Roll}
 use Rattle.sgt_check_order.proofs.Lines.{names-one}

@@ -1,5 +1,5 @@
 -- What an order and the text of a history are answered by.
-use Rattle.std.specs.Prelude.{◌≡◌, ◌⊎◌, ℕ, List, [], ◌++◌, Option, IfSome}
+use Rattle.std.specs.Prelude.{◌≡◌, ◌⊎◌, ℕ, List, [], Option, IfSome}
 use Rattle.std.specs.Io.KnownBytes.{Appends}
 use Rattle.json.specs.Json.{Json}
 use Rattle.sgt_names.specs.Device.{AppendsOrForgets, WritesFront}

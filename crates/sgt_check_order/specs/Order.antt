@@ -1,7 +1,7 @@
 -- Which transactions the text of an order names: ids, a line each.
 use Rattle.std.specs.Prelude.{◌≡◌, ◌==◌, if◌then◌else◌, ℕ, ◌+◌, List, [], ◌∷◌, length, take, Option, Some, None, slice_get, Contains}
 use Rattle.json.specs.Json.{Json}
-use Rattle.sgt_history.specs.Serial.{IsCommitted, IsOrder, StandOnce}
+use Rattle.sgt_history.specs.Serial.{IsCommitted, StandOnce}
 use Rattle.sgt_history.specs.Transaction.{Transaction}
 use Rattle.sgt_history_text.specs.Line.{IsTextOf}
 

@@ -2,7 +2,6 @@ use Rattle.std.proofs.Common.{subst}
 use Rattle.std.proofs.lemmas.Result.{IfOk-weaker}
 use Rattle.sgt_history_text.specs.Reading.{IsToldOf}
 use Rattle.sgt_history_text.specs.declared.reading.HistoryText.{HistoryText}
-use Rattle.sgt_check_order.proofs.Ending.{unread-if}
 use Rattle.sgt_check_order.proofs.answer.answer_against.Goals as goal
 
 pub returns-in-Read-clause-answer : goal.returns-in-Read-clause-answer

@@ -1,5 +1,5 @@
 use Rattle.sgt_history.specs.History.{closed_of}
-use Rattle.sgt_check_order.proofs.Ending.{faulty-if, judged-if}
+use Rattle.sgt_check_order.proofs.Ending.{judged-if}
 use Rattle.sgt_check_order.proofs.answer.history_answer.Goals as goal
 
 pub faulty_answer-requires : goal.faulty_answer-requires

@@ -1,10 +1,9 @@
-use Rattle.std.proofs.Common.{◌≡◌, ℕ, List, inr, sym, subst}
+use Rattle.std.proofs.Common.{inr, sym, subst}
 use Rattle.std.proofs.lemmas.Result.{IfOk-weaker}
 use Rattle.sgt_names.specs.declared.outcome.Outcome.{Outcome}
 use Rattle.sgt_history.specs.History.{closed_of}
 use Rattle.sgt_check.specs.Told.{spelled}
 use Rattle.sgt_check_order.specs.Answer.{IsJudged}
-use Rattle.sgt_check_order.specs.Told.{IsRunOf}
 use Rattle.sgt_check_order.proofs.Judged.{broken-judged}
 use Rattle.sgt_check_order.proofs.Values.{values_agree}
 use Rattle.sgt_check_order.proofs.answer.order_answer.Goals as goal

@@ -1,4 +1,4 @@
-use Rattle.std.proofs.Common.{◌≡◌, ℕ, ◌-◌, List, ◌++◌, length, refl, ap, ◌∙◌}
+use Rattle.std.proofs.Common.{ℕ, ◌-◌, List, ◌++◌, length, refl, ap, ◌∙◌}
 use Rattle.std.specs.Prelude.{count_by}
 use Rattle.sgt_history.specs.declared.history.Line.{Line}
 use Rattle.sgt_check.specs.Text.{counts_text}

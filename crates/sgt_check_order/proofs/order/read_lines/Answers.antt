@@ -1,4 +1,4 @@
-use Rattle.std.proofs.Common.{◌≡◌, ℕ, ◌∙◌, Bool, true, false, Option, List, ap, refl, sym, subst, arith}
+use Rattle.std.proofs.Common.{ℕ, ◌∙◌, Bool, true, false, Option, List, ap, refl, sym, subst, arith}
 use Rattle.std.specs.Prelude.{IfSome}
 use Rattle.sgt_history.specs.History.{closed_of}
 use Rattle.sgt_notation.specs.Lines.{Ahead}

@@ -1,5 +1,4 @@
 use Rattle.std.proofs.Common.{◌≡◌, ℕ, true, Bool, Option, Some, List, sym, subst}
-use Rattle.std.specs.Bool.{MatchBool}
 use Rattle.std.specs.Prelude.{IfSome, slice_get}
 use Rattle.sgt_history.specs.History.{closed_of}
 use Rattle.sgt_check_order.specs.Told.{IsRead}

@@ -1,4 +1,4 @@
-use Rattle.std.proofs.Common.{ℕ, Bool, Option, List, subst}
+use Rattle.std.proofs.Common.{ℕ, Bool, Option, subst}
 use Rattle.std.proofs.lemmas.Result.{IfOk-weaker}
 use Rattle.sgt_history.specs.History.{closed_of}
 use Rattle.sgt_history_text.specs.Ids.{IsFoundAs}

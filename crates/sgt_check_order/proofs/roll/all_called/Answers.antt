@@ -1,4 +1,4 @@
-use Rattle.std.proofs.Common.{◌<◌, arith}
+use Rattle.std.proofs.Common.{arith}
 use Rattle.sgt_history.specs.History.{closed_of}
 use Rattle.sgt_check_order.proofs.Rolls.{called-next, committed-within}
 use Rattle.sgt_check_order.proofs.roll.all_called.Goals as goal

@@ -17,8 +17,7 @@ returns-then-is_called c = λ t committed.
 pub returns : goal.returns
 returns c =
     let h = closed_of c.args.history.now in
-    let committed = c.commits.ensures.0 c.if-not-commits.false in
-    (
+    let committed = c.commits.ensures.0 c.if-not-commits.false in (
       roll-push h c.args.roll.now c.args.line committed.0 c.requires committed.1
           (λ there. false≢true (sym c.if-is_called.false ∙ c.is_called.ensures.1
           (subst (λ (called : List Bool). slice_get called c.args.line ≡ Some true) (sym c.as_slice.ensures.value) there)))

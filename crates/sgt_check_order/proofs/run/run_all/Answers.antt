@@ -1,4 +1,4 @@
-use Rattle.std.proofs.Common.{◌≡◌, ℕ, ◌++◌, take, Option, None, List, subst, arith}
+use Rattle.std.proofs.Common.{ℕ, ◌++◌, take, Option, None, subst, arith}
 use Rattle.std.proofs.lemmas.Option.{slice_get-get_or}
 use Rattle.std.specs.Prelude.{get_or}
 use Rattle.sgt_history.specs.declared.history.Kind.TheVariants.{Read}

@@ -1,4 +1,4 @@
-use Rattle.std.proofs.Common.{◌≡◌, ℕ, ◌∙◌, List, length, get_or, ap, sym, subst}
+use Rattle.std.proofs.Common.{ℕ, ◌∙◌, List, length, get_or, ap, sym, subst}
 use Rattle.std.proofs.lemmas.Bool.{false≢true}
 use Rattle.sgt_history.specs.Serial.{Has}
 use Rattle.sgt_check_order.proofs.run.run_one.Goals as goal

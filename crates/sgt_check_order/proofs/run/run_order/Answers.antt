@@ -1,4 +1,4 @@
-use Rattle.std.proofs.Common.{◌≡◌, ℕ, ◌<◌, take, Option, None, List, length, refl, subst, arith}
+use Rattle.std.proofs.Common.{ℕ, ◌<◌, take, Option, None, length, refl, subst, arith}
 use Rattle.std.proofs.lemmas.Option.{slice_get-get_or}
 use Rattle.std.specs.Prelude.{get_or, IfSome}
 use Rattle.sgt_history.specs.History.{closed_of}
