@@ -56,11 +56,7 @@ fn key_in<'a>(text: &'a str, scratch: &'a mut Scratch) -> Result<Option<Value<'a
 }
 
 /// The compact text of the id that the line is a text of.
-fn id_text(
-    alloc: Global,
-    scratch: &mut Scratch,
-    line: &[u8],
-) -> Result<Option<Vec<u8>>, AllocError>
+fn id_text(alloc: Global, scratch: &mut Scratch, line: &[u8]) -> Result<Option<Vec<u8>>, AllocError>
     ensures { IfOk result (λ found. MatchOption found
         ((id : Json) → IsId id → IsTextOf line.now id → ⊥)
         (λ text. (id : Json) × IsTextOf line.now id × HasNumbers id × (text.items ≡ compact id))) }
