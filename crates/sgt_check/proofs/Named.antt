@@ -71,7 +71,7 @@ module _ (options : Options) (bytes : List ℕ) (r : Reading) (is : IsReading by
       ordered true = refl
       ordered false = refl
 
-  faulty-answer : (text : List ℕ) → IsFaultyTold n m text → IsFaultTold bytes text
+  pub faulty-answer : (text : List ℕ) → IsFaultyTold n m text → IsFaultTold bytes text
   faulty-answer text a =
       let f = a.fault in
       let told = a.told in

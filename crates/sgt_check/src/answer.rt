@@ -148,7 +148,7 @@ fn fault_word(fault: LineFault) -> &'static [u8]
 }
 
 /// The text of the first line that can't be read.
-fn unread_text(alloc: Global, line: u64, fault: LineFault) -> Result<Vec<u8>, AllocError>
+pub fn unread_text(alloc: Global, line: u64, fault: LineFault) -> Result<Vec<u8>, AllocError>
     ensures { IfOk result (λ text. text.items ≡ unreadable_text line fault) }
 {
     let mut text = Vec::from_slice(alloc, fault_word(fault))?;

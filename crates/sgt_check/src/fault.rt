@@ -38,7 +38,7 @@ fn kind_word(kind: Kind) -> &'static [u8]
 }
 
 /// Puts an operation's kind, item and version.
-fn push_operation(
+pub fn push_operation(
     out: &mut Vec<u8>,
     naming: &Naming,
     operation: Operation<u32, u32>,

@@ -13,9 +13,13 @@ mod ranks;
 mod tests;
 mod yes;
 
+pub use answer::unread_text;
 pub use engine::check;
+pub use fault::{push_fault, push_operation};
 pub use laws::{
     a_text_spells_one_history, a_yes_is_told_exactly_of_what_is_serializable,
     an_unreadable_line_spells_none,
 };
+pub use naming::{Naming, push_line_number, push_name};
 pub use options::Options;
+pub use yes::push_counts;

@@ -13,7 +13,7 @@ map_append : {A B : Type 0} (f : A → B) (xs ys : List A) → map f (xs ++ ys) 
 map_append f [] ys = refl
 map_append f (x ∷ xs) ys = ap (λ zs. f x ∷ zs) (map_append f xs ys)
 
-mapped_at : {A B : Type 0} (f : A → B) (xs : List A) (n : ℕ) (x : A) → slice_get xs n ≡ Some x → slice_get (map f xs) n ≡ Some (f x)
+pub mapped_at : {A B : Type 0} (f : A → B) (xs : List A) (n : ℕ) (x : A) → slice_get xs n ≡ Some x → slice_get (map f xs) n ≡ Some (f x)
 mapped_at f xs n x e = slice_get-map f xs n ∙ ap (option_map f) e
 
 value_of : {V W : Type 0} (g : V → W) (o : Option V) (w : W) → renamed_value g o ≡ Some w → (v : V) × (o ≡ Some v) × (g v ≡ w)
@@ -25,7 +25,7 @@ module _ {I J V W : Type 0} (f : I → J) (g : V → W) (h : List (Transaction I
   operations-renamed None = refl
   operations-renamed (Some t) = refl
 
-  run-renamed : (order : List ℕ) → run_of (map (renamed f g) h) order ≡ map (renamed_operation f g) (run_of h order)
+  pub run-renamed : (order : List ℕ) → run_of (map (renamed f g) h) order ≡ map (renamed_operation f g) (run_of h order)
   run-renamed [] = refl
   run-renamed (l ∷ ls) =
       let first = ap operations_in (slice_get-map (renamed f g) h l) ∙ operations-renamed (slice_get h l) in
@@ -48,7 +48,7 @@ module _ {I J V W : Type 0} (f : I → J) (g : V → W) (h : List (Transaction I
       item = apart.items o u (in_history order p o e) (in_history order q u e') w.item;
     }
 
-    has-on : (p q v : ℕ) (u : Operation I V) → slice_get (run_of h order) q ≡ Some u → Has (run_of h order) p u.item v
+    pub has-on : (p q v : ℕ) (u : Operation I V) → slice_get (run_of h order) q ≡ Some u → Has (run_of h order) p u.item v
         → Has (map (renamed_operation f g) (run_of h order)) p (f u.item) v
     has-on p q v u e (inl a) = inl (record {
       last = a.last;
@@ -70,7 +70,7 @@ module _ {I J V W : Type 0} (f : I → J) (g : V → W) (h : List (Transaction I
           (write-back r q old.0 u old.1 e (subst (λ k. IsWriteOf k (f u.item)) (sym old.2) writes)),
     )
 
-    has-back : (p q v : ℕ) (u : Operation I V) → slice_get (run_of h order) q ≡ Some u
+    pub has-back : (p q v : ℕ) (u : Operation I V) → slice_get (run_of h order) q ≡ Some u
         → Has (map (renamed_operation f g) (run_of h order)) p (f u.item) v → Has (run_of h order) p u.item v
     has-back p q v u e (inl a) =
         let old = map_at (renamed_operation f g) (run_of h order) a.last a.o a.there in
@@ -135,7 +135,7 @@ module _ {I J V W : Type 0} (f : I → J) (g : V → W) (h : List (Transaction I
         (ap (renamed_value g) given) (ap (renamed_value g) given') in
         apart.values o u v w (in_history order at.0 o at.1) (in_history order at'.0 u at'.1) given given' same
 
-    order-on : IsOrder h order → IsOrder (map (renamed f g) h) order
+    pub order-on : IsOrder h order → IsOrder (map (renamed f g) h) order
     order-on ordered = record {
       committed = λ line there.
           let c = ordered.committed line there in

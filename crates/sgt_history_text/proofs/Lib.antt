@@ -1,6 +1,6 @@
 mod Cut
 mod Tries
-mod Lookups
+pub mod Lookups
 mod Trees
 mod Parts
 mod Spelled
@@ -14,3 +14,4 @@ mod Opened
 mod Gathered
 mod Solid
 mod Objects
+pub mod Keys

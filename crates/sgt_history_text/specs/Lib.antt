@@ -7,3 +7,4 @@ pub mod Pool
 pub mod Table
 pub mod Built
 pub mod Reading
+pub mod Ids

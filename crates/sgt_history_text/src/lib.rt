@@ -3,6 +3,7 @@
 
 mod building;
 mod fault;
+mod ids;
 mod line;
 mod names;
 mod operations;
@@ -15,5 +16,6 @@ mod values;
 mod whole;
 
 pub use fault::{LineFault, MAX_HISTORY_LINE, MOST_ID_BYTES, MOST_ITEM_BYTES};
+pub use ids::Ids;
 pub use names::Names;
 pub use reading::{HistoryText, Reading, read_history};

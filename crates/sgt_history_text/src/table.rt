@@ -282,6 +282,13 @@ impl Table {
         Ok(())
     }
 
+    /// The number of the text, if it is one of the texts.
+    pub fn number_of(&self, text: &[u8]) -> Option<u32>
+        ensures { MatchOption result (IsNew self.now text.now) (λ number. slice_get self.now number ≡ Some text.now) }
+    {
+        number_in_places(&self.names, &self.places, text)
+    }
+
     /// The number of the text.
     #[inline]
     pub fn intern(&mut self, alloc: Global, text: &[u8]) -> Result<Interned, AllocError>
@@ -290,6 +297,18 @@ impl Table {
         self.widen(alloc)?;
         let Table { names, places } = self;
         intern_in(alloc, names, places, text)
+    }
+}
+
+/// The number of the text, if it is among the names.
+fn number_in_places(names: &Names, places: &Places, text: &[u8]) -> Option<u32>
+    requires { IsTable names.now places.now.slots.items places.now.more }
+    ensures { MatchOption result (IsNew names.now text.now) (λ number. slice_get names.now number ≡ Some text.now) }
+{
+    match place_of(names, places.slots.as_slice(), text) {
+        Place::At(number) => Some(number),
+        Place::Free(_) => None,
+        Place::Crowded => found_besides(names, &places.more, text),
     }
 }
 

@@ -1,0 +1,13 @@
+pub mod Lines
+pub mod Excluding
+pub mod Rolls
+pub mod Going
+pub mod Running
+pub mod Values
+pub mod Counted
+pub mod Judged
+pub mod Taking
+pub mod Renamed
+pub mod Exact
+pub mod Ending
+pub mod Pushing

@@ -1,0 +1,9 @@
+use Rattle.std.proofs.Common.{ℕ, List}
+use Rattle.sgt_history.specs.Serial.{RunsRight}
+use Rattle.sgt_history.specs.declared.history.Operation.{Operation}
+use Rattle.sgt_check_order.specs.Told.{Tells}
+use Rattle.sgt_check_order.proofs.Running.{Ran}
+use Rattle.sgt_check_order.proofs.run.run_all.Given as goal
+
+abbrev pub invariant-loop-place : goal.invariant-loop-place
+invariant-loop-place l = (run : List (Operation ℕ ℕ)) → RunsRight run → Tells run l.fn.versions.items → Ran run l.operations l.place l.versions.items

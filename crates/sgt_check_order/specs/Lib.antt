@@ -1,0 +1,5 @@
+pub mod Order
+pub mod Run
+pub mod Text
+pub mod Answer
+pub mod Told

@@ -1,0 +1,17 @@
+//! `check_against`: whether a given order of a history's transactions explains it, with the first place where it doesn't.
+#![tactic(auto)]
+
+mod answer;
+mod engine;
+mod laws;
+mod order;
+mod roll;
+mod run;
+#[cfg(test)]
+mod tests;
+mod texts;
+
+pub use engine::check_against;
+pub use laws::{
+    a_broken_order_serves_none, a_stray_line_serves_none, a_yes_is_told_exactly_of_what_serves,
+};

@@ -1,0 +1,123 @@
+//! Small histories, orders and their answers.
+
+use crate::engine::check_against;
+use sgt_names::{EngineFail, MemSink, MemSource, Outcome};
+use std::alloc::{AllocError, Global};
+use std::test::Fail;
+
+/// Whether the order and the history are answered so, over readers that give a few bytes at a time.
+fn is_answered(
+    alloc: Global,
+    order: &[u8],
+    history: &[u8],
+    outcome: Outcome,
+    answer: &[u8],
+) -> Result<bool, AllocError> {
+    let mut lines = MemSource::new(order, 3, None);
+    let mut reader = MemSource::new(history, 5, None);
+    let mut writer = MemSink::new(alloc, 1_000)?;
+    let ended = check_against(alloc, &mut lines, &mut reader, &mut writer);
+    Ok(ended == Ok(outcome) && writer.bytes() == answer)
+}
+
+const LATE_AND_EARLY: &[u8] =
+    b"{\"tx\":\"late\",\"end\":\"commit\",\"ops\":[[\"r\",\"x\",1]]}\n{\"tx\":7,\"end\":\"abort\",\"ops\":[]}\n{\"tx\":\"early\",\"end\":\"commit\",\"ops\":[[\"w\",\"x\",1]]}\n";
+
+#[test]
+fn tells_an_order_that_serves(rt: HostRuntime) -> Result<(), Fail> {
+    let answer = b"yes 2 committed 1 aborted\n";
+    for order in [
+        "\"early\"\n\"late\"\n",
+        "\"early\"\r\n\"late\"",
+        " \"\\u0065arly\" \n\t\"late\"\r\n",
+    ] {
+        let text = order.as_bytes();
+        assert!(rt;
+            is_answered(rt.alloc(), text, LATE_AND_EARLY, Outcome::Yes, answer)?,
+            "{order}"
+        );
+    }
+    Ok(())
+}
+
+#[test]
+fn tells_where_an_order_breaks(rt: HostRuntime) -> Result<(), Fail> {
+    let answer = b"no order\nline 1 \"late\" r \"x\" 1 finds 0\n";
+    let order = b"\"late\"\n\"early\"\n";
+    assert!(rt; is_answered(rt.alloc(), order, LATE_AND_EARLY, Outcome::No, answer)?);
+    let history =
+        b"{\"tx\":\"a\",\"end\":\"commit\",\"ops\":[[\"w\",\"x\",1]]}\n{\"tx\":\"b\",\"end\":\"commit\",\"ops\":[[\"r\",\"y\",0],[\"w\",\"x\",2]]}\n";
+    let answer = b"no order\nline 1 \"a\" w \"x\" 1 finds 2\n";
+    assert!(rt; is_answered(rt.alloc(), b"\"b\"\n\"a\"\n", history, Outcome::No, answer)?);
+    Ok(())
+}
+
+#[test]
+fn tells_a_wrong_line(rt: HostRuntime) -> Result<(), Fail> {
+    for (order, answer) in [
+        ("", "no order\norder line 1\n"),
+        ("\"early\"\n", "no order\norder line 2\n"),
+        (
+            "\"early\"\n\"early\"\n\"late\"\n",
+            "no order\norder line 2\n",
+        ),
+        (
+            "\"early\"\n\"late\"\n\"late\"\n",
+            "no order\norder line 3\n",
+        ),
+        ("7\n\"early\"\n\"late\"\n", "no order\norder line 1\n"),
+        ("\"early\"\n\n\"late\"\n", "no order\norder line 2\n"),
+        ("\"early\"\nlate\n", "no order\norder line 2\n"),
+        ("\"early\" \"late\"\n", "no order\norder line 1\n"),
+        ("[\"early\"]\n", "no order\norder line 1\n"),
+        ("---\n\"early\"\n\"late\"\n", "no order\norder line 1\n"),
+    ] {
+        let (order, answer) = (order.as_bytes(), answer.as_bytes());
+        assert!(rt; is_answered(rt.alloc(), order, LATE_AND_EARLY, Outcome::No, answer)?);
+    }
+    Ok(())
+}
+
+#[test]
+fn tells_the_history_first(rt: HostRuntime) -> Result<(), Fail> {
+    let text = b"{\"tx\":1,\"end\":\"commit\",\"ops\":[[\"r\",\"x\",1]]}\n";
+    let answer = b"no unwritten\nline 1 1 r \"x\" 1\n";
+    assert!(rt; is_answered(rt.alloc(), b"2\n", text, Outcome::No, answer)?);
+    assert!(rt;
+        is_answered(
+            rt.alloc(),
+            b"2\n",
+            b"{}\n",
+            Outcome::Unreadable,
+            b"! L1 line 1\n"
+        )?
+    );
+    assert!(rt;
+        is_answered(
+            rt.alloc(),
+            b"",
+            b"",
+            Outcome::Yes,
+            b"yes 0 committed 0 aborted\n"
+        )?
+    );
+    Ok(())
+}
+
+#[test]
+fn tells_of_devices(rt: HostRuntime) -> Result<(), Fail> {
+    let order = b"\"early\"\n\"late\"\n";
+    for (order_fails, history_fails, room, fail) in [
+        (Some(2), None, 100, EngineFail::ReadFault),
+        (None, Some(3), 100, EngineFail::ReadFault),
+        (None, None, 5, EngineFail::WriteFault),
+    ] {
+        let mut lines = MemSource::new(order, 3, order_fails);
+        let mut reader = MemSource::new(LATE_AND_EARLY, 5, history_fails);
+        let mut writer = MemSink::new(rt.alloc(), room)?;
+        let ended = check_against(rt.alloc(), &mut lines, &mut reader, &mut writer);
+        assert!(rt; ended == Err(fail));
+        assert!(rt; (fail == EngineFail::WriteFault) == !writer.bytes().is_empty());
+    }
+    Ok(())
+}
