@@ -1,4 +1,3 @@
-use Rattle.std.proofs.Common.{ℕ, List}
 use Rattle.sgt_check.specs.Answer.{IsAnswer}
 use Rattle.sgt_c.specs.Answers.{plainly}
 use Rattle.sgt_c.proofs.Wrote.{checked, held}
