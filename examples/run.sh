@@ -1,8 +1,8 @@
 #!/bin/sh
-# Builds the library and the examples in C, Rust and Python, runs each on the stored bundle and on a broken one, and compares what
-# they print with what the program prints, by the README and, where it is built, by itself. Where it is built, a bank of eight threads
-# runs over `sgt serve` in each language, and its bundles are audited as a chain; and the clients' calls end where it is killed. Ends
-# with status 1 at a difference.
+# Builds the library and the examples in C, Rust and Python, runs each on the stored bundle, on a broken one and on three histories,
+# and compares what they print with what the program prints, by the README and, where it is built, by itself. Where it is built, a bank
+# of eight threads runs over `sgt serve` in each language, and its bundles are audited as a chain; and the clients' calls end where it
+# is killed. Ends with status 1 at a difference.
 set -eu
 export PYTHONDONTWRITEBYTECODE=1
 cd "$(dirname "$0")/.."
@@ -80,6 +80,24 @@ for bundle in stored broken; do
         [ ! -x crates/sgt/out/sgt ] || crates/sgt/out/sgt explain < $out/$bundle | cmp -s - $out/found || { echo "differs: $who explain"; failed=1; }
     done
     echo "$bundle explain: $(wc -l < $out/found) lines"
+done
+
+# a history that an order explains, one that none does, and one that can't be read
+printf '{"tx":"a","end":"commit","ops":[["r","x",1]]}\n{"tx":"b","end":"commit","ops":[["w","x",1]]}\n' > $out/explained
+printf 'yes 2 committed 0 aborted\n' > $out/explained.check
+printf '{"tx":"a","end":"commit","ops":[["r","x",0],["w","x",1]]}\n{"tx":"b","end":"commit","ops":[["r","x",0],["w","x",2]]}\n' > $out/update
+printf 'no G-single\n"a" ww "b" "x" 1 2 lines 1 2\n"b" rw "a" "x" 0 1 lines 2 1\n' > $out/update.check
+printf '{}\n' > $out/unread
+printf '! L1 line 1\n' > $out/unread.check
+for history in explained update unread; do
+    status=$(case $history in explained) echo 0 ;; update) echo 1 ;; *) echo 2 ;; esac)
+    wanted=$out/$history.check
+    compare c $out/$history check $status $wanted $out/audit
+    compare c-asan $out/$history check $status $wanted $out/audit_asan
+    compare rust $out/$history check $status $wanted $out/cargo/release/sgt
+    compare python $out/$history check $status $wanted python3 examples/python/sgt.py
+    [ ! -x crates/sgt/out/sgt ] || [ $history = unread ] || compare program $out/$history check $status $wanted crates/sgt/out/sgt
+    echo "$history check: $(head -n 1 $wanted)"
 done
 
 python3 examples/python/store.py | tail -n 1 > $out/store

@@ -1,4 +1,5 @@
-/* sgt: the proved auditor of logs, for C. docs/EMBED.md says how to link it, docs/FORMAT.md has the bundle and its faults.
+/* sgt: the proved auditor of logs and of histories, for C. docs/EMBED.md says how to link it, docs/FORMAT.md has the texts and their
+ * faults.
  *
  * Memory: a call reads `len` bytes at `bytes`, writes what its pointers lead to, and keeps none of them when it returns. What it
  * needs beside them it takes by malloc, realloc and free, and has given back when it returns. No pointer may be NULL, also where
@@ -21,8 +22,9 @@ extern "C" {
 #endif
 
 /* What a call returns: where the program `sgt` has an exit status for it, that one. */
-#define SGT_YES 0    /* the bytes spell a valid bundle; sgt_certify: one was made */
-#define SGT_NO 1     /* they spell none: they have a fault; sgt_certify: none was made */
+#define SGT_YES 0    /* the bytes spell a valid bundle; sgt_certify: one was made; sgt_check: the history is serializable */
+#define SGT_NO 1     /* they spell none: they have a fault; sgt_certify: none was made; sgt_check: it isn't */
+#define SGT_UNREADABLE 2 /* sgt_check alone: a line of the history can't be read */
 #define SGT_MEMORY 3 /* no answer: malloc refused */
 #define SGT_LONG 4   /* no answer: too many reads. Proved: only of 4294967295 bytes or more. A read is of up to 65536 */
 #define SGT_ROOM 5   /* no text was written: it is longer than `room` */
@@ -76,6 +78,15 @@ uint32_t sgt_explain_len(const uint8_t *bytes, size_t len, size_t *text_len);
 /* Explains a bundle: the auditor's line, and what it means, as `sgt explain` prints it. SGT_YES and SGT_NO are the verdict's. Room and
  * lengths as for `sgt_serial`. */
 uint32_t sgt_explain(const uint8_t *bytes, size_t len, uint8_t *out, size_t room, size_t *text_len);
+
+/* How long the text is that `sgt_check` writes: as `sgt_serial_len` beside `sgt_serial`. */
+uint32_t sgt_check_len(const uint8_t *bytes, size_t len, size_t *text_len);
+
+/* Checks a history, a JSON object a line: whether some order of its committed transactions, run alone one after another, explains every
+ * version that was read and written. The text is what `sgt check` prints: with SGT_YES how many transactions commit and abort; with
+ * SGT_NO the fault of a line, or a cycle, and what stands behind it; with SGT_UNREADABLE the first line that can't be read. Room and
+ * lengths as for `sgt_serial`. */
+uint32_t sgt_check(const uint8_t *bytes, size_t len, uint8_t *out, size_t room, size_t *text_len);
 
 #ifdef __cplusplus
 }

@@ -1,9 +1,11 @@
-/* Prints what `sgt audit`, `sgt serial`, `sgt certify` and `sgt explain` print of standard input, and ends with the program's status.
+/* Prints what `sgt audit`, `sgt serial`, `sgt certify`, `sgt explain` and `sgt check` print of standard input, and ends with the
+ * program's status.
  *
- * usage: audit [audit|serial|certify|explain] < BUNDLE */
+ * usage: audit [audit|serial|certify|explain|check] < BUNDLE */
 #include "sgt.h"
 
 #include <inttypes.h>
+#include <stdbool.h>
 #include <stdio.h>
 #include <stdlib.h>
 #include <string.h>
@@ -46,14 +48,19 @@ static uint32_t print_verdict(const uint8_t *bytes, size_t len) {
 typedef uint32_t measure(const uint8_t *bytes, size_t len, size_t *text_len);
 typedef uint32_t write_text(const uint8_t *bytes, size_t len, uint8_t *out, size_t room, size_t *text_len);
 
+/* Whether there is a text: SGT_UNREADABLE has one, too. */
+static bool has_text(uint32_t answer) {
+    return answer == SGT_YES || answer == SGT_NO || answer == SGT_UNREADABLE;
+}
+
 static uint32_t print_text(measure *measured, write_text *written, const uint8_t *bytes, size_t len) {
     size_t text_len;
     uint32_t answer = measured(bytes, len, &text_len);
-    if (answer != SGT_YES && answer != SGT_NO) return answer;
+    if (!has_text(answer)) return answer;
     uint8_t *text = malloc(text_len + 1);
     if (text == NULL) return SGT_MEMORY;
     answer = written(bytes, len, text, text_len, &text_len);
-    if (answer == SGT_YES || answer == SGT_NO) fwrite(text, 1, text_len, stdout);
+    if (has_text(answer)) fwrite(text, 1, text_len, stdout);
     free(text);
     return answer;
 }
@@ -62,6 +69,7 @@ static uint32_t print_answer(const char *word, const uint8_t *bytes, size_t len)
     if (strcmp(word, "serial") == 0) return print_text(sgt_serial_len, sgt_serial, bytes, len);
     if (strcmp(word, "certify") == 0) return print_text(sgt_certify_len, sgt_certify, bytes, len);
     if (strcmp(word, "explain") == 0) return print_text(sgt_explain_len, sgt_explain, bytes, len);
+    if (strcmp(word, "check") == 0) return print_text(sgt_check_len, sgt_check, bytes, len);
     return print_verdict(bytes, len);
 }
 

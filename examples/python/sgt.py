@@ -1,18 +1,19 @@
-"""The proved auditor and certificate maker of `sgt`, from Python: `audit`, `serial`, `certify` and `explain` of some bytes.
+"""The proved auditor, certificate maker and check of histories of `sgt`, from Python: `audit`, `serial`, `certify`, `explain` and
+`check` of some bytes.
 
 The library is `libsgt.so`: the file that SGT_LIB names, or in the folder that it names, else in `examples/out`, where
 `examples/run.sh` puts it.
 
-usage: python3 sgt.py [audit|serial|certify|explain] < BUNDLE     (prints what the program `sgt` prints, and ends with its status)
+usage: python3 sgt.py [audit|serial|certify|explain|check] < BUNDLE     (prints what the program `sgt` prints, and ends with its status)
 """
 import ctypes
 import os
 import sys
 from typing import NamedTuple, Union
 
-YES, NO, MEMORY, LONG, ROOM = 0, 1, 3, 4, 5
+YES, NO, UNREADABLE, MEMORY, LONG, ROOM = 0, 1, 2, 3, 4, 5
 VERSION = 1
-TEXTS = ("serial", "certify", "explain")
+TEXTS = ("serial", "certify", "explain", "check")
 
 
 class Yes(NamedTuple):
@@ -39,6 +40,10 @@ class No(NamedTuple):
 
 class TooLong(ValueError):
     """The bytes are too many for the library: `SGT_LONG` of sgt.h."""
+
+
+class Unreadable(ValueError):
+    """A line of the history can't be read; the text says which and why: `SGT_UNREADABLE` of sgt.h."""
 
 
 class RawVerdict(ctypes.Structure):
@@ -99,10 +104,12 @@ def text_of(word: str, given: bytes) -> tuple[bool, bytes]:
     """Whether the answer is a yes, and its text."""
     length = ctypes.c_size_t()
     number = getattr(LIBRARY, f"sgt_{word}_len")(given, len(given), ctypes.byref(length))
-    if number not in (YES, NO):
+    if number not in (YES, NO, UNREADABLE):
         raise fail(number)
     text = ctypes.create_string_buffer(length.value + 1)
     number = getattr(LIBRARY, f"sgt_{word}")(given, len(given), text, length, ctypes.byref(length))
+    if number == UNREADABLE:
+        raise Unreadable(text.raw[:length.value].decode())
     if number not in (YES, NO):
         raise fail(number)
     return number == YES, text.raw[:length.value]
@@ -123,6 +130,11 @@ def explain(bundle: bytes) -> tuple[bool, bytes]:
     return text_of("explain", bundle)
 
 
+def check(history: bytes) -> tuple[bool, bytes]:
+    """Whether some order explains the history, and how many of its transactions commit, else what shows that none does."""
+    return text_of("check", history)
+
+
 def main():
     bundle = sys.stdin.buffer.read()
     try:
@@ -139,6 +151,9 @@ def main():
     except TooLong as error:
         print(error, file=sys.stderr)
         sys.exit(4)
+    except Unreadable as error:
+        print(error, end="")
+        sys.exit(2)
     sys.exit(0 if is_valid else 1)
 
 

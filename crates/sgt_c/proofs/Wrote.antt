@@ -1,12 +1,19 @@
 -- What a writer into memory holds behind an answer.
-use Rattle.std.proofs.Common.{◌≡◌, ◌⊎◌, ℕ, List, [], Bool, true, false, Option, Some, None, if◌then◌else◌, inl, inr, refl, sym, subst}
+use Rattle.std.proofs.Common.{◌≡◌, ◌⊎◌, ◌↔◌, ◌<◌, ◌≤◌, ◌++◌, length, drop, Result, Ok, Err, arith, ℕ, List, [], Bool, true, false, Option, Some, None, if◌then◌else◌, inl, inr, refl, sym, subst}
 use Rattle.std.specs.Io.KnownBytes.{Appends}
 use Rattle.sgt_names.specs.declared.outcome.Outcome.{Outcome}
 use Rattle.sgt_names.specs.declared.outcome.Outcome.TheVariants.{Yes, No, Unreadable}
 use Rattle.sgt_audit.specs.declared.verdict.Verdict.{Verdict}
 use Rattle.sgt_audit.specs.declared.verdict.Verdict.TheVariants as verdict
 use Rattle.sgt_explain.specs.Explained.{IsExplained, outcome_of}
-use Rattle.sgt_c.specs.Answers.{number_of_outcome}
+use Rattle.sgt_check.proofs.Exact.{answer-exact}
+use Rattle.sgt_check.specs.Answer.{IsAnswer, SpellsSerializable}
+use Rattle.sgt_c.specs.Answers.{IsChecked, IsCheckText, IsRoom, IsYes, number_of, number_of_check, number_of_outcome, plainly}
+use Rattle.sgt_c.specs.declared.answers.NoAnswer.{NoAnswer}
+use Rattle.sgt_c.specs.declared.answers.NoAnswer.TheVariants.{Memory, Long}
+use Rattle.sgt_c.specs.declared.texts.Answered.{Answered}
+use Rattle.std.specs.Prelude.{IfErr, IfOk}
+use Rattle.std.proofs.lemmas.Bool.{cases_lt}
 
 -- a text of this kind was written
 abbrev pub Wrote : (List ℕ → Type 0) → (old new : Option (List ℕ)) → Type 0
@@ -37,3 +44,94 @@ readable (verdict.No l f) e = cc
 
 pub never-unreadable : (bytes : Option (List ℕ)) (text : List ℕ) → IsExplained bytes Unreadable text → ⊥
 never-unreadable bytes text is = readable is.0 is.3
+
+-- ---- histories
+
+pub checked : (bytes : List ℕ) (n : ℕ) (o : Outcome) (text : List ℕ) → n ≡ number_of_check o → IsAnswer plainly bytes o text → IsCheckText bytes n text
+checked bytes n Yes text is p = inl (is, p)
+checked bytes n No text is p = inr (inl (is, p))
+checked bytes n Unreadable text is p = inr (inr (is, p))
+
+pub check-exact : (bytes : List ℕ) (n : ℕ) (text : List ℕ) → IsCheckText bytes n text → IsYes n ↔ SpellsSerializable bytes
+check-exact bytes n text (inl (is, a)) = (λ yes. (answer-exact plainly bytes text Yes a).0 refl, λ spelled. is)
+check-exact bytes n text (inr (inl (is, a))) = (
+  λ yes. absurd (omega (arith, is, yes)),
+  λ spelled. absurd (other ((answer-exact plainly bytes text No a).1 spelled)),
+)
+  where
+    other : No ≡ Yes → ⊥
+    other e = cc
+check-exact bytes n text (inr (inr (is, a))) = (
+  λ yes. absurd (omega (arith, is, yes)),
+  λ spelled. absurd (other ((answer-exact plainly bytes text Unreadable a).1 spelled)),
+)
+  where
+    other : Unreadable ≡ Yes → ⊥
+    other e = cc
+
+-- why there is no answer is no answer
+unchecked : (why : NoAnswer) (n : ℕ) → n ≡ number_of why → IsChecked n → ⊥
+unchecked Memory n is (inl (inl e)) = omega (arith, is, e)
+unchecked Memory n is (inl (inr e)) = omega (arith, is, e)
+unchecked Memory n is (inr e) = omega (arith, is, e)
+unchecked Long n is (inl (inl e)) = omega (arith, is, e)
+unchecked Long n is (inl (inr e)) = omega (arith, is, e)
+unchecked Long n is (inr e) = omega (arith, is, e)
+
+-- nor is that the text has no room
+unroomed : (n : ℕ) → IsRoom n → IsChecked n → ⊥
+unroomed n is (inl (inl e)) = omega (arith, is, e)
+unroomed n is (inl (inr e)) = omega (arith, is, e)
+unroomed n is (inr e) = omega (arith, is, e)
+
+-- why there is no answer is not that
+not-room : (why : NoAnswer) (n : ℕ) → n ≡ number_of why → IsRoom n → ⊥
+not-room Memory n is e = omega (arith, is, e)
+not-room Long n is e = omega (arith, is, e)
+
+-- the number that stands beside a text is an answer
+of-text : (bytes : List ℕ) (n : ℕ) (text : List ℕ) → IsCheckText bytes n text → IsChecked n
+of-text bytes n text (inl (is, a)) = inl (inl is)
+of-text bytes n text (inr (inl (is, a))) = inl (inr is)
+of-text bytes n text (inr (inr (is, a))) = inr is
+
+module _ (bytes : List ℕ) (n : ℕ) where
+  answered : (a : Answered) → IsCheckText bytes a.number a.text.items → n ≡ a.number → IsYes n ↔ SpellsSerializable bytes
+  answered a text is = subst (λ k. IsYes k ↔ SpellsSerializable bytes) (sym is) (check-exact bytes a.number a.text.items text)
+
+  pub measured-exact : (answer : Result Answered NoAnswer) (len : ℕ) → IfOk answer (λ a. IsCheckText bytes a.number a.text.items)
+      → IfOk answer (λ a. (n ≡ a.number) × (len ≡ length a.text.items)) → IfErr answer (λ why. (n ≡ number_of why) × (len ≡ 0)) → IsChecked n
+      → IsYes n ↔ SpellsSerializable bytes
+  measured-exact (Ok a) len text ok err checked = answered a text ok.0
+  measured-exact (Err why) len text ok err checked = absurd (unchecked why n err.0 checked)
+
+  pub put-exact : (answer : Result Answered NoAnswer) (old new : List ℕ) (len : ℕ) → IfOk answer (λ a. IsCheckText bytes a.number a.text.items)
+      → IfOk answer (λ a. length a.text.items ≤ length old → (n ≡ a.number) × (new ≡ a.text.items ++ drop (length a.text.items) old))
+      → IfOk answer (λ a. length old < length a.text.items → IsRoom n × (new ≡ old))
+      → IfErr answer (λ why. (n ≡ number_of why) × (len ≡ 0) × (new ≡ old)) → IsChecked n → IsYes n ↔ SpellsSerializable bytes
+  put-exact (Ok a) old new len text whole room err checked = elim (cases_lt (length old) (length a.text.items)) [
+    | inl short ↦ absurd (unroomed n (room short).0 checked)
+    | inr fits ↦ answered a text (whole fits).0
+  ]
+  put-exact (Err why) old new len text whole room err checked = absurd (unchecked why n err.0 checked)
+
+  pub put-text : (answer : Result Answered NoAnswer) (old new : List ℕ) (len : ℕ) → IfOk answer (λ a. IsCheckText bytes a.number a.text.items)
+      → IfOk answer (λ a. length a.text.items ≤ length old → (n ≡ a.number) × (new ≡ a.text.items ++ drop (length a.text.items) old))
+      → IfOk answer (λ a. length old < length a.text.items → IsRoom n × (new ≡ old)) → IfOk answer (λ a. len ≡ length a.text.items)
+      → IfErr answer (λ why. (n ≡ number_of why) × (len ≡ 0) × (new ≡ old)) → IsChecked n
+      → (text : List ℕ) × IsCheckText bytes n text × (len ≡ length text) × (new ≡ text ++ drop (length text) old)
+  put-text (Ok a) old new len text whole room long err checked = elim (cases_lt (length old) (length a.text.items)) [
+    | inl short ↦ absurd (unroomed n (room short).0 checked)
+    | inr fits ↦ (a.text.items, subst (λ k. IsCheckText bytes k a.text.items) (sym (whole fits).0) text, long, (whole fits).1)
+  ]
+  put-text (Err why) old new len text whole room long err checked = absurd (unchecked why n err.0 checked)
+
+  pub put-room : (answer : Result Answered NoAnswer) (old new : List ℕ) (len : ℕ) → IfOk answer (λ a. IsCheckText bytes a.number a.text.items)
+      → IfOk answer (λ a. length a.text.items ≤ length old → (n ≡ a.number) × (new ≡ a.text.items ++ drop (length a.text.items) old))
+      → IfOk answer (λ a. len ≡ length a.text.items) → IfErr answer (λ why. (n ≡ number_of why) × (len ≡ 0) × (new ≡ old)) → IsRoom n
+      → (m : ℕ) × (text : List ℕ) × IsCheckText bytes m text × (len ≡ length text) × (length old < length text)
+  put-room (Ok a) old new len text whole long err room = elim (cases_lt (length old) (length a.text.items)) [
+    | inl short ↦ (a.number, a.text.items, text, long, short)
+    | inr fits ↦ absurd (unroomed a.number (subst (λ k. IsRoom k) (whole fits).0 room) (of-text bytes a.number a.text.items text))
+  ]
+  put-room (Err why) old new len text whole long err room = absurd (not-room why n err.0 room)

@@ -1,5 +1,5 @@
 -- What C is answered: numbers, and the verdict as a struct.
-use Rattle.std.specs.Prelude.{◌≡◌, ◌⊎◌, ℕ, List, Some}
+use Rattle.std.specs.Prelude.{◌≡◌, ◌⊎◌, ℕ, false, List, Some}
 use Rattle.sgt_names.specs.declared.outcome.Outcome.{Outcome}
 use Rattle.sgt_names.specs.declared.outcome.Outcome.TheVariants as outcome
 use Rattle.sgt_audit.specs.Faults.{fault_number}
@@ -8,6 +8,8 @@ use Rattle.sgt_audit.specs.declared.verdict.Verdict.TheVariants.{Yes, No}
 use Rattle.sgt_serial.specs.Answer.{IsAnswer}
 use Rattle.sgt_certify.specs.Answer as certify
 use Rattle.sgt_explain.specs.Explained.{IsExplained}
+use Rattle.sgt_check.specs.Answer as check
+use Rattle.sgt_check.specs.declared.options.Options.{Options}
 use Rattle.sgt_c.specs.declared.answers.SgtVerdict.{SgtVerdict}
 use Rattle.sgt_c.specs.declared.answers.NoAnswer.{NoAnswer}
 use Rattle.sgt_c.specs.declared.answers.NoAnswer.TheVariants.{Memory, Long}
@@ -79,3 +81,29 @@ abbrev pub IsExplainText : List ℕ → ℕ → List ℕ → Type 0
 IsExplainText bytes n text =
     ((n ≡ 0) × IsExplained (Some bytes) outcome.Yes text)
     ⊎ ((n ≡ 1) × IsExplained (Some bytes) outcome.No text)
+
+-- ---- histories
+
+-- a line of the history can't be read
+abbrev pub IsUnreadable : ℕ → Type 0
+IsUnreadable n = n ≡ 2
+
+-- the history is answered, or that
+abbrev pub IsChecked : ℕ → Type 0
+IsChecked n = IsAnswered n ⊎ IsUnreadable n
+
+abbrev pub number_of_check : Outcome → ℕ
+number_of_check outcome.Yes = 0
+number_of_check outcome.No = 1
+number_of_check outcome.Unreadable = 2
+
+-- no order is asked for
+abbrev pub plainly : Options
+plainly = record { order = false }
+
+-- the text that a history is answered by: a yes with its counts, a no with what shows it, or the first line that can't be read
+abbrev pub IsCheckText : List ℕ → ℕ → List ℕ → Type 0
+IsCheckText bytes n text =
+    ((n ≡ 0) × check.IsAnswer plainly bytes outcome.Yes text)
+    ⊎ (((n ≡ 1) × check.IsAnswer plainly bytes outcome.No text)
+    ⊎ ((n ≡ 2) × check.IsAnswer plainly bytes outcome.Unreadable text))

@@ -11,6 +11,9 @@ pub const SGT_YES: u32 = 0;
 /// The text spells no valid bundle.
 pub const SGT_NO: u32 = 1;
 
+/// A line of the history can't be read.
+pub const SGT_UNREADABLE: u32 = 2;
+
 /// No answer: a growth was refused.
 pub const SGT_MEMORY: u32 = 3;
 

@@ -1,8 +1,9 @@
 //! Expected values are worked by hand, of the example of docs/FORMAT.md.
 
 use crate::{
-    SGT_NO, SGT_ROOM, SGT_VERSION, SGT_YES, SgtVerdict, sgt_audit, sgt_certify, sgt_certify_len,
-    sgt_explain, sgt_explain_len, sgt_serial, sgt_serial_len, sgt_version,
+    SGT_NO, SGT_ROOM, SGT_UNREADABLE, SGT_VERSION, SGT_YES, SgtVerdict, sgt_audit, sgt_certify,
+    sgt_certify_len, sgt_check, sgt_check_len, sgt_explain, sgt_explain_len, sgt_serial,
+    sgt_serial_len, sgt_version,
 };
 use std::alloc::{AllocError, Global};
 
@@ -110,6 +111,30 @@ fn bundles_are_explained(rt: HostRuntime) {
         )
     );
     assert!(rt; is_explained(alloc, WRONG_READ, SGT_NO, "no line 5 F10\nReadValue: "));
+}
+
+// Whether the text of the check of a history is this one, also where it has just the room, and none.
+fn is_checked(alloc: Global, history: &str, number: u32, text: &str) -> bool {
+    let bytes = history.as_bytes();
+    let mut n = 0;
+    let mut told = 0;
+    let mut out = [7u8; 256];
+    let is_measured = sgt_check_len(alloc, bytes, &mut n) == number && n == text.len();
+    let is_empty = sgt_check(alloc, bytes, &mut out[..0], &mut told) == SGT_ROOM && told == n;
+    let is_told = sgt_check(alloc, bytes, &mut out, &mut told) == number && told == n;
+    is_measured && is_empty && is_told && out.starts_with(text.as_bytes()) && out[255] == 7
+}
+
+#[test]
+fn histories_are_checked(rt: HostRuntime) {
+    let alloc = rt.alloc();
+    let late = "{\"tx\":\"late\",\"end\":\"commit\",\"ops\":[[\"r\",\"x\",1]]}\n";
+    let early = "{\"tx\":\"early\",\"end\":\"commit\",\"ops\":[[\"w\",\"x\",1]]}";
+    let none = "no unwritten\nline 1 \"late\" r \"x\" 1\n";
+    assert!(rt; is_checked(alloc, "", SGT_YES, "yes 0 committed 0 aborted\n"));
+    assert!(rt; is_checked(alloc, early, SGT_YES, "yes 1 committed 0 aborted\n"));
+    assert!(rt; is_checked(alloc, late, SGT_NO, none));
+    assert!(rt; is_checked(alloc, "{}", SGT_UNREADABLE, "! L1 line 1\n"));
 }
 
 #[test]

@@ -1,4 +1,4 @@
-//! The proved auditor and certificate maker of `sgt`, behind safe functions.
+//! The proved auditor, certificate maker and check of histories of `sgt`, behind safe functions.
 
 use std::fmt;
 
@@ -9,6 +9,7 @@ mod raw {
 
     pub const YES: u32 = 0;
     pub const NO: u32 = 1;
+    pub const UNREADABLE: u32 = 2;
     pub const MEMORY: u32 = 3;
     pub const LONG: u32 = 4;
     pub const VERSION: u32 = 1;
@@ -35,6 +36,8 @@ mod raw {
         pub fn sgt_certify(bytes: *const u8, len: usize, out: *mut u8, room: usize, text_len: *mut usize) -> u32;
         pub fn sgt_explain_len(bytes: *const u8, len: usize, text_len: *mut usize) -> u32;
         pub fn sgt_explain(bytes: *const u8, len: usize, out: *mut u8, room: usize, text_len: *mut usize) -> u32;
+        pub fn sgt_check_len(bytes: *const u8, len: usize, text_len: *mut usize) -> u32;
+        pub fn sgt_check(bytes: *const u8, len: usize, out: *mut u8, room: usize, text_len: *mut usize) -> u32;
     }
 
     pub type Measure = unsafe extern "C" fn(*const u8, usize, *mut usize) -> u32;
@@ -68,6 +71,8 @@ pub enum Text {
     Yes(Vec<u8>),
     /// With a no.
     No(Vec<u8>),
+    /// A history has a line that can't be read: of `check` alone.
+    Unreadable(Vec<u8>),
 }
 
 /// Why there is no answer.
@@ -135,7 +140,7 @@ fn text_of(measure: raw::Measure, write: raw::Write, given: &[u8]) -> Result<Tex
     let mut len = 0;
     // SAFETY: as above.
     let answer = unsafe { measure(given.as_ptr(), given.len(), &mut len) };
-    if answer != raw::YES && answer != raw::NO {
+    if !matches!(answer, raw::YES | raw::NO | raw::UNREADABLE) {
         return Err(Error::of(answer));
     }
     let mut text = vec![0; len];
@@ -146,6 +151,7 @@ fn text_of(measure: raw::Measure, write: raw::Write, given: &[u8]) -> Result<Tex
     match answer {
         raw::YES => Ok(Text::Yes(text)),
         raw::NO => Ok(Text::No(text)),
+        raw::UNREADABLE => Ok(Text::Unreadable(text)),
         other => Err(Error::of(other)),
     }
 }
@@ -164,4 +170,10 @@ pub fn certify(logs: &[u8]) -> Result<Text, Error> {
 /// The auditor's line on a bundle, and what it means.
 pub fn explain(bundle: &[u8]) -> Result<Text, Error> {
     text_of(raw::sgt_explain_len, raw::sgt_explain, bundle)
+}
+
+/// Whether some order of a history's committed transactions explains all that was read and written: how many there are, or what shows that
+/// none does; or the first line that can't be read.
+pub fn check(history: &[u8]) -> Result<Text, Error> {
+    text_of(raw::sgt_check_len, raw::sgt_check, history)
 }

@@ -1,8 +1,9 @@
-//! Prints what `sgt audit`, `sgt serial`, `sgt certify` and `sgt explain` print of standard input, and ends with the program's status.
+//! Prints what `sgt audit`, `sgt serial`, `sgt certify`, `sgt explain` and `sgt check` print of standard input, and ends with the
+//! program's status.
 //!
-//! usage: sgt [audit|serial|certify|explain] < BUNDLE
+//! usage: sgt [audit|serial|certify|explain|check] < BUNDLE
 
-use sgt::{audit, certify, explain, serial, Error, Text, Verdict};
+use sgt::{audit, certify, check, explain, serial, Error, Text, Verdict};
 use std::error;
 use std::io::{self, Read, Write};
 use std::process::ExitCode;
@@ -15,12 +16,14 @@ fn run(word: Option<&str>) -> Result<u8, Box<dyn error::Error>> {
         Some("serial") => Some(serial(&bundle)?),
         Some("certify") => Some(certify(&bundle)?),
         Some("explain") => Some(explain(&bundle)?),
+        Some("check") => Some(check(&bundle)?),
         _ => None,
     };
     if let Some(answer) = answer {
         let (text, status) = match answer {
             Text::Yes(text) => (text, 0),
             Text::No(text) => (text, 1),
+            Text::Unreadable(text) => (text, 2),
         };
         out.write_all(&text)?;
         return Ok(status);
