@@ -1,10 +1,10 @@
 /* Calls the library with each of its allocations refused in turn, once alone and once with all that follow.
  *
- * usage: refuse_library BUNDLE LOGS
+ * usage: refuse_library BUNDLE LOGS HISTORY
  *
- * The bundle is audited, run and explained, the logs are certified. Each answer has to be SGT_MEMORY, with every length and every
- * other field 0 and `out` as it was, or the answer that was given before; and each call has to give back what it took. Ends with
- * status 1 where one does not. docs/BENCH.md has the command. */
+ * The bundle is audited, run and explained, the logs are certified, the history is checked. Each answer has to be SGT_MEMORY, with
+ * every length and every other field 0 and `out` as it was, or the answer that was given before; and each call has to give back what
+ * it took. Ends with status 1 where one does not. docs/BENCH.md has the command. */
 #include "sgt.h"
 
 #include <stdio.h>
@@ -116,19 +116,22 @@ static uint8_t *file(const char *path, size_t *len) {
 }
 
 int main(int argc, char **argv) {
-    if (argc != 3) return 2;
-    size_t bundle_len, logs_len;
-    uint8_t *bundle = file(argv[1], &bundle_len), *logs = file(argv[2], &logs_len);
+    if (argc != 4) return 2;
+    size_t bundle_len, logs_len, history_len;
+    uint8_t *bundle = file(argv[1], &bundle_len), *logs = file(argv[2], &logs_len), *history = file(argv[3], &history_len);
     const call on_bundle[] = {{"audit", NULL, NULL},
                               {"serial_len", sgt_serial_len, NULL},
                               {"serial", NULL, sgt_serial},
                               {"explain_len", sgt_explain_len, NULL},
                               {"explain", NULL, sgt_explain}};
     const call on_logs[] = {{"certify_len", sgt_certify_len, NULL}, {"certify", NULL, sgt_certify}};
+    const call on_history[] = {{"check_len", sgt_check_len, NULL}, {"check", NULL, sgt_check}};
     int wrong = 0;
     for (size_t at = 0; at < sizeof on_bundle / sizeof *on_bundle; at++) wrong |= sweep(&on_bundle[at], bundle, bundle_len);
     for (size_t at = 0; at < sizeof on_logs / sizeof *on_logs; at++) wrong |= sweep(&on_logs[at], logs, logs_len);
+    for (size_t at = 0; at < sizeof on_history / sizeof *on_history; at++) wrong |= sweep(&on_history[at], history, history_len);
     __real_free(bundle);
     __real_free(logs);
+    __real_free(history);
     return wrong;
 }
