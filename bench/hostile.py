@@ -11,7 +11,7 @@ least) grew by more than 2.3, or where the last run took over 1 s a MB. The stat
 A window of w transactions may have w²/4 edges of one item, where increments stand on one side and reads on the other. So the
 kinds of BOUNDED are held against the windows that they fill, and not against their size: such a kind is named where the last
 doubling grew by more than 2.3, or where a window took over 1.5 s. So is `long_walks`, whose answer has a walk of a thousand steps
-for each of a thousand refusals. The kinds of TOLD grow as docs/BENCH.md says, with the reason: they are shown, and not counted.
+for each of a thousand refusals.
 """
 import resource
 import subprocess
@@ -23,7 +23,6 @@ import hostile_inputs as inputs
 MOST_TIME, MOST_SIZE, LEAST_TIME, MOST_OF_MEGABYTE, MOST_OF_WINDOW = 3.0, 16_000_000, 0.2, 1.0, 1.5
 
 BOUNDED = ("sums_and_reads", "reads_and_sums", "against", "alone", "long_walks")
-TOLD = ("certify_hub",)
 
 KINDS = {
     "add_and_read": (["replay"], inputs.add_and_read),
