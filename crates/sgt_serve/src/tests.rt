@@ -1,6 +1,6 @@
 //! A talk in memory.
 
-use crate::{Bundles, MemBundles, NoBundles, Pipe, serve};
+use crate::{Bundles, MemBundles, NoBundles, Pipe, ServeFail, serve};
 use sgt_names::{MemSink, MemSource, Outcome};
 use std::test::Fail;
 
@@ -22,6 +22,31 @@ fn a_talk_is_answered_and_cut(rt: HostRuntime) -> Result<(), Fail> {
     assert!(rt; texts.len() == 2);
     let second = texts[1].as_slice();
     assert!(rt; second == last.as_slice());
+    Ok(())
+}
+
+// A place that refuses once, and then a read that fails: what was done is kept at the end.
+#[test]
+fn a_read_that_fails_leaves_the_last_bundle(rt: HostRuntime) -> Result<(), Fail> {
+    let alloc = rt.alloc();
+    let input = b"site 0 x=5\nb\nw1[0.x]=6\nc1\nx\n";
+    let said = b"b1\nw1[0.x]=6\nc1 yes\n! B\n";
+    let source = MemSource::new(input, 64, Some(2));
+    let mut pipe = Pipe::new(source, MemSink::new(alloc, 200)?);
+    let mut bundles = MemBundles::new(alloc, 1);
+    let is_fault = match serve(alloc, &mut pipe, &mut bundles) {
+        Err(ServeFail::ReadFault) => true,
+        _ => false,
+    };
+    assert!(rt; is_fault);
+    let (_source, sink) = pipe.into_parts();
+    assert!(rt; sink.bytes() == said.as_slice());
+    let last =
+        b"sgt 1\n{\"decisions\":[{\"commit\":1,\"rank\":0}],\"sites\":1}\nsite 0\nitem x=5\nw1[x]=6\nc1\nfinal x=6\nend\n";
+    let texts = bundles.texts();
+    assert!(rt; texts.len() == 1);
+    let first = texts[0].as_slice();
+    assert!(rt; first == last.as_slice());
     Ok(())
 }
 
