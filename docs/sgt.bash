@@ -13,9 +13,9 @@ _sgt() {
         draw) options='--tx --dot --help' ;;
         serial) options='--progress --help' ;;
         certify) options='--help' ;;
-        serve) options='--bundles' ;;
-        check) options='--order --quiet -q --progress --help' ;;
-        help) COMPREPLY=($(compgen -W 'audit serial replay run certify check explain draw' -- "$word")); return ;;
+        serve) options='--bundles --help' ;;
+        check) options='--order --against --quiet -q --progress --help' ;;
+        help) COMPREPLY=($(compgen -W 'audit serial replay run serve certify check explain draw' -- "$word")); return ;;
     esac
     COMPREPLY=($(compgen -W "$options" -- "$word") $(compgen -f -- "$word"))
 }

@@ -162,9 +162,11 @@ def finals_of(path):
 def audit(folder, names, program=None):
     """Audits these bundles as a chain: what is said of each piece, else NotAChain. A command line has its limit, so it goes by pieces,
     each of which begins with the last bundle of the one before (and counts that one's transactions, too)."""
-    said = []
+    program, said = program or os.environ.get("SGT", "sgt"), []
+    if os.path.dirname(program):
+        program = os.path.abspath(program)      # it runs in the folder
     for at in range(0, len(names), PIECE):
-        words = [program or os.environ.get("SGT", "sgt"), "audit", "--chain", *names[max(at - 1, 0):at + PIECE]]
+        words = [program, "audit", "--chain", *names[max(at - 1, 0):at + PIECE]]
         done = subprocess.run(words, cwd=folder, capture_output=True, text=True)
         if done.returncode != 0:
             raise NotAChain((done.stdout + done.stderr).rstrip("\n"))

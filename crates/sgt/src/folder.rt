@@ -2,8 +2,7 @@
 
 ghost use Rattle.std.specs.Prelude.{◌≡◌};
 
-use sgt_names::{Asks, Failed};
-use sgt_serve::{Bundles, Handed, HandedBundle};
+use sgt_serve::{Bundles, Handed, HandedBundle, KeepFault};
 use std::fs::File;
 use std::io::Write;
 use std::{fs, io};
@@ -20,7 +19,6 @@ pub struct FolderBundles<'a> {
     rt: &'a HostRuntime,
     folder: &'a str,
     last: u64,
-    refused: Asks,
     handed: Handed,
 }
 
@@ -70,6 +68,11 @@ fn sync(rt: &HostRuntime, folder: &str) -> io::Result<()> {
     File::open(rt, folder)?.sync_all()
 }
 
+/// Whether a growth of the program was refused. What the system itself has no memory for is a device that failed, and has its number.
+pub(crate) fn is_growth(why: &io::Error) -> bool {
+    why.kind() == io::ErrorKind::OutOfMemory && why.raw_os_error().is_none()
+}
+
 impl<'a> FolderBundles<'a> {
     /// The folder, which is made where it isn't there, and can be written. The next number is the one behind the greatest in it.
     pub(crate) fn open(rt: &'a HostRuntime, folder: &'a str) -> io::Result<FolderBundles<'a>> {
@@ -81,7 +84,6 @@ impl<'a> FolderBundles<'a> {
             rt,
             folder,
             last,
-            refused: Asks::none(),
             handed: Handed::new(),
         })
     }
@@ -98,8 +100,7 @@ impl<'a> FolderBundles<'a> {
 
     // Stores the text under the next number.
     fn write_whole(&mut self, text: &[u8]) -> io::Result<u64>
-        ensures handed { self.new.handed ≡ self.old.handed }
-        ensures refused { self.new.refused ≡ self.old.refused }
+        ensures { self.new.handed ≡ self.old.handed }
     {
         if self.last >= MOST {
             return Err(io::Error::from(io::ErrorKind::AlreadyExists));
@@ -117,25 +118,29 @@ impl<'a> FolderBundles<'a> {
         self.last = number;
         Ok(number)
     }
-}
 
-impl Bundles for FolderBundles<'_> {
-    ghost handed = { λ b. b.handed.items };
-
-    ghost refusals = { λ b. b.refused.count };
-
-    fn keep(&mut self, text: &[u8]) -> Result<u64, Failed> {
+    // Stores the text, and tells standard error why it can't be written, if that isn't for want of memory.
+    fn answer_to(&mut self, text: &[u8]) -> Result<u64, KeepFault>
+        ensures { self.new.handed ≡ self.old.handed }
+    {
         match self.write_whole(text) {
-            Ok(number) => {
-                self.handed = self.handed.with(&HandedBundle { number, text });
-                Ok(number)
-            }
+            Ok(number) => Ok(number),
+            Err(why) if is_growth(&why) => Err(KeepFault::Memory),
             Err(why) => {
                 let folder = self.folder;
                 let _ = eprintln!(self.rt; "sgt: {folder}: a bundle can't be written: {why}");
-                self.refused = self.refused.one_more();
-                Err(Failed)
+                Err(KeepFault::Refused)
             }
         }
+    }
+}
+
+impl Bundles for FolderBundles<'_> {
+    ghost handed = { λ b. b.handed };
+
+    fn keep(&mut self, text: &[u8]) -> Result<u64, KeepFault> {
+        let answer = self.answer_to(text);
+        self.handed = self.handed.with(&HandedBundle { text, answer });
+        answer
     }
 }

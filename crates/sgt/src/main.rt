@@ -1,6 +1,7 @@
 //! `sgt` reads standard input or files, and writes standard output.
 #![tactic(auto)]
 
+mod against;
 mod chain;
 mod devices;
 mod folder;
@@ -10,6 +11,7 @@ mod progress;
 mod talk;
 mod unreadable;
 
+use crate::against::judge_order;
 use crate::chain::audit_chain;
 use crate::devices::{Hush, LastWords, Retrying};
 use crate::host::{Host, over};
@@ -27,17 +29,45 @@ use std::sync::Wait;
 use std::thread::Threads;
 use std::{env, io};
 
-// The words of the line, and those options of a check that this version doesn't know, so that they are refused.
-fn with_unknown(rt: &HostRuntime, mut line: Line) -> Result<Line, AllocError> {
-    if line.against.is_some() {
-        line.words.push(String::from_str(rt.alloc(), "--against")?)?;
+// Whether the word stands behind the command's name.
+fn has_word(line: &Line, option: &str) -> bool {
+    for word in &line.words {
+        if word.as_str() == option {
+            return true;
+        }
     }
+    false
+}
+
+// A word that a check doesn't take, where its words ask for what it can't do: a picture, time or sessions, or an order beside one that
+// is given.
+fn unknown(line: &Line) -> Option<&'static str> {
     let is_check = line
         .words
         .get(1)
         .is_some_and(|word| word.as_str() == "check");
-    if is_check && line.place.is_some() {
-        line.words.push(String::from_str(rt.alloc(), "--svg")?)?;
+    if !is_check {
+        return None;
+    }
+    if line.place.is_some() {
+        return Some("--svg (not in this version)");
+    }
+    if line.against.is_some() && has_word(line, "--order") {
+        return Some("--order (with --against)");
+    }
+    if has_word(line, "--real-time") {
+        return Some("--real-time (not in this version)");
+    }
+    if has_word(line, "--sessions") {
+        return Some("--sessions (not in this version)");
+    }
+    None
+}
+
+// The words of the line, and one that is refused, where it asks for what can't be done.
+fn with_unknown(rt: &HostRuntime, mut line: Line) -> Result<Line, AllocError> {
+    if let Some(word) = unknown(&line) {
+        line.words.push(String::from_str(rt.alloc(), word)?)?;
     }
     Ok(line)
 }
@@ -74,7 +104,7 @@ fn awaited(line: &Line, choice: &Result<Choice, NoChoice>) -> Option<&'static st
         Ok(Choice::Rule(_)) => None,
         Ok(Choice::Certify) => Some("a bundle without its line 2"),
         Ok(Choice::Replay) => Some("sites and events"),
-        Ok(Choice::Check { .. }) => Some("a history, a transaction a line"),
+        Ok(Choice::Check(_)) => Some("a history, a transaction a line"),
         Ok(Choice::Run { .. }) => Some("sites and scripts"),
         Ok(_) => Some("a bundle"),
         Err(_) => None,
@@ -85,7 +115,7 @@ fn awaited(line: &Line, choice: &Result<Choice, NoChoice>) -> Option<&'static st
 fn tells_terminal(choice: &Result<Choice, NoChoice>) -> bool {
     match choice {
         Ok(Choice::Audit | Choice::AuditWith { .. } | Choice::Serial) => true,
-        Ok(Choice::Replay | Choice::Check { .. }) => true,
+        Ok(Choice::Replay | Choice::Check(_)) => true,
         _ => false,
     }
 }
@@ -102,6 +132,9 @@ fn run<H: Threads + Wait + Sync>(
     };
     if is_talk(line) {
         return Ok(serve_events(host, line, name));
+    }
+    if let (Ok(Choice::Check(_)), Some(order)) = (choice, &line.against) {
+        return Ok(judge_order(host, line, order.as_str(), name));
     }
     match choice {
         Ok(Choice::Audit | Choice::AuditWith { .. }) if line.is_chain && !line.files.is_empty() => {

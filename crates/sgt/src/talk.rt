@@ -1,12 +1,19 @@
 //! Events served one by one.
 
 use crate::devices::{LastWords, Retrying};
-use crate::folder::FolderBundles;
+use crate::folder::{FolderBundles, is_growth};
 use crate::host::{Host, ended, open, refuse_file};
 use sgt_line::Line;
 use sgt_names::{EngineFail, FromRead, Outcome, ToWrite};
 use sgt_program::give_up;
-use sgt_serve::{Bundles, NoBundles, Pipe, ServeFail, serve};
+use sgt_serve::{Bundles, Last, NoBundles, Pipe, ServeFail, serve};
+
+// Tells where a device failed and there was no memory for the last bundle, too. Of a place that refused it the place has told.
+fn tell_lost<H>(host: &Host<'_, H>, last: Last) {
+    if let Last::Memory = last {
+        let _ = eprintln!(host.rt; "sgt: no memory for the last bundle");
+    }
+}
 
 // The status; where there is no answer, standard error is told why.
 fn status_of<H>(host: &Host<'_, H>, told: Result<Outcome, ServeFail>) -> u8 {
@@ -15,8 +22,14 @@ fn status_of<H>(host: &Host<'_, H>, told: Result<Outcome, ServeFail>) -> u8 {
         Ok(Outcome::No) => return 1,
         Ok(Outcome::Unreadable) => return 2,
         Err(ServeFail::Memory) => EngineFail::Memory,
-        Err(ServeFail::ReadFault) => EngineFail::ReadFault,
-        Err(ServeFail::WriteFault) => EngineFail::WriteFault,
+        Err(ServeFail::ReadFault(last)) => {
+            tell_lost(host, last);
+            EngineFail::ReadFault
+        }
+        Err(ServeFail::WriteFault(last)) => {
+            tell_lost(host, last);
+            EngineFail::WriteFault
+        }
         Err(ServeFail::BundleFault) => {
             let _ = eprintln!(host.rt; "sgt: the last bundle can't be written");
             return 4;
@@ -47,6 +60,10 @@ pub(crate) fn serve_events<H>(host: &Host<'_, H>, line: &Line, name: &str) -> u8
     match &line.place {
         Some(folder) => match FolderBundles::open(host.rt, folder.as_str()) {
             Ok(mut bundles) => talk(host, name, &mut bundles),
+            Err(why) if is_growth(&why) => {
+                let mut errors = ToWrite::new(LastWords::new(host.rt.stderr(), host.hush));
+                give_up(&mut errors, EngineFail::Memory)
+            }
             Err(why) => refuse_file(host.rt, folder.as_str(), &why),
         },
         None => talk(host, name, &mut NoBundles::new()),

@@ -25,9 +25,9 @@ impl Watched {
     /// What is read for these words.
     pub(crate) fn of(choice: &Result<Choice, NoChoice>) -> Watched {
         match choice {
-            Ok(Choice::Check { .. }) => Watched::History(Asked {
-                real_time: false,
-                sessions: false,
+            Ok(Choice::Check(wanted)) => Watched::History(Asked {
+                real_time: wanted.real_time,
+                sessions: wanted.sessions,
             }),
             Ok(Choice::Audit | Choice::AuditWith { .. } | Choice::Serial) => Watched::Bundle,
             Ok(Choice::Certify | Choice::Explain | Choice::Transaction(_)) => Watched::Bundle,

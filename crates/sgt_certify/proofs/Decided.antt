@@ -24,6 +24,7 @@ use Rattle.std.specs.List.{flat_map}
 use Rattle.sgt_certify_logs.specs.Witness.{EndsBefore, PrecedesCommitted}
 use Rattle.sgt_certify_greedy.proofs.Rings.{ring-cycle}
 use Rattle.sgt_certify.specs.Lines.{AreLinesOf, IsShownBy, tx_line}
+use Rattle.sgt_certify.specs.Reasons.{IsDecidedAnswer}
 use Rattle.sgt_certify.specs.declared.refuting.Refusal.{Refusal}
 use Rattle.sgt_certify.specs.declared.refuting.Refusal.TheVariants.{Order, Ranks, Walk}
 use Rattle.sgt_certify.proofs.Made.{certified-from, none-shown}
@@ -92,6 +93,17 @@ refused-by refusal bytes lines text txs sites told are faultless logs shown firs
       lines_are = brief-lines refusal sites txs lines shown are;
       none = none-shown refusal bytes sites logs excludes;
     })
+
+pub told-yes : (bytes text : List ℕ) (outcome : Outcome) → (outcome ≡ Yes) × IsCertified bytes text → IsAnswer bytes outcome text × IsDecidedAnswer bytes outcome text
+told-yes bytes text outcome (said, is) =
+    subst (λ (o : Outcome). IsAnswer bytes o text × IsDecidedAnswer bytes o text) (sym said) (is, is)
+
+pub told-no : (bytes text : List ℕ) (outcome : Outcome) (refusal : Refusal) (sites : List SiteLog) (txs : List ℕ)
+    → (outcome ≡ No) × (text ≡ refusal_text refusal ++ flat_map tx_line txs) → IsFaultless bytes → SpellsLogs bytes sites → IsShownBy refusal sites txs
+    → IsFirst refusal sites → IsAnswer bytes outcome text × IsDecidedAnswer bytes outcome text
+told-no bytes text outcome refusal sites txs (said, told) faultless logs shown first =
+    subst (λ (o : Outcome). IsAnswer bytes o text × IsDecidedAnswer bytes o text) (sym said)
+    (refused-by refusal bytes (flat_map tx_line txs) text txs sites told refl faultless logs shown first, (refusal, sites, txs, logs, shown, first, told))
 
 -- the logs that sound bytes spell are sound
 pub logs-sound : (bytes : List ℕ) (sites : List SiteLog) → SpellsLogs bytes sites → SpellsSoundLogs bytes → AreSound sites

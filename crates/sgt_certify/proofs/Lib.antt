@@ -2,3 +2,5 @@ pub mod Taken
 pub mod Made
 pub mod Decided
 pub mod NextEnds
+pub mod Firsts
+pub mod Numbered

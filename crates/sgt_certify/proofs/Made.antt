@@ -11,6 +11,7 @@ use Rattle.sgt_audit.proofs.OneFault.{has_lf, no_lf}
 use Rattle.sgt_cert.specs.Parts.{Parts}
 use Rattle.sgt_cert.specs.Text.{IsDecision, Spells, certificate_text, format_line, sections_from}
 use Rattle.sgt_cert.proofs.OneText.{first_line}
+use Rattle.sgt_cert.proofs.Reading.{certificate-one}
 use Rattle.sgt_cert.specs.declared.certificate.Certificate.{Certificate}
 use Rattle.sgt_cert.specs.Valid.{IsValid}
 use Rattle.sgt_cert.specs.declared.bundle.SiteLog.{SiteLog}
@@ -54,6 +55,17 @@ answers-none bytes text count None made answers =
     let empty : Certificate = record { decisions = []; sites = count } in
     answers (record { certificate = empty; sites = logs }) (with-bundle bytes text empty logs made
     (subst (λ n. 1 ≤ n) many spelled.shape.some, subst (λ n. n ≤ max_sites) many spelled.shape.few, All-nil (IsDecision count)) (sym many) spelled)
+
+-- they are of as many sites as the certificate says with which they were read
+pub answers-many : (bytes text : List ℕ) (count : ℕ) (found : Option Parts) → (1 ≤ count) × (count ≤ max_sites)
+    → IsWithLine bytes (certificate_text (record { decisions = []; sites = count })) text → AnswersBundle text found
+    → IfSome found (λ b. length b.sites ≡ count)
+answers-many bytes text count None range made answers = tt
+answers-many bytes text count (Some b) range made answers =
+    let empty : Certificate = record { decisions = []; sites = count } in
+    let line = (with-logs bytes (certificate_text empty) text b made answers).1 in
+    let one = certificate-one empty b.certificate (range.0, range.1, All-nil (IsDecision count)) answers.certificate line in
+    answers.shape.each ∙ sym (ap (λ (c : Certificate). c.sites) one)
 
 -- logs have a line
 pub no-logs : (bytes : List ℕ) → HasNoLf bytes → (logs : List SiteLog) → SpellsLogs bytes logs → ⊥

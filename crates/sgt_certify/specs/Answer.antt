@@ -74,6 +74,19 @@ pub record IsRefused (bytes text : List ℕ) : Type 0 where
   pub lines_are : AreLinesOf refusal sites lines
   pub none : HasNoCertificate bytes
 
+-- the first of the reasons that the logs have: ends in a cycle; or else committed conflicts in a
+-- cycle; or else there is no certificate all the same
+abbrev pub IsReason : Refusal → List SiteLog → Type 0
+IsReason Order sites = HaveEndsInACycle sites
+IsReason Ranks sites = (HaveEndsInACycle sites → ⊥) × HaveConflictsInACycle sites
+IsReason Walk sites = (HaveEndsInACycle sites → ⊥) × (HaveConflictsInACycle sites → ⊥)
+    × (AreCertifiable sites → ⊥)
+
+-- a no whose first line is this refusal's
+abbrev pub Refuses : Refusal → Outcome → List ℕ → Type 0
+Refuses refusal outcome text = (outcome ≡ No)
+    × ((lines : List ℕ) × (text ≡ refusal_text refusal ++ lines))
+
 -- the line of a fault
 abbrev pub fault_text : (line number : ℕ) → List ℕ
 fault_text line number = codes "no line " ++ (decimal line ++ (codes " F" ++ (decimal number ++ codes "\n")))

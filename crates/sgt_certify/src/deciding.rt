@@ -1,10 +1,12 @@
 //! The answer to a text of sound logs, by a search that always finds one.
 
-ghost use Rattle.std.specs.Prelude.{◌≡◌, ◌<◌, ◌≤◌, ℕ, List, length, IfOk, IfErr};
+ghost use Rattle.std.specs.Prelude.{◌≡◌, ◌<◌, ◌≤◌, ◌++◌, ℕ, List, length, IfOk, IfErr};
 ghost use Rattle.sgt_cert.specs.Valid.{IsValid};
 ghost use Rattle.sgt_cert.specs.declared.bundle.SiteLog.{SiteLog};
-ghost use Rattle.sgt_certify.specs.Answer.{IsCertifiedBy, IsAnswer, IsFirst};
-ghost use Rattle.sgt_certify.specs.Lines.{IsShownBy};
+ghost use Rattle.std.specs.List.{flat_map};
+ghost use Rattle.sgt_certify.specs.Answer.{IsCertified, IsCertifiedBy, IsAnswer, refusal_text};
+ghost use Rattle.sgt_certify.specs.Lines.{tx_line};
+ghost use Rattle.sgt_certify.specs.Reasons.{IsDecidedAnswer};
 ghost use Rattle.sgt_certify_faults.specs.Faults.{IsFaultless};
 ghost use Rattle.sgt_certify_logs.specs.Certifiable.{SpellsLogs};
 ghost use Rattle.sgt_certify_logs.specs.Sound.{AreSound, SpellsSoundLogs};
@@ -47,7 +49,8 @@ fn certificate_answer(
     certificate: &Certificate,
 ) -> Result<Answer, AllocError>
     requires { IsCertifiedBy text.now certificate.now }
-    ensures { IfOk result (λ a. IsAnswer text.now a.outcome a.text.items) }
+    ensures { IfOk result
+        (λ a. (a.outcome ≡ Outcome.Yes) × IsCertified text.now a.text.items) }
 {
     let line = to_line(alloc, certificate)?;
     let found = with_line(alloc, text, line.as_slice())?;
@@ -62,10 +65,8 @@ fn certificate_answer(
 
 /// The no by what the logs have, told by these transactions.
 fn reason_answer(alloc: Global, refusal: Refusal, txs: &[Tx]) -> Result<Answer, AllocError>
-    ensures { IfOk result
-        (λ a. (bytes : List ℕ) (logs : List SiteLog) → IsFaultless bytes → SpellsLogs bytes logs
-        → IsShownBy refusal logs txs.now → IsFirst refusal logs
-        → IsAnswer bytes a.outcome a.text.items) }
+    ensures { IfOk result (λ a. (a.outcome ≡ Outcome.No)
+        × (a.text.items ≡ refusal_text refusal ++ flat_map tx_line txs.now)) }
 {
     let lines = tx_lines(alloc, txs)?;
     let text = joined(alloc, line_of(refusal), lines.as_slice())?;
@@ -80,6 +81,7 @@ pub fn sound_answer(alloc: Global, text: &[u8]) -> Result<Answer, EngineFail>
     requires faultless { IsFaultless text.now }
     requires sound { SpellsSoundLogs text.now }
     ensures answer { IfOk result (λ a. IsAnswer text.now a.outcome a.text.items) }
+    ensures decided { IfOk result (λ a. IsDecidedAnswer text.now a.outcome a.text.items) }
     ensures err { IfErr result (λ e. e ≡ EngineFail.Memory) }
 {
     let bundle = all_logs(alloc, text)?;

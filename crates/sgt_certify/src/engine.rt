@@ -1,9 +1,12 @@
 //! The certificate of all that a reader gives.
 
-ghost use Rattle.std.specs.Prelude.{◌≡◌, ◌≢◌, ◌<◌, ◌++◌, ◌↔◌, ℕ, true, List, Option, Err, IfErr, IfOk, IfSome, IsErrOf, OnErr};
+ghost use Rattle.std.specs.Prelude.{◌≡◌, ◌≢◌, ◌<◌, ◌++◌, ◌↔◌, ℕ, true, List, Option, Some, Err, IfErr, IfOk, IfSome, IsErrOf, OnErr};
 ghost use Rattle.sgt_notation.specs.Lines.{ReadFaultIsDue};
 ghost use Rattle.sgt_audit.specs.Faults.{fault_number};
 ghost use Rattle.sgt_certify.specs.Answer.{HasCertificate, IsAnswer, IsTaken, fault_text, WroteAnswer, WroteAnswerFront};
+ghost use Rattle.sgt_certify.specs.Reasons.{IsDecidedAnswer, IsToldBy, Passes};
+ghost use Rattle.sgt_certify_search.specs.declared.finding.Found.TheVariants.{Refused};
+ghost use Rattle.sgt_certify_search.specs.declared.finding.Reason.{Reason as AnyReason};
 ghost use Rattle.sgt_certify_faults.specs.Faults.{GoesOn, IsFaultless, IsFirstFault};
 ghost use Rattle.sgt_certify_logs.specs.Sound.{SpellsSoundLogs};
 
@@ -52,6 +55,10 @@ fn faultless_answer(
     requires faultless { IsFaultless text.now }
     requires sound { SpellsSoundLogs text.now }
     ensures answer { IfOk result (λ a. IsAnswer text.now a.outcome a.text.items) }
+    ensures by { (r : AnyReason) → reason ≡ Some r → Passes text.now r
+        → IfOk result (λ a. (a.outcome ≡ Outcome.No) × IsToldBy text.now r a.text.items) }
+    ensures decided { ((r : AnyReason) → reason ≡ Some r → Passes text.now r → ⊥)
+        → IfOk result (λ a. IsDecidedAnswer text.now a.outcome a.text.items) }
     ensures err { IfErr result (λ e. e ≡ EngineFail.Memory) }
 {
     let Some(reason) = reason else {
@@ -77,6 +84,9 @@ fn no_answer(
     ensures answer { IfOk result
         (λ a. (more : List ℕ) → GoesOn all more
         → IsAnswer (text.items ++ more) a.outcome a.text.items) }
+    ensures by { IsFaultless text.items → all ≡ true → (r : AnyReason) → reason ≡ Some r
+        → Passes text.items r
+        → IfOk result (λ a. (a.outcome ≡ Outcome.No) × IsToldBy text.items r a.text.items) }
     ensures err { IfErr result (λ e. e ≡ EngineFail.Memory) }
 {
     let bytes = text.as_slice();
@@ -91,6 +101,9 @@ fn found_answer(alloc: Global, text: Vec<u8>, found: Found) -> Result<Answer, En
     ensures answer { IfOk result
         (λ a. (more : List ℕ) → GoesOn true more
         → IsAnswer (text.items ++ more) a.outcome a.text.items) }
+    ensures by { IsFaultless text.items → (r : AnyReason) → found ≡ Refused r
+        → Passes text.items r
+        → IfOk result (λ a. (a.outcome ≡ Outcome.No) × IsToldBy text.items r a.text.items) }
     ensures err { IfErr result (λ e. e ≡ EngineFail.Memory) }
 {
     match found {

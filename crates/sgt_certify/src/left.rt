@@ -1,11 +1,12 @@
 //! The lines behind `no walk`: the next end of each site that has some left.
 
-ghost use Rattle.std.specs.Prelude.{◌≡◌, ◌++◌, Contains, length, IfNone, IfOk, IfSome, OnOk};
+ghost use Rattle.std.specs.Prelude.{◌≡◌, ◌++◌, Contains, Some, length, drop, slice_get, IfNone, IfOk, IfSome, OnOk};
 ghost use Rattle.sgt_names.specs.Entry.{IsEnd};
 ghost use Rattle.sgt_names.specs.declared.entry.Entry.{Entry as AnyEntry};
 ghost use Rattle.sgt_notation.specs.Spelling.{entry_text};
 ghost use Rattle.sgt_certify_stuck.specs.Apart.{HasTx};
 ghost use Rattle.sgt_certify.specs.Lines.{AreDecidedBefore, AreLeftLines, IsLeftLine, IsNextEnd, left_text};
+ghost use Rattle.sgt_certify.specs.Reasons.{AreNumbered};
 
 use crate::telling::line_at;
 use sgt_cert::SiteLog;
@@ -65,8 +66,11 @@ fn text_at(
     log: &SiteLog,
     decided: &BTreeSet<Tx>,
 ) -> Result<Option<Vec<u8>>, AllocError>
-    ensures { IfOk result
+    ensures some { IfOk result
         (λ text. IfSome text (λ t. IsLeftLine sites.now (HasTx decided.now) site log.now t.items)) }
+    ensures none { IfOk result
+        (λ text. IfNone text (AreNumbered sites.now → slice_get sites.now site ≡ Some log.now
+        → ⊥)) }
 {
     let entries = log.entries.as_slice();
     let mut out = Vec::new(alloc);
@@ -88,9 +92,11 @@ fn left_from(
     logs: &[SiteLog],
     decided: &BTreeSet<Tx>,
 ) -> Result<Option<Vec<u8>>, AllocError>
-    ensures { IfOk result
+    ensures some { IfOk result
         (λ text. IfSome text
         (λ t. AreLeftLines sites.now (HasTx decided.now) site logs.now t.items)) }
+    ensures none { IfOk result
+        (λ text. IfNone text (AreNumbered sites.now → drop site sites.now ≡ logs.now → ⊥)) }
 {
     let Some((log, rest)) = logs.split_first() else {
         return Ok(Some(Vec::new(alloc)));
@@ -114,9 +120,10 @@ pub fn left_lines(
     sites: &[SiteLog],
     decided: &[Tx],
 ) -> Result<Option<Vec<u8>>, AllocError>
-    ensures { IfOk result
+    ensures some { IfOk result
         (λ text. IfSome text
         (λ t. AreLeftLines sites.now (Contains decided.now) 0 sites.now t.items)) }
+    ensures none { IfOk result (λ text. IfNone text (AreNumbered sites.now → ⊥)) }
 {
     let set = set_of(alloc, decided)?;
     left_from(alloc, sites, 0, sites, &set)

@@ -12,5 +12,5 @@ mod telling;
 
 pub use deciding::{Answer, sound_answer};
 pub use engine::certify;
-pub use laws::a_yes_is_told_exactly_where_there_is_a_certificate;
+pub use laws::{a_yes_is_told_exactly_where_there_is_a_certificate, the_first_reason_is_told};
 pub use refuting::Refusal;

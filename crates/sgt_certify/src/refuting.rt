@@ -1,9 +1,15 @@
 //! Why a text of logs has no certificate, checked against the logs.
 
-ghost use Rattle.std.specs.Prelude.{◌≡◌, ◌++◌, List, [], length, IsTrue, IfOk, IfErr, IfSome, IfNone};
+ghost use Rattle.std.specs.Prelude.{◌≡◌, ◌≤◌, ◌↔◌, ◌++◌, List, [], length, Contains, IsTrue, IfOk, IfErr, IfSome, IfNone};
+ghost use Rattle.std.specs.List.{flat_map};
+ghost use Rattle.sgt_names.specs.Limits.{max_sites};
 ghost use Rattle.sgt_cert.specs.declared.bundle.SiteLog.{SiteLog};
 ghost use Rattle.sgt_certify.specs.Answer.{Excludes, IsFirst, IsRefused, refusal_text};
-ghost use Rattle.sgt_certify.specs.Lines.{AreLinesOf};
+ghost use Rattle.sgt_certify.specs.Lines.{AreLeftLines, AreLinesOf, conflict_line, end_line};
+ghost use Rattle.sgt_certify.specs.Reasons.{AreNumbered, Holds, IsToldBy, Passes, Tells};
+ghost use Rattle.sgt_certify_logs.specs.Steps.{IsConflictCycle, IsEndCycle};
+ghost use Rattle.sgt_certify_stuck.specs.Circles.{ShowsStuck, members_of};
+ghost use Rattle.sgt_certify_stuck.specs.Onward.{ConflictsFollow, EndsFollow};
 ghost use Rattle.sgt_certify_faults.specs.Faults.{IsFaultless};
 ghost use Rattle.sgt_certify_logs.specs.Certifiable.{SpellsLogs};
 ghost use Rattle.sgt_certify.specs.declared.refuting.Refusal.{Refusal as AnyRefusal};
@@ -19,7 +25,7 @@ use sgt_cert::{Bundle, Certificate, SiteLog, to_line};
 use sgt_certify_logs::{ConflictStep, EndStep, is_conflict_cycle, is_end_cycle};
 use sgt_certify_search::{Proof, Reason};
 use sgt_certify_stuck::{StuckSet, conflicts_follow, ends_follow, is_stuck};
-use sgt_names::{EngineFail, Listed, Tx};
+use sgt_names::{EngineFail, Listed, MAX_SITES, Tx};
 use std::alloc::{AllocError, Global};
 
 /// Why logs have no certificate.
@@ -44,14 +50,16 @@ pub fn line_of(refusal: Refusal) -> &'static [u8]
     }
 }
 
-/// Whether the orders show that neither the ends nor the committed conflicts of the logs are in a cycle.
+/// Whether the ends and the committed conflicts of the logs lead onward in these orders, which then show that none are in a cycle.
 fn are_in_order(
     alloc: Global,
     sites: &[SiteLog],
     ends: &[Tx],
     ranks: &[Tx],
 ) -> Result<bool, AllocError>
-    ensures { IfOk result
+    ensures exact { IfOk result
+        (λ are. IsTrue are ↔ EndsFollow sites.now ends.now × ConflictsFollow sites.now ranks.now) }
+    ensures no_cycle { IfOk result
         (λ are. IsTrue are
         → (HaveEndsInACycle sites.now → ⊥) × (HaveConflictsInACycle sites.now → ⊥)) }
 {
@@ -75,6 +83,10 @@ fn shown(alloc: Global, sites: &[SiteLog], proof: &Proof) -> Result<Option<Told>
     ensures first { IfOk result (λ told. IfSome told (λ t. IsFirst t.refusal sites.now)) }
     ensures lines { IfOk result
         (λ told. IfSome told (λ t. AreLinesOf t.refusal sites.now t.lines.items)) }
+    ensures tells { IfOk result
+        (λ told. IfSome told (λ t. Tells sites.now proof.now t.refusal t.lines.items)) }
+    ensures none { IfOk result
+        (λ told. IfNone told (AreNumbered sites.now → Holds sites.now proof.now → ⊥)) }
 {
     match proof {
         Proof::Ends(steps) => order_shown(alloc, sites, steps.as_slice()),
@@ -96,6 +108,12 @@ fn walk_lines(alloc: Global, sites: &[SiteLog], set: &StuckSet) -> Result<Option
     ensures shown { IfOk result (λ told. IfSome told (λ t. Excludes Refusal.Walk sites.now)) }
     ensures lines { IfOk result
         (λ told. IfSome told (λ t. AreLinesOf Refusal.Walk sites.now t.lines.items)) }
+    ensures stuck { IfOk result (λ told. IfSome told (λ t. ShowsStuck sites.now set.now)) }
+    ensures left { IfOk result
+        (λ told. IfSome told
+        (λ t. AreLeftLines sites.now (Contains (members_of set.now)) 0 sites.now t.lines.items)) }
+    ensures none { IfOk result
+        (λ told. IfNone told (AreNumbered sites.now → ShowsStuck sites.now set.now → ⊥)) }
 {
     if !is_stuck(alloc, sites, set)? {
         return Ok(None);
@@ -121,6 +139,11 @@ fn order_shown(
     ensures first { IfOk result (λ told. IfSome told (λ t. IsFirst t.refusal sites.now)) }
     ensures lines { IfOk result
         (λ told. IfSome told (λ t. AreLinesOf t.refusal sites.now t.lines.items)) }
+    ensures tells { IfOk result
+        (λ told. IfSome told (λ t. (t.refusal ≡ Refusal.Order) × IsEndCycle sites.now steps.now
+        × (t.lines.items ≡ flat_map (end_line sites.now) steps.now))) }
+    ensures none { IfOk result
+        (λ told. IfNone told (AreNumbered sites.now → IsEndCycle sites.now steps.now → ⊥)) }
 {
     if !is_end_cycle(sites, steps) {
         return Ok(None);
@@ -145,6 +168,13 @@ fn ranks_shown(
     ensures first { IfOk result (λ told. IfSome told (λ t. IsFirst t.refusal sites.now)) }
     ensures lines { IfOk result
         (λ told. IfSome told (λ t. AreLinesOf t.refusal sites.now t.lines.items)) }
+    ensures tells { IfOk result
+        (λ told. IfSome told (λ t. (t.refusal ≡ Refusal.Ranks)
+        × (IsConflictCycle sites.now cycle.now × EndsFollow sites.now ends.now)
+        × (t.lines.items ≡ flat_map (conflict_line sites.now) cycle.now))) }
+    ensures none { IfOk result
+        (λ told. IfNone told (AreNumbered sites.now
+        → IsConflictCycle sites.now cycle.now × EndsFollow sites.now ends.now → ⊥)) }
 {
     if !is_conflict_cycle(sites, cycle) {
         return Ok(None);
@@ -174,14 +204,25 @@ fn empty_line(alloc: Global, sites: u8) -> Result<Vec<u8>, AllocError>
     to_line(alloc, &empty)
 }
 
+/// Whether there can be so many sites.
+fn is_count(sites: u8) -> bool
+    ensures { IsTrue result ↔ (1 ≤ sites) × (sites ≤ max_sites) }
+{
+    1 <= sites && sites <= MAX_SITES
+}
+
 /// The logs that the text spells, if they are of so many sites.
 pub fn logs_of(alloc: Global, text: &[u8], sites: u8) -> Result<Option<Bundle>, EngineFail>
     ensures logs { IfOk result (λ found. IfSome found (λ b. SpellsLogs text.now b.sites)) }
+    ensures many { IfOk result (λ found. IfSome found (λ b. length b.sites ≡ sites)) }
     ensures none { IfOk result
         (λ found. IfNone found
         ((logs : List SiteLog) → SpellsLogs text.now logs → length logs ≡ sites → ⊥)) }
     ensures err { IfErr result (λ e. e ≡ EngineFail.Memory) }
 {
+    if !is_count(sites) {
+        return Ok(None);
+    }
     let line = empty_line(alloc, sites)?;
     let found = with_line(alloc, text, line.as_slice())?;
     drop(line);
@@ -204,6 +245,8 @@ pub fn joined(alloc: Global, head: &[u8], rest: &[u8]) -> Result<Vec<u8>, AllocE
 pub fn refused(alloc: Global, text: &[u8], reason: &Reason) -> Result<Option<Vec<u8>>, EngineFail>
     requires { IsFaultless text.now }
     ensures told { IfOk result (λ told. IfSome told (λ t. IsRefused text.now t.items)) }
+    ensures by { IfOk result (λ told. IfSome told (λ t. IsToldBy text.now reason.now t.items)) }
+    ensures none { IfOk result (λ told. IfNone told (Passes text.now reason.now → ⊥)) }
     ensures err { IfErr result (λ e. e ≡ EngineFail.Memory) }
 {
     let Some(bundle) = logs_of(alloc, text, reason.sites)? else {

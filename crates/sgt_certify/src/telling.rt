@@ -1,8 +1,10 @@
 //! The lines behind a refusal, made of the steps that were checked.
 
-ghost use Rattle.std.specs.Prelude.{◌≡◌, ◌++◌, ◌+◌, length, IfOk, IfSome, OnOk};
+ghost use Rattle.std.specs.Prelude.{◌≡◌, ◌≤◌, ◌++◌, ◌+◌, ◌^◌, length, IfOk, IfSome, IfNone, OnOk};
 ghost use Rattle.std.specs.List.{flat_map};
 ghost use Rattle.sgt_certify.specs.Lines.{conflict_line, end_line, kind_text, line_in_sections, line_of, lines_text, section_length, tx_line};
+ghost use Rattle.sgt_certify.specs.Reasons.{AreNumbered};
+ghost use Rattle.sgt_certify_logs.specs.Steps.{IsConflictCycle, IsConflictStep, IsEndCycle, IsEndStep};
 
 use sgt_cert::SiteLog;
 use sgt_certify_logs::{ConflictStep, EndStep};
@@ -12,7 +14,8 @@ use std::alloc::{AllocError, Global};
 
 /// How many lines the section of a site has.
 fn lines_in(log: &SiteLog) -> Option<u64>
-    ensures { IfSome result (λ n. n ≡ section_length log.now) }
+    ensures some { IfSome result (λ n. n ≡ section_length log.now) }
+    ensures none { IfNone result (2 ^ 64 ≤ section_length log.now) }
 {
     let items = log.items.as_slice().len() as u64;
     let entries = log.entries.as_slice().len() as u64;
@@ -25,7 +28,8 @@ fn lines_in(log: &SiteLog) -> Option<u64>
 
 /// Where the entry at this place of the log stands in its section.
 fn line_in_section(log: &SiteLog, place: usize) -> Option<u64>
-    ensures { IfSome result (λ n. n ≡ length log.now.items + place + 2) }
+    ensures some { IfSome result (λ n. n ≡ length log.now.items + place + 2) }
+    ensures none { IfNone result (2 ^ 64 ≤ length log.now.items + place + 2) }
 {
     let items = log.items.as_slice().len() as u64;
     items.checked_add(place as u64)?.checked_add(2)
@@ -33,9 +37,12 @@ fn line_in_section(log: &SiteLog, place: usize) -> Option<u64>
 
 /// Where it stands among the lines of all sections.
 fn line_among(sites: &[SiteLog], site: usize, place: usize) -> Option<u64>
-    ensures { IfSome result (λ n. n ≡ line_in_sections sites.now site place) }
+    ensures some { IfSome result (λ n. n ≡ line_in_sections sites.now site place) }
+    ensures none { IfNone result (2 ^ 64 ≤ line_in_sections sites.now site place) }
 {
-    let (log, rest) = sites.split_first()?;
+    let Some((log, rest)) = sites.split_first() else {
+        return Some(0);
+    };
     if site == 0 {
         return line_in_section(log, place);
     }
@@ -46,7 +53,8 @@ fn line_among(sites: &[SiteLog], site: usize, place: usize) -> Option<u64>
 
 /// The line of the entry, counted from 1. None: its number is no u64.
 pub fn line_at(sites: &[SiteLog], site: usize, place: usize) -> Option<u64>
-    ensures { IfSome result (λ n. n ≡ line_of sites.now site place) }
+    ensures some { IfSome result (λ n. n ≡ line_of sites.now site place) }
+    ensures none { IfNone result (2 ^ 64 ≤ line_of sites.now site place) }
 {
     line_among(sites, site, place)?.checked_add(1)
 }
@@ -63,7 +71,10 @@ fn push_lines(out: &mut Vec<u8>, first: u64, second: u64) -> Result<(), AllocErr
 
 /// The line of a step of a cycle of ends. None: a line's number is no u64.
 fn end_text(alloc: Global, sites: &[SiteLog], step: &EndStep) -> Result<Option<Vec<u8>>, AllocError>
-    ensures { IfOk result (λ text. IfSome text (λ t. t.items ≡ end_line sites.now step.now)) }
+    ensures some { IfOk result
+        (λ text. IfSome text (λ t. t.items ≡ end_line sites.now step.now)) }
+    ensures none { IfOk result
+        (λ text. IfNone text (AreNumbered sites.now → IsEndStep sites.now step.now → ⊥)) }
 {
     let site = step.first.site;
     let Some(first) = line_at(sites, site, step.first.entry) else {
@@ -88,8 +99,10 @@ pub fn end_lines(
     sites: &[SiteLog],
     steps: &[EndStep],
 ) -> Result<Option<Vec<u8>>, AllocError>
-    ensures { IfOk result
+    ensures some { IfOk result
         (λ text. IfSome text (λ t. t.items ≡ flat_map (end_line sites.now) steps.now)) }
+    ensures none { IfOk result
+        (λ text. IfNone text (AreNumbered sites.now → IsEndCycle sites.now steps.now → ⊥)) }
 {
     let mut out = Vec::new(alloc);
     for step in steps {
@@ -118,7 +131,10 @@ fn conflict_text(
     sites: &[SiteLog],
     step: &ConflictStep,
 ) -> Result<Option<Vec<u8>>, AllocError>
-    ensures { IfOk result (λ text. IfSome text (λ t. t.items ≡ conflict_line sites.now step.now)) }
+    ensures some { IfOk result
+        (λ text. IfSome text (λ t. t.items ≡ conflict_line sites.now step.now)) }
+    ensures none { IfOk result
+        (λ text. IfNone text (AreNumbered sites.now → IsConflictStep sites.now step.now → ⊥)) }
 {
     let site = step.first.site;
     let Some(first) = line_at(sites, site, step.first.entry) else {
@@ -145,8 +161,10 @@ pub fn conflict_lines(
     sites: &[SiteLog],
     steps: &[ConflictStep],
 ) -> Result<Option<Vec<u8>>, AllocError>
-    ensures { IfOk result
+    ensures some { IfOk result
         (λ text. IfSome text (λ t. t.items ≡ flat_map (conflict_line sites.now) steps.now)) }
+    ensures none { IfOk result
+        (λ text. IfNone text (AreNumbered sites.now → IsConflictCycle sites.now steps.now → ⊥)) }
 {
     let mut out = Vec::new(alloc);
     for step in steps {

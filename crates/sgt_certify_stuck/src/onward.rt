@@ -1,6 +1,6 @@
 //! Orders of transactions in which ends, or committed conflicts, lead onward: they show that there is no cycle of these.
 
-ghost use Rattle.std.specs.Prelude.{◌≡◌, ◌≤◌, ◌<◌, ℕ, Option, Some, None, false, IsTrue, IfOk, OnOk, Contains, slice_get};
+ghost use Rattle.std.specs.Prelude.{◌≡◌, ◌≤◌, ◌<◌, ◌↔◌, ◌⊎◌, ℕ, Option, Some, None, false, IsTrue, IfOk, OnOk, Contains};
 ghost use Rattle.std.specs.BTreeMap.{get};
 ghost use Rattle.std.specs.Cmp.Lexicographic.{slice_cmp};
 ghost use Rattle.std.specs.Ordering.{nat_cmp};
@@ -8,7 +8,7 @@ ghost use Rattle.sgt_names.specs.Name.{Name};
 ghost use Rattle.sgt_cert.specs.declared.bundle.SiteLog.{SiteLog as Log};
 ghost use Rattle.sgt_certify_logs.specs.Witness.{HaveConflictsInACycle, HaveEndsInACycle};
 ghost use Rattle.sgt_certify_stuck.specs.Apart.{Does};
-ghost use Rattle.sgt_certify_stuck.specs.Onward.{CommitsStand, ConflictsLeadOnward, EndsLeadOnward, IsTop, PairLeadsOnward, StandApart, StandsAt};
+ghost use Rattle.sgt_certify_stuck.specs.Onward.{ArePlacesOf, CommitsStand, ConflictsFollow, ConflictsLeadOnward, EndsFollow, EndsLeadOnward, EndsStand, IsTop, LogCommitsStand, PairLeadsOnward, StandsAt};
 
 use crate::apart::{CHANGES, Class, PUT_OVER, PUTS, Pair, READS, item_by};
 use sgt_cert::SiteLog;
@@ -16,9 +16,9 @@ use sgt_names::{Entry, Item, Tx};
 use std::alloc::{AllocError, Global};
 use std::collections::BTreeMap;
 
-/// The places of the transactions in the order, counted from 0.
+/// The places of the transactions in the order, counted from 0: of one that stands there twice, the last.
 fn places_of(alloc: Global, order: &[Tx]) -> Result<BTreeMap<Tx, usize>, AllocError>
-    ensures { IfOk result StandApart }
+    ensures { IfOk result (ArePlacesOf order.now) }
 {
     let mut places = BTreeMap::new(alloc);
     for place in 0..order.len() {
@@ -36,7 +36,7 @@ fn place_of(places: &BTreeMap<Tx, usize>, tx: Tx) -> Option<usize>
 
 /// Whether the place is behind the last one, if there is one.
 fn is_behind(last: Option<usize>, place: usize) -> bool
-    ensures { IsTrue result → (before : ℕ) → last ≡ Some before → before < place }
+    ensures { IsTrue result ↔ ((before : ℕ) → last ≡ Some before → before < place) }
 {
     match last {
         Some(before) => before < place,
@@ -46,7 +46,8 @@ fn is_behind(last: Option<usize>, place: usize) -> bool
 
 /// Whether the places of those that end rise along the log.
 fn ends_lead_onward(entries: &[Entry], places: &BTreeMap<Tx, usize>) -> bool
-    ensures { IsTrue result → EndsLeadOnward entries.now places.now }
+    ensures { IsTrue result
+        ↔ EndsStand entries.now places.now × EndsLeadOnward entries.now places.now }
 {
     let mut last: Option<usize> = None;
     for entry in entries {
@@ -65,8 +66,8 @@ fn ends_lead_onward(entries: &[Entry], places: &BTreeMap<Tx, usize>) -> bool
 
 /// Whether that is so along each log.
 fn all_ends_lead_onward(sites: &[SiteLog], places: &BTreeMap<Tx, usize>) -> bool
-    ensures { IsTrue result
-        → (log : Log) → Contains sites.now log → EndsLeadOnward log.entries places.now }
+    ensures { IsTrue result ↔ ((log : Log) → Contains sites.now log
+        → EndsStand log.entries places.now × EndsLeadOnward log.entries places.now) }
 {
     for log in sites {
         if !ends_lead_onward(log.entries.as_slice(), places) {
@@ -78,7 +79,8 @@ fn all_ends_lead_onward(sites: &[SiteLog], places: &BTreeMap<Tx, usize>) -> bool
 
 /// Whether the ends of each log stand in this order, which then shows that no ends are in a cycle. Err: memory ran out.
 pub fn ends_follow(alloc: Global, sites: &[SiteLog], order: &[Tx]) -> Result<bool, AllocError>
-    ensures { IfOk result (λ follow. IsTrue follow → HaveEndsInACycle sites.now → ⊥) }
+    ensures exact { IfOk result (λ follow. IsTrue follow ↔ EndsFollow sites.now order.now) }
+    ensures no_cycle { IfOk result (λ follow. IsTrue follow → HaveEndsInACycle sites.now → ⊥) }
 {
     let places = places_of(alloc, order)?;
     Ok(all_ends_lead_onward(sites, &places))
@@ -93,7 +95,9 @@ fn top_of(tops: &BTreeMap<Item, usize>, item: &Item) -> Option<usize>
 
 /// Whether the entry does this to an item at which a greater place than its own stands.
 fn falls_behind(tops: &BTreeMap<Item, usize>, class: Class, entry: &Entry, place: usize) -> bool
-    ensures { result ≡ false → (x : Name) (top : ℕ) → Does class x entry.now → IsTop tops.now x top
+    ensures yes { IsTrue result → (x : Name) × (top : ℕ) × Does class x entry.now
+        × IsTop tops.now x top × (place < top) }
+    ensures no { result ≡ false → (x : Name) (top : ℕ) → Does class x entry.now → IsTop tops.now x top
         → top ≤ place }
 {
     let Some(item) = item_by(class, entry) else {
@@ -109,6 +113,7 @@ fn falls_behind(tops: &BTreeMap<Item, usize>, class: Class, entry: &Entry, place
 fn greater(top: Option<usize>, place: usize) -> usize
     ensures place { place ≤ result }
     ensures top { (t : ℕ) → top ≡ Some t → t ≤ result }
+    ensures one { (result ≡ place) ⊎ (top ≡ Some result) }
 {
     match top {
         Some(top) if top > place => top,
@@ -127,6 +132,8 @@ fn raise(
         → (next : ℕ) × IsTop tops.new x next × (top ≤ next)) }
     ensures raised { OnOk result ((x : Name) → Does class x entry.now
         → (next : ℕ) × IsTop tops.new x next × (place ≤ next)) }
+    ensures only { OnOk result ((x : Name) (top : ℕ) → IsTop tops.new x top
+        → IsTop tops.old x top ⊎ ((top ≡ place) × Does class x entry.now)) }
 {
     if let Some(item) = item_by(class, entry) {
         let top = greater(top_of(tops, &item), place);
@@ -144,7 +151,7 @@ fn pair_leads_onward(
 ) -> Result<bool, AllocError>
     ensures { IfOk result
         (λ onward. IsTrue onward
-        → PairLeadsOnward entries.now places.now pair.first pair.second) }
+        ↔ PairLeadsOnward entries.now places.now pair.first pair.second) }
 {
     let mut tops = BTreeMap::new(alloc);
     for entry in entries {
@@ -164,7 +171,7 @@ fn conflicts_lead_onward(
     entries: &[Entry],
     places: &BTreeMap<Tx, usize>,
 ) -> Result<bool, AllocError>
-    ensures { IfOk result (λ onward. IsTrue onward → ConflictsLeadOnward entries.now places.now) }
+    ensures { IfOk result (λ onward. IsTrue onward ↔ ConflictsLeadOnward entries.now places.now) }
 {
     let reads = pair_leads_onward(alloc, entries, places, READS)?;
     if !reads {
@@ -188,8 +195,8 @@ fn all_conflicts_lead_onward(
     places: &BTreeMap<Tx, usize>,
 ) -> Result<bool, AllocError>
     ensures { IfOk result
-        (λ onward. IsTrue onward → (log : Log) → Contains sites.now log
-        → ConflictsLeadOnward log.entries places.now) }
+        (λ onward. IsTrue onward ↔ ((log : Log) → Contains sites.now log
+        → ConflictsLeadOnward log.entries places.now)) }
 {
     for log in sites {
         let onward = conflicts_lead_onward(alloc, log.entries.as_slice(), places)?;
@@ -202,8 +209,8 @@ fn all_conflicts_lead_onward(
 
 /// Whether whoever the entry commits has a place.
 fn commit_stands(places: &BTreeMap<Tx, usize>, entry: &Entry) -> bool
-    ensures { IsTrue result → (t : ℕ) → entry.now ≡ Entry.Commit t
-        → (place : ℕ) × StandsAt places.now t place }
+    ensures { IsTrue result ↔ ((t : ℕ) → entry.now ≡ Entry.Commit t
+        → (place : ℕ) × StandsAt places.now t place) }
 {
     let Entry::Commit { tx } = entry else {
         return true;
@@ -216,8 +223,7 @@ fn commit_stands(places: &BTreeMap<Tx, usize>, entry: &Entry) -> bool
 
 /// Whether whoever the log commits has a place.
 fn log_commits_stand(entries: &[Entry], places: &BTreeMap<Tx, usize>) -> bool
-    ensures { IsTrue result → (k t : ℕ) → slice_get entries.now k ≡ Some (Entry.Commit t)
-        → (place : ℕ) × StandsAt places.now t place }
+    ensures { IsTrue result ↔ LogCommitsStand entries.now places.now }
 {
     for entry in entries {
         if !commit_stands(places, entry) {
@@ -229,7 +235,7 @@ fn log_commits_stand(entries: &[Entry], places: &BTreeMap<Tx, usize>) -> bool
 
 /// Whether whoever a log commits has a place.
 fn commits_stand(sites: &[SiteLog], places: &BTreeMap<Tx, usize>) -> bool
-    ensures { IsTrue result → CommitsStand sites.now places.now }
+    ensures { IsTrue result ↔ CommitsStand sites.now places.now }
 {
     for log in sites {
         if !log_commits_stand(log.entries.as_slice(), places) {
@@ -242,7 +248,9 @@ fn commits_stand(sites: &[SiteLog], places: &BTreeMap<Tx, usize>) -> bool
 /// Whether all committed transactions are in the order, and their conflicts lead onward in it: it then shows that none are in a cycle.
 /// Err: memory ran out.
 pub fn conflicts_follow(alloc: Global, sites: &[SiteLog], order: &[Tx]) -> Result<bool, AllocError>
-    ensures { IfOk result (λ follow. IsTrue follow → HaveConflictsInACycle sites.now → ⊥) }
+    ensures exact { IfOk result (λ follow. IsTrue follow ↔ ConflictsFollow sites.now order.now) }
+    ensures no_cycle { IfOk result
+        (λ follow. IsTrue follow → HaveConflictsInACycle sites.now → ⊥) }
 {
     let places = places_of(alloc, order)?;
     if !commits_stand(sites, &places) {

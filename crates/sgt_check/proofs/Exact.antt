@@ -29,7 +29,7 @@ answer-exact options bytes text No (inl a) = (
 )
 answer-exact options bytes text No (inr a) = (
   λ same. absurd (cc (same)),
-  λ spelled. absurd (none-spelled bytes a.ids a.h a.spells (cycle-excludes a.h a.graph a.cycle) spelled),
+  λ spelled. absurd (none-spelled bytes a.ids a.h a.spells (cycle-excludes a.h a.graph a.has) spelled),
 )
 answer-exact options bytes text Unreadable a = (
   λ same. absurd (cc (same)),

@@ -1,25 +1,26 @@
 -- What is told of a numbered history answers the bytes that spell it.
-use Rattle.std.proofs.Common.{◌≡◌, ℕ, ◌<◌, Bool, true, false, List, ◌++◌, Some, map, take, refl, sym, ap, ap₂, ◌∙◌, subst, inl, inr, ◌⊎◌, All}
+use Rattle.std.proofs.Common.{◌≡◌, ℕ, ◌<◌, ◌≤◌, Bool, true, false, List, ◌++◌, Some, map, take, arith, refl, sym, ap, ap₂, ◌∙◌, subst, inl, inr, ◌⊎◌, All}
 use Rattle.std.specs.Prelude.{slice_get}
 use Rattle.json.specs.Json.{Json}
 use Rattle.sgt_names.specs.declared.outcome.Outcome.{Outcome}
 use Rattle.sgt_names.specs.declared.outcome.Outcome.TheVariants.{Yes, No, Unreadable}
 use Rattle.sgt_names.proofs.Lists.{All-weaken, map_at}
 use Rattle.sgt_history.proofs.Renaming.{serves-on}
-use Rattle.sgt_history.specs.Conflicts.{HasCycle}
+use Rattle.sgt_history.specs.Conflicts.{HasCycle, HaveConflict, IsAmong}
 use Rattle.sgt_history.specs.History.{closed_of}
 use Rattle.sgt_history.specs.Serial.{KeepApart}
 use Rattle.sgt_history.specs.Transaction.{Transaction, renamed, renamed_operation}
+use Rattle.sgt_history.specs.declared.named.Conflict.{Conflict}
 use Rattle.sgt_history.specs.declared.named.Graph.{Graph}
 use Rattle.sgt_history.specs.declared.named.Graph.TheVariants.{Whole}
-use Rattle.sgt_history_evidence.proofs.Renamed.{conflict-on, conflict_in-on, cycle-back, cycle-on, operation-on}
+use Rattle.sgt_history_evidence.proofs.Renamed.{conflict-named, conflict-on, conflict_in-on, cycle-back, cycle-on, cycle_is-back, cycle_is-on, operation-on}
 use Rattle.sgt_history_evidence.proofs.RenamedEvidence.{evidence-on}
 use Rattle.sgt_history_evidence.proofs.RenamedFlaws.{faultless-on, first_fault-on}
 use Rattle.sgt_history_text.specs.Name.{compact}
 use Rattle.sgt_history_text.specs.Reading.{IsReading, nth}
 use Rattle.sgt_history_text.specs.Text.{Spells}
 use Rattle.sgt_history_text.specs.declared.reading.Reading.{Reading}
-use Rattle.sgt_history_verdict.specs.Steps.{AreSteps, IsStep}
+use Rattle.sgt_history_verdict.specs.Steps.{AreSteps, IsStep, IsToldBefore, Leads, kind_place, lines_of}
 use Rattle.sgt_history_verdict.specs.Verdict.{MayFollow}
 use Rattle.sgt_history_verdict.specs.declared.step.Step.{Step}
 use Rattle.sgt_check.specs.Answer.{AreStepsOf, IsAnswer, IsCycleTold, IsFaultTold, IsStepOf, IsYes, by_number, compactly}
@@ -98,6 +99,13 @@ module _ (options : Options) (bytes : List ℕ) (r : Reading) (is : IsReading by
     conflict = conflict-on (nth is.items) (nth is.values) m is.apart s.kind s.from s.to s.item s.from_version s.to_version step.conflict;
   }
 
+  kind-least : (g : Graph) (ranks : List ℕ) (s : Step) → ((t : Step) → IsStep m g t → Leads t s.from s.to → IsToldBefore ranks s t)
+      → (kind : Conflict) (x : Json) (v w : ℕ) → IsAmong g kind → HaveConflict named kind s.from s.to x v w → kind_place s.kind ≤ kind_place kind
+  kind-least g ranks s told kind x v w among c =
+      let old = conflict-named (nth is.items) (nth is.values) m is.apart kind s.from s.to x v w c in
+      let t : Step = record { kind = kind; from = s.from; to = s.to; item = old.0; from_version = v; to_version = w } in
+      elim (told t (record { among = among; conflict = old.1 }) (refl, refl)) [ inl less ↦ omega (arith, less) | inr same ↦ omega (arith, same.0) ]
+
   cyclic-answer : (text : List ℕ) → IsCyclicTold n m text → IsCycleTold bytes text
   cyclic-answer text a = record {
     ids = is.ids;
@@ -105,8 +113,8 @@ module _ (options : Options) (bytes : List ℕ) (r : Reading) (is : IsReading by
     spells = is.spells;
     faultless = faultless-on (nth is.items) (nth is.values) m is.apart a.faultless;
     graph = a.graph;
-    cycle = cycle-on (nth is.items) (nth is.values) m is.apart a.graph a.cycle;
-    least = λ less below cycle. a.least less below (cycle-back (nth is.items) (nth is.values) m is.apart less cycle);
+    has = cycle-on (nth is.items) (nth is.values) m is.apart a.graph a.graph_is.has;
+    least = λ less below cycle. a.graph_is.least less below (cycle-back (nth is.items) (nth is.values) m is.apart less cycle);
     items = is.items;
     steps = a.steps;
     are = record {
@@ -114,6 +122,11 @@ module _ (options : Options) (bytes : List ℕ) (r : Reading) (is : IsReading by
       each = All-weaken (IsStep m a.graph) (IsStepOf named (nth is.items) a.graph) a.steps (λ s step. step-on s step) a.are.each;
       onward = a.are.onward;
     };
+    is = cycle_is-on (nth is.items) (nth is.values) m is.apart a.graph (lines_of a.steps) a.cycle_is.is;
+    first = λ other c. a.cycle_is.first other (cycle_is-back (nth is.items) (nth is.values) m is.apart a.graph other c);
+    kinds = All-weaken (λ (s : Step). (t : Step) → IsStep m a.graph t → Leads t s.from s.to → IsToldBefore a.ranks s t)
+        (λ (s : Step). (kind : Conflict) (x : Json) (v w : ℕ) → IsAmong a.graph kind → HaveConflict named kind s.from s.to x v w → kind_place s.kind ≤ kind_place kind)
+        a.steps (λ s told. kind-least a.graph a.ranks s told) a.told_first;
     text_is = a.text_is ∙ ap (λ (s : Spelling ℕ ℕ). cycle_text s a.steps) spelled_as;
   }
 

@@ -1,24 +1,26 @@
 -- What a text of a history is answered by.
-use Rattle.std.specs.Prelude.{◌≡◌, ◌⊎◌, ℕ, ◌<◌, List, [], ◌++◌, length, All, Option, Some, IfSome, slice_get}
+use Rattle.std.specs.Prelude.{◌≡◌, ◌⊎◌, ℕ, ◌<◌, ◌≤◌, List, [], ◌++◌, length, All, Option, Some, IfSome, slice_get}
 use Rattle.std.specs.Io.KnownBytes.{Appends}
 use Rattle.json.specs.Json.{Json}
 use Rattle.sgt_names.specs.Device.{AppendsOrForgets, WritesFront}
 use Rattle.sgt_names.specs.declared.outcome.Outcome.{Outcome}
 use Rattle.sgt_names.specs.declared.outcome.Outcome.TheVariants.{Yes, No, Unreadable}
-use Rattle.sgt_history.specs.Conflicts.{HasCycle, HaveConflict, IsAmong, IsOperation}
+use Rattle.sgt_history.specs.Conflicts.{ConflictIn, HasCycle, HaveConflict, IsAmong, IsCycle, IsOperation}
 use Rattle.sgt_history.specs.Flaws.{IsFaultless, IsFirstFault}
 use Rattle.sgt_history.specs.Serial.{IsSerializable, Serves}
 use Rattle.sgt_history.specs.Transaction.{Transaction}
 use Rattle.sgt_history.specs.declared.history.Operation.{Operation}
+use Rattle.sgt_history.specs.declared.named.Conflict.{Conflict}
 use Rattle.sgt_history.specs.declared.named.Flaw.{Flaw}
 use Rattle.sgt_history.specs.declared.named.Graph.{Graph}
 use Rattle.sgt_history_evidence.specs.Evidence.{IsEvidence}
 use Rattle.sgt_history_evidence.specs.declared.evidence.Evidence.{Evidence}
+use Rattle.sgt_history_graph.specs.First.{IsShownFirst}
 use Rattle.sgt_history_text.specs.Name.{compact}
 use Rattle.sgt_history_text.specs.Reading.{nth}
 use Rattle.sgt_history_text.specs.Text.{IsFirstUnreadable, Spells}
 use Rattle.sgt_history_text.specs.declared.fault.LineFault.{LineFault}
-use Rattle.sgt_history_verdict.specs.Steps.{place_behind}
+use Rattle.sgt_history_verdict.specs.Steps.{kind_place, lines_of, place_behind}
 use Rattle.sgt_history_verdict.specs.Verdict.{IsBelow, IsLeastFirst}
 use Rattle.sgt_history_verdict.specs.declared.step.Step.{Step}
 use Rattle.sgt_check.specs.Text.{Spelling, aborted_of, committed_of, counts_text, cycle_text, fault_text, order_part, unreadable_text}
@@ -75,18 +77,28 @@ pub record AreStepsOf {I V : Type 0} (h : List (Transaction I V)) (item_of : ℕ
   pub onward : (place : ℕ) (s t : Step) → slice_get steps place ≡ Some s
       → slice_get steps (place_behind place (length steps)) ≡ Some t → s.to ≡ t.from
 
--- it has no fault, and these conflicts form a cycle in the least graph that has one; they alone make its name
+-- no conflict of the graph from its line to the next is of a lesser kind: ww before wr before rw
+abbrev pub AreLeastKinds : {I V : Type 0} → List (Transaction I V) → Graph → List Step → Type 0
+AreLeastKinds {I} {V} h g steps = All (λ (s : Step). (kind : Conflict) (x : I) (v w : ℕ) → IsAmong g kind
+    → HaveConflict h kind s.from s.to x v w → kind_place s.kind ≤ kind_place kind) steps
+
+-- it has no fault; the graph is the least that has a cycle; these conflicts of it form the first of its
+-- cycles: that of the least line that lies on one, of that line's the shortest, of those the one whose
+-- lines are, from it on, the least; and they are of the least kinds. So they alone make its name
 pub record IsCycleTold (bytes text : List ℕ) : Type 0 where
   pub ids : List Json
   pub h : List (Transaction Json Json)
   pub spells : Spells bytes ids h
   pub faultless : IsFaultless h
   pub graph : Graph
-  pub cycle : HasCycle h graph
+  pub has : HasCycle h graph
   pub least : (less : Graph) → IsBelow less graph → HasCycle h less → ⊥
   pub items : List Json
   pub steps : List Step
   pub are : AreStepsOf h (nth items) graph steps
+  pub is : IsCycle (ConflictIn h graph) (lines_of steps)
+  pub first : (other : List ℕ) → IsCycle (ConflictIn h graph) other → IsShownFirst (lines_of steps) other
+  pub kinds : AreLeastKinds h graph steps
   pub text_is : text ≡ cycle_text (by_number ids items) steps
 
 -- ---- a line that can't be read

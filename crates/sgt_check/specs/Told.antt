@@ -3,7 +3,7 @@ use Rattle.std.specs.Prelude.{◌≡◌, ◌⊎◌, ℕ, ◌-◌, Bool, true, fa
 use Rattle.std.specs.List.{flat_map}
 use Rattle.sgt_names.specs.declared.outcome.Outcome.{Outcome}
 use Rattle.sgt_names.specs.declared.outcome.Outcome.TheVariants.{Yes, No, Unreadable}
-use Rattle.sgt_history.specs.Conflicts.{HasCycle, IsOperation}
+use Rattle.sgt_history.specs.Conflicts.{IsOperation}
 use Rattle.sgt_history.specs.Flaws.{IsFaultless, IsFirstFault}
 use Rattle.sgt_history.specs.Serial.{Serves}
 use Rattle.sgt_history.specs.Transaction.{Transaction}
@@ -13,8 +13,8 @@ use Rattle.sgt_history.specs.declared.named.Graph.{Graph}
 use Rattle.sgt_history_evidence.specs.Evidence.{IsEvidence}
 use Rattle.sgt_history_evidence.specs.declared.evidence.Evidence.{Evidence}
 use Rattle.sgt_history_faults.specs.declared.fault.Fault.{Fault}
-use Rattle.sgt_history_verdict.specs.Steps.{AreSteps}
-use Rattle.sgt_history_verdict.specs.Verdict.{IsBelow, IsLeastFirst}
+use Rattle.sgt_history_verdict.specs.Steps.{AreSteps, AreToldFirst, lines_of}
+use Rattle.sgt_history_verdict.specs.Verdict.{IsFirstOf, IsLeastFirst, IsLeastGraph}
 use Rattle.sgt_history_verdict.specs.declared.step.Step.{Step}
 use Rattle.sgt_check.specs.Text.{Spelling, aborted_of, committed_of, counts_text, cycle_text, fault_text, id_line, order_part}
 use Rattle.sgt_check.specs.declared.naming.Naming.{Naming}
@@ -69,10 +69,12 @@ pub record IsFaultyTold (n : Naming) (h : List (Transaction ℕ ℕ)) (text : Li
 pub record IsCyclicTold (n : Naming) (h : List (Transaction ℕ ℕ)) (text : List ℕ) : Type 0 where
   pub faultless : IsFaultless h
   pub graph : Graph
-  pub cycle : HasCycle h graph
-  pub least : (less : Graph) → IsBelow less graph → HasCycle h less → ⊥
+  pub graph_is : IsLeastGraph h graph
   pub steps : List Step
   pub are : AreSteps h graph steps
+  pub cycle_is : IsFirstOf h graph (lines_of steps)
+  pub ranks : List ℕ
+  pub told_first : AreToldFirst h graph ranks steps
   pub text_is : text ≡ cycle_text (spelled n) steps
 
 abbrev pub IsTold : Options → Naming → List (Transaction ℕ ℕ) → Outcome → List ℕ → Type 0

@@ -17,6 +17,8 @@ use Rattle.sgt_input.proofs.Keeping.{spelled}
 use Rattle.sgt_input.proofs.SiteLines.{site-plain}
 use Rattle.sgt_input.proofs.Unreadable as any
 use Rattle.sgt_input.proofs.Unreadable.{AreInputs, IsPlain}
+use Rattle.sgt_core.proofs.DecidableInputs.{known-begins}
+use Rattle.sgt_core.proofs.ReadOrNot.{read-or_not}
 use Rattle.sgt_core.specs.declared.input.Input.{Input}
 use Rattle.sgt_core.specs.Input.{Begins, FirstUnreadable, IsBegun, IsInput, Spells, input_lines}
 use Rattle.sgt_core.specs.Replay.{IsAnswer, TellsUnreadable}
@@ -168,13 +170,13 @@ kept-input sites ss events es told same equal taken =
     subst (λ (i : Input). IsInput i × IfSome told (λ bytes. Spells bytes i)) input
     (whole-input kept taken.lines told taken.taken.0 taken.taken.1 taken.some taken.text)
 
-pub input-or_fault : (bytes : List ℕ) → ((i : Input) → Spells bytes i → ⊥) → ((n : ℕ) (f : NotationFault) → FirstUnreadable bytes n f → ⊥) → ⊥
-input-or_fault bytes no_input no_fault =
-    any.input-or_fault Begins are-inputs (length bytes) bytes bytes [] (omega arith) refl none-begins (
-      (λ lines begun some text. no_input begun.0
-          ((begun.1, has_site begun.0 begun.1 (λ none. some (begun.2 ∙ none))), text ∙ ap text_of_lines begun.2)),
-      no_fault,
-    )
+pub input-or_fault : (bytes : List ℕ) → ((i : Input) × Spells bytes i) ⊎ ((n : ℕ) × (f : NotationFault) × FirstUnreadable bytes n f)
+input-or_fault bytes =
+    elim (read-or_not Begins known-begins bytes none-begins) [
+      | inl (lines, begun, some, text) ↦
+          inl (begun.0, ((begun.1, has_site begun.0 begun.1 (λ none. some (begun.2 ∙ none))), text ∙ ap text_of_lines begun.2))
+      | inr fault ↦ inr fault
+    ]
 
 -- an answer calls the bytes unreadable, or there is an input that they spell
 pub answer-unreadable : (told : Option (List ℕ)) (o : Outcome) (text : List ℕ) → IsAnswer told o text → IfSome told (λ bytes. TellsUnreadable bytes o)

@@ -1,6 +1,6 @@
 //! Laws of inputs.
 
-ghost use Rattle.std.specs.Prelude.{◌≡◌, ℕ, List};
+ghost use Rattle.std.specs.Prelude.{◌≡◌, ◌⊎◌, ℕ, List};
 ghost use Rattle.sgt_notation.specs.declared.fault.NotationFault.{NotationFault};
 ghost use Rattle.sgt_core.specs.Input.{FirstUnreadable, Spells};
 ghost use Rattle.sgt_core.specs.declared.input.Input.{Input};
@@ -17,6 +17,6 @@ pub fn unreadable_lines_are_determined()
     ensures one { (bytes : List ℕ) (line number : ℕ) (fault other : NotationFault)
         → FirstUnreadable bytes line fault → FirstUnreadable bytes number other
         → (line ≡ number) × (fault ≡ other) }
-    ensures some { (bytes : List ℕ) → ((i : Input) → Spells bytes i → ⊥)
-        → ((line : ℕ) (fault : NotationFault) → FirstUnreadable bytes line fault → ⊥) → ⊥ }
+    ensures some { (bytes : List ℕ) → ((i : Input) × Spells bytes i)
+        ⊎ ((line : ℕ) × (fault : NotationFault) × FirstUnreadable bytes line fault) }
 {}

@@ -325,6 +325,8 @@ module _ (h : List (Transaction ℕ ℕ)) (touches : List Touch) (are : AreTouch
       pub pair : IsPair touches kind i k
       pub from_is : pair.a.line ≡ from
       pub to_is : pair.b.line ≡ to
+      pub item_is : pair.a.item ≡ x
+      pub version_is : pair.a.version ≡ v
 
     -- a touch of a smaller version of the item stands before
     stands-before : (i k : ℕ) (a b : Touch) → slice_get touches i ≡ Some a → slice_get touches k ≡ Some b → a.item ≡ b.item → a.version < b.version → i < k
@@ -391,6 +393,8 @@ module _ (h : List (Transaction ℕ ℕ)) (touches : List Touch) (are : AreTouch
           };
           from_is = from_is;
           to_is = to_is;
+          item_is = item;
+          version_is = version;
         }
     conflict-pair WriteRead from to x v w (apart, first, second, same) =
         let a = write-at from x v first in
@@ -422,6 +426,8 @@ module _ (h : List (Transaction ℕ ℕ)) (touches : List Touch) (are : AreTouch
           };
           from_is = from_is;
           to_is = b.0.line_is;
+          item_is = m.0 ∙ a.0.item_is;
+          version_is = v_is;
         }
     conflict-pair ReadWrite from to x v w (apart, first, second, next) =
         let a = read-at from x v first in
@@ -455,4 +461,6 @@ module _ (h : List (Transaction ℕ ℕ)) (touches : List Touch) (are : AreTouch
           };
           from_is = a.0.line_is;
           to_is = to_is;
+          item_is = a.0.item_is;
+          version_is = a.0.version_is;
         }

@@ -68,7 +68,7 @@ module _ (h : List (Transaction ℕ ℕ)) (g : Graph) (s : Step) (rest : List St
       ] in
       subst (λ z. ConflictIn h g x z) leads (subst (λ z. ConflictIn h g z t.0.to) t.2 c)
 
-  steps-cycle : IsCycle (ConflictIn h g) (lines_of (s ∷ rest))
+  pub steps-cycle : IsCycle (ConflictIn h g) (lines_of (s ∷ rest))
   steps-cycle = chain-of (ConflictIn h g) s.from (lines_of rest ++ s.from ∷ []) goes
 
 pub steps-exclude : (h : List (Transaction ℕ ℕ)) (g : Graph) (steps : List Step) → AreSteps h g steps → IsSerializable h → ⊥

@@ -1,5 +1,5 @@
 -- The least graph that has a cycle, and what a history is decided from.
-use Rattle.std.proofs.Common.{◌≡◌, ℕ, zero, suc, ◌-◌, List, [], ◌∷◌, length, take, drop, sym, ap, ◌∙◌, subst, arith, All}
+use Rattle.std.proofs.Common.{◌≡◌, ℕ, zero, suc, ◌-◌, List, [], ◌∷◌, ◌++◌, Option, None, Some, Vec, Global, length, take, drop, sym, ap, ◌∙◌, subst, arith, All}
 use Rattle.std.specs.Prelude.{slice_get}
 use Rattle.std.proofs.lemmas.Option.{same_Some, slice_get_within}
 use Rattle.std.proofs.lemmas.List.Elements.{All-take, All-drop}
@@ -9,7 +9,7 @@ use Rattle.sgt_history.specs.declared.history.Operation.{Operation}
 use Rattle.sgt_history.specs.declared.named.Graph.{Graph}
 use Rattle.sgt_history.specs.declared.named.Graph.TheVariants.{WriteWrite, WithReads, Whole}
 use Rattle.sgt_history.specs.Transaction.{Transaction, ArePositive, WritesPositive}
-use Rattle.sgt_history.specs.Conflicts.{ConflictIn, HasCycle, IsCycle}
+use Rattle.sgt_history.specs.Conflicts.{ConflictIn, HasCycle, IsChain, IsCycle}
 use Rattle.sgt_history.specs.Cut.{cut}
 use Rattle.sgt_history_conflicts.specs.declared.parts.Parts.{Parts}
 use Rattle.sgt_history_conflicts.specs.Edges.{AreEdgesOf, HasEdges, part_of}
@@ -17,9 +17,10 @@ use Rattle.sgt_history_faults.proofs.Bounds.{length-cut}
 use Rattle.sgt_history_faults.specs.declared.touch.Touch.{Touch}
 use Rattle.sgt_history_faults.specs.Judged.{IsFaultlessBy}
 use Rattle.sgt_history_graph.specs.declared.edge.Edge.{Edge}
+use Rattle.sgt_history_graph.specs.First.{IsFirstCycle, TellsFirst}
 use Rattle.sgt_history_graph.specs.Graph as nodes
 use Rattle.sgt_history_verdict.specs.Decided.{IsDecidedFrom}
-use Rattle.sgt_history_verdict.specs.Verdict.{IsBelow, IsLeastCycle, IsSerialBy}
+use Rattle.sgt_history_verdict.specs.Verdict.{IsBelow, IsFirstOf, IsLeastGraph, IsSerialBy}
 use Rattle.sgt_history_verdict.proofs.Served.{cycle-of, order-excludes, order-least, order-serves}
 
 -- the edges of a graph join nodes
@@ -36,27 +37,56 @@ pub none-found : (h : List (Transaction ℕ ℕ)) (p : Parts) (g : Graph) (edges
     → nodes.IsOrder count edges order → HasCycle h g → ⊥
 none-found h p g edges has is count order o = order-excludes h g edges (subst (AreEdgesOf h g) (sym is) (has g)) count order o
 
+-- a cycle of the graph is one of its edges
+chain-edges : (R S : ℕ → ℕ → Type 0) → ((a b : ℕ) → R a b → S a b) → (a : ℕ) (bs : List ℕ) → IsChain R a bs → nodes.IsChain S a bs
+chain-edges R S f a [] chain = tt
+chain-edges R S f a (b ∷ bs) chain = (f a b chain.0, chain-edges R S f b bs chain.1)
+
+cycle-edges : (R S : ℕ → ℕ → Type 0) → ((a b : ℕ) → R a b → S a b) → (cycle : List ℕ) → IsCycle R cycle → nodes.IsCycle S cycle
+cycle-edges R S f [] is = is
+cycle-edges R S f (a ∷ between) is = chain-edges R S f a (between ++ a ∷ []) is
+
+pub edge-cycle : (h : List (Transaction ℕ ℕ)) (p : Parts) (g : Graph) (edges : List Edge) → HasEdges h p → edges ≡ part_of p g → (cycle : List ℕ)
+    → IsCycle (ConflictIn h g) cycle → nodes.IsCycle (nodes.Goes edges) cycle
+edge-cycle h p g edges has is cycle c =
+    cycle-edges (ConflictIn h g) (nodes.Goes edges) (λ a b. (subst (AreEdgesOf h g) (sym is) (has g)).all a b) cycle c
+
+pub first-cycle : (h : List (Transaction ℕ ℕ)) (p : Parts) (g : Graph) (edges : List Edge) → HasEdges h p → edges ≡ part_of p g → (cycle : List ℕ)
+    → IsFirstCycle edges cycle → IsFirstOf h g cycle
+first-cycle h p g edges has is cycle f = record {
+  is = found-cycle h p g edges has is cycle f.is;
+  first = λ other c. f.first other (edge-cycle h p g edges has is other c);
+}
+
+pub no-cycle-told : (h : List (Transaction ℕ ℕ)) (p : Parts) (g : Graph) (edges : List Edge) → HasEdges h p → edges ≡ part_of p g → (found : Option (Vec ℕ Global))
+    → TellsFirst edges found → found ≡ None → HasCycle h g → ⊥
+no-cycle-told h p g edges has is None none same (cycle, c) = none cycle (edge-cycle h p g edges has is cycle c)
+no-cycle-told h p g edges has is (Some x) first same c = absurd cc
+
+pub told-cycle-first : (h : List (Transaction ℕ ℕ)) (p : Parts) (g : Graph) (edges : List Edge) → HasEdges h p → edges ≡ part_of p g → (found : Option (Vec ℕ Global))
+    (cycle : Vec ℕ Global) → TellsFirst edges found → found ≡ Some cycle → IsFirstOf h g cycle.items
+told-cycle-first h p g edges has is found cycle first same = first-cycle h p g edges has is cycle.items (subst (TellsFirst edges) same first)
+
 -- ---- by graph
 
-pub least-first : (h : List (Transaction ℕ ℕ)) (cycle : List ℕ) → IsCycle (ConflictIn h WriteWrite) cycle → IsLeastCycle h WriteWrite cycle
-least-first h cycle c = record { is = c; least = least }
+pub least-first : (h : List (Transaction ℕ ℕ)) → HasCycle h WriteWrite → IsLeastGraph h WriteWrite
+least-first h c = record { has = c; least = least }
   where
     least : (less : Graph) → IsBelow less WriteWrite → HasCycle h less → ⊥
     least WriteWrite b has = absurd b
     least WithReads b has = absurd b
     least Whole b has = absurd b
 
-pub least-second : (h : List (Transaction ℕ ℕ)) (cycle : List ℕ) → (HasCycle h WriteWrite → ⊥) → IsCycle (ConflictIn h WithReads) cycle → IsLeastCycle h WithReads cycle
-least-second h cycle one c = record { is = c; least = least }
+pub least-second : (h : List (Transaction ℕ ℕ)) → (HasCycle h WriteWrite → ⊥) → HasCycle h WithReads → IsLeastGraph h WithReads
+least-second h one c = record { has = c; least = least }
   where
     least : (less : Graph) → IsBelow less WithReads → HasCycle h less → ⊥
     least WriteWrite b has = one has
     least WithReads b has = absurd b
     least Whole b has = absurd b
 
-pub least-third : (h : List (Transaction ℕ ℕ)) (cycle : List ℕ) → (HasCycle h WriteWrite → ⊥) → (HasCycle h WithReads → ⊥) → IsCycle (ConflictIn h Whole) cycle
-    → IsLeastCycle h Whole cycle
-least-third h cycle one two c = record { is = c; least = least }
+pub least-third : (h : List (Transaction ℕ ℕ)) → (HasCycle h WriteWrite → ⊥) → (HasCycle h WithReads → ⊥) → HasCycle h Whole → IsLeastGraph h Whole
+least-third h one two c = record { has = c; least = least }
   where
     least : (less : Graph) → IsBelow less Whole → HasCycle h less → ⊥
     least WriteWrite b has = one has

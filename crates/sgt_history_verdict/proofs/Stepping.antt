@@ -20,10 +20,15 @@ use Rattle.sgt_history_conflicts.specs.Edges.{ArePairsOf, JoinsTouches, part_of}
 use Rattle.sgt_history_conflicts.proofs.Conflicting.{pair-conflict, conflict-pair}
 use Rattle.sgt_history_verdict.specs.declared.cyclic.Cyclic.{Cyclic}
 use Rattle.sgt_history_verdict.specs.declared.step.Step.{Step}
-use Rattle.sgt_history_verdict.specs.Steps.{IsStep, AreSteps, AreAlong, AreOfPairs, IsOf, IsOfPairs, IsTold, LeadAlong, Leads, kind_between, lines_of, place_behind, step_between}
+use Rattle.sgt_history_verdict.specs.Steps.{IsStep, AreSteps, AreAlong, AreToldFirst, IsOf, IsOfPairs, IsToldBefore, LeadAlong, Leads, kind_between, kind_place, lines_of, place_behind, rank_at, step_between}
 use Rattle.sgt_history_verdict.specs.Verdict.{IsCyclic}
 
 -- ---- a step of a pair
+
+-- a step is told before one of this kind by this version of the item
+abbrev IsPlaceBefore : (ranks : List ℕ) → Step → Conflict → (x v : ℕ) → Type 0
+IsPlaceBefore ranks s kind x v = (kind_place s.kind < kind_place kind) ⊎ ((kind_place s.kind ≡ kind_place kind)
+    × ((rank_at ranks s.item < rank_at ranks x) ⊎ ((rank_at ranks s.item ≡ rank_at ranks x) × (s.from_version ≤ v))))
 
 kinds : (kind : Conflict) (a b : Touch) → Meets kind a b → kind_between a.kind b.kind ≡ kind
 kinds WriteWrite a b (item, apart, one, two) = ap (λ k. kind_between k b.kind) one.write ∙ ap (kind_between Write) two.write
@@ -51,6 +56,22 @@ module _ (h : List (Transaction ℕ ℕ)) (touches : List Touch) (by : IsFaultle
       } in
       subst (IsStep h g) (sym of.is) (subst (λ y. IsStep h g (step_between of.a y)) b_is (subst (λ x. IsStep h g (step_between x p.b)) a_is step))
 
+  -- a step of the history is as good as one of a pair
+  same-step : (t : Step) → IsStep h g t
+      → (u : Step) × IsOfPairs touches pairs u × Leads u t.from t.to × ((ranks : List ℕ) (s : Step) → IsToldBefore ranks s u → IsToldBefore ranks s t)
+  same-step t is =
+      let p = conflict-pair h touches by.touches_are by.ordered by.faultless t.kind t.from t.to t.item t.from_version t.to_version is.conflict in
+      let in_it = are.all t.kind p.i p.k is.among p.pair in
+      let e : Edge = record { from = p.i; to = p.k } in
+      let kind = kinds t.kind p.pair.a p.pair.b p.pair.meets in (
+        step_between p.pair.a p.pair.b,
+        (e, in_it, record { a = p.pair.a; b = p.pair.b; first = p.pair.first; second = p.pair.second; is = refl }),
+        (p.from_is, p.to_is),
+        λ ranks s told. subst (λ (k : Conflict). IsPlaceBefore ranks s k t.item t.from_version) kind
+            (subst (λ (x : ℕ). IsPlaceBefore ranks s (kind_between p.pair.a.kind p.pair.b.kind) x t.from_version) p.item_is
+            (subst (λ (v : ℕ). IsPlaceBefore ranks s (kind_between p.pair.a.kind p.pair.b.kind) p.pair.a.item v) p.version_is told)),
+      )
+
   leads-step : (a b : ℕ) → ConflictIn h g a b → (s : Step) × IsOfPairs touches pairs s × Leads s a b
   leads-step a b c =
       let p = conflict-pair h touches by.touches_are by.ordered by.faultless c.kind a b c.x c.v c.w c.conflict in
@@ -63,13 +84,18 @@ module _ (h : List (Transaction ℕ ℕ)) (touches : List Touch) (by : IsFaultle
 
   -- ---- along lines
 
-  pub along-steps : (lines : List ℕ) (steps : List Step) → 0 < length lines → AreAlong touches pairs lines steps → AreSteps h g steps
-  along-steps lines steps some along = record {
+  pub along-steps : (ranks lines : List ℕ) (steps : List Step) → 0 < length lines → AreAlong touches pairs ranks lines steps → AreSteps h g steps
+  along-steps ranks lines steps some along = record {
     some = omega (arith, some, along.size);
     each = All-from_at (IsStep h g) steps (λ k s at. step-is s (along.each k s at));
     onward = λ place s t at at'. same_Some s.to t.from (sym (along.ends place s at)
         ∙ ap (λ n. slice_get lines (place_behind place n)) (sym along.size) ∙ along.starts (place_behind place (length steps)) t at');
   }
+
+  pub along-first : (ranks lines : List ℕ) (steps : List Step) → AreAlong touches pairs ranks lines steps → AreToldFirst h g ranks steps
+  along-first ranks lines steps along = All-from_at (λ (s : Step). (t : Step) → IsStep h g t → Leads t s.from s.to → IsToldBefore ranks s t) steps (λ k s at t is leads.
+      let u = same-step t is in
+      u.3 ranks s (along.first k s u.0 at u.1 (u.2.0 ∙ leads.0, u.2.1 ∙ leads.1)))
 
 lines-same : (steps : List Step) (lines : List ℕ) → length steps ≡ length lines
     → ((place : ℕ) (s : Step) → slice_get steps place ≡ Some s → slice_get lines place ≡ Some s.from) → lines_of steps ≡ lines
@@ -81,8 +107,8 @@ lines-same (s ∷ steps) (x ∷ lines) size at =
     let tail : lines_of steps ≡ lines = lines-same steps lines (omega (arith, size)) (λ place t there. at (suc place) t there) in
     ap (λ y. y ∷ lines_of steps) head ∙ ap (λ ys. x ∷ ys) tail
 
-pub along-lines : (touches : List Touch) (pairs : List Edge) (lines : List ℕ) (steps : List Step) → AreAlong touches pairs lines steps → lines_of steps ≡ lines
-along-lines touches pairs lines steps along = lines-same steps lines along.size along.starts
+pub along-lines : (touches : List Touch) (pairs : List Edge) (ranks lines : List ℕ) (steps : List Step) → AreAlong touches pairs ranks lines steps → lines_of steps ≡ lines
+along-lines touches pairs ranks lines steps along = lines-same steps lines along.size along.starts
 
 -- ---- a cycle
 
@@ -134,27 +160,29 @@ pushed-cases (z ∷ xs) x y (suc k) at = elim (pushed-cases xs x y k at) [
 ]
 
 -- they are steps of pairs along the first n lines
-pub record AreAlongTo (touches : List Touch) (pairs : List Edge) (lines : List ℕ) (n : ℕ) (steps : List Step) : Type 0 where
+pub record AreAlongTo (touches : List Touch) (pairs : List Edge) (ranks lines : List ℕ) (n : ℕ) (steps : List Step) : Type 0 where
   pub size : length steps ≡ n
   pub each : (place : ℕ) (s : Step) → slice_get steps place ≡ Some s → IsOfPairs touches pairs s
   pub starts : (place : ℕ) (s : Step) → slice_get steps place ≡ Some s → slice_get lines place ≡ Some s.from
   pub ends : (place : ℕ) (s : Step) → slice_get steps place ≡ Some s → slice_get lines (place_behind place (length lines)) ≡ Some s.to
+  pub first : (place : ℕ) (s t : Step) → slice_get steps place ≡ Some s → IsOfPairs touches pairs t → Leads t s.from s.to → IsToldBefore ranks s t
 
-pub along-none : (touches : List Touch) (pairs : List Edge) (lines : List ℕ) (steps : List Step) → steps ≡ [] → AreAlongTo touches pairs lines 0 steps
-along-none touches pairs lines steps none = record {
+pub along-none : (touches : List Touch) (pairs : List Edge) (ranks lines : List ℕ) (steps : List Step) → steps ≡ [] → AreAlongTo touches pairs ranks lines 0 steps
+along-none touches pairs ranks lines steps none = record {
   size = ap length none;
   each = λ place s at. absurd (nothing place s at);
   starts = λ place s at. absurd (nothing place s at);
   ends = λ place s at. absurd (nothing place s at);
+  first = λ place s t at. absurd (nothing place s at);
 }
   where
     nothing : (place : ℕ) (s : Step) → slice_get steps place ≡ Some s → ⊥
     nothing place s at = omega (arith, slice_get_within steps place s at, ap length none)
 
-pub along-next : (touches : List Touch) (pairs : List Edge) (lines : List ℕ) (n : ℕ) (steps more : List Step) (s : Step) (a b : ℕ) → AreAlongTo touches pairs lines n steps
+pub along-next : (touches : List Touch) (pairs : List Edge) (ranks lines : List ℕ) (n : ℕ) (steps more : List Step) (s : Step) (a b : ℕ) → AreAlongTo touches pairs ranks lines n steps
     → more ≡ steps ++ s ∷ [] → slice_get lines n ≡ Some a → slice_get lines (place_behind n (length lines)) ≡ Some b → IsOfPairs touches pairs s → Leads s a b
-    → AreAlongTo touches pairs lines (n + 1) more
-along-next touches pairs lines n steps more s a b so pushed start end of leads = record {
+    → ((t : Step) → IsOfPairs touches pairs t → Leads t s.from s.to → IsToldBefore ranks s t) → AreAlongTo touches pairs ranks lines (n + 1) more
+along-next touches pairs ranks lines n steps more s a b so pushed start end of leads told = record {
   size = ap length pushed ∙ length-append steps (s ∷ []) ∙ omega (arith, so.size);
   each = λ place t at. elim (cases place t at) [
     | inl before ↦ so.each place t before
@@ -168,90 +196,26 @@ along-next touches pairs lines n steps more s a b so pushed start end of leads =
     | inl before ↦ so.ends place t before
     | inr last ↦ ap (λ k. slice_get lines (place_behind k (length lines))) (last.0 ∙ so.size) ∙ end ∙ ap Some (sym leads.1 ∙ ap (λ (u : Step). u.to) (sym last.1))
   ];
+  first = λ place t u at of_u leads_u. elim (cases place t at) [
+    | inl before ↦ so.first place t u before of_u leads_u
+    | inr last ↦
+        let same = last.1 in
+        subst (λ (x : Step). IsToldBefore ranks x u) (sym same) (told u of_u (subst (λ (x : Step). Leads u x.from x.to) same leads_u))
+  ];
 }
   where
     cases : (place : ℕ) (t : Step) → slice_get more place ≡ Some t → (slice_get steps place ≡ Some t) ⊎ ((place ≡ length steps) × (t ≡ s))
     cases place t at = pushed-cases steps s t place (ap (λ xs. slice_get xs place) (sym pushed) ∙ at)
 
-pub along-whole : (touches : List Touch) (pairs : List Edge) (lines : List ℕ) (n : ℕ) (steps : List Step) → length lines ≤ n → n ≤ length lines
-    → AreAlongTo touches pairs lines n steps → AreAlong touches pairs lines steps
-along-whole touches pairs lines n steps all within so = record {
+pub along-whole : (touches : List Touch) (pairs : List Edge) (ranks lines : List ℕ) (n : ℕ) (steps : List Step) → length lines ≤ n → n ≤ length lines
+    → AreAlongTo touches pairs ranks lines n steps → AreAlong touches pairs ranks lines steps
+along-whole touches pairs ranks lines n steps all within so = record {
   size = omega (arith, so.size, all, within);
   each = so.each;
   starts = so.starts;
   ends = so.ends;
+  first = so.first;
 }
-
--- ---- the least step from one line to another
-
--- none of the first n pairs has a step from the one line to the other
-abbrev pub NoneTo : List Touch → List Edge → (a b n : ℕ) → Type 0
-NoneTo touches pairs a b n = (k : ℕ) (pair : Edge) (s : Step) → k < n → slice_get pairs k ≡ Some pair → IsOf touches pair s → Leads s a b → ⊥
-
-pub found-next : (touches : List Touch) (pairs : List Edge) (a b : ℕ) (before next : Option Step) (step r : Step) → IfSome before (λ s. IsOfPairs touches pairs s × Leads s a b)
-    → IsOfPairs touches pairs step → Leads step a b → (r ≡ step) ⊎ (before ≡ Some r) → next ≡ Some r → IfSome next (λ s. IsOfPairs touches pairs s × Leads s a b)
-found-next touches pairs a b before next step r so of leads either is =
-    subst (λ o. IfSome o (λ s. IsOfPairs touches pairs s × Leads s a b)) (sym is) (elim either [
-      | inl this ↦ subst (λ s. IsOfPairs touches pairs s × Leads s a b) (sym this) (of, leads)
-      | inr old ↦ subst (λ o. IfSome o (λ s. IsOfPairs touches pairs s × Leads s a b)) old so
-    ])
-
-pub found-none : (Q : Type 0) (next : Option Step) (r : Step) → next ≡ Some r → IfNone next Q
-found-none Q next r is = subst (λ o. IfNone o Q) (sym is) tt
-
-pub none-is : (Q : Type 0) (o : Option Step) → o ≡ None → IfNone o Q → Q
-none-is Q None is q = q
-none-is Q (Some x) is q = absurd cc
-
-of-same : (touches : List Touch) (pair : Edge) (s t : Step) → IsOf touches pair s → IsOf touches pair t → s ≡ t
-of-same touches pair s t x y =
-    let one = same_Some x.a y.a (sym x.first ∙ y.first) in
-    let two = same_Some x.b y.b (sym x.second ∙ y.second) in
-    x.is ∙ ap (λ u. step_between u x.b) one ∙ ap (step_between y.a) two ∙ sym y.is
-
-pub none-next : (touches : List Touch) (pairs : List Edge) (a b i : ℕ) (d : Edge) (before next : Option Step) (step : Step) → i < length pairs
-    → IfNone before (NoneTo touches pairs a b i) → IsOf touches (get_or pairs i d) step → (Leads step a b → ⊥) → next ≡ before
-    → IfNone next (NoneTo touches pairs a b (i + 1))
-none-next touches pairs a b i d before next step lt so of not is = subst (λ o. IfNone o (NoneTo touches pairs a b (i + 1))) (sym is) (by before so)
-  where
-    at : slice_get pairs i ≡ Some (get_or pairs i d)
-    at = slice_get-get_or pairs i d lt
-
-    more : NoneTo touches pairs a b i → NoneTo touches pairs a b (i + 1)
-    more none k pair s less there of_k leads = elim (cases_lt k i) [
-      | inl earlier ↦ none k pair s earlier there of_k leads
-      | inr past ↦
-          let k_is : k ≡ i = omega (arith, less, past) in
-          let pair_is : pair ≡ get_or pairs i d = same_Some pair (get_or pairs i d) (sym there ∙ ap (slice_get pairs) k_is ∙ at) in
-          let s_is : s ≡ step = of-same touches (get_or pairs i d) s step (subst (λ p. IsOf touches p s) pair_is of_k) of in
-          not (subst (λ t. Leads t a b) s_is leads)
-    ]
-
-    by : (o : Option Step) → IfNone o (NoneTo touches pairs a b i) → IfNone o (NoneTo touches pairs a b (i + 1))
-    by None none = more none
-    by (Some x) none = none
-
-pub none-whole : (touches : List Touch) (pairs : List Edge) (a b n : ℕ) (best : Option Step) → length pairs ≤ n → IfNone best (NoneTo touches pairs a b n)
-    → IfNone best ((s : Step) → IsOfPairs touches pairs s → Leads s a b → ⊥)
-none-whole touches pairs a b n None all none = λ s (pair, in_it, of) leads.
-    let at = Contains_at pairs pair in_it in
-    none at.0 pair s (omega (arith, all, slice_get_within pairs at.0 pair at.1)) at.1 of leads
-none-whole touches pairs a b n (Some x) all none = none
-
-pub of-next : (touches : List Touch) (pairs : List Edge) (i : ℕ) (d : Edge) (s : Step) → i < length pairs → IsOf touches (get_or pairs i d) s → IsOfPairs touches pairs s
-of-next touches pairs i d s lt of = (get_or pairs i d, Contains-from_at pairs i (get_or pairs i d) (slice_get-get_or pairs i d lt), of)
-
--- ---- the least steps by line
-
-pub kept-next : (touches : List Touch) (pairs : List Edge) (best : List (Option Step)) (i : ℕ) (d : Option Step) (step r : Step) → i < length best
-    → IsOfPairs touches pairs step → (r ≡ step) ⊎ (get_or best i d ≡ Some r) → AreOfPairs touches pairs best → AreOfPairs touches pairs (set best i (Some r))
-kept-next touches pairs best i d step r lt of either all =
-    let P : Option Step → Type 0 = λ o. IfSome o (IsOfPairs touches pairs) in
-    let this : P (Some r) = elim either [
-      | inl e ↦ subst (IsOfPairs touches pairs) (sym e) of
-      | inr e ↦ subst P e (all i d lt)
-    ] in
-    All-set P best i (Some r) this all
 
 -- ---- of what is told of a cycle
 
@@ -269,18 +233,15 @@ told-lead c h touches pairs lines is t p l =
     subst (λ ts. LeadAlong ts pairs lines) (sym t) (subst (λ es. LeadAlong c.touches.items es lines) (sym p)
     (subst (λ xs. LeadAlong c.touches.items (part_of c.pairs c.graph) xs) (sym l) lead))
 
-pub told-steps : (c : Cyclic) (h : List (Transaction ℕ ℕ)) (touches : List Touch) (pairs : List Edge) (lines : List ℕ) (steps : List Step) → IsCyclic h c
-    → touches ≡ c.touches.items → pairs ≡ part_of c.pairs c.graph → 0 < length lines → AreAlong touches pairs lines steps → AreSteps h c.graph steps
-told-steps c h touches pairs lines steps is t p some along =
-    along-steps h c.touches.items is.faultless c.graph (part_of c.pairs c.graph) (is.pairs_are c.graph) lines steps some
-    (subst (λ es. AreAlong c.touches.items es lines steps) p (subst (λ ts. AreAlong ts pairs lines steps) t along))
+pub told-steps : (c : Cyclic) (h : List (Transaction ℕ ℕ)) (touches : List Touch) (pairs : List Edge) (ranks lines : List ℕ) (steps : List Step) → IsCyclic h c
+    → touches ≡ c.touches.items → pairs ≡ part_of c.pairs c.graph → lines ≡ c.cycle.items → AreAlong touches pairs ranks lines steps → AreSteps h c.graph steps
+told-steps c h touches pairs ranks lines steps is t p l along =
+    let some : 0 < length lines = subst (λ xs. 0 < length xs) (sym l) (cycle-some (ConflictIn h c.graph) c.cycle.items is.cycle_is.is) in
+    along-steps h c.touches.items is.faultless c.graph (part_of c.pairs c.graph) (is.pairs_are c.graph) ranks lines steps some
+    (subst (λ es. AreAlong c.touches.items es ranks lines steps) p (subst (λ ts. AreAlong ts pairs ranks lines steps) t along))
 
-pub told-cycle : (c : Cyclic) (h : List (Transaction ℕ ℕ)) (lines : List ℕ) → IsCyclic h c → lines ≡ c.cycle.items → 0 < length lines
-told-cycle c h lines is l = subst (λ xs. 0 < length xs) (sym l) (cycle-some (ConflictIn h c.graph) c.cycle.items is.cycle_is.is)
-
-pub told-shown : (shown : Option (Vec ℕ Global)) (one : Vec ℕ Global) (cycle lines : List ℕ) → shown ≡ Some one → lines ≡ one.items → IsTold shown cycle lines
-told-shown shown one cycle lines is l = subst (λ o. IsTold o cycle lines) (sym is) (inl l)
-
-pub told-other : (shown : Option (Vec ℕ Global)) (cycle lines : List ℕ) → lines ≡ cycle → IsTold shown cycle lines
-told-other None cycle lines l = l
-told-other (Some one) cycle lines l = inr l
+pub told-first : (c : Cyclic) (h : List (Transaction ℕ ℕ)) (touches : List Touch) (pairs : List Edge) (ranks lines : List ℕ) (steps : List Step) → IsCyclic h c
+    → touches ≡ c.touches.items → pairs ≡ part_of c.pairs c.graph → AreAlong touches pairs ranks lines steps → AreToldFirst h c.graph ranks steps
+told-first c h touches pairs ranks lines steps is t p along =
+    along-first h c.touches.items is.faultless c.graph (part_of c.pairs c.graph) (is.pairs_are c.graph) ranks lines steps
+    (subst (λ es. AreAlong c.touches.items es ranks lines steps) p (subst (λ ts. AreAlong ts pairs ranks lines steps) t along))

@@ -1,7 +1,10 @@
--- The name of a cycle, by its steps.
+-- The name of a cycle, by its steps, and what it tells of the history.
 use Rattle.std.specs.Prelude.{◌==◌, if◌then◌else◌, ℕ, Bool, true, false, List, count_by}
 use Rattle.sgt_history.specs.declared.named.Conflict.{Conflict}
 use Rattle.sgt_history.specs.declared.named.Conflict.TheVariants.{WriteWrite, WriteRead, ReadWrite}
+use Rattle.sgt_history.specs.declared.named.Graph.TheVariants as graph
+use Rattle.sgt_history.specs.Transaction.{Transaction}
+use Rattle.sgt_history.specs.Conflicts.{HasCycle}
 use Rattle.sgt_history_verdict.specs.declared.anomaly.Anomaly.{Anomaly}
 use Rattle.sgt_history_verdict.specs.declared.anomaly.Anomaly.TheVariants.{G0, G1c, GSingle, G2Item}
 use Rattle.sgt_history_verdict.specs.declared.step.Step.{Step}
@@ -29,3 +32,10 @@ named_by wr rw = if rw == 0 then (if wr == 0 then G0 else G1c) else (if rw == 1 
 
 abbrev pub named : List Step → Anomaly
 named steps = named_by (write_reads steps) (read_writes steps)
+
+-- ww alone have a cycle; they have none, but ww and wr do; these have none either, but all conflicts do
+abbrev pub IsNameOf : {I V : Type 0} → List (Transaction I V) → Anomaly → Type 0
+IsNameOf h G0 = HasCycle h graph.WriteWrite
+IsNameOf h G1c = (HasCycle h graph.WriteWrite → ⊥) × HasCycle h graph.WithReads
+IsNameOf h GSingle = (HasCycle h graph.WithReads → ⊥) × HasCycle h graph.Whole
+IsNameOf h G2Item = (HasCycle h graph.WithReads → ⊥) × HasCycle h graph.Whole

@@ -8,6 +8,7 @@ use Rattle.sgt_history.specs.Conflicts.{ConflictIn, IsCycle, HasCycle}
 use Rattle.sgt_history.specs.Flaws.{IsFirstFault}
 use Rattle.sgt_history_conflicts.specs.Edges.{HasPairs}
 use Rattle.sgt_history_faults.specs.Judged.{IsFaultlessBy}
+use Rattle.sgt_history_graph.specs.First.{IsShownFirst}
 use Rattle.sgt_history_verdict.specs.declared.cyclic.Cyclic.{Cyclic}
 use Rattle.sgt_history_verdict.specs.declared.deciding.Verdict.{Verdict}
 use Rattle.sgt_history_verdict.specs.declared.deciding.Verdict.TheVariants as verdict
@@ -53,15 +54,22 @@ IsBelow WithReads WithReads = ⊥
 IsBelow WithReads Whole = Unit {0}
 IsBelow Whole g = ⊥
 
--- it is a cycle of the graph, and no graph with less conflicts has one
-pub record IsLeastCycle (h : List (Transaction ℕ ℕ)) (g : Graph) (cycle : List ℕ) : Type 0 where
-  pub is : IsCycle (ConflictIn h g) cycle
+-- the graph has a cycle, and none with less conflicts has one
+pub record IsLeastGraph (h : List (Transaction ℕ ℕ)) (g : Graph) : Type 0 where
+  pub has : HasCycle h g
   pub least : (less : Graph) → IsBelow less g → HasCycle h less → ⊥
+
+-- it is a cycle of the graph, the first of all: of the least line that lies on one the shortest, of
+-- several the one whose lines are, from it on, the least
+pub record IsFirstOf (h : List (Transaction ℕ ℕ)) (g : Graph) (cycle : List ℕ) : Type 0 where
+  pub is : IsCycle (ConflictIn h g) cycle
+  pub first : (other : List ℕ) → IsCycle (ConflictIn h g) other → IsShownFirst cycle other
 
 pub record IsCyclic (h : List (Transaction ℕ ℕ)) (c : Cyclic) : Type 0 where
   pub faultless : IsFaultlessBy h c.touches.items
   pub pairs_are : HasPairs c.touches.items c.pairs
-  pub cycle_is : IsLeastCycle h c.graph c.cycle.items
+  pub graph_is : IsLeastGraph h c.graph
+  pub cycle_is : IsFirstOf h c.graph c.cycle.items
 
 -- ---- the verdict
 

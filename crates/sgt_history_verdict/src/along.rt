@@ -1,9 +1,8 @@
 //! Steps along lines, each from one line to the next, and from the last to the first.
 
-ghost use Rattle.std.specs.Prelude.{◌≡◌, ◌<◌, Some, All, IfNone, IfOk, IfSome, length, slice_get};
+ghost use Rattle.std.specs.Prelude.{◌≡◌, ◌<◌, Some, All, IfOk, length, slice_get};
 ghost use Rattle.sgt_history_conflicts.specs.Edges.{JoinsTouches};
-ghost use Rattle.sgt_history_verdict.specs.declared.step.Step.{Step};
-ghost use Rattle.sgt_history_verdict.specs.Steps.{AreAlong, IsOfPairs, LeadAlong, Leads, place_behind};
+ghost use Rattle.sgt_history_verdict.specs.Steps.{AreAlong, IsBest, LeadAlong, Leads, place_behind};
 
 use crate::step::{Step, least, step_of};
 use sgt_history_faults::Touch;
@@ -30,8 +29,7 @@ fn least_between(
     lines: (u32, u32),
 ) -> Option<Step>
     requires { All (JoinsTouches touches.now) pairs.now }
-    ensures some { IfSome result (λ s. IsOfPairs touches.now pairs.now s × Leads s lines.0 lines.1) }
-    ensures none { IfNone result ((s : Step) → IsOfPairs touches.now pairs.now s → Leads s lines.0 lines.1 → ⊥) }
+    ensures { IsBest touches.now pairs.now ranks.now (λ s. Leads s lines.0 lines.1) (length pairs.now) result }
 {
     let (from, to) = lines;
     let mut best = None;
@@ -54,7 +52,7 @@ pub(crate) fn steps_along(
 ) -> Result<Vec<Step>, AllocError>
     requires joins { All (JoinsTouches touches.now) pairs.now }
     requires lead { LeadAlong touches.now pairs.now lines.now }
-    ensures { IfOk result (λ steps. AreAlong touches.now pairs.now lines.now steps.items) }
+    ensures { IfOk result (λ steps. AreAlong touches.now pairs.now ranks.now lines.now steps.items) }
 {
     let mut steps = Vec::new(alloc);
     for place in 0..lines.len() {

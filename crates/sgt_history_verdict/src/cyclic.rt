@@ -8,10 +8,8 @@ use sgt_history_faults::Touch;
 #[derive(Drop)]
 pub struct Cyclic {
     pub graph: Graph,
-    /// The lines on a cycle, each in conflict with the next, the last with the first.
+    /// The lines on the first cycle, each in conflict with the next, the last with the first.
     pub cycle: Vec<u32>,
-    /// The lines of the cycle that is to be shown, if one was found.
-    pub shown: Option<Vec<u32>>,
     pub touches: Vec<Touch>,
     /// The pairs of touches that conflict.
     pub pairs: Parts,

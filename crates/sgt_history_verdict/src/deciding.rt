@@ -4,10 +4,9 @@ ghost use Rattle.std.specs.Prelude.{◌≡◌, ◌≤◌, ◌^◌, ◌↔◌, �
 ghost use Rattle.sgt_history.specs.History.{closed_of};
 ghost use Rattle.sgt_history.specs.Serial.{IsSerializable};
 ghost use Rattle.sgt_history.specs.Transaction.{Transaction};
-ghost use Rattle.sgt_history_conflicts.specs.Edges.{HasEdges};
 ghost use Rattle.sgt_history_faults.specs.Judged.{IsFaultlessBy};
 ghost use Rattle.sgt_history_verdict.specs.Decided.{IsDecidedFrom, IsFoundIn};
-ghost use Rattle.sgt_history_verdict.specs.Verdict.{IsCyclic, IsLeastCycle, IsSerial, IsVerdict};
+ghost use Rattle.sgt_history_verdict.specs.Verdict.{IsCyclic, IsLeastGraph, IsSerial, IsVerdict};
 
 use crate::cyclic::Cyclic;
 use sgt_history::{Graph, History, Line};
@@ -34,48 +33,42 @@ pub struct Decided {
     pub lines: Vec<Line>,
 }
 
-/// The least graph that has a cycle, and one of its cycles, where the whole graph has this one.
-fn least_cycle(
-    alloc: Global,
-    nodes: usize,
-    edges: &Parts,
-    whole: Vec<u32>,
-) -> Result<(Graph, Vec<u32>), AllocError>
+/// The least graph that has a cycle, where the whole one has one.
+fn least_graph(alloc: Global, nodes: usize, edges: &Parts) -> Result<Graph, AllocError>
     requires few { nodes ≤ 2 ^ 32 }
-    requires found { (h : List (Transaction ℕ ℕ)) × IsFoundIn h nodes edges.now whole.items }
-    ensures { IfOk result (λ found. (h : List (Transaction ℕ ℕ)) → IsFoundIn h nodes edges.now whole.items
-        → IsLeastCycle h found.0 found.1.items) }
+    requires found { (h : List (Transaction ℕ ℕ)) × IsFoundIn h nodes edges.now }
+    ensures { IfOk result (λ graph. (h : List (Transaction ℕ ℕ)) → IsFoundIn h nodes edges.now → IsLeastGraph h graph) }
 {
     match order(alloc, nodes, edges_in(edges, Graph::WriteWrite))? {
-        Ordered::Cycle(cycle) => Ok((Graph::WriteWrite, cycle)),
+        Ordered::Cycle(_) => Ok(Graph::WriteWrite),
         Ordered::Order(_) => match order(alloc, nodes, edges_in(edges, Graph::WithReads))? {
-            Ordered::Cycle(cycle) => Ok((Graph::WithReads, cycle)),
-            Ordered::Order(_) => Ok((Graph::Whole, whole)),
+            Ordered::Cycle(_) => Ok(Graph::WithReads),
+            Ordered::Order(_) => Ok(Graph::Whole),
         },
     }
 }
 
-/// What is told of a cycle.
+/// What is told of a cycle of the least graph that has one.
 fn cyclic(
     alloc: Global,
     nodes: usize,
     touches: Vec<Touch>,
     edges: Parts,
-    least: (Graph, Vec<u32>),
+    graph: Graph,
 ) -> Result<Cyclic, AllocError>
     requires few { nodes ≤ 2 ^ 32 }
-    requires edges { (h : List (Transaction ℕ ℕ)) × HasEdges h edges × (length h ≡ nodes) }
-    ensures { IfOk result (λ c. (h : List (Transaction ℕ ℕ)) → IsFaultlessBy h touches.items
-        → IsLeastCycle h least.0 least.1.items → IsCyclic h c) }
+    requires found { (h : List (Transaction ℕ ℕ)) × IsFoundIn h nodes edges × IsLeastGraph h graph }
+    ensures { IfOk result (λ c. (h : List (Transaction ℕ ℕ)) → IsFaultlessBy h touches.items → IsFoundIn h nodes edges
+        → IsLeastGraph h graph → IsCyclic h c) }
 {
-    let (graph, cycle) = least;
-    let shown = shown_cycle(alloc, nodes, edges_in(&edges, graph))?;
+    let Some(cycle) = shown_cycle(alloc, nodes, edges_in(&edges, graph))? else {
+        unreachable!()
+    };
     drop(edges);
     let pairs = pairs_of(alloc, touches.as_slice())?;
     Ok(Cyclic {
         graph,
         cycle,
-        shown,
         touches,
         pairs,
     })
@@ -91,9 +84,9 @@ fn decide_faultless(alloc: Global, nodes: usize, touches: Vec<Touch>) -> Result<
     let edges = edges_of(touches.as_slice(), pairs);
     match order(alloc, nodes, edges_in(&edges, Graph::Whole))? {
         Ordered::Order(order) => Ok(Verdict::Serial(order)),
-        Ordered::Cycle(whole) => {
-            let least = least_cycle(alloc, nodes, &edges, whole)?;
-            Ok(Verdict::Cyclic(cyclic(alloc, nodes, touches, edges, least)?))
+        Ordered::Cycle(_) => {
+            let graph = least_graph(alloc, nodes, &edges)?;
+            Ok(Verdict::Cyclic(cyclic(alloc, nodes, touches, edges, graph)?))
         }
     }
 }

@@ -1,10 +1,10 @@
 //! Steps along lines of which none stands twice, in one pass over the pairs.
 
-ghost use Rattle.std.specs.Prelude.{◌≡◌, List, Some, All, Contains, IfOk, IfSome};
+ghost use Rattle.std.specs.Prelude.{◌≡◌, ◌+◌, ◌↔◌, ℕ, List, Option, Some, All, IfOk, IfSome, IsTrue, length, slice_get};
 ghost use Rattle.sgt_history_conflicts.specs.Edges.{JoinsTouches};
 ghost use Rattle.sgt_history_faults.specs.declared.touch.Touch.{Touch};
 ghost use Rattle.sgt_history_graph.specs.declared.edge.Edge.{Edge};
-ghost use Rattle.sgt_history_verdict.specs.Steps.{AreAlong, AreOfPairs, IsOfPairs, Leads};
+ghost use Rattle.sgt_history_verdict.specs.Steps.{AreAlong, AreBest, IsOf, Leads};
 
 use crate::along::line_behind;
 use crate::step::{Step, least, step_of};
@@ -30,7 +30,9 @@ fn lines_behind(alloc: Global, lines: &[u32]) -> Result<Vec<Option<u32>>, AllocE
 }
 
 /// Whether the step leads from one of the lines to that behind it.
-fn is_along(behind: &[Option<u32>], step: &Step) -> bool {
+fn is_along(behind: &[Option<u32>], step: &Step) -> bool
+    ensures { IsTrue result ↔ (slice_get behind.now step.now.from ≡ Some (Some step.now.to)) }
+{
     match behind.get(step.from as usize) {
         Some(Some(line)) => *line == step.to,
         _ => false,
@@ -39,8 +41,9 @@ fn is_along(behind: &[Option<u32>], step: &Step) -> bool {
 
 /// Keeps the step with the best ones by line, if it is less than that of its line.
 fn keep(best: &mut [Option<Step>], ranks: &[u32], step: Step)
-    ensures { (touches : List Touch) (pairs : List Edge) → IsOfPairs touches pairs step → AreOfPairs touches pairs best.old
-        → AreOfPairs touches pairs best.new }
+    ensures { (touches : List Touch) (pairs : List Edge) (behind : List (Option ℕ)) (n : ℕ) (pair : Edge) → slice_get pairs n ≡ Some pair
+        → IsOf touches pair step → slice_get behind step.from ≡ Some (Some step.to) → AreBest touches pairs ranks.now behind n best.old
+        → AreBest touches pairs ranks.now behind (n + 1) best.new }
 {
     let at = step.from as usize;
     if at < best.len() {
@@ -57,7 +60,7 @@ fn best_steps(
     behind: &[Option<u32>],
 ) -> Result<Vec<Option<Step>>, AllocError>
     requires { All (JoinsTouches touches.now) pairs.now }
-    ensures { IfOk result (λ best. AreOfPairs touches.now pairs.now best.items) }
+    ensures { IfOk result (λ best. AreBest touches.now pairs.now ranks.now behind.now (length pairs.now) best.items) }
 {
     let mut best = vec![in alloc; None; behind.len()]?;
     for pair in pairs {
@@ -71,7 +74,7 @@ fn best_steps(
 
 /// The step that is kept of a line, if it leads from there to the other.
 fn step_at(best: &[Option<Step>], from: u32, to: u32) -> Option<Step>
-    ensures { IfSome result (λ s. Contains best.now (Some s) × Leads s from to) }
+    ensures { IfSome result (λ s. (slice_get best.now from ≡ Some (Some s)) × Leads s from to) }
 {
     match best.get(from as usize) {
         Some(Some(step)) if step.from == from && step.to == to => Some(*step),
@@ -85,8 +88,8 @@ fn kept_along(
     best: &[Option<Step>],
     lines: &[u32],
 ) -> Result<Option<Vec<Step>>, AllocError>
-    ensures { IfOk result (λ found. IfSome found (λ steps. (touches : List Touch) (pairs : List Edge)
-        → AreOfPairs touches pairs best.now → AreAlong touches pairs lines.now steps.items)) }
+    ensures { IfOk result (λ found. IfSome found (λ steps. (touches : List Touch) (pairs : List Edge) (ranks : List ℕ) (behind : List (Option ℕ))
+        → AreBest touches pairs ranks behind (length pairs) best.now → AreAlong touches pairs ranks lines.now steps.items)) }
 {
     let mut steps = Vec::new(alloc);
     for place in 0..lines.len() {
@@ -108,7 +111,7 @@ pub(crate) fn quick_steps(
     lines: &[u32],
 ) -> Result<Option<Vec<Step>>, AllocError>
     requires { All (JoinsTouches touches.now) pairs.now }
-    ensures { IfOk result (λ found. IfSome found (λ steps. AreAlong touches.now pairs.now lines.now steps.items)) }
+    ensures { IfOk result (λ found. IfSome found (λ steps. AreAlong touches.now pairs.now ranks.now lines.now steps.items)) }
 {
     let behind = lines_behind(alloc, lines)?;
     let best = best_steps(alloc, touches, pairs, ranks, behind.as_slice())?;

@@ -1,8 +1,8 @@
 //! A step of a cycle.
 
-ghost use Rattle.std.specs.Prelude.{◌≡◌, ◌⊎◌, Some};
+ghost use Rattle.std.specs.Prelude.{◌≡◌, ◌⊎◌, ◌↔◌, IsTrue, Some};
 ghost use Rattle.sgt_history_conflicts.specs.Edges.{JoinsTouches};
-ghost use Rattle.sgt_history_verdict.specs.Steps.{IsOf, kind_between, step_between};
+ghost use Rattle.sgt_history_verdict.specs.Steps.{IsOf, IsToldBefore, kind_between, kind_place, rank_at, step_between};
 
 use sgt_history::{Conflict, Kind};
 use sgt_history_faults::Touch;
@@ -53,7 +53,9 @@ pub(crate) fn step_of(touches: &[Touch], pair: Edge) -> Step
 }
 
 /// Where the conflict stands among the kinds.
-fn kind_rank(kind: Conflict) -> u8 {
+fn kind_rank(kind: Conflict) -> u8
+    ensures { result ≡ kind_place kind }
+{
     match kind {
         Conflict::WriteWrite => 0,
         Conflict::WriteRead => 1,
@@ -62,30 +64,40 @@ fn kind_rank(kind: Conflict) -> u8 {
 }
 
 /// Where the item stands among the names.
-fn item_rank(ranks: &[u32], item: u32) -> u32 {
+fn item_rank(ranks: &[u32], item: u32) -> u32
+    ensures { result ≡ rank_at ranks.now item }
+{
     match ranks.get(item as usize) {
         Some(rank) => *rank,
         None => u32::MAX,
     }
 }
 
-/// What steps between the same two lines are told by.
-fn place_of(ranks: &[u32], step: &Step) -> (u8, u32, u64) {
-    (
-        kind_rank(step.kind),
-        item_rank(ranks, step.item),
-        step.from_version,
-    )
+/// Whether of two steps from one line to another the first is told before the second, or is as good.
+fn is_told_before(ranks: &[u32], one: &Step, other: &Step) -> bool
+    ensures { IsTrue result ↔ IsToldBefore ranks.now one.now other.now }
+{
+    let (first, second) = (kind_rank(one.kind), kind_rank(other.kind));
+    if first != second {
+        return first < second;
+    }
+    let (first, second) = (item_rank(ranks, one.item), item_rank(ranks, other.item));
+    if first != second {
+        return first < second;
+    }
+    one.from_version <= other.from_version
 }
 
 /// The lesser of a step and that of before, if there is one: by kind, by the item's rank, by version.
 pub(crate) fn least(ranks: &[u32], before: Option<Step>, step: Step) -> Step
-    ensures { (result ≡ step) ⊎ (before ≡ Some result) }
+    ensures one { (result ≡ step) ⊎ (before ≡ Some result) }
+    ensures here { IsToldBefore ranks.now result step }
+    ensures old { (other : Step) → before ≡ Some other → IsToldBefore ranks.now result other }
 {
     match before {
         None => step,
         Some(one) => {
-            if place_of(ranks, &one) <= place_of(ranks, &step) {
+            if is_told_before(ranks, &one, &step) {
                 one
             } else {
                 step

@@ -45,6 +45,13 @@ abbrev pub WritesPart : List ℕ → (told told' : Option (List ℕ)) → (writt
 WritesPart bytes told told' written written' = (n : ℕ) × (n < length bytes)
     × AppendsOrForgets told told' (take n bytes) × (written' ≡ written ++ take n bytes)
 
+-- ---- what a place for bundles was handed
+
+-- the bundles that it keeps, each with its number and its text: this one too, if the answer is a number
+abbrev pub kept_by : {E : Type 0} → List (ℕ × List ℕ) → List ℕ → Result ℕ E → List (ℕ × List ℕ)
+kept_by kept text (Ok number) = kept ++ (number, text) ∷ []
+kept_by kept text (Err fault) = kept
+
 -- ---- what an inbox shows
 
 -- the bytes that came and weren't taken, and how many more reads it makes

@@ -129,7 +129,7 @@ impl Inbox {
             (λ n. (bytes : List ℕ) × (self.new.held ≡ self.old.held ++ bytes)
             × (pipe.new.history.given ≡ pipe.old.history.given ++ bytes)
             × Consumes (R.tells pipe.old.reader) (R.tells pipe.new.reader) bytes
-            × (n ≡ 0 → (bytes ≡ []) × IsAtEnd (R.tells pipe.new.reader))) }
+            × (n ≡ length bytes) × (n ≡ 0 → IsAtEnd (R.tells pipe.new.reader))) }
         ensures reads { OnOk result (self.old.reads ≡ self.new.reads + 1) }
         ensures few { length self.new.held ≤ length self.old.held + buffer_size }
         ensures quiet { OnOk result (R.failures pipe.new.reader ≡ R.failures pipe.old.reader) }

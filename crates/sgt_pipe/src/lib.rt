@@ -6,7 +6,7 @@ mod history;
 mod inbox;
 mod pipe;
 
-pub use handed::{Handed, HandedBundle};
+pub use handed::{Handed, HandedBundle, KeepFault};
 pub use history::{Act, History};
 pub use inbox::{Front, Inbox};
 pub use pipe::Pipe;

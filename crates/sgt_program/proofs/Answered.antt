@@ -1,5 +1,5 @@
 -- What the engines' answers say, by the status.
-use Rattle.std.proofs.Common.{◌≡◌, ◌<◌, ◌≤◌, ℕ, List, [], ◌∷◌, Option, Result, Ok, Err, inl, length, subst, arith}
+use Rattle.std.proofs.Common.{◌≡◌, ◌<◌, ◌≤◌, ◌↔◌, ℕ, List, [], ◌∷◌, Option, Some, None, Result, Ok, Err, inl, length, refl, subst, arith}
 use Rattle.std.specs.Prelude.{IfSome, IfOk, OnErr, OnOk}
 use Rattle.std.specs.Io.KnownBytes.{Appends}
 use Rattle.sgt_names.specs.declared.outcome.EngineFail.{EngineFail}
@@ -107,6 +107,23 @@ status-answers Wrote Front (Err fail) wrote front =
       unreadable = λ e. absurd (omega (arith, high, e));
       front = λ le. front;
     }
+
+-- a yes is 0, and no other answer is
+yes_is_zero : (o : Outcome) (status : ℕ) (S : Type 0) → status ≡ status_of (Ran (Ok o)) → o ≡ Outcome_.Yes ↔ S → status ≡ 0 ↔ S
+yes_is_zero Outcome_.Yes status S is both = (λ zero. both.0 refl, λ s. is)
+yes_is_zero Outcome_.No status S is both =
+    (λ zero. absurd (omega (arith, is, zero)), λ s. absurd (let bad : Outcome_.No ≡ Outcome_.Yes = both.1 s in cc))
+yes_is_zero Outcome_.Unreadable status S is both =
+    (λ zero. absurd (omega (arith, is, zero)), λ s. absurd (let bad : Outcome_.Unreadable ≡ Outcome_.Yes = both.1 s in cc))
+
+-- the status of an answer says what the outcome says of both texts
+pub exact_status : (r : Result Outcome EngineFail) (status : ℕ) (told order : Option (List ℕ)) (Is : List ℕ → List ℕ → Type 0)
+    → status ≡ status_of (Ran r) → IfOk r (λ o. IfSome told (λ bytes. IfSome order (λ lines. o ≡ Outcome_.Yes ↔ Is lines bytes)))
+    → status < 3 → IfSome told (λ bytes. IfSome order (λ lines. status ≡ 0 ↔ Is lines bytes))
+exact_status (Ok o) status None order Is is said few = tt
+exact_status (Ok o) status (Some bytes) None Is is said few = tt
+exact_status (Ok o) status (Some bytes) (Some lines) Is is said few = yes_is_zero o status (Is lines bytes) is said
+exact_status (Err fail) status told order Is is said few = absurd (let high = failing fail in omega (arith, high, is, few))
 
 -- nothing was written for want of memory
 pub memory-answers : (words : List (List ℕ)) (status : ℕ) (held : Option (List ℕ)) → status ≡ 3 → AnswersOthers words status held held

@@ -51,6 +51,13 @@ pub kept : (K : Type 0) (told : Option (List ℕ)) (failures failures' asked ask
 kept K told failures failures' asked asked' is (inl failed) = inl failed
 kept K told failures failures' asked asked' is (inr long) = inr (long, inr is)
 
+-- of two readers
+pub due_of_two : (told lines : Option (List ℕ)) (failures failures' asked asked' fails fails' calls calls' : ℕ)
+    → ReadFaultIsDue told failures failures' asked asked' ⊎ ReadFaultIsDue lines fails fails' calls calls'
+    → ReadFailed ⊥ told failures failures' asked asked' ⊎ ReadFailed ⊥ lines fails fails' calls calls'
+due_of_two told lines failures failures' asked asked' fails fails' calls calls' (inl one) = inl (due ⊥ told failures failures' asked asked' one)
+due_of_two told lines failures failures' asked asked' fails fails' calls calls' (inr other) = inr (due ⊥ lines fails fails' calls calls' other)
+
 -- how the devices come out of an engine
 pub leaves : (r : Result Outcome EngineFail) (Reader Writer Due Read Wrote Unwritten : Type 0) → (Due → Read) → (r ≢ Err ReadFault → Reader) → (r ≢ Err WriteFault → Writer)
     → (IsErrOf r ReadFault → Due) → (IsErrOf r WriteFault → Wrote) → (IsErrOf r ReadFault → Unwritten) → (IsErrOf r Memory → Unwritten)
@@ -108,7 +115,7 @@ asks_workers words made.Audit asks on = absurd on
 asks_workers words made.Serial asks on = absurd on
 asks_workers words made.Replay asks on = absurd on
 asks_workers words made.Certify asks on = absurd on
-asks_workers words (made.Check tells_order) asks on = absurd on
+asks_workers words (made.Check wanted) asks on = absurd on
 asks_workers words made.Explain asks on = absurd on
 asks_workers words (made.Transaction tx) asks on = absurd on
 asks_workers words (made.Rule topic) asks on = absurd on

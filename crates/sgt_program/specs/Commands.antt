@@ -1,5 +1,5 @@
 -- What each command answers, by the exit status.
-use Rattle.std.specs.Prelude.{◌≡◌, ◌≢◌, ◌<◌, ◌≤◌, ℕ, Bool, List, Option, Some, None, length, IfSome}
+use Rattle.std.specs.Prelude.{◌≡◌, ◌≢◌, ◌<◌, ◌≤◌, ℕ, List, Option, Some, None, length, IfSome}
 use Rattle.std.specs.Io.KnownBytes.{Appends}
 use Rattle.sgt_names.specs.Device.{WritesFront}
 use Rattle.sgt_names.specs.declared.outcome.Outcome.{Outcome}
@@ -12,6 +12,7 @@ use Rattle.sgt_audit.specs.declared.verdict.Verdict.TheVariants.{Yes, No}
 use Rattle.sgt_certify.specs.Answer as certify
 use Rattle.sgt_check.specs.Answer as check
 use Rattle.sgt_check.specs.declared.options.Options.{Options}
+use Rattle.sgt_check_order.specs.Answer as against
 use Rattle.sgt_draw.specs.Drawn as draw
 use Rattle.sgt_explain.specs.Explained as explain
 use Rattle.sgt_explain.specs.Topics.{IsRuleOf, topic_name}
@@ -21,6 +22,7 @@ use Rattle.sgt_service.specs.Report as run
 use Rattle.sgt_serial.specs.Answer as serial
 use Rattle.sgt_serial.specs.Answer.{IsAnswer}
 use Rattle.sgt_words.specs.Words.{AsksFor, AsksHelp, AsksNone}
+use Rattle.sgt_words.specs.declared.check.CheckWanted.{CheckWanted}
 use Rattle.sgt_words.specs.declared.choice.Choice.{Choice}
 use Rattle.sgt_words.specs.declared.choice.Choice.TheVariants.{Audit, AuditWith, Certify, Check, Draw, DrawWith, Explain, Replay, Rule, Run, Serial, Transaction}
 
@@ -99,15 +101,22 @@ AnswersCertify status told written written' =
     (certify.WroteAnswerFront told written written') status
 
 -- what is asked of a history besides the answer
-abbrev pub options_of : Bool → Options
-options_of tells_order = record { order = tells_order }
+abbrev pub options_of : CheckWanted → Options
+options_of wanted = record { order = wanted.order }
 
 -- the verdict on a history: a yes at 0, with an order where it is asked for; at 1 a no with what shows
 -- it; at 2 the line that can't be read
-abbrev pub AnswersCheck : Bool → (status : ℕ) (told written written' : Option (List ℕ)) → Type 0
-AnswersCheck tells_order status told written written' =
-    ByStatus (λ outcome. check.WroteAnswer (options_of tells_order) told outcome written written')
-    (check.WroteAnswerFront (options_of tells_order) told written written') status
+abbrev pub AnswersCheck : CheckWanted → (status : ℕ) (told written written' : Option (List ℕ)) → Type 0
+AnswersCheck wanted status told written written' =
+    ByStatus (λ outcome. check.WroteAnswer (options_of wanted) told outcome written written')
+    (check.WroteAnswerFront (options_of wanted) told written written') status
+
+-- the verdict on an order that is given: a yes at 0; at 1 the history's first fault, or where the order
+-- breaks; at 2 the line of the history that can't be read
+abbrev pub AnswersOrder : (status : ℕ) (order told written written' : Option (List ℕ)) → Type 0
+AnswersOrder status order told written written' =
+    ByStatus (λ outcome. against.WroteAnswer order told outcome written written')
+    (against.WroteAnswerFront order told written written') status
 
 -- the explanation: the line of the verdict, a yes at 0 and a no at 1, and what it means, with what
 -- this transaction did, or no transaction
@@ -137,7 +146,7 @@ Answers (AuditWith workers) = AnswersAudit
 Answers Serial = AnswersSerial
 Answers Replay = AnswersReplay
 Answers Certify = AnswersCertify
-Answers (Check tells_order) = AnswersCheck tells_order
+Answers (Check wanted) = AnswersCheck wanted
 Answers Explain = AnswersExplain None
 Answers (Transaction tx) = AnswersExplain (Some tx)
 Answers (Rule topic) = λ status told written written'. AnswersRule topic status written written'

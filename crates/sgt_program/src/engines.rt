@@ -3,7 +3,7 @@
 ghost use Rattle.std.specs.Prelude.{⊤, ◌≡◌, ◌<◌, length, IfOk, IfErr, OnErr, OnOk};
 ghost use Rattle.std.specs.Io.KnownBytes.{Appends};
 ghost use Rattle.sgt_names.specs.Device.{WritesFront};
-ghost use Rattle.sgt_program.specs.Commands.{Answers, AnswersAudit, outcome};
+ghost use Rattle.sgt_program.specs.Commands.{Answers, AnswersAudit, options_of, outcome};
 ghost use Rattle.sgt_program.specs.Ending.{LeavesDevices, ReadFailed, ReaderIsQuiet, ReadsOn, status_of};
 ghost use Rattle.sgt_words.specs.Words.{CanRun, command_of};
 ghost use Rattle.sgt_line.specs.declared.name.CommandName.TheVariants as command;
@@ -19,7 +19,7 @@ use sgt_explain::{explain, explain_topic, explain_transaction};
 use sgt_names::{EngineFail, Outcome, Sink, Source, write_all};
 use sgt_serial::serial;
 use sgt_service::run_scripts;
-use sgt_words::Choice;
+use sgt_words::{CheckWanted, Choice};
 use sgt_workers::NoGate;
 use std::alloc::Global;
 use std::sync::Wait;
@@ -31,6 +31,14 @@ fn outcome_of(verdict: Verdict) -> Outcome
     match verdict {
         Verdict::Yes { .. } => Outcome::Yes,
         Verdict::No { .. } => Outcome::No,
+    }
+}
+
+fn options_of(wanted: CheckWanted) -> Options
+    ensures { result ≡ options_of wanted }
+{
+    Options {
+        order: wanted.order,
     }
 }
 
@@ -86,9 +94,7 @@ pub fn run_choice<H: Threads + Wait + Sync, R: Source, W: Sink>(
         Choice::Serial => serial(alloc, reader, writer),
         Choice::Replay => replay(alloc, reader, writer),
         Choice::Certify => certify(alloc, reader, writer),
-        Choice::Check { tells_order } => {
-            check(alloc, reader, writer, Options { order: tells_order })
-        }
+        Choice::Check(wanted) => check(alloc, reader, writer, options_of(wanted)),
         Choice::Explain => explain(alloc, reader, writer),
         Choice::Transaction(tx) => explain_transaction(alloc, tx, reader, writer),
         Choice::Rule(topic) => explain_topic(topic, writer),

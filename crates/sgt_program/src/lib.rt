@@ -5,6 +5,8 @@ mod chain;
 mod commands;
 mod ending;
 mod engines;
+mod order;
 
 pub use chain::{audit_next, end_chain};
 pub use commands::{give_up, program, refuse_words};
+pub use order::check_order;

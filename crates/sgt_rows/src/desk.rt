@@ -6,7 +6,7 @@ use crate::row::{Given, Row};
 use sgt_audit_chain::ChainAuditor;
 use sgt_line::{Line, cut, strict_status};
 use sgt_names::{MemSink, MemSource, Outcome, write_all};
-use sgt_program::{audit_next, end_chain, program};
+use sgt_program::{audit_next, check_order, end_chain, program};
 use sgt_serve::{MemBundles, Pipe, serve};
 use sgt_words::asks_talk;
 use std::alloc::{AllocError, Global};
@@ -139,6 +139,29 @@ fn talk(alloc: Global, given: &Given, per_read: usize) -> Result<Answer, AllocEr
     })
 }
 
+/// What is answered of an order that a history is held against.
+fn judge_order(
+    alloc: Global,
+    given: &Given,
+    order: &str,
+    per_read: usize,
+) -> Result<Answer, AllocError>
+    requires { 0 < per_read }
+{
+    let mut lines = MemSource::new(order.as_bytes(), per_read, None);
+    let mut history = source_of(given, per_read);
+    let mut output = MemSink::new(alloc, ROOM)?;
+    let mut errors = MemSink::new(alloc, ROOM)?;
+    let status = check_order(alloc, &mut lines, &mut history, &mut output, &mut errors);
+    Ok(Answer {
+        status,
+        output,
+        errors,
+        bundle: None,
+        cut: None,
+    })
+}
+
 /// What is answered to the words and files.
 fn answered<H: Threads + Wait + Sync>(
     rt: &H,
@@ -151,6 +174,9 @@ fn answered<H: Threads + Wait + Sync>(
     let line = &given.line;
     if asks_talk(line.words.as_slice()) {
         return talk(alloc, given, per_read);
+    }
+    if let Some(order) = &given.order {
+        return judge_order(alloc, given, order.as_str(), per_read);
     }
     if line.is_chain && !line.files.is_empty() {
         let mut output = MemSink::new(alloc, ROOM)?;

@@ -14,6 +14,8 @@ pub struct Given {
     pub input: Option<String>,
     /// The texts of the files that the line names, in their order.
     pub files: Vec<String>,
+    /// The order that a history is held against.
+    pub order: Option<String>,
 }
 
 /// What the program must answer.
@@ -78,10 +80,15 @@ fn given_of<R: Files + AllocGlobal>(rt: &R, name: &str) -> io::Result<Given> {
     let words = words_of(rt.alloc(), args.as_str())?;
     let line = Line::of(rt.alloc(), words.as_slice())?;
     let files = files_of(rt, name, &line)?;
+    let order = match &line.against {
+        Some(file) => text_of(rt, name, file.as_str())?,
+        None => None,
+    };
     Ok(Given {
         line,
         input: text_of(rt, name, "stdin")?,
         files,
+        order,
     })
 }
 

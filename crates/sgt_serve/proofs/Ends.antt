@@ -1,5 +1,5 @@
 -- The end of a talk: what is asked of the core then, and its last bundle.
-use Rattle.std.proofs.Common.{◌≡◌, ℕ, List, [], ◌∷◌, ◌++◌, length, map, refl, sym, ◌∙◌, ap, subst, inl, inr, Option, Some, None}
+use Rattle.std.proofs.Common.{◌≡◌, ◌≢◌, ℕ, List, [], ◌∷◌, ◌++◌, length, map, refl, sym, ◌∙◌, ap, subst, inl, inr, Option, Some, None, Ok, Err}
 use Rattle.std.specs.List.{range_with_len}
 use Rattle.std.proofs.lemmas.List.{append-nil}
 use Rattle.sgt_cert.specs.Parts.{Parts as Logs}
@@ -10,10 +10,13 @@ use Rattle.sgt_core_model.specs.Core.{CoreState, bundle_of}
 use Rattle.sgt_core_model.specs.Step.{MayStep, Run}
 use Rattle.sgt_core_model.specs.declared.reply.Reply.{Reply}
 use Rattle.sgt_core_machine.specs.Machine.{GoesOn, Parts, StandsFor}
+use Rattle.sgt_pipe.specs.declared.handed.Handed.{Handed}
+use Rattle.sgt_pipe.specs.declared.handed.KeepFault.{KeepFault}
+use Rattle.sgt_pipe.specs.declared.handed.KeepFault.TheVariants as keep
 use Rattle.sgt_serve.specs.declared.last.Last.{Last}
 use Rattle.sgt_serve.specs.declared.last.Last.TheVariants.{Done, Memory, Unwritten}
 use Rattle.sgt_serve.specs.Ended.{Closes, installs_of, open_tx}
-use Rattle.sgt_serve.specs.private.Closing.{ClosesSo, HandsOut}
+use Rattle.sgt_serve.specs.private.Closing.{ClosesSo, HandsOut, lost_by}
 use Rattle.sgt_courses.proofs.Courses.{run_on}
 
 -- these are asked of it, whatever is replied
@@ -46,26 +49,40 @@ installed_some m n tx sites open_step count asked c stands =
 
 -- ---- the last bundle
 
-closed_so : (last : Last) (c d : CoreState) (kept kept' : List (ℕ × List ℕ)) → Closes c d → HandsOut last d kept kept' → ClosesSo last c kept kept'
-closed_so Done c d kept kept' closes (idle, number, more) = (record { number = number; bundle = bundle_of d } ∷ [], inr (d, closes, idle, number, refl), more)
-closed_so Memory c d kept kept' closes same = same
-closed_so Unwritten c d kept kept' closes same = same
+closed_so : (last : Last) (c d : CoreState) (kept kept' : Handed) → c.certifier.begun ≢ 0 → Closes c d → HandsOut last d kept kept' → ClosesSo last c kept kept'
+closed_so Done c d kept kept' some closes (idle, number, more, says) =
+    (record { number = number; bundle = bundle_of d } ∷ [], Ok number ∷ [], (inr (d, closes, idle, number, refl), refl), more, says)
+closed_so Memory c d kept kept' some closes (same, inl says) = ([], [], (some, refl, inl refl), same ∙ sym (append-nil kept.items), says ∙ sym (append-nil kept.answers))
+closed_so Memory c d kept kept' some closes (same, inr says) = ([], Err keep.Memory ∷ [], (some, refl, inr refl), same ∙ sym (append-nil kept.items), says)
+closed_so Unwritten c d kept kept' some closes (same, says) = ([], Err keep.Refused ∷ [], (some, refl, refl), same ∙ sym (append-nil kept.items), says)
 
-pub closed_over : (m n o : Parts) (begun : ℕ) (last : Last) (kept kept' : List (ℕ × List ℕ)) → ((c : CoreState) → StandsFor m c → begun ≡ c.certifier.begun)
+pub closed_over : (m n o : Parts) (begun : ℕ) (last : Last) (kept kept' : Handed) → ((c : CoreState) → StandsFor m c → begun ≡ c.certifier.begun) → begun ≢ 0
     → Installed m n → Asked n (map Withdraw (range_with_len 1 begun)) o → ((c : CoreState) → StandsFor o c → HandsOut last c kept kept')
     → (c : CoreState) → StandsFor m c → ClosesSo last c kept kept'
-closed_over m n o begun last kept kept' count installs withdraws hands c stands =
+closed_over m n o begun last kept kept' count some installs withdraws hands c stands =
     let (d, ran, there) = installs c stands in
     let (e, then, at) = withdraws d there in
     let rest = subst (λ (k : ℕ). Run d (map Withdraw (range_with_len 1 k)) then.0 e) (count c stands) then.1 in
-    closed_so last c e kept kept' (ran.0 ++ then.0, run_on c d e (installs_of (open_tx c) (length c.items)) (map Withdraw (range_with_len 1 c.certifier.begun)) ran.0 then.0 ran.1 rest) (hands e at)
+    closed_so last c e kept kept' (λ none. some (count c stands ∙ none)) (ran.0 ++ then.0, run_on c d e (installs_of (open_tx c) (length c.items)) (map Withdraw (range_with_len 1 c.certifier.begun)) ran.0 then.0 ran.1 rest) (hands e at)
 
-pub closed_none : (m : Parts) (begun : ℕ) (kept : List (ℕ × List ℕ)) → ((c : CoreState) → StandsFor m c → begun ≡ c.certifier.begun) → begun ≡ 0
+pub closed_none : (m : Parts) (begun : ℕ) (kept : Handed) → ((c : CoreState) → StandsFor m c → begun ≡ c.certifier.begun) → begun ≡ 0
     → (c : CoreState) → StandsFor m c → ClosesSo Done c kept kept
-closed_none m begun kept count none c stands = ([], inl (sym (count c stands) ∙ none, refl), sym (append-nil kept))
+closed_none m begun kept count none c stands = ([], [], (inl (sym (count c stands) ∙ none, refl), refl), sym (append-nil kept.items), sym (append-nil kept.answers))
 
-pub handed_out : (m : Parts) (b : Logs) (text : List ℕ) (number : ℕ) (kept kept' : List (ℕ × List ℕ)) → ((c : CoreState) → StandsFor m c → b ≡ bundle_of c)
-    → ((c : CoreState) → StandsFor m c → c.certifier.active ≡ []) → text ≡ text_of b → kept' ≡ kept ++ (number, text) ∷ []
+pub handed_out : (m : Parts) (b : Logs) (text : List ℕ) (number : ℕ) (kept kept' : Handed) → ((c : CoreState) → StandsFor m c → b ≡ bundle_of c)
+    → ((c : CoreState) → StandsFor m c → c.certifier.active ≡ []) → text ≡ text_of b → kept'.items ≡ kept.items ++ (number, text) ∷ [] → kept'.answers ≡ kept.answers ++ Ok number ∷ []
     → (c : CoreState) → StandsFor m c → HandsOut Done c kept kept'
-handed_out m b text number kept kept' same idle spelled more c stands =
-    (idle c stands, number, more ∙ ap (λ (t : List ℕ). kept ++ (number, t) ∷ []) (spelled ∙ ap text_of (same c stands)))
+handed_out m b text number kept kept' same idle spelled more says c stands =
+    (idle c stands, number, more ∙ ap (λ (t : List ℕ). kept.items ++ (number, t) ∷ []) (spelled ∙ ap text_of (same c stands)), says)
+
+pub lost_out : (f : KeepFault) (last : Last) (c : CoreState) (kept kept' : Handed) → last ≡ lost_by f → kept'.items ≡ kept.items → kept'.answers ≡ kept.answers ++ Err f ∷ []
+    → HandsOut last c kept kept'
+lost_out f last c kept kept' is same says = subst (λ (l : Last). HandsOut l c kept kept') (sym is) (by f says)
+  where
+    by : (f : KeepFault) → kept'.answers ≡ kept.answers ++ Err f ∷ [] → HandsOut (lost_by f) c kept kept'
+    by keep.Memory says = (same, inr says)
+    by keep.Refused says = (same, says)
+
+-- the place was asked nothing
+pub unasked : (c : CoreState) (kept : Handed) → HandsOut Memory c kept kept
+unasked c kept = (refl, inl refl)

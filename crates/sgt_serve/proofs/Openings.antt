@@ -96,17 +96,17 @@ has_same : (sites sites' : List SiteLine) (history : History) (held held' : List
 has_same sites sites' history held held' same left h =
     subst (λ (ss : List SiteLine). HasSites ss history held') (sym same) (subst (λ (t : List ℕ). HasSites sites history t) (sym left) h)
 
-pub opens_line : (o : Option Opened) (n : ℕ) (sites sites' : List SiteLine) (history : History) (held held' : List ℕ) → IsLineOf held n → HasSites sites history held
-    → TakesNext n sites sites' held held' o → OpensOn (Ok o) sites' history held'
-opens_line None n sites sites' history held held' line h takes = site_more n sites sites' history held held' line h takes
-opens_line (Some (Begun m)) n sites sites' history held held' line h (number, some, asks, same, left) = (
+pub opens_line : (o : Option Opened) (at : Option (List ℕ)) (n : ℕ) (sites sites' : List SiteLine) (history : History) (held held' : List ℕ) → IsLineOf held n → HasSites sites history held
+    → TakesNext n sites sites' held held' o → OpensOn (Ok o) at sites' history held'
+opens_line None at n sites sites' history held held' line h takes = site_more n sites sites' history held held' line h takes
+opens_line (Some (Begun m)) at n sites sites' history held held' line h (number, some, asks, same, left) = (
   has_same sites sites' history held held' same left h,
   (λ e. some (sym same ∙ e)),
   subst (λ (k : ℕ). IsLineOf held' k) (sym number) (subst (λ (t : List ℕ). IsLineOf t n) (sym left) line),
   subst (λ (k : ℕ). Asks (take k held')) (sym number) (subst (λ (t : List ℕ). Asks (take n t)) (sym left) asks),
 )
-opens_line (Some Ended) n sites sites' history held held' line h takes = absurd takes
-opens_line (Some (Unreadable NotALine)) n sites sites' history held held' line h (misplaced, same, left) = (
+opens_line (Some Ended) at n sites sites' history held held' line h takes = absurd takes
+opens_line (Some (Unreadable NotALine)) at n sites sites' history held held' line h (misplaced, same, left) = (
   has_same sites sites' history held held' same left h,
   inl (
     n,
@@ -114,8 +114,8 @@ opens_line (Some (Unreadable NotALine)) n sites sites' history held held' line h
     subst (λ (ss : List SiteLine). IsMisplaced ss (take n held')) (sym same) (subst (λ (t : List ℕ). IsMisplaced sites (take n t)) (sym left) misplaced),
   ),
 )
-opens_line (Some (Unreadable TooLong)) n sites sites' history held held' line h takes = absurd takes
-opens_line (Some (Unreadable Memory)) n sites sites' history held held' line h takes = absurd takes
+opens_line (Some (Unreadable TooLong)) at n sites sites' history held held' line h takes = absurd takes
+opens_line (Some (Unreadable Memory)) at n sites sites' history held held' line h takes = absurd takes
 
 -- ---- more is read
 
@@ -141,26 +141,26 @@ empty_sites : (sites : List SiteLine) (any : Bool) → (sites ≢ [] → any ≡
 empty_sites [] any tells not = refl
 empty_sites (s ∷ sites) any tells not = absurd (not (tells (λ e. cc)))
 
-pub opens_read : (r : Result (Option Opened) ServeFail) (any : Bool) (sites : List SiteLine) (held held' : List ℕ) (old new : History) → HasSites sites old held → IsPart held
-    → (any ≡ true → sites ≢ []) → (sites ≢ [] → any ≡ true) → ReadsFront r any held held' old new → OpensOn r sites new held'
-opens_read (Ok None) any sites held held' old new h part filled tells ((bytes, more, given), written, waits) =
+pub opens_read : (r : Result (Option Opened) ServeFail) (any : Bool) (at : Option (List ℕ)) (sites : List SiteLine) (held held' : List ℕ) (old new : History) → HasSites sites old held → IsPart held
+    → (any ≡ true → sites ≢ []) → (sites ≢ [] → any ≡ true) → ReadsFront r any at held held' old new → OpensOn r at sites new held'
+opens_read (Ok None) any at sites held held' old new h part filled tells ((bytes, more, given), written, waits) =
     kept_sites sites held held' old new part h written waits
     (given ∙ (ap (λ (t : List ℕ). t ++ bytes) h.given ∙ (Rattle.std.proofs.Common.append_assoc (text_of_lines (map site_text sites)) held bytes
     ∙ ap (λ (t : List ℕ). text_of_lines (map site_text sites) ++ t) (sym more))))
-opens_read (Ok (Some (Begun n))) any sites held held' old new h part filled tells (reads, written, waits) = absurd reads
-opens_read (Ok (Some Ended)) any sites held held' old new h part filled tells ((is, empty, left, given), written, waits) =
-    (same_sites sites held held' old new part h written waits left given, filled is, left ∙ empty)
-opens_read (Ok (Some (Unreadable NotALine))) any sites held held' old new h part filled tells ((not, left, given), written, waits) = (
+opens_read (Ok (Some (Begun n))) any at sites held held' old new h part filled tells (reads, written, waits) = absurd reads
+opens_read (Ok (Some Ended)) any at sites held held' old new h part filled tells ((none, is, empty, left, given), written, waits) =
+    (none, same_sites sites held held' old new part h written waits left given, filled is, left ∙ empty)
+opens_read (Ok (Some (Unreadable NotALine))) any at sites held held' old new h part filled tells ((none, not, left, given), written, waits) = (
   same_sites sites held held' old new part h written waits left given,
-  inr (subst IsPart (sym left) part, λ empty. empty_sites sites any tells (not (sym left ∙ empty))),
+  inr (none, subst IsPart (sym left) part, λ empty. empty_sites sites any tells (not (sym left ∙ empty))),
 )
-opens_read (Ok (Some (Unreadable TooLong))) any sites held held' old new h part filled tells (reads, written, waits) = absurd reads
-opens_read (Ok (Some (Unreadable Memory))) any sites held held' old new h part filled tells (reads, written, waits) = absurd reads
-opens_read (Err fail.ReadFault) any sites held held' old new h part filled tells ((left, given), written, waits) =
-    (same_sites sites held held' old new part h written waits left given, subst IsPart (sym left) part)
-opens_read (Err fail.Memory) any sites held held' old new h part filled tells (reads, written, waits) = absurd reads
-opens_read (Err fail.WriteFault) any sites held held' old new h part filled tells (reads, written, waits) = absurd reads
-opens_read (Err fail.BundleFault) any sites held held' old new h part filled tells (reads, written, waits) = absurd reads
+opens_read (Ok (Some (Unreadable TooLong))) any at sites held held' old new h part filled tells (reads, written, waits) = absurd reads
+opens_read (Ok (Some (Unreadable Memory))) any at sites held held' old new h part filled tells (reads, written, waits) = absurd reads
+opens_read (Err (fail.ReadFault l)) any at sites held held' old new h part filled tells ((none, left, given), written, waits) =
+    (none, same_sites sites held held' old new part h written waits left given, subst IsPart (sym left) part)
+opens_read (Err fail.Memory) any at sites held held' old new h part filled tells (reads, written, waits) = absurd reads
+opens_read (Err (fail.WriteFault l)) any at sites held held' old new h part filled tells (reads, written, waits) = absurd reads
+opens_read (Err fail.BundleFault) any at sites held held' old new h part filled tells (reads, written, waits) = absurd reads
 
 -- nothing was taken
 pub no_sites : (sites : List SiteLine) (history : History) (held : List ℕ) → sites ≡ [] → held ≡ [] → history.given ≡ [] → history.written ≡ [] → history.waits ≡ []
@@ -172,10 +172,10 @@ no_sites sites history held none empty given written waits = has_same [] sites h
   answered = subst AreAnswered (sym waits) (Rattle.std.proofs.lemmas.List.Elements.All-nil (λ (w : List ℕ × List ℕ). IsAnswered w.0 w.1));
 })
 
-pub opens_none : (o : Option Opened) (sites : List SiteLine) (history : History) (held : List ℕ) → ((x : Opened) → o ≡ Some x → ⊥) → OpensOn (Ok o) sites history held
+pub opens_none : (o : Option Opened) (at : Option (List ℕ)) (sites : List SiteLine) (history : History) (held : List ℕ) → ((x : Opened) → o ≡ Some x → ⊥) → OpensOn (Ok o) at sites history held
     → HasSites sites history held
-opens_none None sites history held not p = p
-opens_none (Some x) sites history held not p = absurd (not x refl)
+opens_none None at sites history held not p = p
+opens_none (Some x) at sites history held not p = absurd (not x refl)
 
 -- whether there are sites, as a test tells it
 pub any_filled : (sites : List SiteLine) (n : ℕ) (empty : Bool) → length sites ≡ n → empty ≡ (n == 0) → not empty ≡ true → sites ≢ []

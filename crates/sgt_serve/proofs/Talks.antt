@@ -11,6 +11,7 @@ use Rattle.sgt_input.proofs.Lines.{text-append}
 use Rattle.sgt_core_model.specs.Core.{CoreState}
 use Rattle.sgt_core_machine.specs.Machine.{Parts}
 use Rattle.sgt_pipe.specs.Fronts.{IsLineOf, IsPart}
+use Rattle.sgt_pipe.specs.declared.handed.Handed.{Handed}
 use Rattle.sgt_pipe.specs.declared.history.History.{History}
 use Rattle.sgt_courses.specs.declared.answer.Answer.{Answer}
 use Rattle.sgt_courses.specs.declared.answer.Answer.TheVariants.{Replies, Cut, Uncut, Unreadable}
@@ -18,7 +19,9 @@ use Rattle.sgt_serve.specs.declared.stop.Stop.{Stop}
 use Rattle.sgt_serve.specs.declared.stop.Stop.TheVariants as stop
 use Rattle.sgt_courses.specs.Course.{AsksNothing, MayTake, Numbered, Turn}
 use Rattle.sgt_serve.specs.Talk.{AreAnswered, IsAnswered, IsTalk, Starts, Talk, answer_line, asked_text, handed_texts, told_text}
-use Rattle.sgt_serve.specs.Ended.{MayBehind, WroteAll}
+use Rattle.sgt_serve.specs.Ended.{MayClose, WroteAll}
+use Rattle.sgt_serve.specs.Place.{PlaceSaid, PlaceSays}
+use Rattle.sgt_pipe.specs.declared.handed.KeepFault.{KeepFault}
 use Rattle.sgt_serve.specs.private.Turning.{Takes}
 use Rattle.sgt_serve.specs.private.Opening.{Asks}
 use Rattle.sgt_serve.specs.private.Talking.{Desk, Flushes, HasCome, HasOpened, HasStopped, HasTalk, SaysLast, SaysStop, TakesFront, desk}
@@ -67,6 +70,12 @@ told_more turns turn =
     ∙ (text-append (map (λ (u : Turn). answer_line u.asked u.answer) turns) (answer_line turn.asked turn.answer ∷ [])
     ∙ ap (λ (ts : List ℕ). text_of_lines (map (λ (u : Turn). answer_line u.asked u.answer) turns) ++ ts) (one_text (answer_line turn.asked turn.answer)))
 
+-- the place answered so over the turns, and then so
+said_more : (turns : List Turn) (turn : Turn) (said own : List (Result ℕ KeepFault)) → PlaceSaid turns said → PlaceSays turn.answer own → PlaceSaid (turns ++ turn ∷ []) (said ++ own)
+said_more [] turn said own none says = (own, [], ap (λ (xs : List (Result ℕ KeepFault)). xs ++ own) none ∙ sym (append-nil own), says, refl)
+said_more (u ∷ us) turn said own (first, more, is, here, later) says =
+    (first, more ++ own, ap (λ (xs : List (Result ℕ KeepFault)). xs ++ own) is ∙ append_assoc first more own, here, said_more us turn more own later says)
+
 pub handed_more : (xs ys : List Numbered) → handed_texts (xs ++ ys) ≡ handed_texts xs ++ handed_texts ys
 handed_more xs ys = map-append _ xs ys
 
@@ -89,11 +98,17 @@ moved asked line rest = grind (arith, common_steps)
 joined : (a b c : List ℕ) → (a ++ b) ++ c ≡ a ++ (b ++ c)
 joined a b c = append_assoc a b c
 
-front_of : (written more : List ℕ) → written ≡ take (length written) ((written ++ more) ++ [])
+front_of : (written more : List ℕ) → written ≡ take (length written) (written ++ more)
 front_of written more = grind (arith, common_steps)
 
+less_some : (written gathered line : List ℕ) → length written < length (written ++ (gathered ++ (line ++ 10 ∷ [])))
+less_some written gathered line = grind (arith, common_steps)
+
+less_part : (written gathered tail : List ℕ) (m : ℕ) → m < length gathered → length written + m < length ((written ++ gathered) ++ tail)
+less_part written gathered tail m lt = grind (arith, common_steps)
+
 -- what a turn makes of a talk that has come so far
-record IsOn (sites : List SiteLine) (before : List (ℕ × List ℕ)) (t : Talk) (old new : Desk) (line rest told : List ℕ) : Type 0 where
+record IsOn (sites : List SiteLine) (before : Handed) (t : Talk) (old new : Desk) (line rest told : List ℕ) : Type 0 where
   talk : Talk
   has : HasTalk sites before talk new
   begun : talk.turns ≢ []
@@ -104,13 +119,14 @@ some_behind : {A : Type 0} (xs : List A) (x : A) → xs ++ x ∷ [] ≢ []
 some_behind [] x = λ e. cc
 some_behind (y ∷ ys) x = λ e. cc
 
-turn_on : (sites : List SiteLine) (before : List (ℕ × List ℕ)) (t : Talk) (history : History) (n : ℕ) (answer : Answer) (kept kept' : List (ℕ × List ℕ)) (core core' : Parts)
+turn_on : (sites : List SiteLine) (before : Handed) (t : Talk) (history : History) (n : ℕ) (answer : Answer) (kept kept' : Handed) (core core' : Parts)
     (gathered gathered' held held' : List ℕ) → HasTalk sites before t (desk kept core history gathered held) → history.given ≡ asked_text t ++ held → IsLineOf held n
     → ((c : CoreState) (handed : List Numbered) (d : CoreState) → MayTake c (take n held) answer handed d → (t.turns ≢ []) ⊎ (answer ≢ Unreadable))
     → Takes core (take n held) answer kept kept' core'
     → IsOn sites before t (desk kept core history gathered held) (desk kept' core' history gathered' held') (take n held) (drop (n + 1) held) (answer_line (take n held) answer ++ 10 ∷ [])
 turn_on sites before t history n answer kept kept' core core' gathered gathered' held held' has asked line either takes =
-    let (d, handed, may, more, stands) = takes t.last has.stands in
+    let (d, handed, may, more, stands) = takes.0 t.last has.stands in
+    let (own, says, then) = takes.1 in
     let turn : Turn = record { asked = take n held; answer = answer } in
     let some : t.sites ≢ [] = λ none. has.some (sym has.over ∙ none) in
     record {
@@ -119,7 +135,10 @@ turn_on sites before t history n answer kept kept' core core' gathered gathered'
         is = is_taken t (take n held) answer handed d has.is some (either t.last handed d may) may;
         over = has.over;
         some = has.some;
-        kept = more ∙ (ap (λ (ks : List (ℕ × List ℕ)). ks ++ handed_texts handed) has.kept ∙ (append_assoc before (handed_texts t.bundles) (handed_texts handed) ∙ ap (λ (ks : List (ℕ × List ℕ)). before ++ ks) (sym (handed_more t.bundles handed))));
+        kept = more ∙ (ap (λ (ks : List (ℕ × List ℕ)). ks ++ handed_texts handed) has.kept ∙ (append_assoc before.items (handed_texts t.bundles) (handed_texts handed) ∙ ap (λ (ks : List (ℕ × List ℕ)). before.items ++ ks) (sym (handed_more t.bundles handed))));
+        said = has.said ++ own;
+        cuts = said_more t.turns turn has.said own has.cuts says;
+        answers = then ∙ (ap (λ (xs : List (Result ℕ KeepFault)). xs ++ own) has.answers ∙ append_assoc before.answers has.said own);
         stands = stands;
         answered = has.answered;
       };
@@ -130,7 +149,7 @@ turn_on sites before t history n answer kept kept' core core' gathered gathered'
     }
 
 -- the talk has come so far; or it has stopped for want of memory
-abbrev pub TakesOr : {E : Type 0} → Result (Unit {0}) E → List SiteLine → List (ℕ × List ℕ) → Desk → Type 0
+abbrev pub TakesOr : {E : Type 0} → Result (Unit {0}) E → List SiteLine → Handed → Desk → Type 0
 TakesOr (Ok u) sites before new = HasCome sites before new
 TakesOr (Err e) sites before new = HasStopped stop.Memory sites before new
 
@@ -138,7 +157,7 @@ way : (t : Talk) (c : CoreState) (line : List ℕ) (handed : List Numbered) (d :
 way t c line handed d answer may (inl some) = inl some
 way t c line handed d answer may (inr asks) = inr (not_unreadable c line answer handed d asks may)
 
-pub take_on : {E : Type 0} (r : Result (Unit {0}) E) (sites : List SiteLine) (before : List (ℕ × List ℕ)) (t : Talk) (history : History) (n : ℕ) (kept kept' : List (ℕ × List ℕ)) (core core' : Parts)
+pub take_on : {E : Type 0} (r : Result (Unit {0}) E) (sites : List SiteLine) (before : Handed) (t : Talk) (history : History) (n : ℕ) (kept kept' : Handed) (core core' : Parts)
     (gathered gathered' held held' : List ℕ) → HasTalk sites before t (desk kept core history gathered held) → history.given ≡ asked_text t ++ held → told_text t ≡ history.written ++ gathered
     → IsLineOf held n → (t.turns ≢ []) ⊎ Asks (take n held) → TakesFront r n kept kept' core core' gathered gathered' held held'
     → TakesOr r sites before (desk kept' core' history gathered' held')
@@ -160,17 +179,21 @@ take_on (Err e) sites before t history n kept kept' core core' gathered gathered
       has = on.has;
       rest = drop (n + 1) held;
       asked = on.asked;
-      says = ([], inl refl, length history.written, front_of history.written (gathered ++ (answer_line (take n held) answer ++ 10 ∷ [])) ∙ ap (λ (ts : List ℕ). take (length history.written) (ts ++ [])) (sym all));
+      says = (
+        length history.written,
+        subst (λ (ts : List ℕ). length history.written < length ts) (sym all) (less_some history.written gathered (answer_line (take n held) answer)),
+        front_of history.written (gathered ++ (answer_line (take n held) answer ++ 10 ∷ [])) ∙ ap (λ (ts : List ℕ). take (length history.written) ts) (sym all),
+      );
     }
 
-pub taken_come : {E : Type 0} (r : Result (Unit {0}) E) (n : ℕ) (kept kept' : List (ℕ × List ℕ)) (core core' : Parts) (history : History) (gathered gathered' held held' : List ℕ)
-    → IsLineOf held n → TakesFront r n kept kept' core core' gathered gathered' held held' → (sites : List SiteLine) (before : List (ℕ × List ℕ))
+pub taken_come : {E : Type 0} (r : Result (Unit {0}) E) (n : ℕ) (kept kept' : Handed) (core core' : Parts) (history : History) (gathered gathered' held held' : List ℕ)
+    → IsLineOf held n → TakesFront r n kept kept' core core' gathered gathered' held held' → (sites : List SiteLine) (before : Handed)
     → HasCome sites before (desk kept core history gathered held) → TakesOr r sites before (desk kept' core' history gathered' held')
 taken_come r n kept kept' core core' history gathered gathered' held held' line takes sites before h =
     take_on r sites before h.talk history n kept kept' core core' gathered gathered' held held' h.has h.asked h.told line (inl h.begun) takes
 
-pub taken_first : {E : Type 0} (r : Result (Unit {0}) E) (n : ℕ) (kept kept' : List (ℕ × List ℕ)) (core core' : Parts) (history : History) (gathered gathered' held held' : List ℕ)
-    → IsLineOf held n → TakesFront r n kept kept' core core' gathered gathered' held held' → (sites : List SiteLine) (before : List (ℕ × List ℕ))
+pub taken_first : {E : Type 0} (r : Result (Unit {0}) E) (n : ℕ) (kept kept' : Handed) (core core' : Parts) (history : History) (gathered gathered' held held' : List ℕ)
+    → IsLineOf held n → TakesFront r n kept kept' core core' gathered gathered' held held' → (sites : List SiteLine) (before : Handed)
     → HasOpened sites before (desk kept core history gathered held) → Asks (take n held) → TakesOr r sites before (desk kept' core' history gathered' held')
 taken_first r n kept kept' core core' history gathered gathered' held held' line takes sites before h asks =
     take_on r sites before h.talk history n kept kept' core core' gathered gathered' held held' h.has h.asked h.told line (inr asks) takes
@@ -178,13 +201,16 @@ taken_first r n kept kept' core core' history gathered gathered' held held' line
 -- ---- answers are written
 
 -- all that a talk has of the pipe, where that has moved on with nothing given
-has_moved : (sites : List SiteLine) (before : List (ℕ × List ℕ)) (t : Talk) (kept : List (ℕ × List ℕ)) (core : Parts) (old new : History) (g g' held held' : List ℕ)
+has_moved : (sites : List SiteLine) (before : Handed) (t : Talk) (kept : Handed) (core : Parts) (old new : History) (g g' held held' : List ℕ)
     → new.waits ≡ old.waits → HasTalk sites before t (desk kept core old g held) → HasTalk sites before t (desk kept core new g' held')
 has_moved sites before t kept core old new g g' held held' same h = record {
   is = h.is;
   over = h.over;
   some = h.some;
   kept = h.kept;
+  said = h.said;
+  cuts = h.cuts;
+  answers = h.answers;
   stands = h.stands;
   answered = subst AreAnswered (sym same) h.answered;
 }
@@ -195,12 +221,12 @@ part_of written gathered tail m lt =
     ∙ (take-append-add written (gathered ++ tail) m ∙ ap (λ (ts : List ℕ). written ++ ts) (take-append-le m gathered tail (omega (arith, lt)))))
 
 -- so, or a front of the answers was written
-abbrev pub FlushesOr : {E : Type 0} → Result (Unit {0}) E → List SiteLine → List (ℕ × List ℕ) → Desk → Type 0
+abbrev pub FlushesOr : {E : Type 0} → Result (Unit {0}) E → List SiteLine → Handed → Desk → Type 0
 FlushesOr (Ok u) sites before new = HasCome sites before new
 FlushesOr (Err e) sites before new = HasStopped stop.WriteFault sites before new
 
-pub flushed_on : {E : Type 0} (r : Result (Unit {0}) E) (kept : List (ℕ × List ℕ)) (core : Parts) (old new : History) (g g' held : List ℕ) → Flushes r old g new g' → (sites : List SiteLine)
-    (before : List (ℕ × List ℕ)) → HasCome sites before (desk kept core old g held) → FlushesOr r sites before (desk kept core new g' held)
+pub flushed_on : {E : Type 0} (r : Result (Unit {0}) E) (kept : Handed) (core : Parts) (old new : History) (g g' held : List ℕ) → Flushes r old g new g' → (sites : List SiteLine)
+    (before : Handed) → HasCome sites before (desk kept core old g held) → FlushesOr r sites before (desk kept core new g' held)
 flushed_on (Ok u) kept core old new g g' held (wrote, given, waits) sites before h = record {
   talk = h.talk;
   has = has_moved sites before h.talk kept core old new g g' held held waits h.has;
@@ -213,7 +239,15 @@ flushed_on (Err e) kept core old new g g' held ((m, lt, wrote), given, waits) si
   has = has_moved sites before h.talk kept core old new g g' held held waits h.has;
   rest = held;
   asked = given ∙ h.asked;
-  says = ([], inl refl, length old.written + m, wrote ∙ (part_of old.written g [] m lt ∙ ap (λ (ts : List ℕ). take (length old.written + m) (ts ++ [])) (sym h.told)));
+  says = (
+    [],
+    inl refl,
+    (
+      length old.written + m,
+      subst (λ (ts : List ℕ). length old.written + m < length (ts ++ [])) (sym h.told) (less_part old.written g [] m lt),
+      wrote ∙ (part_of old.written g [] m lt ∙ ap (λ (ts : List ℕ). take (length old.written + m) (ts ++ [])) (sym h.told)),
+    ),
+  );
 }
 
 -- ---- the last line
@@ -225,9 +259,12 @@ part_tail : (written tail : List ℕ) (m : ℕ) → m < length tail → written 
 part_tail written tail m lt =
     sym (ap (λ (ts : List ℕ). take (length written + m) (ts ++ tail)) (append-nil written) ∙ take-append-add written tail m)
 
-pub said_last : (result stop' : Stop) (tail : List ℕ) (kept : List (ℕ × List ℕ)) (core : Parts) (old new : History) (held : List ℕ) → SaysLast result stop' tail old new
-    → ((t : Talk) → MayBehind t held tail) → ((t : Talk) (written : List ℕ) → WroteAll t tail written → SaysStop stop' t held written)
-    → (sites : List SiteLine) (before : List (ℕ × List ℕ)) → HasCome sites before (desk kept core old [] held) → HasStopped result sites before (desk kept core new [] held)
+less_tail : (written tail : List ℕ) (m : ℕ) → m < length tail → length written + m < length ((written ++ []) ++ tail)
+less_tail written tail m lt = grind (arith, common_steps)
+
+pub said_last : (result stop' : Stop) (tail : List ℕ) (kept : Handed) (core : Parts) (old new : History) (held : List ℕ) → SaysLast result stop' tail old new
+    → MayClose held tail → ((t : Talk) (written : List ℕ) → WroteAll t tail written → SaysStop stop' t held written)
+    → (sites : List SiteLine) (before : Handed) → HasCome sites before (desk kept core old [] held) → HasStopped result sites before (desk kept core new [] held)
 said_last result stop' tail kept core old new held (inl (same, wrote), given, waits) behind so sites before h =
     subst (λ r. HasStopped r sites before (desk kept core new [] held)) (sym same) (record {
       talk = h.talk;
@@ -242,11 +279,19 @@ said_last result stop' tail kept core old new held (inr (same, m, lt, wrote), gi
       has = has_moved sites before h.talk kept core old new [] [] held held waits h.has;
       rest = held;
       asked = given ∙ h.asked;
-      says = (tail, behind h.talk, length old.written + m, wrote ∙ (part_tail old.written tail m lt ∙ ap (λ (ts : List ℕ). take (length old.written + m) (ts ++ tail)) (sym h.told)));
+      says = (
+        tail,
+        behind,
+        (
+          length old.written + m,
+          subst (λ (ts : List ℕ). length old.written + m < length (ts ++ tail)) (sym h.told) (less_tail old.written tail m lt),
+          wrote ∙ (part_tail old.written tail m lt ∙ ap (λ (ts : List ℕ). take (length old.written + m) (ts ++ tail)) (sym h.told)),
+        ),
+      );
     })
 
 -- nothing is held: that is the end
-pub ended_here : (kept : List (ℕ × List ℕ)) (core : Parts) (history : History) (held : List ℕ) → held ≡ [] → (sites : List SiteLine) (before : List (ℕ × List ℕ))
+pub ended_here : (kept : Handed) (core : Parts) (history : History) (held : List ℕ) → held ≡ [] → (sites : List SiteLine) (before : Handed)
     → HasCome sites before (desk kept core history [] held) → HasStopped stop.Ended sites before (desk kept core history [] held)
 ended_here kept core history held none sites before h = record {
   talk = h.talk;
@@ -259,7 +304,7 @@ ended_here kept core history held none sites before h = record {
 -- ---- more is read
 
 -- all that was given is answered
-pub is_answered : (kept : List (ℕ × List ℕ)) (core : Parts) (history : History) (held : List ℕ) (sites : List SiteLine) (before : List (ℕ × List ℕ)) → IsPart held
+pub is_answered : (kept : Handed) (core : Parts) (history : History) (held : List ℕ) (sites : List SiteLine) (before : Handed) → IsPart held
     → HasCome sites before (desk kept core history [] held) → IsAnswered history.given history.written
 is_answered kept core history held sites before part h = record {
   talk = h.talk;
@@ -274,19 +319,22 @@ pub waited : (old new : History) → AreAnswered old.waits → IsAnswered old.gi
 waited old new all one (inl same) = subst AreAnswered (sym same) all
 waited old new all one (inr more) = subst AreAnswered (sym more) (All-push (λ (w : List ℕ × List ℕ). IsAnswered w.0 w.1) old.waits (old.given, old.written) all one)
 
-has_waited : (sites : List SiteLine) (before : List (ℕ × List ℕ)) (t : Talk) (kept : List (ℕ × List ℕ)) (core : Parts) (old new : History) (held held' : List ℕ)
+has_waited : (sites : List SiteLine) (before : Handed) (t : Talk) (kept : Handed) (core : Parts) (old new : History) (held held' : List ℕ)
     → AreAnswered new.waits → HasTalk sites before t (desk kept core old [] held) → HasTalk sites before t (desk kept core new [] held')
 has_waited sites before t kept core old new held held' all h = record {
   is = h.is;
   over = h.over;
   some = h.some;
   kept = h.kept;
+  said = h.said;
+  cuts = h.cuts;
+  answers = h.answers;
   stands = h.stands;
   answered = all;
 }
 
-pub filled : (kept : List (ℕ × List ℕ)) (core : Parts) (old new : History) (held held' bytes : List ℕ) → IsPart held → held' ≡ held ++ bytes → new.given ≡ old.given ++ bytes → new.written ≡ old.written
-    → (new.waits ≡ old.waits) ⊎ (new.waits ≡ old.waits ++ (old.given, old.written) ∷ []) → (sites : List SiteLine) (before : List (ℕ × List ℕ))
+pub filled : (kept : Handed) (core : Parts) (old new : History) (held held' bytes : List ℕ) → IsPart held → held' ≡ held ++ bytes → new.given ≡ old.given ++ bytes → new.written ≡ old.written
+    → (new.waits ≡ old.waits) ⊎ (new.waits ≡ old.waits ++ (old.given, old.written) ∷ []) → (sites : List SiteLine) (before : Handed)
     → HasCome sites before (desk kept core old [] held) → HasCome sites before (desk kept core new [] held')
 filled kept core old new held held' bytes part more given written waits sites before h = record {
   talk = h.talk;
@@ -296,8 +344,8 @@ filled kept core old new held held' bytes part more given written waits sites be
   told = h.told ∙ ap (λ (ts : List ℕ). ts ++ []) (sym written);
 }
 
-pub unread : (kept : List (ℕ × List ℕ)) (core : Parts) (old new : History) (held held' : List ℕ) → IsPart held → new.given ≡ old.given → new.written ≡ old.written
-    → (new.waits ≡ old.waits) ⊎ (new.waits ≡ old.waits ++ (old.given, old.written) ∷ []) → (sites : List SiteLine) (before : List (ℕ × List ℕ))
+pub unread : (kept : Handed) (core : Parts) (old new : History) (held held' : List ℕ) → IsPart held → new.given ≡ old.given → new.written ≡ old.written
+    → (new.waits ≡ old.waits) ⊎ (new.waits ≡ old.waits ++ (old.given, old.written) ∷ []) → (sites : List SiteLine) (before : Handed)
     → HasCome sites before (desk kept core old [] held) → HasStopped stop.ReadFault sites before (desk kept core new [] held')
 unread kept core old new held held' part given written waits sites before h = record {
   talk = h.talk;

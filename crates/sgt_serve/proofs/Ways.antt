@@ -17,16 +17,16 @@ pub leaves_then : {A : Type 0} (r : Result A ServeFail) (a b c : Option (List �
     → LeavesReader r b c g h m n reads → LeavesReader r a c f h k n reads
 leaves_then (Ok x) a b c f g h k m n reads p q = hears_then a b c f g h k m n p q
 leaves_then (Err fail.Memory) a b c f g h k m n reads p q = hears_then a b c f g h k m n p q
-leaves_then (Err fail.ReadFault) a b c f g h k m n reads p q = loses_then a b c f g h k m n reads p q
-leaves_then (Err fail.WriteFault) a b c f g h k m n reads p q = hears_then a b c f g h k m n p q
+leaves_then (Err (fail.ReadFault l)) a b c f g h k m n reads p q = loses_then a b c f g h k m n reads p q
+leaves_then (Err (fail.WriteFault l)) a b c f g h k m n reads p q = hears_then a b c f g h k m n p q
 leaves_then (Err fail.BundleFault) a b c f g h k m n reads p q = hears_then a b c f g h k m n p q
 
 -- the fault of one call is that of another
 pub leaves_err : (A B : Type 0) (e : ServeFail) (a b : Option (List ℕ)) (f g : List ℕ) (k m reads : ℕ) → LeavesReader {A = A} (Err e) a b f g k m reads
     → LeavesReader {A = B} (Err e) a b f g k m reads
 leaves_err A B fail.Memory a b f g k m reads p = p
-leaves_err A B fail.ReadFault a b f g k m reads p = p
-leaves_err A B fail.WriteFault a b f g k m reads p = p
+leaves_err A B (fail.ReadFault l) a b f g k m reads p = p
+leaves_err A B (fail.WriteFault l) a b f g k m reads p = p
 leaves_err A B fail.BundleFault a b f g k m reads p = p
 
 -- ---- a stop

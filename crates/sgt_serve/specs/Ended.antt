@@ -1,5 +1,6 @@
 -- How a talk ends: what came behind its lines and what is written for that, and its last bundle.
-use Rattle.std.specs.Prelude.{◌≡◌, ◌≢◌, ◌⊎◌, ℕ, ◌+◌, List, [], ◌∷◌, ◌++◌, length, map, take, codes, Option, None, Some, option_map, Result, Ok, Err, IsOk}
+use Rattle.std.specs.Prelude.{◌≡◌, ◌≢◌, ◌⊎◌, ◌<◌, ℕ, ◌+◌, List, [], ◌∷◌, ◌++◌, length, map, take, codes, Option, None, Some, option_map, Result, Ok, Err}
+use Rattle.std.specs.Io.KnownBytes.{IsAtEnd as NoneLeft}
 use Rattle.std.specs.List.{range_with_len}
 use Rattle.sgt_names.specs.Limits.{max_line}
 use Rattle.sgt_names.specs.declared.outcome.Outcome.{Outcome}
@@ -19,15 +20,26 @@ use Rattle.sgt_core.specs.Replay.{unreadable_text}
 use Rattle.sgt_pipe.specs.Fronts.{IsLineOf, IsPart}
 use Rattle.sgt_serve.specs.declared.fail.ServeFail.{ServeFail}
 use Rattle.sgt_serve.specs.declared.fail.ServeFail.TheVariants as fail
+use Rattle.sgt_serve.specs.declared.last.Last.{Last}
+use Rattle.sgt_serve.specs.declared.last.Last.TheVariants as last
+use Rattle.sgt_pipe.specs.declared.handed.Handed.{Handed}
+use Rattle.sgt_pipe.specs.declared.handed.KeepFault.{KeepFault}
+use Rattle.sgt_pipe.specs.declared.handed.KeepFault.TheVariants as keep
+use Rattle.sgt_serve.specs.Place.{PlaceSaid}
 use Rattle.sgt_courses.specs.Course.{Numbered, cut_line}
 use Rattle.sgt_serve.specs.Talk.{IsTalk, Talk, asked_text, handed_texts, told_text}
 
 -- ---- behind the lines
 
--- the end: nothing came behind the last line, or a part of one without its LF, whatever it holds
-abbrev pub IsAtEnd : (rest tail : List ℕ) → Type 0
-IsAtEnd rest tail = ((rest ≡ []) × (tail ≡ []))
+-- what is told of what stands behind the last line: nothing of nothing, and of a part of one without
+-- its LF, whatever it holds, that it can't be read
+abbrev pub IsRest : (rest tail : List ℕ) → Type 0
+IsRest rest tail = ((rest ≡ []) × (tail ≡ []))
     ⊎ ((rest ≢ []) × IsPart rest × (tail ≡ codes "! L1\n"))
+
+-- so at the end of the input, where nothing is left
+abbrev pub IsAtEnd : (left : Option (List ℕ)) → (rest tail : List ℕ) → Type 0
+IsAtEnd left rest tail = NoneLeft left × IsRest rest tail
 
 -- a line that is too long
 abbrev pub IsAtTooLong : (rest tail : List ℕ) → Type 0
@@ -40,46 +52,19 @@ pub record IsMisplaced (sites : List SiteLine) (line : List ℕ) : Type 0 where
   pub cut : sites ≢ [] → line ≢ cut_line
 
 -- why what comes in front of the first event or cut can't be read: a line that may not stand there;
--- a part of one, or no site's line at all; or a line that is too long
-abbrev pub IsUnreadable : List SiteLine → List ℕ → NotationFault → Type 0
-IsUnreadable sites rest NotALine =
+-- at the end a part of one, or no site's line at all; or a line that is too long
+abbrev pub IsUnreadable : List SiteLine → Option (List ℕ) → List ℕ → NotationFault → Type 0
+IsUnreadable sites left rest NotALine =
     ((n : ℕ) × IsLineOf rest n × IsMisplaced sites (take n rest))
-    ⊎ (IsPart rest × (rest ≡ [] → sites ≡ []))
-IsUnreadable sites rest TooLong = IsLongerThan max_line rest
-IsUnreadable sites rest Memory = ⊥
+    ⊎ (NoneLeft left × IsPart rest × (rest ≡ [] → sites ≡ []))
+IsUnreadable sites left rest TooLong = IsLongerThan max_line rest
+IsUnreadable sites left rest Memory = ⊥
 
 -- so, and it is told by the line's number
-abbrev pub IsAtUnreadable : Talk → (rest tail : List ℕ) → Type 0
-IsAtUnreadable t rest tail = (t.turns ≡ []) × (fault : NotationFault)
-    × IsUnreadable t.sites rest fault
+abbrev pub IsAtUnreadable : Talk → (left : Option (List ℕ)) → (rest tail : List ℕ) → Type 0
+IsAtUnreadable t left rest tail = (t.turns ≡ []) × (fault : NotationFault)
+    × IsUnreadable t.sites left rest fault
     × (tail ≡ unreadable_text (length t.sites + 1) fault)
-
--- what may be written behind the answers
-abbrev pub MayBehind : Talk → (rest tail : List ℕ) → Type 0
-MayBehind t rest tail = (tail ≡ []) ⊎ (IsAtEnd rest tail ⊎ (IsAtTooLong rest tail
-    ⊎ IsAtUnreadable t rest tail))
-
--- all answers were written, and this behind them
-abbrev pub WroteAll : Talk → (tail written : List ℕ) → Type 0
-WroteAll t tail written = written ≡ told_text t ++ tail
-
--- a front of them was written
-abbrev pub WroteFront : Talk → (rest written : List ℕ) → Type 0
-WroteFront t rest written = (tail : List ℕ) × MayBehind t rest tail
-    × (n : ℕ) × (written ≡ take n (told_text t ++ tail))
-
--- what a talk was answered that has this result
-abbrev pub SaysSo : Result Outcome ServeFail → Talk → (rest written : List ℕ) → Type 0
-SaysSo (Ok outcome.Yes) t rest written = (t.sites ≢ []) × (tail : List ℕ) × IsAtEnd rest tail
-    × WroteAll t tail written
-SaysSo (Ok outcome.Unreadable) t rest written = (tail : List ℕ)
-    × (IsAtTooLong rest tail ⊎ IsAtUnreadable t rest tail) × WroteAll t tail written
-SaysSo (Ok outcome.No) t rest written = ⊥
-SaysSo (Err fail.ReadFault) t rest written = IsPart rest × WroteAll t [] written
-SaysSo (Err fail.BundleFault) t rest written = (tail : List ℕ)
-    × (IsAtEnd rest tail ⊎ IsAtTooLong rest tail) × WroteAll t tail written
-SaysSo (Err fail.WriteFault) t rest written = WroteFront t rest written
-SaysSo (Err fail.Memory) t rest written = WroteFront t rest written
 
 -- ---- the last bundle
 
@@ -108,16 +93,72 @@ EndsWith c last = ((c.certifier.begun ≡ 0) × (last ≡ []))
     ⊎ ((d : CoreState) × Closes c d × (d.certifier.active ≡ []) × (number : ℕ)
     × (last ≡ record { number = number; bundle = bundle_of d } ∷ []))
 
+-- how the last bundle fared, and what the place answered: it is kept, if there is one; or there was no
+-- memory for it, here or at the place; or the place refused it
+abbrev pub EndsSo : Last → CoreState → List Numbered → List (Result ℕ KeepFault) → Type 0
+EndsSo last.Done c bundles said = EndsWith c bundles
+    × (said ≡ map (λ (n : Numbered). Ok n.number) bundles)
+EndsSo last.Memory c bundles said = (c.certifier.begun ≢ 0) × (bundles ≡ [])
+    × ((said ≡ []) ⊎ (said ≡ Err keep.Memory ∷ []))
+EndsSo last.Unwritten c bundles said = (c.certifier.begun ≢ 0) × (bundles ≡ [])
+    × (said ≡ Err keep.Refused ∷ [])
+
+-- what may be written behind the answers
+abbrev pub MayClose : (rest tail : List ℕ) → Type 0
+MayClose rest tail = (tail ≡ []) ⊎ (IsRest rest tail ⊎ IsAtTooLong rest tail)
+
+abbrev pub MayBehind : Talk → (left : Option (List ℕ)) → (rest tail : List ℕ) → Type 0
+MayBehind t left rest tail = MayClose rest tail ⊎ IsAtUnreadable t left rest tail
+
+-- all answers were written, and this behind them
+abbrev pub WroteAll : Talk → (tail written : List ℕ) → Type 0
+WroteAll t tail written = written ≡ told_text t ++ tail
+
+-- less than this was written
+abbrev pub WroteLess : (all written : List ℕ) → Type 0
+WroteLess all written = (n : ℕ) × (n < length all) × (written ≡ take n all)
+
+-- all answers were written up to the end, or to a line that is too long
+abbrev pub SaysAll : Talk → (left : Option (List ℕ)) → (rest written : List ℕ) → Type 0
+SaysAll t left rest written = (tail : List ℕ) × (IsAtEnd left rest tail ⊎ IsAtTooLong rest tail)
+    × WroteAll t tail written
+
+-- what a talk was answered that has this result, where its last bundle fared so
+abbrev pub SaysSo : Result Outcome ServeFail → Last → Talk → (left : Option (List ℕ)) → (rest written : List ℕ) → Type 0
+SaysSo (Ok outcome.Yes) fared t left rest written = (fared ≡ last.Done) × (t.sites ≢ [])
+    × (tail : List ℕ) × IsAtEnd left rest tail × WroteAll t tail written
+SaysSo (Ok outcome.Unreadable) fared t left rest written = (fared ≡ last.Done)
+    × (tail : List ℕ) × (IsAtTooLong rest tail ⊎ IsAtUnreadable t left rest tail)
+    × WroteAll t tail written
+SaysSo (Ok outcome.No) fared t left rest written = ⊥
+SaysSo (Err (fail.ReadFault l)) fared t left rest written = (l ≡ fared) × IsPart rest
+    × WroteAll t [] written
+SaysSo (Err (fail.WriteFault l)) fared t left rest written = (l ≡ fared) × (tail : List ℕ)
+    × MayBehind t left rest tail × WroteLess (told_text t ++ tail) written
+SaysSo (Err fail.BundleFault) fared t left rest written = (fared ≡ last.Unwritten)
+    × SaysAll t left rest written
+-- there was no memory for the last bundle, for an answer, or to begin with
+SaysSo (Err fail.Memory) fared t left rest written =
+    ((fared ≡ last.Memory) × SaysAll t left rest written)
+    ⊎ (WroteLess (told_text t) written ⊎ ((t.turns ≡ []) × (written ≡ [])))
+
 -- ---- a whole talk
 
 -- what was given, written and handed out, beside what was handed out before, where this is the result
-pub record Served (result : Result Outcome ServeFail) (given written : List ℕ) (before after : List (ℕ × List ℕ)) : Type 0 where
+-- and the reader tells that so much is left
+pub record Served (result : Result Outcome ServeFail) (left : Option (List ℕ)) (given written : List ℕ) (before after : Handed) : Type 0 where
   pub talk : Talk
   pub is : IsTalk talk
   pub rest : List ℕ
   pub asked : given ≡ asked_text talk ++ rest
-  pub says : SaysSo result talk rest written
+  pub fared : Last
+  pub says : SaysSo result fared talk left rest written
+  -- the bundles of the cuts, and the last one
   pub last : List Numbered
-  pub handed : after ≡ before ++ handed_texts (talk.bundles ++ last)
-  -- where the last bundle isn't handed out, that is no Ok
-  pub ends : EndsWith talk.last last ⊎ ((last ≡ []) × (IsOk result → ⊥))
+  pub handed : after.items ≡ before.items ++ handed_texts (talk.bundles ++ last)
+  -- what the place answered over the talk, and at its end
+  pub said : List (Result ℕ KeepFault)
+  pub cuts : PlaceSaid talk.turns said
+  pub said_last : List (Result ℕ KeepFault)
+  pub answers : after.answers ≡ before.answers ++ (said ++ said_last)
+  pub ends : EndsSo fared talk.last last said_last

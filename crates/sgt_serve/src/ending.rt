@@ -1,6 +1,6 @@
 //! The end of a talk: the open step is installed, what is active is withdrawn, and the last bundle is handed out.
 
-ghost use Rattle.std.specs.Prelude.{◌≡◌, ◌≢◌, ◌<◌, ◌≤◌, List, length, map};
+ghost use Rattle.std.specs.Prelude.{◌≡◌, ◌≤◌, List, length, map};
 ghost use Rattle.sgt_names.specs.Limits.{max_sites};
 ghost use Rattle.std.specs.List.{range_with_len};
 ghost use Rattle.sgt_notation.specs.declared.event.Event.TheVariants.{Install as AnInstall, Withdraw as AWithdraw};
@@ -9,7 +9,7 @@ ghost use Rattle.sgt_core_model.specs.Step.{Run};
 ghost use Rattle.sgt_core_model.specs.declared.reply.Reply.{Reply as AReply};
 ghost use Rattle.sgt_core_machine.specs.Machine.{GoesOn, StandsFor};
 ghost use Rattle.sgt_serve.specs.Ended.{installs_of, open_tx};
-ghost use Rattle.sgt_serve.specs.private.Closing.{ClosesSo, HandsOut};
+ghost use Rattle.sgt_serve.specs.private.Closing.{ClosesSo, HandsOut, lost_by};
 
 use crate::bundles::Bundles;
 use crate::last::Last;
@@ -17,6 +17,7 @@ use sgt_core_machine::Core;
 use sgt_core_model::CoreFault;
 use sgt_names::{SiteNo, Tx};
 use sgt_notation::Event;
+use sgt_pipe::KeepFault;
 use std::alloc::Global;
 
 /// Installs the open step at each site, where it lacks.
@@ -57,12 +58,20 @@ fn withdraw_active(core: &mut Core, begun: u32)
     }
 }
 
+/// What becomes of a bundle that isn't kept.
+fn lost(fault: KeepFault) -> Last
+    ensures { result ≡ lost_by fault }
+{
+    match fault {
+        KeepFault::Memory => Last::Memory,
+        KeepFault::Refused => Last::Unwritten,
+    }
+}
+
 /// Hands out the bundle of a core that is given up.
 fn hand_out<B: Bundles>(alloc: Global, core: Core, bundles: &mut B) -> Last
-    ensures hands { (c : CoreState) → StandsFor core c
+    ensures { (c : CoreState) → StandsFor core c
         → HandsOut result c (B.handed bundles.old) (B.handed bundles.new) }
-    ensures refused { result ≡ Last.Unwritten → B.refusals bundles.old < B.refusals bundles.new }
-    ensures quiet { result ≢ Last.Unwritten → B.refusals bundles.new ≡ B.refusals bundles.old }
 {
     let Ok(bundle) = core.into_bundle(alloc) else {
         return Last::Memory;
@@ -72,16 +81,14 @@ fn hand_out<B: Bundles>(alloc: Global, core: Core, bundles: &mut B) -> Last
     };
     match bundles.keep(text.as_slice()) {
         Ok(_) => Last::Done,
-        Err(_) => Last::Unwritten,
+        Err(fault) => lost(fault),
     }
 }
 
 /// Ends a talk whose core is this one.
 pub(crate) fn close<B: Bundles>(alloc: Global, mut core: Core, bundles: &mut B) -> Last
-    ensures closes { (c : CoreState) → StandsFor core c
+    ensures { (c : CoreState) → StandsFor core c
         → ClosesSo result c (B.handed bundles.old) (B.handed bundles.new) }
-    ensures refused { result ≡ Last.Unwritten → B.refusals bundles.old < B.refusals bundles.new }
-    ensures quiet { result ≢ Last.Unwritten → B.refusals bundles.new ≡ B.refusals bundles.old }
 {
     let begun = core.begun();
     if begun == 0 {

@@ -1,6 +1,6 @@
 //! A whole talk.
 
-ghost use Rattle.std.specs.Prelude.{◌≡◌, ◌<◌, ◌+◌, [], ℕ, Ok, Err};
+ghost use Rattle.std.specs.Prelude.{◌≡◌, ◌+◌, [], ℕ, Ok};
 ghost use Rattle.std.specs.Io.KnownBytes.{IsAtEnd as NoneLeft};
 ghost use Rattle.sgt_pipe.specs.Acts.{all_reads};
 ghost use Rattle.sgt_pipe.specs.Fronts.{IsLineOf};
@@ -41,8 +41,8 @@ fn ended(stop: Stop, last: Last) -> Result<Outcome, ServeFail>
     match stop {
         Stop::Ended => closed(Outcome::Yes, last),
         Stop::TooLong => closed(Outcome::Unreadable, last),
-        Stop::ReadFault => Err(ServeFail::ReadFault),
-        Stop::WriteFault => Err(ServeFail::WriteFault),
+        Stop::ReadFault => Err(ServeFail::ReadFault(last)),
+        Stop::WriteFault => Err(ServeFail::WriteFault(last)),
         Stop::Memory => Err(ServeFail::Memory),
     }
 }
@@ -56,7 +56,7 @@ fn serve_talk<R: Source, W: Sink, B: Bundles>(
     n: usize,
 ) -> Result<Outcome, ServeFail>
     requires { IsLineOf inbox.old.held n }
-    ensures serves { ServesFrom result n
+    ensures serves { ServesFrom result n (R.tells pipe.new.reader)
         (desk (B.handed bundles.old) server.core pipe.old.history server.answers.items inbox.old.held)
         pipe.new.history (B.handed bundles.new) }
     ensures hears { LeavesReader result (R.tells pipe.old.reader) (R.tells pipe.new.reader)
@@ -69,8 +69,6 @@ fn serve_talk<R: Source, W: Sink, B: Bundles>(
     ensures ends { result ≡ Ok Outcome.Yes → NoneLeft (R.tells pipe.new.reader) }
     ensures asks { R.asked pipe.new.reader + inbox.new.reads
         ≡ R.asked pipe.old.reader + inbox.old.reads }
-    ensures refused { result ≡ Err ServeFail.BundleFault
-        → B.refusals bundles.old < B.refusals bundles.new }
 {
     let stop = talk(pipe, inbox, &mut server, bundles, n);
     let Server { alloc, core, .. } = server;
@@ -94,7 +92,7 @@ fn tell_unreadable<R: Source, W: Sink>(
     let text = unreadable_line(alloc, line, fault)?;
     match pipe.write_all(text.as_slice()) {
         Ok(()) => Ok(Outcome::Unreadable),
-        Err(_) => Err(ServeFail::WriteFault),
+        Err(_) => Err(ServeFail::WriteFault(Last::Done)),
     }
 }
 
@@ -109,9 +107,9 @@ fn tell_unreadable<R: Source, W: Sink>(
 /// All that was given is answered before the reader is asked for more; lines that came by one read may share a write.
 ///
 /// Yes at the end of the input; Unreadable where a line was too long, or one in front can't be read. An Err beats both: ReadFault
-/// where the reader failed, or 2^64 - 1 reads were made, and WriteFault where the writer failed, and then the talk is ended as ever;
-/// BundleFault where the last bundle isn't kept; Memory where there is no memory to begin with, or for the last bundle or a
-/// withdrawal before it.
+/// where the reader failed, or 2^64 - 1 reads were made, and WriteFault where the writer failed, and then the talk is ended as ever,
+/// which the fault tells of; BundleFault where the place refused the last bundle; Memory where there is no memory to begin with, for
+/// an answer, or for the last bundle.
 pub fn serve<R: Source, W: Sink, B: Bundles>(
     alloc: Global,
     pipe: &mut Pipe<R, W>,
@@ -121,8 +119,8 @@ pub fn serve<R: Source, W: Sink, B: Bundles>(
     requires written { pipe.old.history.written ≡ [] }
     requires waits { pipe.old.history.waits ≡ [] }
     // what was given, written and kept are those of a course
-    ensures served { Served result pipe.new.history.given pipe.new.history.written
-        (B.handed bundles.old) (B.handed bundles.new) }
+    ensures served { Served result (R.tells pipe.new.reader) pipe.new.history.given
+        pipe.new.history.written (B.handed bundles.old) (B.handed bundles.new) }
     // at each read: all that was given before it is answered
     ensures flushed { AreAnswered pipe.new.history.waits }
 
@@ -135,8 +133,6 @@ pub fn serve<R: Source, W: Sink, B: Bundles>(
         pipe.old.history.written
         pipe.new.history.written (W.failures pipe.old.writer) (W.failures pipe.new.writer) }
     ensures ends { result ≡ Ok Outcome.Yes → NoneLeft (R.tells pipe.new.reader) }
-    ensures refused { result ≡ Err ServeFail.BundleFault
-        → B.refusals bundles.old < B.refusals bundles.new }
 {
     let Ok(mut inbox) = Inbox::new(alloc) else {
         return Err(ServeFail::Memory);

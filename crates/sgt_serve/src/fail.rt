@@ -3,6 +3,7 @@
 ghost use Rattle.std.specs.Prelude.{◌≡◌};
 ghost use Rattle.sgt_serve.specs.declared.fail.ServeFail.TheVariants.{Memory};
 
+use crate::last::Last;
 use std::alloc::AllocError;
 use thiserror::Error;
 
@@ -12,13 +13,13 @@ pub enum ServeFail {
     /// A growth was refused.
     #[error("memory")]
     Memory,
-    /// The reader failed, or met the greatest number of reads.
+    /// The reader failed, or met the greatest number of reads; and what became of the last bundle.
     #[error("read fault")]
-    ReadFault,
-    /// The writer failed.
+    ReadFault(Last),
+    /// The writer failed; and what became of the last bundle.
     #[error("write fault")]
-    WriteFault,
-    /// The last bundle could not be written.
+    WriteFault(Last),
+    /// The place refused the last bundle.
     #[error("bundle fault")]
     BundleFault,
 }

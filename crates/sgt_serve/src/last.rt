@@ -1,7 +1,7 @@
 //! What became of the last bundle.
 
 /// What became of the last bundle.
-#[derive(Clone, Copy)]
+#[derive(Clone, Copy, Debug, PartialEq, Eq)]
 pub enum Last {
     /// It is kept, or nothing was begun that it would tell of.
     Done,

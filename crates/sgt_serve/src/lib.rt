@@ -18,6 +18,7 @@ mod writing;
 pub use bundles::Bundles;
 pub use engine::serve;
 pub use fail::ServeFail;
+pub use last::Last;
 pub use places::{MemBundles, NoBundles};
 pub use sgt_courses::{Answer, CutFault, courses_are_chains, courses_are_runs, fronts_are_courses};
-pub use sgt_pipe::{Handed, HandedBundle, Pipe};
+pub use sgt_pipe::{Handed, HandedBundle, KeepFault, Pipe};

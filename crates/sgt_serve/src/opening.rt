@@ -14,6 +14,7 @@ ghost use Rattle.sgt_serve.specs.Talk.{starting};
 ghost use Rattle.sgt_serve.specs.private.Opening.{Asks, HasSites, OpensOn, OpensSo, ReadsFront, TakesNext};
 
 use crate::fail::ServeFail;
+use crate::last::Last;
 use crate::talking::Server;
 use crate::turning::asks_cut;
 use sgt_core_machine::Core;
@@ -73,8 +74,8 @@ fn read_on<R: Source, W: Sink>(
     any: bool,
 ) -> Result<Option<Opened>, ServeFail>
     requires { IsPart inbox.old.held }
-    ensures reads { ReadsFront result any inbox.old.held inbox.new.held pipe.old.history
-        pipe.new.history }
+    ensures reads { ReadsFront result any (R.tells pipe.new.reader) inbox.old.held inbox.new.held
+        pipe.old.history pipe.new.history }
     ensures hears { LeavesReader result (R.tells pipe.old.reader) (R.tells pipe.new.reader)
         pipe.old.history.given
         pipe.new.history.given (R.failures pipe.old.reader) (R.failures pipe.new.reader)
@@ -90,7 +91,7 @@ fn read_on<R: Source, W: Sink>(
         Ok(0) if any && inbox.held().is_empty() => Ok(Some(Opened::Ended)),
         Ok(0) => Ok(Some(Opened::Unreadable(NotationFault::NotALine))),
         Ok(_) => Ok(None),
-        Err(_) => Err(ServeFail::ReadFault),
+        Err(_) => Err(ServeFail::ReadFault(Last::Done)),
     }
 }
 
@@ -102,7 +103,7 @@ fn go_on<R: Source, W: Sink>(
     sites: &mut Vec<SiteLine>,
 ) -> Result<Option<Opened>, ServeFail>
     requires has { HasSites sites.old.items pipe.old.history inbox.old.held }
-    ensures opens { OpensOn result sites.new.items pipe.new.history inbox.new.held }
+    ensures opens { OpensOn result (R.tells pipe.new.reader) sites.new.items pipe.new.history inbox.new.held }
     ensures hears { LeavesReader result (R.tells pipe.old.reader) (R.tells pipe.new.reader)
         pipe.old.history.given
         pipe.new.history.given (R.failures pipe.old.reader) (R.failures pipe.new.reader)
@@ -130,7 +131,7 @@ pub(crate) fn read_sites<R: Source, W: Sink>(
     sites: &mut Vec<SiteLine>,
 ) -> Result<Opened, ServeFail>
     requires has { HasSites sites.old.items pipe.old.history inbox.old.held }
-    ensures opens { OpensSo result sites.new.items pipe.new.history inbox.new.held }
+    ensures opens { OpensSo result (R.tells pipe.new.reader) sites.new.items pipe.new.history inbox.new.held }
     ensures hears { LeavesReader result (R.tells pipe.old.reader) (R.tells pipe.new.reader)
         pipe.old.history.given
         pipe.new.history.given (R.failures pipe.old.reader) (R.failures pipe.new.reader)

@@ -3,32 +3,29 @@
 ghost use Rattle.std.specs.Prelude.{◌≡◌, []};
 
 use crate::bundles::Bundles;
-use sgt_names::{Asks, Failed};
-use sgt_pipe::{Handed, HandedBundle};
-use std::alloc::{AllocError, Global};
+use sgt_pipe::{Handed, HandedBundle, KeepFault};
+use std::alloc::Global;
 
-/// Bundles in memory, numbered from 1. It refuses where there is no memory, and, if it is told so, at one of its calls.
+/// Bundles in memory, numbered from 1. It refuses one, if it is told so, at one of its calls.
 #[derive(Drop)]
 pub struct MemBundles {
     alloc: Global,
     texts: Vec<Vec<u8>>,
     calls: u64,
     refuse_at: u64,
-    refused: Asks,
     handed: Handed,
 }
 
 impl MemBundles {
     /// No bundle. The call of number `refuse_at`, counted from 1, is refused; 0 is none.
     pub fn new(alloc: Global, refuse_at: u64) -> MemBundles
-        ensures { result.handed.items ≡ [] }
+        ensures { (result.handed.items ≡ []) × (result.handed.answers ≡ []) }
     {
         MemBundles {
             alloc,
             texts: Vec::new(alloc),
             calls: 0,
             refuse_at,
-            refused: Asks::none(),
             handed: Handed::new(),
         }
     }
@@ -41,36 +38,30 @@ impl MemBundles {
     }
 
     // Keeps a copy of the text, if it may, and tells how many there are then.
-    fn copy(&mut self, text: &[u8]) -> Result<u64, AllocError>
-        ensures handed { self.new.handed ≡ self.old.handed }
-        ensures refused { self.new.refused ≡ self.old.refused }
+    fn copy(&mut self, text: &[u8]) -> Result<u64, KeepFault>
+        ensures { self.new.handed ≡ self.old.handed }
     {
         self.calls = self.calls.saturating_add(1);
         if self.calls == self.refuse_at {
-            return Err(AllocError);
+            return Err(KeepFault::Refused);
         }
-        let kept = Vec::from_slice(self.alloc, text)?;
-        self.texts.push(kept)?;
-        Ok(self.texts.len() as u64)
+        let Ok(kept) = Vec::from_slice(self.alloc, text) else {
+            return Err(KeepFault::Memory);
+        };
+        match self.texts.push(kept) {
+            Ok(()) => Ok(self.texts.len() as u64),
+            Err(_) => Err(KeepFault::Memory),
+        }
     }
 }
 
 impl Bundles for MemBundles {
-    ghost handed = { λ b. b.handed.items };
+    ghost handed = { λ b. b.handed };
 
-    ghost refusals = { λ b. b.refused.count };
-
-    fn keep(&mut self, text: &[u8]) -> Result<u64, Failed> {
-        match self.copy(text) {
-            Ok(number) => {
-                self.handed = self.handed.with(&HandedBundle { number, text });
-                Ok(number)
-            }
-            Err(_) => {
-                self.refused = self.refused.one_more();
-                Err(Failed)
-            }
-        }
+    fn keep(&mut self, text: &[u8]) -> Result<u64, KeepFault> {
+        let answer = self.copy(text);
+        self.handed = self.handed.with(&HandedBundle { text, answer });
+        answer
     }
 }
 
@@ -78,36 +69,31 @@ impl Bundles for MemBundles {
 #[derive(Drop)]
 pub struct NoBundles {
     count: u64,
-    refused: Asks,
     handed: Handed,
 }
 
 impl NoBundles {
     /// No bundle so far.
     pub fn new() -> NoBundles
-        ensures { result.handed.items ≡ [] }
+        ensures { (result.handed.items ≡ []) × (result.handed.answers ≡ []) }
     {
         NoBundles {
             count: 0,
-            refused: Asks::none(),
             handed: Handed::new(),
         }
     }
 }
 
 impl Bundles for NoBundles {
-    ghost handed = { λ b. b.handed.items };
+    ghost handed = { λ b. b.handed };
 
-    ghost refusals = { λ b. b.refused.count };
-
-    fn keep(&mut self, text: &[u8]) -> Result<u64, Failed> {
-        if self.count == u64::MAX {
-            self.refused = self.refused.one_more();
-            return Err(Failed);
-        }
-        let number = self.count + 1;
-        self.count = number;
-        self.handed = self.handed.with(&HandedBundle { number, text });
-        Ok(number)
+    fn keep(&mut self, text: &[u8]) -> Result<u64, KeepFault> {
+        let answer = match self.count.checked_add(1) {
+            Some(number) => Ok(number),
+            None => Err(KeepFault::Refused),
+        };
+        self.count = self.count.saturating_add(1);
+        self.handed = self.handed.with(&HandedBundle { text, answer });
+        answer
     }
 }

@@ -1,12 +1,13 @@
 //! The talk behind the sites.
 
-ghost use Rattle.std.specs.Prelude.{◌≡◌, ◌≢◌, ◌≤◌, ◌+◌, ◌*◌, ◌++◌, ◌∷◌, [], ℕ, List, None, Some, take, drop, length, IfOk, OnOk, OnErr, if◌then◌else◌};
+ghost use Rattle.std.specs.Prelude.{◌≡◌, ◌≢◌, ◌≤◌, ◌+◌, ◌*◌, ◌++◌, ◌∷◌, [], None, Some, take, drop, length, IfOk, OnOk, OnErr, if◌then◌else◌};
 ghost use Rattle.std.specs.Io.KnownBytes.{IsAtEnd as NoneLeft};
 ghost use Rattle.sgt_names.specs.Limits.{max_line, buffer_size};
 ghost use Rattle.sgt_notation.specs.Lines.{IsLongerThan};
 ghost use Rattle.sgt_core_machine.specs.Machine.{Parts};
 ghost use Rattle.sgt_pipe.specs.Ends.{LosesWriter, Speaks};
 ghost use Rattle.sgt_pipe.specs.Fronts.{IsLineOf, IsPart};
+ghost use Rattle.sgt_pipe.specs.declared.handed.Handed.{Handed};
 ghost use Rattle.sgt_serve.specs.private.Devices.{HearsOr, HearsSo, SpeaksOr, SpeaksSo};
 ghost use Rattle.sgt_serve.specs.private.Talking.{Flushes, OpensTo, SaysLast, Stops, StopsOr, TakesFront, desk};
 
@@ -59,7 +60,6 @@ impl Server {
             self.new.answers.items inbox.old.held inbox.new.held }
         ensures reads { inbox.new.reads ≡ inbox.old.reads }
         ensures falls { OnOk result (length inbox.new.held + 1 ≤ length inbox.old.held) }
-        ensures counts { B.refusals bundles.old ≤ B.refusals bundles.new }
     {
         let line = &inbox.held()[..n];
         let answer = answer(self.alloc, &mut self.core, bundles, line);
@@ -131,7 +131,7 @@ fn say<R: Source, W: Sink>(pipe: &mut Pipe<R, W>, line: &[u8], stop: Stop) -> St
 /// Stops where a line is too long.
 fn stop_long<R: Source, W: Sink>(pipe: &mut Pipe<R, W>, answers: &mut Vec<u8>, rest: &[u8]) -> Stop
     requires { IsLongerThan max_line rest.now }
-    ensures stops { (kept : List (ℕ × List ℕ)) (core : Parts)
+    ensures stops { (kept : Handed) (core : Parts)
         → Stops result (desk kept core pipe.old.history answers.old.items rest.now)
         (desk kept core pipe.new.history answers.new.items rest.now) }
     ensures speaks { SpeaksSo result (W.holds pipe.old.writer) (W.holds pipe.new.writer)
@@ -150,7 +150,7 @@ fn stop_long<R: Source, W: Sink>(pipe: &mut Pipe<R, W>, answers: &mut Vec<u8>, r
 /// Stops at the end of the input, where all answers are written and this is held.
 fn stop_at_end<R: Source, W: Sink>(pipe: &mut Pipe<R, W>, rest: &[u8]) -> Stop
     requires { IsPart rest.now }
-    ensures stops { (kept : List (ℕ × List ℕ)) (core : Parts)
+    ensures stops { (kept : Handed) (core : Parts)
         → Stops result (desk kept core pipe.old.history [] rest.now)
         (desk kept core pipe.new.history [] rest.now) }
     ensures speaks { SpeaksSo result (W.holds pipe.old.writer) (W.holds pipe.new.writer)
@@ -169,7 +169,7 @@ fn stop_at_end<R: Source, W: Sink>(pipe: &mut Pipe<R, W>, rest: &[u8]) -> Stop
 /// Reads on, where all answers are written. None: there is more to answer.
 fn fill_on<R: Source, W: Sink>(pipe: &mut Pipe<R, W>, inbox: &mut Inbox) -> Option<Stop>
     requires { IsPart inbox.old.held }
-    ensures stops { (kept : List (ℕ × List ℕ)) (core : Parts)
+    ensures stops { (kept : Handed) (core : Parts)
         → StopsOr result (desk kept core pipe.old.history [] inbox.old.held)
         (desk kept core pipe.new.history [] inbox.new.held) }
     ensures hears { HearsOr result (R.tells pipe.old.reader) (R.tells pipe.new.reader)
@@ -199,7 +199,7 @@ fn read_on<R: Source, W: Sink>(
     answers: &mut Vec<u8>,
 ) -> Option<Stop>
     requires { IsPart inbox.old.held }
-    ensures stops { (kept : List (ℕ × List ℕ)) (core : Parts)
+    ensures stops { (kept : Handed) (core : Parts)
         → StopsOr result (desk kept core pipe.old.history answers.old.items inbox.old.held)
         (desk kept core pipe.new.history answers.new.items inbox.new.held) }
     ensures hears { HearsOr result (R.tells pipe.old.reader) (R.tells pipe.new.reader)
@@ -243,7 +243,6 @@ fn take_line<R: Source, W: Sink, B: Bundles>(
     ensures given { pipe.new.history.given ≡ pipe.old.history.given }
     ensures reads { inbox.new.reads ≡ inbox.old.reads }
     ensures falls { result ≡ None → length inbox.new.held + 1 ≤ length inbox.old.held }
-    ensures counts { B.refusals bundles.old ≤ B.refusals bundles.new }
 {
     match flush_many(pipe, &mut server.answers) {
         Ok(()) => match server.take(inbox, bundles, n) {
@@ -278,7 +277,6 @@ fn go_on<R: Source, W: Sink, B: Bundles>(
         ≡ R.asked pipe.old.reader + inbox.old.reads }
     ensures falls { result ≡ None → length inbox.new.held + inbox.new.reads * (buffer_size + 1) + 1
         ≤ length inbox.old.held + inbox.old.reads * (buffer_size + 1) }
-    ensures counts { B.refusals bundles.old ≤ B.refusals bundles.new }
 {
     match inbox.front() {
         Front::Line(n) => take_line(pipe, inbox, server, bundles, n),
@@ -309,7 +307,6 @@ fn talk_on<R: Source, W: Sink, B: Bundles>(
     ensures ends { result ≡ Stop.Ended → NoneLeft (R.tells pipe.new.reader) }
     ensures asks { R.asked pipe.new.reader + inbox.new.reads
         ≡ R.asked pipe.old.reader + inbox.old.reads }
-    ensures counts { B.refusals bundles.old ≤ B.refusals bundles.new }
 {
     'lines: loop {
         if let Some(stop) = go_on(pipe, inbox, server, bundles) {
@@ -343,7 +340,6 @@ pub(crate) fn talk<R: Source, W: Sink, B: Bundles>(
     ensures ends { result ≡ Stop.Ended → NoneLeft (R.tells pipe.new.reader) }
     ensures asks { R.asked pipe.new.reader + inbox.new.reads
         ≡ R.asked pipe.old.reader + inbox.old.reads }
-    ensures counts { B.refusals bundles.old ≤ B.refusals bundles.new }
 {
     match server.take(inbox, bundles, n) {
         Ok(()) => talk_on(pipe, inbox, server, bundles),

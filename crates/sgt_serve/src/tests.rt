@@ -1,6 +1,8 @@
 //! A talk in memory.
 
-use crate::{Bundles, MemBundles, NoBundles, Pipe, ServeFail, serve};
+use crate::{
+    Bundles, Handed, HandedBundle, KeepFault, Last, MemBundles, NoBundles, Pipe, ServeFail, serve,
+};
 use sgt_names::{MemSink, MemSource, Outcome};
 use std::test::Fail;
 
@@ -35,7 +37,7 @@ fn a_read_that_fails_leaves_the_last_bundle(rt: HostRuntime) -> Result<(), Fail>
     let mut pipe = Pipe::new(source, MemSink::new(alloc, 200)?);
     let mut bundles = MemBundles::new(alloc, 1);
     let is_fault = match serve(alloc, &mut pipe, &mut bundles) {
-        Err(ServeFail::ReadFault) => true,
+        Err(ServeFail::ReadFault(Last::Done)) => true,
         _ => false,
     };
     assert!(rt; is_fault);
@@ -47,6 +49,56 @@ fn a_read_that_fails_leaves_the_last_bundle(rt: HostRuntime) -> Result<(), Fail>
     assert!(rt; texts.len() == 1);
     let first = texts[0].as_slice();
     assert!(rt; first == last.as_slice());
+    Ok(())
+}
+
+// A place that has no memory for so many bundles, and keeps what comes then.
+#[derive(Drop)]
+struct Forgetful {
+    lacks: u64,
+    handed: Handed,
+}
+
+impl Bundles for Forgetful {
+    ghost handed = { λ b. b.handed };
+
+    fn keep(&mut self, text: &[u8]) -> Result<u64, KeepFault> {
+        let answer = if self.lacks == 0 {
+            Ok(1)
+        } else {
+            Err(KeepFault::Memory)
+        };
+        self.lacks = self.lacks.saturating_sub(1);
+        self.handed = self.handed.with(&HandedBundle { text, answer });
+        answer
+    }
+}
+
+// A place without memory: the cut is refused for that, nothing is lost, and it may be asked for again; at the end it is want of memory.
+#[test]
+fn a_place_without_memory_is_told_as_such(rt: HostRuntime) -> Result<(), Fail> {
+    let alloc = rt.alloc();
+    let input = b"site 0 x=5\nb\nw1[0.x]=6\nc1\nx\nx\nb\nr1[0.x]\na1\n";
+    let said = b"b1\nw1[0.x]=6\nc1 yes\n! E9\nx 1\nb1\nr1[0.x]=6\na1\n";
+    let mut pipe = Pipe::new(MemSource::new(input, 64, None), MemSink::new(alloc, 200)?);
+    let mut bundles = Forgetful {
+        lacks: 1,
+        handed: Handed::new(),
+    };
+    let outcome = serve(alloc, &mut pipe, &mut bundles)?;
+    assert!(rt; outcome == Outcome::Yes);
+    let (_source, sink) = pipe.into_parts();
+    assert!(rt; sink.bytes() == said.as_slice());
+    let mut pipe = Pipe::new(MemSource::new(input, 64, None), MemSink::new(alloc, 200)?);
+    let mut bundles = Forgetful {
+        lacks: 3,
+        handed: Handed::new(),
+    };
+    let is_memory = match serve(alloc, &mut pipe, &mut bundles) {
+        Err(ServeFail::Memory) => true,
+        _ => false,
+    };
+    assert!(rt; is_memory);
     Ok(())
 }
 

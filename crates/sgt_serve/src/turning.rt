@@ -6,13 +6,14 @@ ghost use Rattle.sgt_notation.specs.Spelling.{HasNoLf};
 ghost use Rattle.sgt_core_machine.specs.Machine.{GoesOn};
 ghost use Rattle.sgt_core.specs.Replay.{MayAnswer};
 ghost use Rattle.sgt_courses.specs.Course.{cut_line};
-ghost use Rattle.sgt_serve.specs.private.Turning.{Takes, cut_fault_of};
+ghost use Rattle.sgt_serve.specs.private.Turning.{Takes, cut_fault_of, uncut_by};
 
 use crate::bundles::Bundles;
 use sgt_core_machine::Core;
 use sgt_core_model::{CoreFault, Reply};
 use sgt_courses::{Answer, CutFault};
 use sgt_notation::{EventLine, read_event};
+use sgt_pipe::KeepFault;
 use std::alloc::Global;
 
 /// Whether the line asks for a cut.
@@ -42,11 +43,20 @@ fn cut_fault(fault: CoreFault) -> CutFault
     }
 }
 
+/// How it is told that the bundle isn't kept.
+fn unkept(fault: KeepFault) -> CutFault
+    ensures { result ≡ uncut_by fault }
+{
+    match fault {
+        KeepFault::Memory => CutFault::Memory,
+        KeepFault::Refused => CutFault::Unwritten,
+    }
+}
+
 /// Cuts the core, if that may be: its bundle is kept, and a core over the last values stands in its place.
 fn cut<B: Bundles>(alloc: Global, core: &mut Core, bundles: &mut B) -> Answer
-    ensures takes { Takes core.old cut_line result (B.handed bundles.old) (B.handed bundles.new)
+    ensures { Takes core.old cut_line result (B.handed bundles.old) (B.handed bundles.new)
         core.new }
-    ensures counts { B.refusals bundles.old ≤ B.refusals bundles.new }
 {
     match core.cut(alloc) {
         Ok(cut) => match bundles.keep(cut.text.as_slice()) {
@@ -54,7 +64,7 @@ fn cut<B: Bundles>(alloc: Global, core: &mut Core, bundles: &mut B) -> Answer
                 *core = cut.next;
                 Answer::Cut(number)
             }
-            Err(_) => Answer::Uncut(CutFault::Unwritten),
+            Err(fault) => Answer::Uncut(unkept(fault)),
         },
         Err(fault) => Answer::Uncut(cut_fault(fault)),
     }
@@ -69,9 +79,8 @@ pub(crate) fn answer<B: Bundles>(
 ) -> Answer
     requires one { HasNoLf line.now }
     requires short { length line.now ≤ max_line }
-    ensures takes { Takes core.old line.now result (B.handed bundles.old) (B.handed bundles.new)
+    ensures { Takes core.old line.now result (B.handed bundles.old) (B.handed bundles.new)
         core.new }
-    ensures counts { B.refusals bundles.old ≤ B.refusals bundles.new }
 {
     if asks_cut(line) {
         return cut(alloc, core, bundles);

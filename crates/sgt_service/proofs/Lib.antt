@@ -13,3 +13,7 @@ pub mod Tries
 pub mod Unreadable
 pub mod Walks
 pub mod Shares
+pub mod DecidableInputs
+pub mod ReadOrNot
+pub mod SearchedScripts
+pub mod SearchedSites

@@ -1,3 +1,4 @@
+pub mod Checking
 pub mod Examples
 pub mod Numbers
 pub mod Told

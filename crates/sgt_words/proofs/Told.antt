@@ -79,20 +79,6 @@ no_explained options some no_rule no_tx (Rule topic) is says = no_rule topic say
 no_explained options some no_rule no_tx (Transaction tx) is says = no_tx tx says
 no_explained options some no_rule no_tx choice is says = absurd cc
 
--- several words
-pub no_check : (options : List (List ℕ)) → (options ≡ [] → ⊥) → ((w : List ℕ) → options ≢ w ∷ []) → (choice : Choice) → command_of choice ≡ command.Check
-    → Says options choice → ⊥
-no_check options some single (Check false) is says = some says
-no_check options some single (Check true) is says = single (codes "--order") says
-no_check options some single choice is says = absurd cc
-
--- another word than `--order`
-pub no_order : (options : List (List ℕ)) (w : List ℕ) → options ≡ w ∷ [] → (w ≡ codes "--order" → ⊥) → (choice : Choice) → command_of choice ≡ command.Check
-    → Says options choice → ⊥
-no_order options w e other (Check false) is says = absurd (omega (arith, ap length says, ap length e))
-no_order options w e other (Check true) is says = other (ap (λ l. get_or l 0 w) (sym e ∙ says))
-no_order options w e other choice is says = absurd cc
-
 -- a rule is no transaction
 pub rule_alone : (options : List (List ℕ)) (topic : Topic) (tx : ℕ) → options ≡ topic_name topic ∷ [] → TellsTx options tx → ⊥
 rule_alone options topic tx e (text, says, inl apart) = absurd (omega (arith, ap length apart, ap length e))

@@ -1,3 +1,4 @@
+pub mod Check
 pub mod Options
 pub mod Words
 pub mod private

@@ -3,6 +3,7 @@ use Rattle.std.specs.Prelude.{◌≡◌, ◌≢◌, ◌<◌, ◌≤◌, ◌^◌,
 use Rattle.sgt_explain.specs.Topics.{topic_name}
 use Rattle.sgt_names.specs.Limits.{max_workers}
 use Rattle.sgt_line.specs.Names.{command_text}
+use Rattle.sgt_words.specs.Check.{SaysCheck}
 use Rattle.sgt_words.specs.Options.{ReadsNumber, SaysRun}
 use Rattle.sgt_words.specs.declared.choice.Choice.{Choice}
 use Rattle.sgt_words.specs.declared.choice.Choice.TheVariants.{Audit, AuditWith, Certify, Check, Draw, DrawWith, Explain, Replay, Rule, Run, Serial, Transaction}
@@ -44,18 +45,18 @@ command_of (Transaction tx) = command.Explain
 command_of (Rule topic) = command.Explain
 command_of Draw = command.Draw
 command_of (DrawWith tx is_dot) = command.Draw
-command_of (Check tells_order) = command.Check
+command_of (Check wanted) = command.Check
 command_of (Run workers tries) = command.Run
 
 -- what stands behind the command's name says this: nothing where the command stands alone; the
--- number of workers; a transaction; a rule's name; options of a picture; that an order is told; of a run what clap finds
+-- number of workers; a transaction; a rule's name; options of a picture or of a check; of a run what clap finds
 abbrev pub Says : List (List ℕ) → Choice → Type 0
 Says options (AuditWith workers) = (text : List ℕ) × SaysWorkers text workers
     × (options ≡ codes "--workers" ∷ text ∷ [])
 Says options (Transaction tx) = TellsTx options tx
 Says options (Rule topic) = options ≡ topic_name topic ∷ []
 Says options (DrawWith tx is_dot) = TellsPicture options tx is_dot
-Says options (Check true) = options ≡ codes "--order" ∷ []
+Says options (Check wanted) = SaysCheck options wanted
 Says options (Run workers tries) = SaysRun (codes "run" ∷ options) workers tries
 Says options choice = options ≡ []
 

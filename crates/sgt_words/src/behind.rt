@@ -7,6 +7,7 @@ ghost use Rattle.sgt_words.specs.declared.choice.Choice.{Choice};
 ghost use Rattle.sgt_line.specs.declared.name.CommandName.TheVariants as command;
 ghost use Rattle.sgt_words.specs.Words.{Says, SaysTx, SaysWorkers, TellsPicture, TellsTx, command_of};
 
+use crate::check::check_wanted;
 use crate::choice::Choice;
 use sgt_explain::Topic;
 use sgt_line::{CommandName, first_of, last_of, only_of};
@@ -136,13 +137,7 @@ fn check_behind(options: &[String]) -> Option<Choice>
     ensures all { (choice : Choice) → command_of choice ≡ command.Check
         → Says (map string_bytes options.now) choice → result ≡ Some choice }
 {
-    if options.is_empty() {
-        return Some(Choice::Check { tells_order: false });
-    }
-    if only_of(options)? == "--order" {
-        return Some(Choice::Check { tells_order: true });
-    }
-    None
+    Some(Choice::Check(check_wanted(options)?))
 }
 
 /// What the words behind a command's name ask for; of `run` see `choose_run`.

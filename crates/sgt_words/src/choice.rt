@@ -6,6 +6,7 @@ ghost use Rattle.sgt_line.specs.declared.name.CommandName.TheVariants as command
 ghost use Rattle.sgt_words.specs.Words.{Asks, AsksFor, AsksTalk, HasText, TellsHelp, command_of};
 
 use crate::behind::choice_behind;
+use crate::check::CheckWanted;
 use crate::help::no_choice;
 use crate::options::choose_run;
 use sgt_explain::Topic;
@@ -36,8 +37,8 @@ pub enum Choice {
     Draw,
     /// The same, of this refused transaction's cycle alone, or as Graphviz text.
     DrawWith { tx: Option<Tx>, is_dot: bool },
-    /// Judge a history of a database; where it is serializable, write an order too, if it is asked for.
-    Check { tells_order: bool },
+    /// Judge a history of a database.
+    Check(CheckWanted),
     /// Run scripts by so many workers, each of them tried so often at most, and write what became of them and the bundle.
     Run { workers: u64, tries: u64 },
 }
@@ -92,7 +93,7 @@ pub fn asks_talk(words: &[String]) -> bool
 }
 
 /// What the words ask for; the first word is the program's name. The options of `run` are read by clap, `audit` may have
-/// `--workers N` behind it, `explain` a rule's name or `--tx N`, and `draw` `--tx N` and `--dot`, and `check` `--order`;
+/// `--workers N` behind it, `explain` a rule's name or `--tx N`, `draw` `--tx N` and `--dot`, and `check` `--order`, `--real-time` and `--sessions`;
 /// else a command stands alone (`serve` is no choice: see `asks_talk`). Other words are help, where one of them asks for it,
 /// or no command.
 pub fn choose(alloc: Global, words: &[String]) -> Result<Choice, NoChoice>

@@ -46,7 +46,7 @@ const REPLAY_USAGE: &str =
 const SERVE_USAGE: &str = "sgt serve [--bundles DIR] [FILE]\n  e.g. sgt serve --bundles bundles";
 
 const CHECK_USAGE: &str =
-    "sgt check [--order] [-q] [--progress] [FILE]\n  e.g. sgt check history.jsonl";
+    "sgt check [--order] [-q] [--progress] [FILE]\n       sgt check --against ORDER [-q] [FILE]\n  e.g. sgt check history.jsonl";
 
 const CERTIFY_USAGE: &str = "sgt certify [FILE]\n  e.g. sgt certify logs.txt > bundle.txt";
 
@@ -143,7 +143,22 @@ fn check_line<'a>(alloc: Global) -> Result<Command<'a>, AllocError> {
         "order",
         "Writes behind a yes `---` and the ids in an order that serves",
     );
-    plain_line(alloc, "check", CHECK, CHECK_USAGE).arg(order)
+    let real_time = flag(
+        alloc,
+        "real-time",
+        "Asks for an order in which who was done before another began stands before it",
+    )
+    .hide(true);
+    let sessions = flag(
+        alloc,
+        "sessions",
+        "Asks for an order in which the transactions of a session stand as they do in the history",
+    )
+    .hide(true);
+    plain_line(alloc, "check", CHECK, CHECK_USAGE)
+        .arg(order)?
+        .arg(real_time)?
+        .arg(sessions)
 }
 
 /// All that is left for the program of the words.
@@ -240,8 +255,13 @@ fn full_run<'a>(alloc: Global) -> Result<Command<'a>, AllocError> {
 }
 
 fn full_check<'a>(alloc: Global) -> Result<Command<'a>, AllocError> {
+    let against = Arg::new(alloc, "against")
+        .long("against")
+        .value_name("ORDER")
+        .help("Judges the order in this file, an id a line as --order writes it");
     check_line(alloc)?
         .arg(file(alloc))?
+        .arg(against)?
         .arg(quiet(alloc))?
         .arg(progress(alloc))
 }

@@ -2,9 +2,11 @@
 #![tactic(auto)]
 
 mod behind;
+mod check;
 mod choice;
 mod commands;
 mod help;
 mod options;
 
+pub use check::CheckWanted;
 pub use choice::{Choice, NoChoice, asks_talk, choose};

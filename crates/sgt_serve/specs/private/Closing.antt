@@ -1,21 +1,33 @@
 -- The end of a talk.
-use Rattle.std.specs.Prelude.{◌≡◌, ℕ, List, [], ◌∷◌, ◌++◌}
+use Rattle.std.specs.Prelude.{◌≡◌, ◌⊎◌, ℕ, List, [], ◌∷◌, ◌++◌, Result, Ok, Err}
+use Rattle.sgt_pipe.specs.declared.handed.Handed.{Handed}
+use Rattle.sgt_pipe.specs.declared.handed.KeepFault.{KeepFault}
+use Rattle.sgt_pipe.specs.declared.handed.KeepFault.TheVariants as keep
 use Rattle.sgt_cert.specs.Text.{text_of}
 use Rattle.sgt_core_model.specs.Core.{CoreState, bundle_of}
 use Rattle.sgt_serve.specs.declared.last.Last.{Last}
-use Rattle.sgt_serve.specs.declared.last.Last.TheVariants.{Done}
+use Rattle.sgt_serve.specs.declared.last.Last.TheVariants.{Done, Memory, Unwritten}
 use Rattle.sgt_courses.specs.Course.{Numbered}
-use Rattle.sgt_serve.specs.Ended.{EndsWith}
+use Rattle.sgt_serve.specs.Ended.{EndsSo}
 use Rattle.sgt_serve.specs.Talk.{handed_texts}
 
--- the bundle of the state is kept; or not
-abbrev pub HandsOut : Last → CoreState → (kept kept' : List (ℕ × List ℕ)) → Type 0
-HandsOut Done c kept kept' = (c.certifier.active ≡ []) × (number : ℕ)
-    × (kept' ≡ kept ++ (number, text_of (bundle_of c)) ∷ [])
-HandsOut _ c kept kept' = kept' ≡ kept
+-- what becomes of a bundle that isn't kept
+abbrev pub lost_by : KeepFault → Last
+lost_by keep.Memory = Memory
+lost_by keep.Refused = Unwritten
 
--- the last bundle is kept, if there is one; or it isn't
-abbrev pub ClosesSo : Last → CoreState → (kept kept' : List (ℕ × List ℕ)) → Type 0
-ClosesSo Done c kept kept' = (last : List Numbered) × EndsWith c last
-    × (kept' ≡ kept ++ handed_texts last)
-ClosesSo _ c kept kept' = kept' ≡ kept
+-- the bundle of the state is kept; or there is no memory for it; or the place refuses it
+abbrev pub HandsOut : Last → CoreState → (kept kept' : Handed) → Type 0
+HandsOut Done c kept kept' = (c.certifier.active ≡ []) × (number : ℕ)
+    × (kept'.items ≡ kept.items ++ (number, text_of (bundle_of c)) ∷ [])
+    × (kept'.answers ≡ kept.answers ++ Ok number ∷ [])
+HandsOut Memory c kept kept' = (kept'.items ≡ kept.items)
+    × ((kept'.answers ≡ kept.answers) ⊎ (kept'.answers ≡ kept.answers ++ Err keep.Memory ∷ []))
+HandsOut Unwritten c kept kept' = (kept'.items ≡ kept.items)
+    × (kept'.answers ≡ kept.answers ++ Err keep.Refused ∷ [])
+
+-- the last bundle fares so, and is kept if it is
+abbrev pub ClosesSo : Last → CoreState → (kept kept' : Handed) → Type 0
+ClosesSo fared c kept kept' = (last : List Numbered) × (said : List (Result ℕ KeepFault))
+    × EndsSo fared c last said × (kept'.items ≡ kept.items ++ handed_texts last)
+    × (kept'.answers ≡ kept.answers ++ said)

@@ -1,4 +1,5 @@
 -- The sites that a talk begins with, line by line.
+use Rattle.std.specs.Io.KnownBytes.{IsAtEnd as NoneLeft}
 use Rattle.std.specs.Prelude.{◌≡◌, ◌≢◌, ◌⊎◌, ℕ, ◌+◌, Bool, true, List, [], ◌∷◌, ◌++◌, length, map, take, drop, Option, None, Some, Result, Ok, Err}
 use Rattle.sgt_notation.specs.Events.{IsEventLine, IsSiteLine, event_text, site_text}
 use Rattle.sgt_notation.specs.Spelling.{text_of_lines}
@@ -12,6 +13,7 @@ use Rattle.sgt_serve.specs.declared.opening.Opened.{Opened}
 use Rattle.sgt_serve.specs.declared.opening.Opened.TheVariants.{Begun, Ended, Unreadable}
 use Rattle.sgt_serve.specs.declared.fail.ServeFail.{ServeFail}
 use Rattle.sgt_serve.specs.declared.fail.ServeFail.TheVariants as fail
+use Rattle.sgt_serve.specs.declared.last.Last.TheVariants.{Done}
 use Rattle.sgt_courses.specs.Course.{cut_line}
 use Rattle.sgt_serve.specs.Ended.{IsMisplaced, IsUnreadable}
 use Rattle.sgt_serve.specs.Talk.{AreAnswered}
@@ -38,35 +40,37 @@ TakesNext n sites sites' held held' (Some (Unreadable NotALine)) = IsMisplaced s
 TakesNext n sites sites' held held' (Some _) = ⊥
 
 -- one more read: some bytes came; or it was the end; or the reader failed
-abbrev pub ReadsFront : Result (Option Opened) ServeFail → Bool → (held held' : List ℕ) → (old new : History) → Type 0
-ReadsFront result any held held' old new =
-    ReadsMore result any held held' old new × (new.written ≡ old.written)
+abbrev pub ReadsFront : Result (Option Opened) ServeFail → Bool → Option (List ℕ) → (held held' : List ℕ) → (old new : History) → Type 0
+ReadsFront result any left held held' old new =
+    ReadsMore result any left held held' old new × (new.written ≡ old.written)
     × ((new.waits ≡ old.waits) ⊎ (new.waits ≡ old.waits ++ (old.given, old.written) ∷ []))
   where
-    ReadsMore : Result (Option Opened) ServeFail → Bool → (held held' : List ℕ) → (old new : History) → Type 0
-    ReadsMore (Ok None) any held held' old new = (bytes : List ℕ) × (held' ≡ held ++ bytes)
+    ReadsMore : Result (Option Opened) ServeFail → Bool → Option (List ℕ) → (held held' : List ℕ) → (old new : History) → Type 0
+    ReadsMore (Ok None) any left held held' old new = (bytes : List ℕ) × (held' ≡ held ++ bytes)
         × (new.given ≡ old.given ++ bytes)
-    ReadsMore (Ok (Some Ended)) any held held' old new = (any ≡ true) × (held ≡ [])
+    ReadsMore (Ok (Some Ended)) any left held held' old new = NoneLeft left × (any ≡ true) × (held ≡ [])
         × (held' ≡ held) × (new.given ≡ old.given)
-    ReadsMore (Ok (Some (Unreadable NotALine))) any held held' old new =
-        (held ≡ [] → any ≡ true → ⊥) × (held' ≡ held) × (new.given ≡ old.given)
-    ReadsMore (Err fail.ReadFault) any held held' old new = (held' ≡ held)
+    ReadsMore (Ok (Some (Unreadable NotALine))) any left held held' old new = NoneLeft left
+        × (held ≡ [] → any ≡ true → ⊥) × (held' ≡ held) × (new.given ≡ old.given)
+    ReadsMore (Err (fail.ReadFault l)) any left held held' old new = (l ≡ Done) × (held' ≡ held)
         × (new.given ≡ old.given)
-    ReadsMore _ any held held' old new = ⊥
+    ReadsMore _ any left held held' old new = ⊥
 
 -- the lines of some sites were taken, and behind them comes this; or there was a fault
-abbrev pub OpensSo : Result Opened ServeFail → List SiteLine → History → List ℕ → Type 0
-OpensSo (Ok (Begun n)) sites history held = HasSites sites history held × (sites ≢ [])
+abbrev pub OpensSo : Result Opened ServeFail → Option (List ℕ) → List SiteLine → History → List ℕ → Type 0
+OpensSo (Ok (Begun n)) left sites history held = HasSites sites history held × (sites ≢ [])
     × IsLineOf held n × Asks (take n held)
-OpensSo (Ok Ended) sites history held = HasSites sites history held × (sites ≢ []) × (held ≡ [])
-OpensSo (Ok (Unreadable fault)) sites history held = HasSites sites history held
-    × IsUnreadable sites held fault
-OpensSo (Err fail.ReadFault) sites history held = HasSites sites history held × IsPart held
-OpensSo (Err fail.Memory) sites history held = (some : List SiteLine) × HasSites some history held
-OpensSo (Err _) sites history held = ⊥
+OpensSo (Ok Ended) left sites history held = NoneLeft left × HasSites sites history held
+    × (sites ≢ []) × (held ≡ [])
+OpensSo (Ok (Unreadable fault)) left sites history held = HasSites sites history held
+    × IsUnreadable sites left held fault
+OpensSo (Err (fail.ReadFault l)) left sites history held = (l ≡ Done)
+    × HasSites sites history held × IsPart held
+OpensSo (Err fail.Memory) left sites history held = (some : List SiteLine) × HasSites some history held
+OpensSo (Err _) left sites history held = ⊥
 
 -- so, or there is more to take
-abbrev pub OpensOn : Result (Option Opened) ServeFail → List SiteLine → History → List ℕ → Type 0
-OpensOn (Ok None) sites history held = HasSites sites history held
-OpensOn (Ok (Some opened)) sites history held = OpensSo (Ok opened) sites history held
-OpensOn (Err fault) sites history held = OpensSo (Err fault) sites history held
+abbrev pub OpensOn : Result (Option Opened) ServeFail → Option (List ℕ) → List SiteLine → History → List ℕ → Type 0
+OpensOn (Ok None) left sites history held = HasSites sites history held
+OpensOn (Ok (Some opened)) left sites history held = OpensSo (Ok opened) left sites history held
+OpensOn (Err fault) left sites history held = OpensSo (Err fault) left sites history held

@@ -1,10 +1,11 @@
 -- A whole talk.
-use Rattle.std.specs.Prelude.{◌≡◌, ℕ, List, ◌++◌, take, Result, Ok, Err}
+use Rattle.std.specs.Prelude.{◌≡◌, ◌<◌, ℕ, List, ◌++◌, length, take, Option, Result, Ok, Err}
 use Rattle.sgt_names.specs.declared.outcome.Outcome.{Outcome}
 use Rattle.sgt_names.specs.declared.outcome.Outcome.TheVariants as outcome
 use Rattle.sgt_notation.specs.declared.event.SiteLine.{SiteLine}
 use Rattle.sgt_notation.specs.declared.fault.NotationFault.{NotationFault}
 use Rattle.sgt_core.specs.Replay.{unreadable_text}
+use Rattle.sgt_pipe.specs.declared.handed.Handed.{Handed}
 use Rattle.sgt_pipe.specs.declared.history.History.{History}
 use Rattle.sgt_serve.specs.declared.fail.ServeFail.{ServeFail}
 use Rattle.sgt_serve.specs.declared.fail.ServeFail.TheVariants as fail
@@ -27,15 +28,15 @@ closed_by o last.Unwritten = Err fail.BundleFault
 abbrev pub ends_by : Stop → Last → Result Outcome ServeFail
 ends_by Ended l = closed_by outcome.Yes l
 ends_by TooLong l = closed_by outcome.Unreadable l
-ends_by ReadFault l = Err fail.ReadFault
-ends_by WriteFault l = Err fail.WriteFault
+ends_by ReadFault l = Err (fail.ReadFault l)
+ends_by WriteFault l = Err (fail.WriteFault l)
 ends_by Memory l = Err fail.Memory
 
 -- the talk whose first line has n bytes and asks for something is served
-abbrev pub ServesFrom : Result Outcome ServeFail → ℕ → Desk → History → List (ℕ × List ℕ) → Type 0
-ServesFrom result n old history kept = (sites : List SiteLine) (before : List (ℕ × List ℕ))
+abbrev pub ServesFrom : Result Outcome ServeFail → ℕ → Option (List ℕ) → Desk → History → Handed → Type 0
+ServesFrom result n left old history kept = (sites : List SiteLine) (before : Handed)
     → HasOpened sites before old → Asks (take n old.held)
-    → Served result history.given history.written before kept × AreAnswered history.waits
+    → Served result left history.given history.written before kept × AreAnswered history.waits
 
 -- the line that can't be read is told; or a front of that is written
 abbrev pub TellsFront : Result Outcome ServeFail → ℕ → NotationFault → (old new : History) → Type 0
@@ -45,6 +46,7 @@ TellsFront result number fault old new =
   where
     Tells : Result Outcome ServeFail → List ℕ → (written written' : List ℕ) → Type 0
     Tells (Ok outcome.Unreadable) text written written' = written' ≡ written ++ text
-    Tells (Err fail.WriteFault) text written written' = (n : ℕ) × (written' ≡ written ++ take n text)
+    Tells (Err (fail.WriteFault l)) text written written' = (l ≡ last.Done) × (n : ℕ)
+        × (n < length text) × (written' ≡ written ++ take n text)
     Tells (Err fail.Memory) text written written' = written' ≡ written
     Tells _ text written written' = ⊥

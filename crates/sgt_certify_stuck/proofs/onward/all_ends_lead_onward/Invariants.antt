@@ -1,8 +1,9 @@
 use Rattle.std.proofs.Common.{◌≡◌, ℕ, ◌<◌, Some}
 use Rattle.std.specs.Prelude.{slice_get}
 use Rattle.sgt_cert.specs.declared.bundle.SiteLog.{SiteLog}
-use Rattle.sgt_certify_stuck.specs.Onward.{EndsLeadOnward}
+use Rattle.sgt_certify_stuck.specs.Onward.{EndsLeadOnward, EndsStand}
 use Rattle.sgt_certify_stuck.proofs.onward.all_ends_lead_onward.Given as goal
 
 abbrev pub invariant-loop-log : goal.invariant-loop-log
-invariant-loop-log l = (k : ℕ) (log : SiteLog) → k < l.log-index → slice_get l.sites k ≡ Some log → EndsLeadOnward log.entries l.places
+invariant-loop-log l = (k : ℕ) (log : SiteLog) → k < l.log-index → slice_get l.sites k ≡ Some log
+    → EndsStand log.entries l.places × EndsLeadOnward log.entries l.places

@@ -1,10 +1,8 @@
 use Rattle.std.proofs.Common.{◌≡◌, ℕ, ◌<◌, Some}
 use Rattle.std.specs.Prelude.{slice_get}
-use Rattle.sgt_names.specs.declared.entry.Entry.TheVariants.{Commit}
 use Rattle.sgt_cert.specs.declared.bundle.SiteLog.{SiteLog}
-use Rattle.sgt_certify_stuck.specs.Onward.{StandsAt}
+use Rattle.sgt_certify_stuck.specs.Onward.{LogCommitsStand}
 use Rattle.sgt_certify_stuck.proofs.onward.commits_stand.Given as goal
 
 abbrev pub invariant-loop-log : goal.invariant-loop-log
-invariant-loop-log l = (i : ℕ) (log : SiteLog) → i < l.log-index → slice_get l.sites i ≡ Some log
-    → (k t : ℕ) → slice_get log.entries k ≡ Some (Commit t) → (place : ℕ) × StandsAt l.places t place
+invariant-loop-log l = (i : ℕ) (log : SiteLog) → i < l.log-index → slice_get l.sites i ≡ Some log → LogCommitsStand log.entries l.places

@@ -1,4 +1,4 @@
-use Rattle.std.proofs.Common.{◌≡◌, ℕ, ◌+◌, Option, sym, ap, ◌∙◌, subst, arith}
+use Rattle.std.proofs.Common.{ℕ, ◌+◌, Option, refl, sym, ap, ◌∙◌, subst, arith}
 use Rattle.std.specs.BTreeMap.{get}
 use Rattle.std.specs.Ordering.{nat_cmp}
 use Rattle.std.proofs.lemmas.Bool.{true≢false}
@@ -15,9 +15,9 @@ loop-entry-preserved c =
     elim c.if-is_end.branch [
       | then-is_end+in-Some+else-not-is_behind w ↦
           subst P (sym w.last-is)
-          (rise-on c.args.entries.now c.args.places.now c.loop-entry.entry-index c.loop-entry.last c.entry-item.result w.in-Some.place c.loop-entry.invariant at
+          (rise-on c.args.entries.now c.args.places.now c.loop-entry.entry-index c.loop-entry.last c.entry-item.result w.in-Some.place c.loop-entry.invariant at (c.is_end.ensures.0 w.if-is_end.true)
           (ap (get nat_cmp c.args.places.now) (sym w.tx.ensures) ∙ sym w.place_of.ensures ∙ w.in-Some.is)
-          (w.is_behind.ensures w.if-not-is_behind.false))
+          (w.is_behind.ensures.0 w.if-not-is_behind.false))
       | else-is_end w ↦
           subst P (sym w.last-is)
           (rise-past c.args.entries.now c.args.places.now c.loop-entry.entry-index c.loop-entry.last c.entry-item.result c.loop-entry.invariant at
@@ -25,6 +25,15 @@ loop-entry-preserved c =
     ]
 
 pub returns : goal.returns
-returns c _ = λ p q e f lt at_p at_q.
-    let within = slice_get_within c.args.entries.now q f at_q in
-    c.loop-entry.invariant.rising p q e f lt (omega (arith, within, c.loop-entry-test.false)) at_p at_q
+returns c = (
+  λ _. (
+    λ p e at ends.
+        let within = slice_get_within c.args.entries.now p e at in
+        let h = c.loop-entry.invariant.placed p e (omega (arith, within, c.loop-entry-test.false)) at ends in
+        (h.0, h.2),
+    λ p q e f lt at_p at_q.
+        let within = slice_get_within c.args.entries.now q f at_q in
+        c.loop-entry.invariant.rising p q e f lt (omega (arith, within, c.loop-entry-test.false)) at_p at_q,
+  ),
+  λ _. refl,
+)

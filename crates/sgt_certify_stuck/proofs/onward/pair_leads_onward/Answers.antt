@@ -1,4 +1,4 @@
-use Rattle.std.proofs.Common.{◌≡◌, ℕ, ◌+◌, List, Some, None, BTreeMap, sym, ap, ◌∙◌, subst, arith}
+use Rattle.std.proofs.Common.{ℕ, ◌+◌, List, BTreeMap, refl, sym, ap, ◌∙◌, subst, arith}
 use Rattle.std.specs.BTreeMap.{get}
 use Rattle.std.specs.Ordering.{nat_cmp}
 use Rattle.std.proofs.lemmas.Option.{slice_get_within}
@@ -19,7 +19,7 @@ loop-entry-preserved c =
           subst P (sym w.tops-is)
           (tops-on c.args.entries.now c.args.places.now c.loop-entry.entry-index c.args.pair.first c.args.pair.second c.loop-entry.tops w.raise.new.tops c.entry-item.result
           w.in-Some.place c.loop-entry.invariant at (placed ∙ w.in-Some.is)
-          (w.falls_behind.ensures w.if-falls_behind.false) w.in_ok-raise.ensures.kept w.in_ok-raise.ensures.raised)
+          (w.falls_behind.ensures.no w.if-falls_behind.false) w.in_ok-raise.ensures.kept w.in_ok-raise.ensures.raised w.in_ok-raise.ensures.only)
       | in_default w ↦
           subst P (sym w.tops-is)
           (tops-past c.args.entries.now c.args.places.now c.loop-entry.entry-index c.args.pair.first c.args.pair.second c.loop-entry.tops c.entry-item.result
@@ -27,6 +27,9 @@ loop-entry-preserved c =
     ]
 
 pub returns : goal.returns
-returns c _ = λ p q e f x i j lt at_p at_q.
-    let within = slice_get_within c.args.entries.now q f at_q in
-    c.loop-entry.invariant.rising p q e f x i j lt (omega (arith, within, c.loop-entry-test.false)) at_p at_q
+returns c = (
+  λ _ p q e f x i j lt at_p at_q.
+      let within = slice_get_within c.args.entries.now q f at_q in
+      c.loop-entry.invariant.rising p q e f x i j lt (omega (arith, within, c.loop-entry-test.false)) at_p at_q,
+  λ _. refl,
+)

@@ -1,5 +1,6 @@
-use Rattle.std.proofs.Common.{ℕ, List, ◌++◌, ap, ◌∙◌}
+use Rattle.std.proofs.Common.{ℕ, List, ◌++◌, ap, sym, ◌∙◌, subst}
 use Rattle.sgt_history_verdict.specs.declared.step.Step.{Step}
+use Rattle.sgt_history_verdict.specs.Verdict.{IsFirstOf}
 use Rattle.sgt_check.specs.Text.{cycle_text}
 use Rattle.sgt_check.specs.Told.{spelled}
 use Rattle.sgt_check.proofs.answer.cyclic_text.Goals as goal
@@ -11,10 +12,12 @@ returns c h is =
     record {
       faultless = is.faultless.faultless;
       graph = cyclic.graph;
-      cycle = (cyclic.cycle.items, is.cycle_is.is);
-      least = is.cycle_is.least;
+      graph_is = is.graph_is;
       steps = c.in_ok-steps.steps.items;
       are = c.in_ok-steps.ensures.steps h is;
+      cycle_is = subst (IsFirstOf h cyclic.graph) (sym c.in_ok-steps.ensures.lines) is.cycle_is;
+      ranks = c.as_slice.result.now;
+      told_first = c.in_ok-steps.ensures.first h is;
       text_is = c.in_ok-push_cycle.ensures ∙ ap (λ (t : List ℕ). t ++ cycle_text s c.as_slice-2.result.now) c.new-text.ensures.items
           ∙ ap (λ (steps : List Step). cycle_text s steps) c.as_slice-2.ensures.value;
     }

@@ -1,5 +1,5 @@
-use Rattle.sgt_history_verdict.specs.Steps.{AreOfPairs}
+use Rattle.sgt_history_verdict.specs.Steps.{AreBest}
 use Rattle.sgt_history_verdict.proofs.quick.best_steps.Given as goal
 
 abbrev pub invariant-loop-pair : goal.invariant-loop-pair
-invariant-loop-pair l = AreOfPairs l.touches l.pairs l.best.items
+invariant-loop-pair l = AreBest l.touches l.pairs l.ranks l.behind l.pair-index l.best.items

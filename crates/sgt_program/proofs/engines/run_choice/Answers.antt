@@ -1,8 +1,9 @@
 use Rattle.std.proofs.Common.{◌≡◌, None, Some, ap, inl, subst, sym}
-use Rattle.std.specs.Prelude.{⊤}
+use Rattle.std.specs.Prelude.{⊤, IfOk, OnErr}
 use Rattle.sgt_audit.specs.declared.verdict.Verdict.{Verdict}
 use Rattle.sgt_certify.specs.Answer as certify
 use Rattle.sgt_check.specs.Answer as check
+use Rattle.sgt_check.specs.declared.options.Options.{Options}
 use Rattle.sgt_draw.specs.Drawn as draw
 use Rattle.sgt_explain.specs.Explained as explain
 use Rattle.sgt_core.specs.Replay as replay
@@ -56,9 +57,10 @@ returns-in-Check-clause-answers g c =
     let told = g.R.Source.tells c.args.reader.now in
     let old = g.W.Sink.holds c.args.writer.now in
     let new = g.W.Sink.holds c.check.new.writer in
-    let options = options_of c.in-Check.tells_order in
+    let options = options_of c.in-Check.wanted in
     rw c.in-Check.is (status-answers (λ outcome. check.WroteAnswer options told outcome old new) (check.WroteAnswerFront options told old new)
-    c.check.result c.check.ensures.answer c.check.ensures.front)
+    c.check.result (subst (λ (o : Options). IfOk c.check.result (λ outcome. check.WroteAnswer o told outcome old new)) c.options_of.ensures c.check.ensures.answer)
+    (subst (λ (o : Options). OnErr c.check.result (check.WroteAnswerFront o told old new)) c.options_of.ensures c.check.ensures.front))
 
 pub returns-in-Explain-clause-answers : goal.returns-in-Explain-clause-answers
 returns-in-Explain-clause-answers g c =

@@ -13,7 +13,7 @@ lines-init g c = record {
 
 pub lines-preserved : goal.lines-preserved
 lines-preserved g c = record {
-  has = opens_none _ _ _ _ c.in_default.not-Some c.in_ok-opened.ensures.opens;
+  has = opens_none _ _ _ _ _ c.in_default.not-Some c.in_ok-opened.ensures.opens;
   hears = hears_then _ _ _ _ _ _ _ _ _ c.lines.invariant.hears c.in_ok-opened.ensures.hears;
   writer = c.in_ok-opened.ensures.writer ∙ c.lines.invariant.writer;
   asks = c.in_ok-opened.ensures.asks ∙ c.lines.invariant.asks;

@@ -10,7 +10,6 @@ lines-init g c = record {
   hears = hears_none _ _ _;
   speaks = speaks_none _ _ _;
   asks = refl;
-  counts = omega arith;
 }
 
 pub lines-preserved : goal.lines-preserved
@@ -19,7 +18,6 @@ lines-preserved g c = record {
   hears = hears_then _ _ _ _ _ _ _ _ _ c.lines.invariant.hears (hears_at _ _ _ _ _ _ _ _ c.in_default.not-Some c.go_on.ensures.hears);
   speaks = speaks_then _ _ _ _ _ _ _ _ _ c.lines.invariant.speaks (speaks_at _ _ _ _ _ _ _ c.in_default.not-Some c.go_on.ensures.speaks);
   asks = c.go_on.ensures.asks ∙ c.lines.invariant.asks;
-  counts = omega (arith, c.lines.invariant.counts, c.go_on.ensures.counts);
 }
 
 pub lines-smaller : goal.lines-smaller

@@ -1,4 +1,4 @@
-use Rattle.std.proofs.Common.{◌≡◌, ◌≤◌, ◌+◌, ◌*◌, length}
+use Rattle.std.proofs.Common.{◌≡◌, ◌+◌, ◌*◌, length}
 use Rattle.sgt_names.specs.Limits.{buffer_size}
 use Rattle.sgt_pipe.specs.Ends.{Hears, Speaks}
 use Rattle.sgt_serve.specs.private.Talking.{ComesOn, desk}
@@ -11,7 +11,6 @@ invariant-lines g l = record {
   hears : Hears (g.R.Source.tells l.fn.pipe.reader) (g.R.Source.tells l.pipe.reader) l.fn.pipe.history.given l.pipe.history.given (g.R.Source.failures l.fn.pipe.reader) (g.R.Source.failures l.pipe.reader);
   speaks : Speaks (g.W.Sink.holds l.fn.pipe.writer) (g.W.Sink.holds l.pipe.writer) l.fn.pipe.history.written l.pipe.history.written (g.W.Sink.failures l.fn.pipe.writer) (g.W.Sink.failures l.pipe.writer);
   asks : g.R.Source.asked l.pipe.reader + l.inbox.reads ≡ g.R.Source.asked l.fn.pipe.reader + l.fn.inbox.reads;
-  counts : g.B.Bundles.refusals l.fn.bundles ≤ g.B.Bundles.refusals l.bundles;
 }
 
 abbrev pub decreases-lines : goal.decreases-lines

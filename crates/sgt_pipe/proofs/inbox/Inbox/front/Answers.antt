@@ -1,4 +1,4 @@
-use Rattle.std.proofs.Common.{◌≡◌, ◌≢◌, ◌<◌, ◌≤◌, ◌+◌, ℕ, List, length, take, arith, subst, All}
+use Rattle.std.proofs.Common.{◌≡◌, ◌≢◌, ◌<◌, ◌≤◌, ◌+◌, ℕ, List, length, take, arith, subst}
 use Rattle.std.proofs.lemmas.List.Elements.{All-take}
 use Rattle.sgt_names.specs.Limits.{max_line}
 use Rattle.sgt_notation.specs.Spelling.{HasNoLf}

@@ -1,0 +1,62 @@
+//! An order in a file, judged by a history.
+
+use crate::devices::{Held, Input, LastWords, Retrying, Steady};
+use crate::host::{Host, ended, open, refuse_file};
+use crate::unreadable::{Fronted, tell_unreadable};
+use sgt_line::Line;
+use sgt_names::{FromRead, Sink, ToWrite};
+use sgt_program::check_order;
+use std::fs::File;
+
+// The reader of the order; the status, where it can't be opened. Standard input gives one text, so not this one and the history too.
+fn open_order<'a, H>(host: &Host<'a, H>, order: &str, name: &str) -> Result<Steady<'a, Input>, u8> {
+    let rt = host.rt;
+    if order == "-" && name == "-" {
+        let _ = eprintln!(rt; "sgt: the order and the history can't both be standard input");
+        return Err(2);
+    }
+    if order == "-" {
+        return Ok(Steady::new(Input::Standard(rt.stdin()), None, None, host.hush));
+    }
+    match File::open(rt, order) {
+        Ok(file) => Ok(Steady::new(Input::File(file), None, None, host.hush)),
+        Err(why) => Err(refuse_file(rt, order, &why)),
+    }
+}
+
+// The status of the order in the file of this name, by the history in the other.
+fn judged<H, W: Sink>(host: &Host<'_, H>, order: &str, name: &str, writer: &mut W) -> u8 {
+    let mut given = match open_order(host, order, name) {
+        Ok(given) => given,
+        Err(status) => return status,
+    };
+    let mut steady = match open(host, name) {
+        Ok(steady) => steady,
+        Err(status) => return status,
+    };
+    let mut errors = ToWrite::new(LastWords::new(host.rt.stderr(), host.hush));
+    let mut fronted = Fronted::new(writer);
+    let status = {
+        let mut lines = FromRead::new(&mut given);
+        let mut reader = FromRead::new(&mut steady);
+        check_order(
+            host.rt.alloc(),
+            &mut lines,
+            &mut reader,
+            &mut fronted,
+            &mut errors,
+        )
+    };
+    tell_unreadable(host, &steady, steady.name(name), fronted.front());
+    let status = ended(host, &given, order, status);
+    ended(host, &steady, name, status)
+}
+
+/// Judges the order in the file; quietly by the status alone.
+pub(crate) fn judge_order<H>(host: &Host<'_, H>, line: &Line, order: &str, name: &str) -> u8 {
+    if line.is_quiet {
+        return judged(host, order, name, &mut Held::new(host.rt.alloc()));
+    }
+    let mut output = ToWrite::new(Retrying::new(host.rt.stdout(), host.hush));
+    judged(host, order, name, &mut output)
+}

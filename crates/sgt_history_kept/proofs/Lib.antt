@@ -1,0 +1,6 @@
+pub mod Setting
+pub mod Placing
+pub mod Deciders
+pub mod Rows
+pub mod Rounds
+pub mod Passing

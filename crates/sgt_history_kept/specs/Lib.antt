@@ -1,0 +1,4 @@
+pub mod Placed
+pub mod Decided
+pub mod Unkept
+pub mod Seen

@@ -1,0 +1,319 @@
+//! The cycle that is shown. Which one it is isn't proved: who asks for it checks it.
+
+ghost use Rattle.std.specs.Prelude.{◌≤◌, ◌^◌};
+
+use crate::asked::Asked;
+use crate::drawing::{Layout, Steps, begins_of, drawn, number_of, sessions_of};
+use crate::quick::nodes_of;
+use sgt_history_graph::{Edge, shown_cycle};
+use sgt_history_time::{Times, is_before, is_earlier, session_at, times_at};
+use std::alloc::{AllocError, Global};
+
+/// How far it is from a line from which no walk leads.
+const FAR: u32 = u32::MAX;
+
+/// The number at this place, or the greatest.
+fn number_at(numbers: &[u32], place: u32) -> u32 {
+    match numbers.get(place as usize) {
+        Some(number) => *number,
+        None => FAR,
+    }
+}
+
+/// The least line that lies on a cycle.
+fn least_on_cycle(
+    alloc: Global,
+    lines: usize,
+    steps: &Steps<'_>,
+) -> Result<Option<u32>, AllocError> {
+    let begins = begins_of(alloc, steps.times)?;
+    let Some(nodes) = nodes_of(lines, begins.len()) else {
+        return Ok(None);
+    };
+    let layout = Layout {
+        first_line: 0,
+        first_moment: number_of(lines),
+        nodes,
+    };
+    let drawn = drawn(alloc, layout, steps, begins.as_slice())?;
+    match shown_cycle(alloc, nodes, drawn.as_slice())? {
+        Some(cycle) => Ok(cycle.first().copied()),
+        None => Ok(None),
+    }
+}
+
+/// The lines that ran, by when they were done.
+fn ends_of(alloc: Global, times: &[Option<Times>]) -> Result<Vec<(u64, u32)>, AllocError> {
+    let mut ends = Vec::new(alloc);
+    for line in 0..times.len() {
+        if let Some(ran) = times[line] {
+            ends.push((ran.done, number_of(line)))?;
+        }
+    }
+    ends.sort()?;
+    Ok(ends)
+}
+
+/// The conflicts, by where they lead, or turned round by where from.
+fn turned(alloc: Global, edges: &[Edge], back: bool) -> Result<Vec<(u32, u32)>, AllocError> {
+    let mut pairs = Vec::new(alloc);
+    for at in 0..edges.len() {
+        let Edge { from, to } = edges[at];
+        pairs.push(if back { (to, from) } else { (from, to) })?;
+    }
+    pairs.sort()?;
+    Ok(pairs)
+}
+
+/// Where the pairs with this first number begin.
+fn start_of(pairs: &[(u32, u32)], first: u32) -> usize {
+    pairs.partition_point(|pair| pair.0 < first)
+}
+
+/// A walk back from a line, wide first.
+#[derive(Drop)]
+struct Walk {
+    /// Conflicts, each to its source.
+    back: Vec<(u32, u32)>,
+    by_session: Vec<(u32, u32)>,
+    /// Of the place where a session begins how far its lines are met.
+    met_of: Vec<usize>,
+    by_done: Vec<(u64, u32)>,
+    /// How many lines are met for when they were done.
+    done: usize,
+    /// How many steps it is from each line.
+    distances: Vec<u32>,
+    met: Vec<u32>,
+}
+
+impl Walk {
+    fn new(alloc: Global, lines: usize, steps: &Steps<'_>) -> Result<Walk, AllocError> {
+        let by_session = sessions_of(alloc, steps.sessions)?;
+        Ok(Walk {
+            back: turned(alloc, steps.edges, true)?,
+            met_of: vec![in alloc; 0usize; by_session.len()]?,
+            by_session,
+            by_done: ends_of(alloc, steps.times)?,
+            done: 0,
+            distances: vec![in alloc; FAR; lines]?,
+            met: Vec::new(alloc),
+        })
+    }
+
+    /// Comes to a line, if for the first time.
+    fn meet(&mut self, line: u32, distance: u32) -> Result<(), AllocError> {
+        if let Some(old) = self.distances.get_mut(line as usize) {
+            if *old == FAR {
+                *old = distance;
+                self.met.push(line)?;
+            }
+        }
+        Ok(())
+    }
+
+    fn meet_conflicts(&mut self, line: u32, distance: u32) -> Result<(), AllocError> {
+        let start = start_of(self.back.as_slice(), line);
+        for at in start..self.back.len() {
+            let Some((to, from)) = self.back.get(at).copied() else {
+                break;
+            };
+            if to != line {
+                break;
+            }
+            self.meet(from, distance)?;
+        }
+        Ok(())
+    }
+
+    /// The earlier lines of the session.
+    fn meet_session(&mut self, session: u32, line: u32, distance: u32) -> Result<(), AllocError> {
+        let start = start_of(self.by_session.as_slice(), session);
+        let Some(count) = self.met_of.get(start) else {
+            return Ok(());
+        };
+        let first = start.saturating_add(*count);
+        let mut end = first;
+        for at in first..self.by_session.len() {
+            let Some((of, earlier)) = self.by_session.get(at).copied() else {
+                break;
+            };
+            if of != session || earlier >= line {
+                break;
+            }
+            self.meet(earlier, distance)?;
+            end = at.saturating_add(1);
+        }
+        if let Some(count) = self.met_of.get_mut(start) {
+            *count = end.saturating_sub(start);
+        }
+        Ok(())
+    }
+
+    /// The lines that were done before this moment.
+    fn meet_done(&mut self, begin: u64, distance: u32) -> Result<(), AllocError> {
+        for at in self.done..self.by_done.len() {
+            let Some((done, line)) = self.by_done.get(at).copied() else {
+                break;
+            };
+            if done >= begin {
+                break;
+            }
+            self.meet(line, distance)?;
+            self.done = at.saturating_add(1);
+        }
+        Ok(())
+    }
+
+    /// All lines from which a step leads to this one.
+    fn meet_sources(&mut self, steps: &Steps<'_>, line: u32) -> Result<(), AllocError> {
+        let distance = number_at(self.distances.as_slice(), line).saturating_add(1);
+        self.meet_conflicts(line, distance)?;
+        if let Some(session) = session_at(steps.sessions, line) {
+            self.meet_session(session, line, distance)?;
+        }
+        if let Some(ran) = times_at(steps.times, line) {
+            self.meet_done(ran.begin, distance)?;
+        }
+        Ok(())
+    }
+
+    /// Goes back from the line.
+    fn walk(&mut self, steps: &Steps<'_>, line: u32) -> Result<(), AllocError> {
+        self.meet(line, 0)?;
+        for at in 0..self.distances.len() {
+            let Some(here) = self.met.get(at) else {
+                break;
+            };
+            let here = *here;
+            self.meet_sources(steps, here)?;
+        }
+        Ok(())
+    }
+
+    /// The place of the first line met that is so far away.
+    fn first_at(&self, distance: u32) -> usize {
+        let distances = self.distances.as_slice();
+        self.met
+            .as_slice()
+            .partition_point(|line| number_at(distances, *line) < distance)
+    }
+}
+
+/// Whether the first line is asked to stand before the second.
+fn asked_before(steps: &Steps<'_>, first: u32, second: u32) -> bool {
+    is_earlier(steps.sessions, first, second) || is_before(steps.times, first, second)
+}
+
+/// The lesser of two numbers, if there are.
+fn lesser(a: Option<u32>, b: u32) -> Option<u32> {
+    match a {
+        Some(a) if a <= b => Some(a),
+        _ => Some(b),
+    }
+}
+
+/// The way back to where a walk began.
+#[derive(Drop)]
+struct Way<'a> {
+    steps: Steps<'a>,
+    walk: &'a Walk,
+    /// Conflicts by their sources.
+    ahead: &'a [(u32, u32)],
+}
+
+/// How far it is from the nearest line to which a step leads from the first.
+fn nearest(way: &Way<'_>, node: u32) -> u32 {
+    let mut best = FAR;
+    for at in start_of(way.ahead, node)..way.ahead.len() {
+        let (from, to) = way.ahead[at];
+        if from != node {
+            break;
+        }
+        best = best.min(number_at(way.walk.distances.as_slice(), to));
+    }
+    for at in 0..way.walk.met.len() {
+        let line = way.walk.met[at];
+        if asked_before(&way.steps, node, line) {
+            return best.min(number_at(way.walk.distances.as_slice(), line));
+        }
+    }
+    best
+}
+
+/// The least line so far away to which a step leads.
+fn least_next(way: &Way<'_>, here: u32, distance: u32) -> Option<u32> {
+    let mut best = None;
+    for at in start_of(way.ahead, here)..way.ahead.len() {
+        let (from, to) = way.ahead[at];
+        if from != here {
+            break;
+        }
+        if number_at(way.walk.distances.as_slice(), to) == distance {
+            best = lesser(best, to);
+        }
+    }
+    let end = way.walk.first_at(distance.saturating_add(1));
+    for at in way.walk.first_at(distance)..end {
+        if let Some(line) = way.walk.met.get(at) {
+            if asked_before(&way.steps, here, *line) {
+                best = lesser(best, *line);
+            }
+        }
+    }
+    best
+}
+
+/// Of the shortest cycles through the line the one whose lines are, from it on, the least.
+fn least_round(alloc: Global, way: &Way<'_>, node: u32) -> Result<Option<Vec<u32>>, AllocError> {
+    let far = nearest(way, node);
+    if far == FAR {
+        return Ok(None);
+    }
+    let mut cycle = Vec::new(alloc);
+    let mut here = node;
+    cycle.push(here)?;
+    for passed in 0..far {
+        let Some(next) = least_next(way, here, far - passed) else {
+            return Ok(None);
+        };
+        cycle.push(next)?;
+        here = next;
+    }
+    Ok(Some(cycle))
+}
+
+/// The cycle to show of these steps.
+fn shown_of(alloc: Global, lines: usize, steps: Steps<'_>) -> Result<Option<Vec<u32>>, AllocError> {
+    let Some(node) = least_on_cycle(alloc, lines, &steps)? else {
+        return Ok(None);
+    };
+    let mut walk = Walk::new(alloc, lines, &steps)?;
+    walk.walk(&steps, node)?;
+    let ahead = turned(alloc, steps.edges, false)?;
+    let way = Way {
+        steps,
+        walk: &walk,
+        ahead: ahead.as_slice(),
+    };
+    least_round(alloc, &way, node)
+}
+
+/// The cycle to show: with sessions alone, if there is one, else with real time too. Of the least line that lies on one the shortest, of
+/// several the one whose lines are, from it on, the least. Takes time in proportion to the steps, times a logarithm.
+pub(crate) fn shown_lines<'x>(
+    alloc: Global,
+    lines: usize,
+    edges: &'x [Edge],
+    asked: &'x Asked,
+) -> Result<Option<Vec<u32>>, AllocError> {
+    let mut steps = Steps {
+        edges,
+        sessions: asked.sessions.as_slice(),
+        times: &[],
+    };
+    if let Some(cycle) = shown_of(alloc, lines, steps)? {
+        return Ok(Some(cycle));
+    }
+    steps.times = asked.times.as_slice();
+    shown_of(alloc, lines, steps)
+}
