@@ -3,7 +3,7 @@
 ghost use Rattle.std.specs.Prelude.{◌≡◌, ◌≢◌, ◌-◌, ◌<◌, ◌≤◌, ◌⊎◌, Err, length, IfOk, OnErr, IfSome, IsErrOf};
 ghost use Rattle.std.specs.Io.KnownBytes.{Appends};
 ghost use Rattle.sgt_notation.specs.Lines.{ReadFaultIsDue};
-ghost use Rattle.sgt_audit.specs.Faults.{ReadsNoFurther};
+ghost use Rattle.sgt_audit.specs.Faults.{BeginsNoneBehind, ReadsNoFurther};
 ghost use Rattle.sgt_audit.specs.Verdict.{IsVerdict, IsAudited, HandsOutValid, SaysHeadline, WroteFront, text_of};
 
 use crate::faults::Fault;
@@ -33,6 +33,8 @@ pub fn audit_bundle<R: Source>(alloc: Global, reader: &mut R) -> Result<Audited,
     ensures valid { IfOk result HandsOutValid }
     ensures no_further { IfOk result (λ a. IfSome (R.tells reader.old) (λ bytes.
         ReadsNoFurther bytes (R.asked reader.new - R.asked reader.old))) }
+    ensures none_behind { IfOk result (λ _. IfSome (R.tells reader.old) (λ bytes. IfSome (R.tells reader.new)
+        (λ left. BeginsNoneBehind bytes (length left) (R.last reader.new)))) }
     ensures quiet { result ≢ Err EngineFail.ReadFault
         → R.failures reader.new ≡ R.failures reader.old }
     ensures read_fault { IsErrOf result EngineFail.ReadFault → ReadFaultIsDue (R.tells reader.old)
@@ -84,6 +86,8 @@ pub fn audit<R: Source, W: Sink>(
         (λ v. IfSome (R.tells reader.old) (λ bytes. SaysHeadline bytes v)) }
     ensures no_further { IfOk result (λ v. IfSome (R.tells reader.old) (λ bytes.
         ReadsNoFurther bytes (R.asked reader.new - R.asked reader.old))) }
+    ensures none_behind { IfOk result (λ _. IfSome (R.tells reader.old) (λ bytes. IfSome (R.tells reader.new)
+        (λ left. BeginsNoneBehind bytes (length left) (R.last reader.new)))) }
     ensures written { IfOk result
         (λ v. Appends (W.holds writer.old) (W.holds writer.new) (text_of v)) }
     ensures quiet_reader { result ≢ Err EngineFail.ReadFault

@@ -3,11 +3,11 @@
 ghost use Rattle.std.specs.Prelude.{◌≡◌, ◌≢◌, ℕ, ◌+◌, ◌-◌, ◌^◌, ◌<◌, ◌≤◌, ◌⊎◌, List, [], Option, Err, length, Bool, IsTrue, IfOk, IfSome, IfNone, IsErrOf, IsSome, is_some};
 ghost use Rattle.sgt_names.specs.Limits.{most_reads};
 ghost use Rattle.sgt_notation.specs.Lines.{ReadFaultIsDue, coming, most_left};
-ghost use Rattle.sgt_audit.specs.Faults.{ReadsNoFurther, start};
+ghost use Rattle.sgt_audit.specs.Faults.{BeginsNoneBehind, ReadsNoFurther, start};
 ghost use Rattle.sgt_audit.specs.private.Ending.{IsKeeping};
 ghost use Rattle.sgt_audit.specs.Progress.{Stands};
 ghost use Rattle.sgt_audit.specs.declared.machine.Progress.TheVariants.{Reading};
-ghost use Rattle.sgt_audit.specs.private.Stops.{FedFront, FedHeld, Goes, IsJudged, IsStop, IsWhole};
+ghost use Rattle.sgt_audit.specs.private.Stops.{BeganBefore, FedFront, FedHeld, Goes, IsJudged, IsStop, IsWhole};
 
 use crate::faults::{Fault, FirstFault};
 use crate::kept::Kept;
@@ -93,6 +93,8 @@ fn feed_lines<R: Source>(
     ensures stops { IfOk result
         (λ stop. IsStop (R.tells reader.old) stop machine.new.progress line.new.items
         (R.asked reader.new - R.asked reader.old)) }
+    ensures began { IfOk result (λ stop. BeganBefore (R.tells reader.old) (R.tells reader.new) (R.last reader.new)
+        stop machine.new.progress line.new.items) }
     ensures quiet { result ≢ Err EngineFail.ReadFault
         → R.failures reader.new ≡ R.failures reader.old }
     ensures read_fault { IsErrOf result EngineFail.ReadFault → ReadFaultIsDue (R.tells reader.old)
@@ -144,6 +146,8 @@ pub(crate) fn judge<R: Source>(
     ensures all { IfOk result (λ j. IfOk j IsWhole) }
     ensures no_further { IfOk result (λ j. IfSome (R.tells reader.old) (λ bytes.
         ReadsNoFurther bytes (R.asked reader.new - R.asked reader.old))) }
+    ensures none_behind { IfOk result (λ j. IfSome (R.tells reader.old) (λ bytes. IfSome (R.tells reader.new)
+        (λ left. BeginsNoneBehind bytes (length left) (R.last reader.new)))) }
     ensures kept { IsTrue keeps → IfOk result (λ j. IfOk j (λ k. IsSome k.sections)) }
     ensures quiet { result ≢ Err EngineFail.ReadFault
         → R.failures reader.new ≡ R.failures reader.old }

@@ -23,6 +23,7 @@ fn verdict_on(alloc: Global, bytes: &[u8]) -> Result<Verdict, NoAnswer>
     let mut reader = Given {
         rest: bytes,
         asks: Asks::none(),
+        last: 0,
     };
     match audit(alloc, &mut reader, &mut Nowhere) {
         Ok(verdict) => Ok(verdict),

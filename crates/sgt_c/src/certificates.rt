@@ -19,6 +19,7 @@ fn certify_text(alloc: Global, bytes: &[u8]) -> Result<Answered, NoAnswer>
     let mut reader = Given {
         rest: bytes,
         asks: Asks::none(),
+        last: 0,
     };
     let mut writer = Written::new(alloc);
     match certify(alloc, &mut reader, &mut writer) {

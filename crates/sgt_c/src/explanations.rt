@@ -19,6 +19,7 @@ fn explain_text(alloc: Global, bytes: &[u8]) -> Result<Answered, NoAnswer>
     let mut reader = Given {
         rest: bytes,
         asks: Asks::none(),
+        last: 0,
     };
     let mut writer = Written::new(alloc);
     match explain(alloc, &mut reader, &mut writer) {

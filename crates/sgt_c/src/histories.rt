@@ -31,6 +31,7 @@ fn check_text(alloc: Global, bytes: &[u8]) -> Result<Answered, NoAnswer>
     let mut reader = Given {
         rest: bytes,
         asks: Asks::none(),
+        last: 0,
     };
     let mut writer = Written::new(alloc);
     match check(alloc, &mut reader, &mut writer, Options { order: false }) {

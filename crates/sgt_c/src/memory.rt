@@ -8,6 +8,7 @@ use std::alloc::Global;
 pub struct Given<'a> {
     pub rest: &'a [u8],
     pub asks: Asks,
+    pub last: usize,
 }
 
 impl Source for Given<'_> {
@@ -19,11 +20,14 @@ impl Source for Given<'_> {
 
     ghost asked = { λ s. s.asks.count };
 
+    ghost last = { λ s. s.last };
+
     fn read(&mut self, buffer: &mut [u8]) -> Result<usize, Failed> {
         self.asks = self.asks.one_more();
         let n = self.rest.len().min(buffer.len());
         buffer[..n].copy_from_slice(&self.rest[..n]);
         self.rest = &self.rest[n..];
+        self.last = n;
         Ok(n)
     }
 }

@@ -19,6 +19,7 @@ fn serial_text(alloc: Global, bytes: &[u8]) -> Result<Answered, NoAnswer>
     let mut reader = Given {
         rest: bytes,
         asks: Asks::none(),
+        last: 0,
     };
     let mut writer = Written::new(alloc);
     match serial(alloc, &mut reader, &mut writer) {

@@ -13,6 +13,7 @@ use std::alloc::Global;
 struct Given<'a> {
     rest: &'a [u8],
     asks: Asks,
+    last: usize,
 }
 
 impl Source for Given<'_> {
@@ -24,11 +25,14 @@ impl Source for Given<'_> {
 
     ghost asked = { λ s. s.asks.count };
 
+    ghost last = { λ s. s.last };
+
     fn read(&mut self, buffer: &mut [u8]) -> Result<usize, Failed> {
         self.asks = self.asks.one_more();
         let n = self.rest.len().min(buffer.len());
         buffer[..n].copy_from_slice(&self.rest[..n]);
         self.rest = &self.rest[n..];
+        self.last = n;
         Ok(n)
     }
 }
@@ -58,6 +62,7 @@ pub fn verdict_on(alloc: Global, bytes: &[u8]) -> Result<Verdict, EngineFail>
     let mut reader = Given {
         rest: bytes,
         asks: Asks::none(),
+        last: 0,
     };
     match audit(alloc, &mut reader, &mut Nowhere) {
         Ok(verdict) => Ok(verdict),

@@ -38,6 +38,11 @@ AppendsOrForgets (Some xs) (Some ys) bytes = ys ≡ xs ++ bytes
 abbrev pub WritesFront : Option (List ℕ) → Option (List ℕ) → List ℕ → Type 0
 WritesFront old new bytes = (n : ℕ) × (n < length bytes) × AppendsOrForgets old new (take n bytes)
 
+-- how many bytes a read gave
+abbrev pub given_by : {E : Type 0} → Result ℕ E → ℕ
+given_by (Ok n) = n
+given_by (Err e) = 0
+
 -- an Ok has at most so many bytes
 abbrev pub AtMost : {E : Type 0} → Result ℕ E → ℕ → Type 0
 AtMost (Ok n) most = n ≤ most

@@ -3,13 +3,14 @@ use Rattle.std.specs.Prelude.{◌≡◌, ℕ, ◌+◌, ◌-◌, ◌<◌, ◌^◌
 
 -- what contracts see of a source: the bytes that are left, how many it gives at a read at most, how
 -- many more reads succeed where not
--- all do, how often it has failed, and how often it was asked
+-- all do, how often it has failed, how often it was asked, and how many bytes the last read gave
 pub record Supply : Type 0 where
   pub rest : List ℕ
   pub per_read : ℕ
   pub good : Option ℕ
   pub failures : ℕ
   pub asked : ℕ
+  pub last : ℕ
 
 -- the next read fails (a count of failures has an end, past which it doesn't)
 abbrev pub MustFail : Supply → Type 0
@@ -24,6 +25,7 @@ pub record Supplies (old new : Supply) (buffer buffer' : List ℕ) (n : ℕ) : T
         rest = drop n old.rest;
         good = option_map (λ g. g - 1) old.good;
         asked = old.asked + 1;
+        last = n;
       }
 
 -- what contracts see of a sink: the bytes that it took, how many more it takes, and how often it

@@ -1,7 +1,7 @@
 //! Sources and sinks over memory, which fail where they are told to: for tests, and for callers that have their bytes.
 
 ghost use Rattle.std.specs.Prelude.{◌≡◌, ◌+◌, ◌-◌, ◌<◌, ◌≤◌, ◌^◌, ◌↔◌, [], ◌++◌, length, take, drop, min, Some, None, option_map, if◌then◌else◌, nat_lt, IsErr, IfOk, OnErr, vec_len, vec_capacity};
-ghost use Rattle.sgt_names.specs.Device.{AtMost, CountsFailures, PutsBehind, TakesFront, TakesSome};
+ghost use Rattle.sgt_names.specs.Device.{AtMost, CountsFailures, PutsBehind, TakesFront, TakesSome, given_by};
 ghost use Rattle.sgt_names.specs.Memory.{MustFail, Supplies, IsFull, IsSpent, Takes};
 
 use crate::asks::Asks;
@@ -19,6 +19,7 @@ pub struct MemSource<'a> {
     good: Option<u64>,
     failed: u64,
     asks: Asks,
+    last: usize,
 }
 
 impl<'a> Model for MemSource<'a> {
@@ -27,7 +28,7 @@ impl<'a> Model for MemSource<'a> {
 
     ghost Value = { Supply };
 
-    ghost view = { λ s. record { rest = s.rest.now; per_read = s.per_read; good = s.good; failures = s.failed; asked = s.asks.count } };
+    ghost view = { λ s. record { rest = s.rest.now; per_read = s.per_read; good = s.good; failures = s.failed; asked = s.asks.count; last = s.last } };
 
     ghost invariant = { λ s. 0 < s.per_read };
 }
@@ -44,6 +45,7 @@ impl<'a> MemSource<'a> {
               good = option_map (λ at. at - 1) fail_at;
               failures = 0;
               asked = 0;
+              last = 0;
             } }
     {
         MemSource {
@@ -52,6 +54,7 @@ impl<'a> MemSource<'a> {
             good: fail_at.map(|at| at.saturating_sub(1)),
             failed: 0,
             asks: Asks::none(),
+            last: 0,
         }
     }
 }
@@ -63,11 +66,14 @@ impl Source for MemSource<'_> {
 
     ghost asked = { λ s. s.asked };
 
+    ghost last = { λ s. s.last };
+
     fn read(&mut self, buffer: &mut [u8]) -> Result<usize, Failed>
         ensures bytes { TakesFront (Some self.old.rest) (Some self.new.rest) result buffer.new }
         ensures count { AtMost result (length buffer.old) }
         ensures fails { CountsFailures result self.old.failures self.new.failures }
         ensures counts { self.new.asked ≡ self.old.asked + 1 }
+        ensures gave { self.new.last ≡ given_by result }
 
         // and, of this source, exactly when it fails and what it gives
         ensures must_fail { IsErr result ↔ MustFail self.old }
@@ -76,10 +82,12 @@ impl Source for MemSource<'_> {
             ((self.new ≡ record self.old {
               failures = self.old.failures + 1;
               asked = self.old.asked + 1;
+              last = 0;
             })
             × (buffer.new ≡ buffer.old)) }
     {
         self.asks = self.asks.one_more();
+        self.last = 0;
         if let Some(good) = self.good {
             if good == 0 && self.failed < u64::MAX {
                 self.failed += 1;
@@ -90,6 +98,7 @@ impl Source for MemSource<'_> {
         let n = self.rest.len().min(self.per_read).min(buffer.len());
         buffer[..n].copy_from_slice(&self.rest[..n]);
         self.rest = &self.rest[n..];
+        self.last = n;
         Ok(n)
     }
 }

@@ -1,7 +1,7 @@
 //! Where bytes come from.
 
 ghost use Rattle.std.specs.Prelude.{◌≡◌, ◌+◌, ℕ, List, Option, length};
-ghost use Rattle.sgt_names.specs.Device.{AtMost, CountsFailures, TakesFront};
+ghost use Rattle.sgt_names.specs.Device.{AtMost, CountsFailures, TakesFront, given_by};
 
 use thiserror::Error;
 
@@ -21,11 +21,15 @@ pub trait Source {
     // how often it was asked for bytes
     ghost asked: { Self → ℕ };
 
+    // how many bytes its last read gave: none where it failed, or where there was no read
+    ghost last: { Self → ℕ };
+
     /// Reads some bytes into the front of the buffer. 0 comes only at the end, or where the buffer has no room.
     /// After an Err the source tells its bytes as before or tells nothing, and what is in the buffer is not promised.
     fn read(&mut self, buffer: &mut [u8]) -> Result<usize, Failed>
         ensures bytes { TakesFront (tells self.old) (tells self.new) result buffer.new }
         ensures count { AtMost result (length buffer.old) }
         ensures fails { CountsFailures result (failures self.old) (failures self.new) }
-        ensures counts { asked self.new ≡ asked self.old + 1 };
+        ensures counts { asked self.new ≡ asked self.old + 1 }
+        ensures gave { last self.new ≡ given_by result };
 }

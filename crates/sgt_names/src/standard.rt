@@ -14,6 +14,7 @@ pub struct FromRead<R> {
     inner: R,
     failed: u64,
     asks: Asks,
+    last: usize,
 }
 
 impl<R: Read> FromRead<R> {
@@ -22,11 +23,13 @@ impl<R: Read> FromRead<R> {
         ensures bytes { ⟦<FromRead<R> as Source>⟧.tells result ≡ R.remaining inner }
         ensures fails { ⟦<FromRead<R> as Source>⟧.failures result ≡ 0 }
         ensures asks { ⟦<FromRead<R> as Source>⟧.asked result ≡ 0 }
+        ensures last { ⟦<FromRead<R> as Source>⟧.last result ≡ 0 }
     {
         FromRead {
             inner,
             failed: 0,
             asks: Asks::none(),
+            last: 0,
         }
     }
 }
@@ -38,10 +41,16 @@ impl<R: Read> Source for FromRead<R> {
 
     ghost asked = { λ s. s.asks.count };
 
+    ghost last = { λ s. s.last };
+
     fn read(&mut self, buffer: &mut [u8]) -> Result<usize, Failed> {
         self.asks = self.asks.one_more();
+        self.last = 0;
         match self.inner.read(buffer) {
-            Ok(n) => Ok(n),
+            Ok(n) => {
+                self.last = n;
+                Ok(n)
+            }
             Err(_) => {
                 if self.failed == u64::MAX {
                     return Ok(0);

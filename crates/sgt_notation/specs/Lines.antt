@@ -69,6 +69,13 @@ SpendsNext TooLong reads old reads' new = Spends reads old reads' new
 SpendsNext Cut reads old reads' new = Spends reads old (reads' + 1) new
 SpendsNext End reads old reads' new = Spends reads old (reads' + 1) new
 
+-- what is held still is of the last read, and so is the LF of a line that came
+abbrev pub IsOfLast : Next → (held last : ℕ) → Type 0
+IsOfLast Line held last = held < last
+IsOfLast Cut held last = held ≤ last
+IsOfLast TooLong held last = held ≤ last
+IsOfLast End held last = held ≤ last
+
 -- ---- what a call gives
 
 -- a reader of lines with its source: what is ahead of it, what the source tells, and how often that

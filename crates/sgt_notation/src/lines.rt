@@ -4,7 +4,7 @@ ghost use Rattle.std.specs.Prelude.{ℕ, List, Option, ◌≡◌, ◌≢◌, ◌
 ghost use Rattle.std.specs.Prelude.{Some, Ok, IfSome, IfNone, IfErr, IfOk, OnOk, OnErr, IsErrOf};
 ghost use Rattle.std.specs.Io.KnownBytes.{Consumes, IsAtEnd};
 ghost use Rattle.sgt_names.specs.Limits.{buffer_size, most_reads};
-ghost use Rattle.sgt_notation.specs.Lines.{Ahead, GaveNext, Leaves, MetReadFault, WantedMemory, most_left, passed, stream};
+ghost use Rattle.sgt_notation.specs.Lines.{Ahead, GaveNext, IsOfLast, Leaves, MetReadFault, WantedMemory, most_left, passed, stream};
 ghost use Rattle.sgt_notation.specs.Private.{IsLeft, Looks, Moves, Outgrows};
 ghost use Rattle.sgt_notation.specs.Spelling.{HasNoLf, IsLine, line_text};
 
@@ -185,7 +185,8 @@ impl Lines {
             × (length self.new.held ≡ n) × (n ≤ buffer_size)
             × (n ≡ 0 → IsAtEnd (S.tells source.new))
             × (self.old.reads ≡ self.new.reads + 1)
-            × (S.failures source.new ≡ S.failures source.old)) }
+            × (S.failures source.new ≡ S.failures source.old)
+            × (S.last source.new ≡ n)) }
         ensures fault { OnErr result (
             ((S.failures source.new ≡ S.failures source.old + 1)
             × (self.old.reads ≡ self.new.reads + 1))
@@ -226,6 +227,7 @@ impl Lines {
             (length self.new.held + length line.new.items)) }
         ensures falls { IfOk result
             (λ r. r.0 ≡ Some Next.Line → length self.new.held < length self.old.held) }
+        ensures shrinks { IfOk result (λ r. length self.new.held ≤ length self.old.held) }
         ensures unlimited { limit ≡ 2 ^ 64 - 1 → IfOk result (λ r. r.0 ≢ Some Next.TooLong) }
         ensures err { IfErr result (λ e. e ≡ LinesFault.Memory) }
         ensures kept { OnErr result ((line.new.items ≡ line.old.items) × (self.new ≡ self.old)) }
@@ -273,6 +275,10 @@ impl Lines {
         ensures counted { self.old.reads + length self.old.held
             ≤ self.new.reads + length self.new.held + length line.new.items + 1 }
         ensures bounded { most_left self.new + length line.new.items ≤ most_left self.old }
+        // no read was made; or the last one gave what is held still, and the LF of the line
+        ensures still { self.new.reads ≡ self.old.reads → S.last source.new ≡ S.last source.old }
+        ensures fresh { self.new.reads < self.old.reads
+            → IfOk result (λ next. IsOfLast next (length self.new.held) (S.last source.new)) }
     {
         line.clear();
         'reads: loop {

@@ -12,6 +12,7 @@ use std::alloc::{AllocError, Global};
 struct Text<'a> {
     rest: &'a [u8],
     asks: Asks,
+    last: usize,
 }
 
 impl Source for Text<'_> {
@@ -23,11 +24,14 @@ impl Source for Text<'_> {
 
     ghost asked = { λ s. s.asks.count };
 
+    ghost last = { λ s. s.last };
+
     fn read(&mut self, buffer: &mut [u8]) -> Result<usize, Failed> {
         self.asks = self.asks.one_more();
         let n = self.rest.len().min(buffer.len());
         buffer[..n].copy_from_slice(&self.rest[..n]);
         self.rest = &self.rest[n..];
+        self.last = n;
         Ok(n)
     }
 }
@@ -58,6 +62,7 @@ pub fn verdict_on(alloc: Global, text: &[u8]) -> Result<Verdict, AllocError>
     let mut reader = Text {
         rest: text,
         asks: Asks::none(),
+        last: 0,
     };
     let mut writer = Nowhere;
     match audit(alloc, &mut reader, &mut writer) {

@@ -1,5 +1,5 @@
 -- What was judged of a text that a reader tells.
-use Rattle.std.specs.Prelude.{◌≡◌, ◌≤◌, ◌+◌, ℕ, List, [], ◌∷◌, ◌++◌, length, take, Option, Some, None, Result, Ok, Err, IfSome, ⊤}
+use Rattle.std.specs.Prelude.{◌≡◌, ◌<◌, ◌≤◌, ◌+◌, ◌⊎◌, ℕ, List, [], ◌∷◌, ◌++◌, length, take, Option, Some, None, Result, Ok, Err, IfSome, ⊤}
 use Rattle.sgt_notation.specs.Spelling.{text_of_lines, HasNoLf, IsLine, line_text}
 use Rattle.sgt_notation.specs.Lines.{Ahead, coming}
 use Rattle.sgt_notation.specs.declared.SectionLine.{SectionLine}
@@ -58,6 +58,22 @@ IsStop told (Ok n) p l reads = (s : Stage) × Stands p s × (length l ≤ limit_
     × (reads ≤ length (text_of_lines (lines_so_far s)) + length l + 1)
     × IfSome told
     (λ bytes. (bytes ≡ text_of_lines (lines_so_far s) ++ l) × (n ≡ length (lines_so_far s) + 1))
+
+-- when the last read began, fewer bytes than this had been given of those that were told. What is told
+-- now is left, and the last read gave so many
+abbrev pub BeganWithin : Option (List ℕ) → Option (List ℕ) → (last n : ℕ) → Type 0
+BeganWithin None now last n = ⊤
+BeganWithin (Some bytes) None last n = ⊤
+BeganWithin (Some bytes) (Some left) last n = length bytes < n + (length left + last)
+
+-- reading stopped there, and the last read began before that
+abbrev pub BeganBefore : Option (List ℕ) → Option (List ℕ) → ℕ → Result ℕ found.FirstFault → Progress
+    → List ℕ → Type 0
+BeganBefore told now last stop p l = (n : ℕ) × IsStop told stop p l n × BeganWithin told now last n
+
+-- no read was made so far and nothing is held; or the last one gave more than what is held still
+abbrev pub IsOfLastRead : Option (List ℕ) → Option (List ℕ) → (held : List ℕ) (last : ℕ) → Type 0
+IsOfLastRead told now held last = ((now ≡ told) × (held ≡ [])) ⊎ (length held < last)
 
 -- what is kept is all of the lines of a text with no fault
 abbrev pub IsWhole : Kept → Type 0

@@ -1,7 +1,8 @@
-use Rattle.std.proofs.Common.{◌∙◌, ◌<◌, ◌≤◌, Err, length, ap, subst, arith, refl}
+use Rattle.std.proofs.Common.{◌∙◌, ◌+◌, ◌<◌, ◌≤◌, Err, inr, length, ap, subst, arith, refl}
 use Rattle.sgt_notation.specs.Lines.{most_left}
 use Rattle.sgt_audit.specs.private.Ending.{limit_of}
 use Rattle.sgt_audit.specs.Faults.{bytes_of}
+use Rattle.sgt_audit.proofs.Begun.{begun-held, eaten-there, held-fed, last-line, last-long, within-cut, within-end, within-line, within-long}
 use Rattle.sgt_audit.proofs.ReaderAtStage.{after-line, fault-line, stops-cut, stops-end, at-long, fault-met, spends_on}
 use Rattle.sgt_audit.proofs.reading.feed_lines.Goals as goal
 
@@ -16,6 +17,8 @@ lines-preserved g c =
       omega (arith, gave.falls refl, c.in_ok-fault.ensures.few, c.lines.invariant.3),
       λ keeps kept. c.in-Ok-None.ensures.kept keeps (c.in_ok-fault.ensures.kept keeps (c.lines.invariant.4 keeps kept)),
       omega (arith, c.in_ok-fault.ensures.unread, c.in-Ok-Line.ensures.asks, c.lines.invariant.5),
+      inr (last-line _ _ _ _ _ _ (held-fed _ _ _ _ _ c.lines.invariant.6 c.in_ok-fault.ensures.unread c.in_ok-fault.ensures.bounded)
+          c.in-Ok-Line.ensures.reads c.in-Ok-Line.ensures.still (λ less. rw c.in-Ok-Line.field-0-is at (c.in-Ok-Line.ensures.fresh less)) (gave.falls refl)),
     )
 
 pub returns-in-Ok-Some-clause-stops : goal.returns-in-Ok-Some-clause-stops
@@ -85,3 +88,52 @@ returns-in-Err-Memory-clause-kept g c keeps kept = c.in_ok-fault.ensures.kept ke
 
 pub returns-in-Err-ReadFault-clause-kept : goal.returns-in-Err-ReadFault-clause-kept
 returns-in-Err-ReadFault-clause-kept g c keeps kept = c.in_ok-fault.ensures.kept keeps (c.lines.invariant.4 keeps kept)
+
+pub returns-in-Some-clause-began : goal.returns-in-Some-clause-began
+returns-in-Some-clause-began g c =
+    let at = eaten-there _ _ _ _ _ c.lines.invariant.0 in
+    begun-held _ _ _ _ _ _ _ c.lines.invariant.6 at.2 (rw c.in-Some.is at (c.in_ok-fault.ensures.goes _ _ _ at.1))
+
+pub returns-in-Ok-Some-clause-began : goal.returns-in-Ok-Some-clause-began
+returns-in-Ok-Some-clause-began g c =
+    let gave = rw c.in-Ok-Line.field-0-is at c.in-Ok-Line.ensures.ok in
+    let at = eaten-there _ _ _ _ _ (rw c.in_default.is at (c.in_ok-fault.ensures.goes _ _ _ c.lines.invariant.0)) in
+    let held = last-line _ _ _ _ _ _ (held-fed _ _ _ _ _ c.lines.invariant.6 c.in_ok-fault.ensures.unread c.in_ok-fault.ensures.bounded)
+    c.in-Ok-Line.ensures.reads c.in-Ok-Line.ensures.still (λ less. rw c.in-Ok-Line.field-0-is at (c.in-Ok-Line.ensures.fresh less)) (gave.falls refl) in (
+      at.0 + length c.next.new.line.items + 1,
+      fault-line _ _ c.line_of.new.self.progress _ _ _ _ _ _ _ _ at.1 (omega arith) gave.gives
+          (λ s stands. rw c.in-Ok-Some.field-0-is at (c.in-Ok-Some.ensures.follows s stands)),
+      within-line _ _ _ _ _ _ _ _ at.2 gave.gives held,
+    )
+
+pub returns-in-Ok-Cut-clause-began : goal.returns-in-Ok-Cut-clause-began
+returns-in-Ok-Cut-clause-began g c =
+    let gave = rw c.in-Ok-Cut.field-0-is at c.in-Ok-Cut.ensures.ok in
+    let at = eaten-there _ _ _ _ _ (rw c.in_default.is at (c.in_ok-fault.ensures.goes _ _ _ c.lines.invariant.0)) in (
+      at.0 + length c.next.new.line.items + 1,
+      stops-cut _ _ _ _ _ _ _ _ _ at.1 (omega arith) gave.gives (λ s stands. subst (λ n. length c.next.new.line.items ≤ n) (c.limit.ensures s stands) c.in-Ok-Cut.ensures.line.1) c.in-Ok-Cut.ensures.line.0,
+      within-cut _ _ _ _ _ _ _ _ at.2 gave.gives,
+    )
+
+pub returns-in-Ok-End-clause-began : goal.returns-in-Ok-End-clause-began
+returns-in-Ok-End-clause-began g c =
+    let gave = rw c.in-Ok-End.field-0-is at c.in-Ok-End.ensures.ok in
+    let at = eaten-there _ _ _ _ _ (rw c.in_default.is at (c.in_ok-fault.ensures.goes _ _ _ c.lines.invariant.0)) in (
+      at.0 + length c.next.new.line.items + 1,
+      stops-end _ _ _ _ _ _ _ _ _ at.1 (omega arith) gave.gives (λ s stands. subst (λ n. length c.next.new.line.items ≤ n) (c.limit.ensures s stands) c.in-Ok-End.ensures.line.1) c.in-Ok-End.ensures.line.0,
+      within-end _ _ _ _ _ _ _ _ at.2 gave.gives,
+    )
+
+pub returns-in-Ok-TooLong-clause-began : goal.returns-in-Ok-TooLong-clause-began
+returns-in-Ok-TooLong-clause-began g c =
+    let gave = rw c.in-Ok-TooLong.field-0-is at c.in-Ok-TooLong.ensures.ok in
+    let at = eaten-there _ _ _ _ _ (rw c.in_default.is at (c.in_ok-fault.ensures.goes _ _ _ c.lines.invariant.0)) in
+    let held = last-long _ _ _ _ _ _ _ (held-fed _ _ _ _ _ c.lines.invariant.6 c.in_ok-fault.ensures.unread c.in_ok-fault.ensures.bounded)
+    c.in-Ok-TooLong.ensures.reads c.in-Ok-TooLong.ensures.still (λ less. rw c.in-Ok-TooLong.field-0-is at (c.in-Ok-TooLong.ensures.fresh less)) c.in-Ok-TooLong.ensures.bounded in (
+      at.0 + length c.next.new.line.items + 1,
+      at-long _ _ _ _ _ _ _ _ _ _ at.1 (omega arith) c.in-Ok-TooLong.ensures.line.1 gave.gives
+          (λ s stands next long.
+          c.too_long.ensures s next stands (λ second here. gave.unlimited (c.limit.ensures s stands ∙ ap limit_of here) refl)
+          (subst (λ n. n < length (bytes_of next)) (c.limit.ensures s stands) long)),
+      within-long _ _ _ _ _ _ _ _ at.2 gave.gives held,
+    )

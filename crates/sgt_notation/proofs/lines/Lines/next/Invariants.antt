@@ -1,4 +1,4 @@
-use Rattle.std.proofs.Common.{◌≡◌, ◌≤◌, ◌+◌, [], length, vec_capacity}
+use Rattle.std.proofs.Common.{◌≡◌, ◌<◌, ◌≤◌, ◌+◌, [], length, vec_capacity}
 use Rattle.std.specs.Io.KnownBytes.{Consumes}
 use Rattle.sgt_notation.specs.Lines.{Spends, coming, most_left}
 use Rattle.sgt_notation.specs.Spelling.{HasNoLf}
@@ -19,6 +19,8 @@ invariant-reads g l =
     × (g.S.Source.asked l.source + l.self.reads ≡ g.S.Source.asked l.initial.source + l.initial.self.reads)
     × (l.initial.self.reads ≤ l.self.reads + length l.line.items + 1)
     × (l.self.held ≡ [] → l.initial.self.reads ≤ l.self.reads + length l.line.items)
+    × (l.self.reads ≡ l.initial.self.reads → g.S.Source.last l.source ≡ g.S.Source.last l.initial.source)
+    × (l.self.reads < l.initial.self.reads → length l.self.held ≤ g.S.Source.last l.source)
 
 abbrev pub decreases-reads : goal.decreases-reads
 decreases-reads g l = l.self.reads
