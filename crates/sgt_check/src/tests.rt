@@ -61,3 +61,19 @@ fn tells_a_line_that_cant_be_read(rt: HostRuntime) -> Result<(), Fail> {
     );
     Ok(())
 }
+
+#[test]
+fn reads_no_line_behind_one_that_cant_be_read(rt: HostRuntime) -> Result<(), Fail> {
+    let text = b"{}\n{\"tx\":1,\"end\":\"commit\",\"ops\":[]}\n";
+    let mut reader = MemSource::new(text, 3, Some(2));
+    let mut writer = MemSink::new(rt.alloc(), 100)?;
+    let ended = check(
+        rt.alloc(),
+        &mut reader,
+        &mut writer,
+        Options { order: false },
+    );
+    assert!(rt; ended == Ok(Outcome::Unreadable));
+    assert_eq!(rt; writer.bytes(), b"! L1 line 1\n".as_slice());
+    Ok(())
+}

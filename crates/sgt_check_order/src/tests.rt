@@ -121,3 +121,34 @@ fn tells_of_devices(rt: HostRuntime) -> Result<(), Fail> {
     }
     Ok(())
 }
+
+/// What is answered where a read of the order fails, the first or a later one of two bytes each.
+fn answer_of(
+    alloc: Global,
+    order: &[u8],
+    history: &[u8],
+    fails: u64,
+) -> Result<Vec<u8>, AllocError> {
+    let mut lines = MemSource::new(order, 2, Some(fails));
+    let mut reader = MemSource::new(history, 65_536, None);
+    let mut writer = MemSink::new(alloc, 1_000)?;
+    match check_against(alloc, &mut lines, &mut reader, &mut writer) {
+        Ok(_) => Vec::from_slice(alloc, writer.bytes()),
+        Err(_) => Ok(Vec::new(alloc)),
+    }
+}
+
+#[test]
+fn reads_no_order_behind_a_fault(rt: HostRuntime) -> Result<(), Fail> {
+    let fault = b"{\"tx\":1,\"end\":\"commit\",\"ops\":[[\"r\",\"x\",1]]}\n";
+    let answer = answer_of(rt.alloc(), b"1\n", fault, 1)?;
+    assert_eq!(rt;
+        answer.as_slice(),
+        b"no unwritten\nline 1 1 r \"x\" 1\n".as_slice()
+    );
+    let answer = answer_of(rt.alloc(), b"1\n", b"{}\n", 1)?;
+    assert_eq!(rt; answer.as_slice(), b"! L1 line 1\n".as_slice());
+    let answer = answer_of(rt.alloc(), b"8\n\"early\"\n", LATE_AND_EARLY, 2)?;
+    assert_eq!(rt; answer.as_slice(), b"no order\norder line 1\n".as_slice());
+    Ok(())
+}
