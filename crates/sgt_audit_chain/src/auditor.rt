@@ -17,11 +17,11 @@ pub struct ChainAuditor {
 }
 
 impl ChainAuditor {
-    ghost use Rattle.std.specs.Prelude.{◌≡◌, ◌≢◌, ◌-◌, ◌<◌, ◌∷◌, ◌++◌, [], ℕ, List, Option, Err, IfOk, IfNone, IfSome, IsErrOf, OnErr, OnSome, string_bytes};
+    ghost use Rattle.std.specs.Prelude.{◌≡◌, ◌≢◌, ◌-◌, ◌<◌, ◌∷◌, ◌++◌, [], ℕ, List, Option, Err, IfOk, IfNone, IfSome, IsErrOf, OnErr, OnSome, length, string_bytes};
     ghost use Rattle.sgt_cert.specs.Parts.{FitTogether, Parts};
     ghost use Rattle.sgt_cert.specs.Valid.{IsValid};
     ghost use Rattle.sgt_notation.specs.Lines.{ReadFaultIsDue};
-    ghost use Rattle.sgt_audit.specs.Faults.{ReadsNoFurther};
+    ghost use Rattle.sgt_audit.specs.Faults.{BeginsNoneBehind, ReadsNoFurther};
     ghost use Rattle.sgt_audit_chain.specs.Audited.{FollowsIn, HasAudited, HasFault, HoldsHeadline, IsYes, KeepsOf};
 
     /// Before the first bundle.
@@ -75,6 +75,8 @@ impl ChainAuditor {
         ensures err { OnErr result (self.new ≡ self.old) }
         ensures no_further { IfOk result (λ found. IfSome (R.tells reader.old) (λ bytes.
             ReadsNoFurther bytes (R.asked reader.new - R.asked reader.old))) }
+        ensures none_behind { IfOk result (λ _. IfSome (R.tells reader.old) (λ bytes. IfSome (R.tells reader.new)
+            (λ left. BeginsNoneBehind bytes (length left) (R.last reader.new)))) }
         ensures quiet { result ≢ Err EngineFail.ReadFault
             → R.failures reader.new ≡ R.failures reader.old }
         ensures read_fault { IsErrOf result EngineFail.ReadFault

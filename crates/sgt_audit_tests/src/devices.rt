@@ -98,37 +98,51 @@ fn no_read_behind_a_fault(rt: HostRuntime) -> Result<(), Fail> {
     Ok(())
 }
 
-/// What is answered on the text: want of memory as None.
-fn answer(alloc: Global, text: &str) -> Option<Result<Verdict, EngineFail>> {
+/// Texts that are valid, and how many of their transactions are committed and refused.
+const VALID: [(&str, u64, u64); 3] = [
+    (OWN_READ_BEFORE_WRITE, 1, 0),
+    (ONLY_CYCLE, 1, 1),
+    (READER_TORN, 1, 1),
+];
+
+/// What is answered on the text.
+fn answer(alloc: Global, text: &str) -> Result<Verdict, EngineFail> {
     let mut reader = MemSource::new(text.as_bytes(), 65_536, None);
-    match MemSink::new(alloc, 100) {
-        Ok(mut writer) => match audit(alloc, &mut reader, &mut writer) {
-            Err(EngineFail::Memory) => None,
-            other => Some(other),
-        },
-        Err(_) => None,
+    let mut writer = MemSink::new(alloc, 100)?;
+    audit(alloc, &mut reader, &mut writer)
+}
+
+fn yes(committed: u64, refused: u64) -> Verdict {
+    Verdict::Yes {
+        committed,
+        refused,
+        withdrawn: 0,
     }
 }
 
-// Where one growth is refused, one of the three wants memory, and the others have their verdicts.
+// Where no growth is refused, memory is never wanted.
+#[test]
+fn ample_audit(rt: HostRuntime) -> Result<(), Fail> {
+    for (text, committed, refused) in VALID {
+        assert_eq!(rt;
+            answer(rt.alloc(), text),
+            Ok(yes(committed, refused)),
+            "{text}"
+        );
+    }
+    Ok(())
+}
+
+// Where one growth is refused, its audit may want memory. None is refused to the same audit made again, which has its verdict: so one
+// that wanted memory for no refusal would want it twice.
 #[test]
 fn growth_audit(rt: HostRuntime) -> Result<(), Fail> {
-    let mut answered = 0u8;
-    for (text, committed, refused) in [
-        (OWN_READ_BEFORE_WRITE, 1u64, 0u64),
-        (ONLY_CYCLE, 1, 1),
-        (READER_TORN, 1, 1),
-    ] {
-        let verdict = Verdict::Yes {
-            committed,
-            refused,
-            withdrawn: 0,
-        };
-        if let Some(answer) = answer(rt.alloc(), text) {
-            assert!(rt; answer == Ok(verdict));
-            answered = answered.saturating_add(1);
+    for (text, committed, refused) in VALID {
+        let mut found = answer(rt.alloc(), text);
+        if found == Err(EngineFail::Memory) {
+            found = answer(rt.alloc(), text);
         }
+        assert_eq!(rt; found, Ok(yes(committed, refused)), "{text}");
     }
-    assert!(rt; answered >= 2);
     Ok(())
 }

@@ -4,7 +4,7 @@ ghost use Rattle.std.specs.Prelude.{◌≡◌, ◌≢◌, ◌-◌, ◌<◌, ◌�
 ghost use Rattle.std.specs.Io.KnownBytes.{Appends};
 ghost use Rattle.sgt_names.specs.Device.{WritesFront};
 ghost use Rattle.sgt_notation.specs.Lines.{ReadFaultIsDue};
-ghost use Rattle.sgt_audit.specs.Faults.{ReadsNoFurther};
+ghost use Rattle.sgt_audit.specs.Faults.{BeginsNoneBehind, ReadsNoFurther};
 ghost use Rattle.sgt_audit.specs.Verdict.{IsAudited, HandsOutValid, text_of};
 ghost use Rattle.sgt_audit.specs.declared.verdict.Verdict.TheVariants as verdict;
 ghost use Rattle.sgt_serial.specs.Answer.{WroteAnswer, WroteAnswerFront};
@@ -111,6 +111,8 @@ pub fn serial<R: Source, W: Sink>(
         (W.holds writer.new)) }
     ensures no_further { IfOk result (λ outcome. IfSome (R.tells reader.old) (λ bytes.
         ReadsNoFurther bytes (R.asked reader.new - R.asked reader.old))) }
+    ensures none_behind { IfOk result (λ _. IfSome (R.tells reader.old) (λ bytes. IfSome (R.tells reader.new)
+        (λ left. BeginsNoneBehind bytes (length left) (R.last reader.new)))) }
     ensures front { OnErr result
         (WroteAnswerFront (R.tells reader.old) (W.holds writer.old) (W.holds writer.new)) }
     ensures unwritten { IsErrOf result EngineFail.ReadFault → writer.new ≡ writer.old }

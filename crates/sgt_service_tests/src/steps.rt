@@ -134,6 +134,23 @@ fn is_want(answer: Answer) -> bool {
         || answer == Answer::CameBack(ServiceFault::Memory)
 }
 
+/// What is kept of the calls.
+#[derive(Drop)]
+struct Kept {
+    tickets: Vec<Ticket>,
+    wanted: bool,
+}
+
+/// How calls were answered, and how what is left is settled.
+#[derive(Drop)]
+pub struct Run {
+    /// The place of the first call that answers otherwise, among those before an exchange or those behind it.
+    pub wrong: Option<usize>,
+    /// Whether a call wanted memory, and was made again.
+    pub wanted: bool,
+    pub settled: Result<Settled, ServiceFault>,
+}
+
 // The place of the first call that answers otherwise. One that had no memory is made again. There is room for the tickets.
 fn first_wrong<L: Ledger, R: Wait>(
     rt: &R,
@@ -143,19 +160,20 @@ fn first_wrong<L: Ledger, R: Wait>(
     active: &mut Option<Active>,
     site: SiteNo,
     steps: &[(Step, Answer)],
-    tickets: &mut Vec<Ticket>,
+    kept: &mut Kept,
 ) -> Option<usize> {
     for k in 0..steps.len() {
         let (step, expected) = &steps[k];
         let mut found = call(rt, alloc, service, seat, active, site, step);
         if is_want(found) {
+            kept.wanted = true;
             found = call(rt, alloc, service, seat, active, site, step);
         }
         if found != *expected {
             return Some(k);
         }
         if let Answer::Ended(ticket) = found {
-            if tickets.push(ticket).is_err() {
+            if kept.tickets.push(ticket).is_err() {
                 return Some(k);
             }
         }
@@ -163,9 +181,8 @@ fn first_wrong<L: Ledger, R: Wait>(
     None
 }
 
-/// Which of the calls is the first that answers otherwise, and how what is left is settled, whose one job was told all tickets.
-/// Between the first calls and the others another site may be put in the place of site 0. None: there was no memory before
-/// the first call.
+/// Makes the calls, and settles what is left, whose one job was told all tickets. Between the first calls and the others another
+/// site may be put in the place of site 0. None: there was no memory before the first call.
 pub fn stepped<L: Ledger, R: Wait>(
     rt: &R,
     alloc: Global,
@@ -174,14 +191,17 @@ pub fn stepped<L: Ledger, R: Wait>(
     steps: &[(Step, Answer)],
     exchanged: Option<Site>,
     others: &[(Step, Answer)],
-) -> Option<(Option<usize>, Result<Settled, ServiceFault>)>
+) -> Option<Run>
     requires { (blank.name ≡ L.name) × (blank.parts ≡ L.parts) × (blank.parts ≡ 1) }
 {
     if sites.is_empty() || sites.len() > 64 {
         return None;
     }
     let site = SiteNo::new(0).ok()?;
-    let mut tickets = Vec::with_capacity(alloc, 8).ok()?;
+    let mut kept = Kept {
+        tickets: Vec::with_capacity(alloc, 8).ok()?,
+        wanted: false,
+    };
     let mut dones = Vec::with_capacity(alloc, 1).ok()?;
     let (service, mut seats) = Service::<L, _>::new(alloc, blank, sites, 1, NoGate).ok()?;
     let mut wrong = None;
@@ -195,7 +215,7 @@ pub fn stepped<L: Ledger, R: Wait>(
             &mut active,
             site,
             steps,
-            &mut tickets,
+            &mut kept,
         );
         if let Some(other) = exchanged {
             exchange(rt, &service, other);
@@ -209,10 +229,11 @@ pub fn stepped<L: Ledger, R: Wait>(
                 &mut active,
                 site,
                 others,
-                &mut tickets,
+                &mut kept,
             );
         }
     }
+    let Kept { tickets, wanted } = kept;
     let done = Done {
         job: 1,
         tickets,
@@ -221,5 +242,9 @@ pub fn stepped<L: Ledger, R: Wait>(
     if dones.push(done).is_err() {
         return None;
     }
-    Some((wrong, settle(alloc, service, dones, seats)))
+    Some(Run {
+        wrong,
+        wanted,
+        settled: settle(alloc, service, dones, seats),
+    })
 }

@@ -2,7 +2,7 @@
 //! that are refused.
 
 use crate::given::{other_site, sites_of};
-use crate::steps::{Answer, Step, stepped};
+use crate::steps::{Answer, Run, Step, stepped};
 use sgt_audit::{Verdict, audit};
 use sgt_certifier::CertifierFault;
 use sgt_names::{Entry, Holding, Item, MemSink, MemSource, SiteNo, Tx};
@@ -51,7 +51,14 @@ fn closed_window(rt: HostRuntime) -> Result<(), Fail> {
     let sites = sites_of(alloc, &["site 0 x=5"]).ok_or("no sites")?;
     let blank = Blank::new(1);
     let run = stepped::<Brand, _>(&rt, alloc, blank, sites.as_slice(), &steps, None, &[]);
-    let Some((None, Ok(settled))) = &run else {
+    let Some(
+        Run {
+            wrong: None,
+            wanted: false,
+            settled: Ok(settled),
+        },
+    ) = &run
+    else {
         panic!(rt; "another answer, or not settled");
     };
     let expected = Verdict::Yes {
@@ -77,7 +84,14 @@ fn withdrawn(rt: HostRuntime) -> Result<(), Fail> {
     let sites = sites_of(alloc, &["site 0 x=5"]).ok_or("no sites")?;
     let blank = Blank::new(1);
     let run = stepped::<Brand, _>(&rt, alloc, blank, sites.as_slice(), &steps, None, &[]);
-    let Some((None, Ok(settled))) = &run else {
+    let Some(
+        Run {
+            wrong: None,
+            wanted: false,
+            settled: Ok(settled),
+        },
+    ) = &run
+    else {
         panic!(rt; "another answer, or not settled");
     };
     let read = Entry::Read {
@@ -108,7 +122,14 @@ fn left_active(rt: HostRuntime) -> Result<(), Fail> {
     let sites = sites_of(alloc, &["site 0 x=5"]).ok_or("no sites")?;
     let blank = Blank::new(1);
     let run = stepped::<Brand, _>(&rt, alloc, blank, sites.as_slice(), &steps, None, &[]);
-    let Some((None, Err(fault))) = &run else {
+    let Some(
+        Run {
+            wrong: None,
+            wanted: false,
+            settled: Err(fault),
+        },
+    ) = &run
+    else {
         panic!(rt; "another answer, or settled");
     };
     assert_eq!(rt; *fault, left);
@@ -145,12 +166,16 @@ fn other_history(rt: HostRuntime) -> Result<(), Fail> {
         Some(other),
         &others,
     );
-    assert!(rt; matches!(&run, Some((None, _))));
+    let Some(run) = run else {
+        panic!(rt; "no memory");
+    };
+    assert!(rt; run.wrong.is_none() && !run.wanted);
     Ok(())
 }
 
-// Memory is refused under `rt try --test --fail-alloc 1..` alone, once: then the call is made again, and where it was refused before the
-// first of them, all of it.
+// Where one growth is refused, a run may want memory: then the call is made again, and only a refusal before the first call, or behind the
+// last one, ends it. None is refused to the other of two runs, which has each answer at once: so a call that wanted memory for no refusal
+// would want it in both.
 #[test]
 fn growth_service(rt: HostRuntime) -> Result<(), Fail> {
     let alloc = rt.alloc();
@@ -164,18 +189,31 @@ fn growth_service(rt: HostRuntime) -> Result<(), Fail> {
         (Step::Put(y, 8), Answer::Kept),
         (Step::Commit, ended(1, two, Ending::Committed)),
     ];
-    let mut ran = false;
+    let expected = Verdict::Yes {
+        committed: 2,
+        refused: 0,
+        withdrawn: 0,
+    };
+    let mut at_once = false;
     for _ in 0..2 {
         let Some(sites) = sites_of(alloc, &["site 0 x=5 y=0"]) else {
             continue;
         };
         let blank = Blank::new(1);
         let run = stepped::<Brand, _>(&rt, alloc, blank, sites.as_slice(), &steps, None, &[]);
-        if let Some((wrong, _)) = &run {
-            assert_eq!(rt; *wrong, None);
-            ran = true;
+        let Some(run) = run else {
+            continue;
+        };
+        assert_eq!(rt; run.wrong, None);
+        match run.settled {
+            Ok(settled) => {
+                let verdict = verdict_on(alloc, &settled);
+                assert!(rt; verdict.is_none() || verdict == Some(expected));
+                at_once = at_once || (!run.wanted && verdict.is_some());
+            }
+            Err(fault) => assert_eq!(rt; fault, ServiceFault::Memory),
         }
     }
-    assert!(rt; ran);
+    assert!(rt; at_once);
     Ok(())
 }
