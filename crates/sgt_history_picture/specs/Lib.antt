@@ -1,0 +1,4 @@
+pub mod Drawn
+pub mod Label
+pub mod Told
+pub mod Words
