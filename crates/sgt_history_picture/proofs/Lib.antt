@@ -1,2 +1,4 @@
+pub mod Cycles
 pub mod Growing
+pub mod Steps
 pub mod Words

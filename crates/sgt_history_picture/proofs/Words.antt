@@ -1,6 +1,7 @@
 -- Words of a line are found in one way.
-use Rattle.std.proofs.Common.{◌≡◌, ◌≢◌, ◌++◌, ℕ, List, [], ◌∷◌, refl, sym, ap, ap₂, ◌∙◌, subst}
-use Rattle.sgt_names.proofs.Lists.{heads, tails}
+use Rattle.std.proofs.Common.{◌≡◌, ◌≢◌, ◌+◌, ◌++◌, ℕ, List, [], ◌∷◌, Some, take, refl, sym, ap, ap₂, ◌∙◌, subst}
+use Rattle.std.specs.Prelude.{slice_get}
+use Rattle.sgt_names.proofs.Lists.{heads, tails, take_next}
 use Rattle.sgt_history_picture.specs.Words.{HasNoGap, IsWord, after, next}
 use Rattle.sgt_history_picture.specs.declared.word.Place.{Place}
 use Rattle.sgt_history_picture.specs.declared.word.Place.TheVariants.{Outside}
@@ -31,3 +32,12 @@ one-word place (b ∷ word) (d ∷ word') rest rest' none ends none' ends' same 
         (subst (λ (x : ℕ). after (next place x) word' ≡ Outside) (sym head) ends')
         (tails b d (word ++ 32 ∷ rest) (word' ++ 32 ∷ rest') same) in
     (ap₂ (λ z zs. z ∷ zs) head more.0, more.1)
+
+-- one more byte of a text
+pub gap-next : (text : List ℕ) (k b : ℕ) (place now : Place) → slice_get text k ≡ Some b → HasNoGap Outside (take k text) → place ≡ after Outside (take k text)
+    → (place ≡ Outside → b ≢ 32) → now ≡ next place b → HasNoGap Outside (take (k + 1) text) × (now ≡ after Outside (take (k + 1) text))
+gap-next text k b place now at none stands last is =
+    let more = sym (take_next text k b at) in (
+      subst (HasNoGap Outside) more (gap-push Outside (take k text) b none (λ ends. last (stands ∙ ends))),
+      is ∙ ap (λ (p : Place). next p b) stands ∙ sym (after-push Outside (take k text) b) ∙ ap (after Outside) more,
+    )

@@ -1,6 +1,6 @@
 //! The cycle that an answer tells.
 
-ghost use Rattle.std.specs.Prelude.{◌≡◌, ◌↔◌, ℕ, List, map, IfOk, IfNone, IfSome, IsTrue};
+ghost use Rattle.std.specs.Prelude.{◌≡◌, ◌≢◌, ◌↔◌, ◌++◌, ℕ, List, map, IfOk, IfNone, IfSome, IsTrue, MatchOption};
 ghost use Rattle.sgt_history_picture.specs.Told.{AreTold, IsCircle, IsCycleTold, Step, step_of};
 
 use crate::told::{Told, told_in};
@@ -35,21 +35,36 @@ fn steps_in<'a>(alloc: Global, text: &'a [u8]) -> Result<Option<Vec<Told<'a>>>, 
     }
 }
 
+/// Whether two names are the same.
+fn are_same(first: &[u8], second: &[u8]) -> bool
+    ensures { IsTrue result ↔ (first.now ≡ second.now) }
+{
+    first == second
+}
+
 /// Whether the steps lead round.
 fn is_circle(steps: &[Told<'_>]) -> bool
     ensures { IsTrue result ↔ IsCircle (map step_of steps.now) }
 {
-    if steps.is_empty() {
+    let Some((first, rest)) = steps.split_first() else {
         return false;
-    }
-    let mut at = steps[0].from;
-    for step in steps {
-        if step.from != at {
+    };
+    let mut at = first.to;
+    for step in rest {
+        if !are_same(step.from, at) {
             return false;
         }
         at = step.to;
     }
-    at == steps[0].from
+    are_same(at, first.from)
+}
+
+/// What stands behind this word at the front.
+fn behind<'a>(text: &'a [u8], word: &[u8]) -> Option<&'a [u8]>
+    ensures { MatchOption result ((rest : List ℕ) → text.entry.now ≢ word.now ++ rest)
+        (λ rest. text.entry.now ≡ word.now ++ rest.now) }
+{
+    text.strip_prefix(word)
 }
 
 /// The cycle that an answer tells.
@@ -57,7 +72,7 @@ pub(crate) fn cycle_in<'a>(alloc: Global, answer: &'a [u8]) -> Result<Option<Cyc
     ensures some { IfOk result (λ r. IfSome r (λ cycle. IsCycleTold answer.now cycle.name.now (map step_of cycle.steps.items))) }
     ensures none { IfOk result (λ r. IfNone r ((name : List ℕ) (steps : List Step) → IsCycleTold answer.now name steps → ⊥)) }
 {
-    let Some(told) = answer.strip_prefix(b"no ") else {
+    let Some(told) = behind(answer, b"no ") else {
         return Ok(None);
     };
     let Some(end) = find_lf(told) else {
