@@ -105,7 +105,7 @@ pub told-behind : (answer told name line behind : List ℕ) (steps : List Step) 
     → IsCycleTold answer name steps → AreTold behind steps × IsCircle steps
 told-behind answer told name line behind steps begins plain cut is =
     let same = cut_at_byte 10 line name behind is.rest (recursion_from_All (λ b. b ≢ 10) line plain) (recursion_from_All (λ b. b ≢ 10) name is.named)
-        (sym cut ∙ behind-no answer told name steps begins is) in
+    (sym cut ∙ behind-no answer told name steps begins is) in
     (subst (λ (t : List ℕ). AreTold t steps) (sym same.1) is.told, is.circle)
 
 -- steps that don't lead round are told there

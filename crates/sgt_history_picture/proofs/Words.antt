@@ -28,9 +28,9 @@ one-word place (b ∷ word) [] rest rest' none ends none' ends' same = absurd (n
 one-word place (b ∷ word) (d ∷ word') rest rest' none ends none' ends' same =
     let head = heads b d (word ++ 32 ∷ rest) (word' ++ 32 ∷ rest') same in
     let more = one-word (next place b) word word' rest rest' none.1 ends
-        (subst (λ (x : ℕ). HasNoGap (next place x) word') (sym head) none'.1)
-        (subst (λ (x : ℕ). after (next place x) word' ≡ Outside) (sym head) ends')
-        (tails b d (word ++ 32 ∷ rest) (word' ++ 32 ∷ rest') same) in
+    (subst (λ (x : ℕ). HasNoGap (next place x) word') (sym head) none'.1)
+    (subst (λ (x : ℕ). after (next place x) word' ≡ Outside) (sym head) ends')
+    (tails b d (word ++ 32 ∷ rest) (word' ++ 32 ∷ rest') same) in
     (ap₂ (λ z zs. z ∷ zs) head more.0, more.1)
 
 -- one more byte of a text

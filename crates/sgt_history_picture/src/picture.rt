@@ -1,9 +1,10 @@
 //! The picture of a cycle: its transactions one below the other, an arrow for each step, and the last one's way back to the first.
 
-ghost use Rattle.std.specs.Prelude.{◌≡◌, ◌++◌, [], List, ℕ, IfNone, IfOk, IfSome, OnOk, map};
+ghost use Rattle.std.specs.Prelude.{◌≡◌, ◌++◌, List, ℕ, IfNone, IfOk, IfSome, OnOk, map};
 ghost use Rattle.sgt_draw.specs.Picture.{IsPicture};
-ghost use Rattle.sgt_history_picture.specs.Drawn.{AreDrawn, Grows, IsDrawn, IsPictureOf};
-ghost use Rattle.sgt_history_picture.specs.Label.{label_text};
+ghost use Rattle.sgt_history_picture.specs.Drawn.{AreDrawn, IsPictureOf};
+ghost use Rattle.sgt_history_picture.specs.Label.{box_text, title_text, words_text};
+ghost use Rattle.sgt_history_picture.specs.Private.{ArePut, Grows, IsPut, IsQuiet};
 ghost use Rattle.sgt_history_picture.specs.Told.{IsCycleTold, Step, kind_text, step_of};
 
 use crate::cycle::{Cycle, cycle_in};
@@ -13,17 +14,15 @@ use sgt_draw::{Canvas, Part};
 use std::alloc::{AllocError, Global};
 
 /// What a kind looks like; the first three as `sgt draw` has them.
-fn stroke_of(kind: Kind) -> &'static str {
+fn stroke_of(kind: Kind) -> &'static str
+    ensures { IsQuiet result.now }
+{
     match kind {
-        Kind::WriteRead => "\" fill=\"none\" stroke=\"#0072b2\"><title>",
-        Kind::ReadWrite =>
-            "\" fill=\"none\" stroke=\"#d55e00\" stroke-dasharray=\"8 4\"><title>",
-        Kind::WriteWrite =>
-            "\" fill=\"none\" stroke=\"#007a5a\" stroke-dasharray=\"2 3\"><title>",
-        Kind::Session =>
-            "\" fill=\"none\" stroke=\"#7b3294\" stroke-dasharray=\"10 3 2 3\"><title>",
-        Kind::Moment =>
-            "\" fill=\"none\" stroke=\"#555555\" stroke-dasharray=\"5 2\"><title>",
+        Kind::WriteRead => "\" fill=\"none\" stroke=\"#0072b2\">",
+        Kind::ReadWrite => "\" fill=\"none\" stroke=\"#d55e00\" stroke-dasharray=\"8 4\">",
+        Kind::WriteWrite => "\" fill=\"none\" stroke=\"#007a5a\" stroke-dasharray=\"2 3\">",
+        Kind::Session => "\" fill=\"none\" stroke=\"#7b3294\" stroke-dasharray=\"10 3 2 3\">",
+        Kind::Moment => "\" fill=\"none\" stroke=\"#555555\" stroke-dasharray=\"5 2\">",
     }
 }
 
@@ -75,29 +74,34 @@ fn put_headline(canvas: &mut Canvas, name: &[u8]) -> Result<(), AllocError>
         Part::Markup(": each stands before the next in every order</text>\n"),
         Part::Markup("<text x=\"20\" y=\"42\">ww: write, next write; wr: write, read; "),
         Part::Markup(
-            "rw: read, next write; po: one session; rt: done before the other begins</text>\n",
+            "rw: read, next write; po: one session; rt: done before the other begins</text>",
         ),
     ])
 }
 
-/// A transaction: a box with its id.
-fn put_box(canvas: &mut Canvas, id: &[u8], at: (u64, u64)) -> Result<(), AllocError>
+/// The box of a transaction, as far as its id.
+fn put_box(canvas: &mut Canvas, at: (u64, u64)) -> Result<(), AllocError>
     ensures { OnOk result (Grows canvas.old canvas.new) }
 {
     let (top, boxes) = at;
     canvas.put(&[
         Part::Markup(
-            "<rect rx=\"5\" fill=\"#e8f0f8\" stroke=\"#333333\" height=\"26\" x=\"60\" width=\"",
+            "\n<rect rx=\"5\" fill=\"#e8f0f8\" stroke=\"#333333\" height=\"26\" x=\"60\" width=\"",
         ),
         Part::Number(boxes),
         Part::Markup("\" y=\""),
         Part::Number(top),
         Part::Markup("\"/><text x=\"70\" y=\""),
         Part::Number(top.saturating_add(17)),
-        Part::Markup("\">"),
-        Part::Name(id),
-        Part::Markup("</text>\n"),
+        Part::Markup("\""),
     ])
+}
+
+/// The id in a box.
+fn put_id(canvas: &mut Canvas, id: &[u8]) -> Result<(), AllocError>
+    ensures { OnOk result (canvas.new ≡ canvas.old ++ box_text id.now) }
+{
+    canvas.put(&[Part::Markup(">"), Part::Name(id), Part::Markup("</text>")])
 }
 
 /// The path of a step down to the next box, as far as its title.
@@ -105,7 +109,7 @@ fn put_down(canvas: &mut Canvas, top: u64, kind: Kind) -> Result<(), AllocError>
     ensures { OnOk result (Grows canvas.old canvas.new) }
 {
     canvas.put(&[
-        Part::Markup("<path stroke-width=\"2.5\" marker-end=\"url(#to)\" d=\"M90 "),
+        Part::Markup("\n<path stroke-width=\"2.5\" marker-end=\"url(#to)\" d=\"M90 "),
         Part::Number(top.saturating_add(HIGH)),
         Part::Markup("v38"),
         Part::Markup(stroke_of(kind)),
@@ -117,7 +121,7 @@ fn put_back(canvas: &mut Canvas, top: u64, kind: Kind) -> Result<(), AllocError>
     ensures { OnOk result (Grows canvas.old canvas.new) }
 {
     canvas.put(&[
-        Part::Markup("<path stroke-width=\"2.5\" marker-end=\"url(#to)\" d=\"M60 "),
+        Part::Markup("\n<path stroke-width=\"2.5\" marker-end=\"url(#to)\" d=\"M60 "),
         Part::Number(top.saturating_add(HIGH / 2)),
         Part::Markup("H24V"),
         Part::Number(top_of(0).saturating_add(HIGH / 2)),
@@ -137,11 +141,12 @@ fn put_path(canvas: &mut Canvas, top: u64, kind: Kind, is_last: bool) -> Result<
     }
 }
 
-/// The step, as its line tells it.
-fn put_label(canvas: &mut Canvas, step: &Told<'_>) -> Result<(), AllocError>
-    ensures { OnOk result (canvas.new ≡ canvas.old ++ label_text (step_of step.now)) }
+/// The step, as its line tells it. It is shown where the arrow is pointed at.
+fn put_title(canvas: &mut Canvas, step: &Told<'_>) -> Result<(), AllocError>
+    ensures { OnOk result (canvas.new ≡ canvas.old ++ title_text (step_of step.now)) }
 {
     canvas.put(&[
+        Part::Markup("<title>"),
         Part::Name(step.from),
         Part::Markup(" "),
         Part::Markup(kind_word(step.kind)),
@@ -149,49 +154,56 @@ fn put_label(canvas: &mut Canvas, step: &Told<'_>) -> Result<(), AllocError>
         Part::Name(step.to),
         Part::Markup(" "),
         Part::Name(step.about),
+        Part::Markup("</title>"),
     ])
 }
 
-/// What is read beside an arrow, or below the last box: the kind, and what shows it.
-fn put_words(
-    canvas: &mut Canvas,
-    step: &Told<'_>,
-    top: u64,
-    is_last: bool,
-) -> Result<(), AllocError>
+/// Where the words are beside an arrow, or below the last box.
+fn put_place(canvas: &mut Canvas, top: u64, is_last: bool) -> Result<(), AllocError>
     ensures { OnOk result (Grows canvas.old canvas.new) }
 {
     canvas.put(&[
-        Part::Markup("</title></path>\n<text x=\""),
+        Part::Markup("</path>\n<text x=\""),
         Part::Number(if is_last { 24 } else { 104 }),
         Part::Markup("\" y=\""),
         Part::Number(top.saturating_add(if is_last { 46 } else { 48 })),
-        Part::Markup("\">"),
-        Part::Markup(kind_word(step.kind)),
-        Part::Markup(" "),
-        Part::Name(step.about),
-        Part::Markup("</text>\n"),
+        Part::Markup("\""),
     ])
 }
 
-/// A step: the box of its first transaction, and its arrow. Where that is pointed at, the whole line is shown.
+/// The kind of a step, and what shows it.
+fn put_words(canvas: &mut Canvas, step: &Told<'_>) -> Result<(), AllocError>
+    ensures { OnOk result (canvas.new ≡ canvas.old ++ words_text (step_of step.now)) }
+{
+    canvas.put(&[
+        Part::Markup(">"),
+        Part::Markup(kind_word(step.kind)),
+        Part::Markup(" "),
+        Part::Name(step.about),
+        Part::Markup("</text>"),
+    ])
+}
+
+/// A step: the box of its first transaction, and its arrow.
 fn put_step(
     canvas: &mut Canvas,
     step: &Told<'_>,
     at: (u64, u64),
     is_last: bool,
 ) -> Result<(), AllocError>
-    ensures { OnOk result (IsDrawn (label_text (step_of step.now)) canvas.old canvas.new) }
+    ensures { OnOk result (IsPut (step_of step.now) canvas.old canvas.new) }
 {
-    put_box(canvas, step.from, at)?;
+    put_box(canvas, at)?;
+    put_id(canvas, step.from)?;
     put_path(canvas, at.0, step.kind, is_last)?;
-    put_label(canvas, step)?;
-    put_words(canvas, step, at.0, is_last)
+    put_title(canvas, step)?;
+    put_place(canvas, at.0, is_last)?;
+    put_words(canvas, step)
 }
 
 /// The steps, one below the other.
 fn put_steps(canvas: &mut Canvas, steps: &[Told<'_>], boxes: u64) -> Result<(), AllocError>
-    ensures { OnOk result (AreDrawn (map label_text (map step_of steps.now)) canvas.old canvas.new) }
+    ensures { OnOk result (ArePut (map step_of steps.now) canvas.old canvas.new) }
 {
     for place in 0..steps.len() {
         let is_last = steps.len() - place == 1;
@@ -208,8 +220,7 @@ fn put_steps(canvas: &mut Canvas, steps: &[Told<'_>], boxes: u64) -> Result<(), 
 /// The picture of a cycle.
 fn picture(alloc: Global, cycle: &Cycle<'_>) -> Result<Vec<u8>, AllocError>
     ensures picture { IfOk result (λ text. IsPicture text.items) }
-    ensures drawn { IfOk result
-        (λ text. AreDrawn (map label_text (map step_of cycle.now.steps.items)) [] text.items) }
+    ensures drawn { IfOk result (λ text. AreDrawn text.items (map step_of cycle.now.steps.items)) }
 {
     let mut canvas = Canvas::new(alloc, false)?;
     let steps = cycle.steps.as_slice();
@@ -221,7 +232,7 @@ fn picture(alloc: Global, cycle: &Cycle<'_>) -> Result<Vec<u8>, AllocError>
 }
 
 /// The picture of the cycle that an answer of `sgt check` tells, as SVG: each of its steps is drawn once, in the order in which it is
-/// told. None where it tells no cycle.
+/// told, and no other. None where it tells no cycle.
 pub fn picture_of(alloc: Global, answer: &[u8]) -> Result<Option<Vec<u8>>, AllocError>
     ensures some { IfOk result (λ r. IfSome r (λ text. IsPictureOf answer.now text.items)) }
     ensures none { IfOk result

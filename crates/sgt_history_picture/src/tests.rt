@@ -51,7 +51,11 @@ fn draws_no_other_answer(rt: HostRuntime) -> Result<(), Fail> {
     let alloc = rt.alloc();
     assert!(rt; picture_of(alloc, b"yes 2 committed 0 aborted\n")?.is_none());
     assert!(rt;
-        picture_of(alloc, b"no G1a\nline 2 \"T\" r \"x\" 8 written by \"U\" line 1\n")?.is_none()
+        picture_of(
+            alloc,
+            b"no G1a\nline 2 \"T\" r \"x\" 8 written by \"U\" line 1\n"
+        )?
+        .is_none()
     );
     assert!(rt; picture_of(alloc, b"no order\n\"T\" po \"U\" session 1 lines 2 1\n")?.is_none());
     assert!(rt; picture_of(alloc, b"no G0\n")?.is_none());

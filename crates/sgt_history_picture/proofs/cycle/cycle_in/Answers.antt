@@ -15,7 +15,7 @@ returns-clause-none c = λ name steps is.
     let n = c.in-Some-find_lf.end in
     let cut = c.in-Some-find_lf.ensures.some in
     let range : take (length told - (n + 1)) (drop (n + 1) told) ≡ drop (n + 1) told =
-        take_all (length told - (n + 1)) (drop (n + 1) told) (omega (arith, length-drop (n + 1) told)) in
+    take_all (length told - (n + 1)) (drop (n + 1) told) (omega (arith, length-drop (n + 1) told)) in
     let h = told-behind c.args.answer.now told name (take n told) (drop (n + 1) told) steps c.in-Some.ensures cut.1 cut.2 is in
     let there = subst (λ (t : List ℕ). AreTold t steps) (sym range) h.0 in
     elim c.in_default-2.branch [

@@ -1,8 +1,7 @@
 use Rattle.std.proofs.Common.{map, take}
-use Rattle.sgt_history_picture.specs.Drawn.{AreDrawn}
-use Rattle.sgt_history_picture.specs.Label.{label_text}
+use Rattle.sgt_history_picture.specs.Private.{ArePut}
 use Rattle.sgt_history_picture.specs.Told.{step_of}
 use Rattle.sgt_history_picture.proofs.picture.put_steps.Given as goal
 
 abbrev pub invariant-loop-place : goal.invariant-loop-place
-invariant-loop-place l = AreDrawn (map label_text (map step_of (take l.place l.steps))) l.fn.canvas l.canvas
+invariant-loop-place l = ArePut (map step_of (take l.place l.steps)) l.fn.canvas l.canvas
