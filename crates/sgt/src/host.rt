@@ -7,7 +7,7 @@ use sgt_names::{FromRead, Sink, ToWrite};
 use sgt_program::program;
 use std::fs::File;
 use std::io;
-use std::io::IsTerminal;
+use std::io::{IsTerminal, Write};
 use std::sync::Wait;
 use std::thread::Threads;
 
@@ -29,6 +29,18 @@ pub(crate) fn refuse_file(rt: &HostRuntime, name: &str, why: &io::Error) -> u8 {
         let _ = eprintln!(rt; "sgt: {name}: {why}");
     }
     4
+}
+
+/// Writes the text to a file; the status, where it can't be written.
+pub(crate) fn write_file(rt: &HostRuntime, name: &str, text: &[u8]) -> Option<u8> {
+    let written = match File::create(rt, name) {
+        Ok(mut file) => file.write_all(text),
+        Err(why) => Err(why),
+    };
+    match written {
+        Ok(()) => None,
+        Err(why) => Some(refuse_file(rt, name, &why)),
+    }
 }
 
 // Standard input or a file, which is opened only where it will be read.

@@ -8,6 +8,7 @@ mod folder;
 mod host;
 mod ordinary;
 mod progress;
+mod svg;
 mod talk;
 mod unreadable;
 
@@ -16,6 +17,7 @@ use crate::chain::audit_chain;
 use crate::devices::{Hush, LastWords, Retrying};
 use crate::host::{Host, over};
 use crate::ordinary::{audit_each, judge, run_held};
+use crate::svg::check_drawn;
 use crate::talk::serve_events;
 use crate::unreadable::Watched;
 use sgt_line::Line;
@@ -39,8 +41,8 @@ fn has_word(line: &Line, option: &str) -> bool {
     false
 }
 
-// A word that a check doesn't take, where its words ask for what it can't do: a picture, time or sessions, or an order beside one that
-// is given.
+// A word that a check doesn't take, where its words ask for what it can't do: time or sessions, or an order or a picture beside an order
+// that is given.
 fn unknown(line: &Line) -> Option<&'static str> {
     let is_check = line
         .words
@@ -49,8 +51,8 @@ fn unknown(line: &Line) -> Option<&'static str> {
     if !is_check {
         return None;
     }
-    if line.place.is_some() {
-        return Some("--svg (not in this version)");
+    if line.against.is_some() && line.place.is_some() {
+        return Some("--svg (with --against)");
     }
     if line.against.is_some() && has_word(line, "--order") {
         return Some("--order (with --against)");
@@ -135,6 +137,9 @@ fn run<H: Threads + Wait + Sync>(
     }
     if let (Ok(Choice::Check(_)), Some(order)) = (choice, &line.against) {
         return Ok(judge_order(host, line, order.as_str(), name));
+    }
+    if let (Ok(Choice::Check(_)), Some(place)) = (choice, &line.place) {
+        return check_drawn(host, line, name, place.as_str());
     }
     match choice {
         Ok(Choice::Audit | Choice::AuditWith { .. }) if line.is_chain && !line.files.is_empty() => {

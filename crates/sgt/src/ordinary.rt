@@ -1,11 +1,9 @@
 //! Several files, a bundle that goes to a file, a strict replay, and a status alone.
 
 use crate::devices::{Held, Retrying};
-use crate::host::{Host, over, refuse_file};
+use crate::host::{Host, over, write_file};
 use sgt_line::{Line, cut, strict_status};
 use sgt_names::{EngineFail, MemSink, ToWrite, write_all};
-use std::fs::File;
-use std::io::Write;
 use std::sync::Wait;
 use std::thread::Threads;
 
@@ -47,16 +45,10 @@ fn deliver<H>(host: &Host<'_, H>, line: &Line, text: &[u8]) -> Result<Option<u8>
     if write_all(&mut output, front).is_err() {
         return Err(EngineFail::WriteFault);
     }
-    if let (Some(name), Some(bundle)) = (&line.place, bundle) {
-        let written = match File::create(rt, name.as_str()) {
-            Ok(mut file) => file.write_all(bundle),
-            Err(why) => Err(why),
-        };
-        if let Err(why) = written {
-            return Ok(Some(refuse_file(rt, name.as_str(), &why)));
-        }
+    match (&line.place, bundle) {
+        (Some(name), Some(bundle)) => Ok(write_file(rt, name.as_str(), bundle)),
+        _ => Ok(None),
     }
-    Ok(None)
 }
 
 /// A replay or a run whose bundle has a file of its own, or a strict replay.

@@ -4,7 +4,7 @@ use Rattle.std.specs.List.{All}
 use Rattle.std.proofs.lemmas.Bool.Decides.{eqb_tells}
 use Rattle.std.proofs.lemmas.List.Elements.{All-cons, All-nil, All-map}
 use Rattle.std.proofs.lemmas.List.Folds.{flat_map-map}
-use Rattle.sgt_draw.specs.Escaped.{IsClean, IsEntity, IsPlain, escaped, written_byte}
+use Rattle.sgt_draw.specs.Escaped.{IsClean, IsEntity, IsPlain, written, written_byte}
 
 abbrev IsPiece : List ℕ → Type 0
 IsPiece piece = IsEntity piece ⊎ All IsPlain piece
@@ -44,6 +44,6 @@ pieces : (text : List ℕ) → All (λ b. IsPiece (written_byte b)) text
 pieces [] = All-nil _
 pieces (b ∷ text) = All-cons (λ b. IsPiece (written_byte b)) b text (piece b) (pieces text)
 
-pub escaped-clean : (text : List ℕ) → IsClean (escaped text)
-escaped-clean text =
+pub written-clean : (text : List ℕ) → IsClean (written text)
+written-clean text =
     (map written_byte text, All-map IsPiece written_byte text (pieces text), sym (flat_map-map (λ (p : List ℕ). p) written_byte text))

@@ -1,7 +1,7 @@
 //! The text of a picture: markup, and names and numbers between it.
 
 ghost use Rattle.std.specs.Prelude.{◌≡◌, ◌++◌, ◌∷◌, [], decimal, IfNone, IfOk, IfSome, OnOk};
-ghost use Rattle.sgt_draw.specs.Escaped.{IsClean, escaped, written_byte};
+ghost use Rattle.sgt_draw.specs.Escaped.{IsClean, escaped, mended, mended_byte, written, written_byte};
 ghost use Rattle.sgt_draw.specs.Parts.{part_text, parts_text};
 ghost use Rattle.sgt_draw.specs.Picture.{IsPicture, foot_of, head_of};
 
@@ -53,10 +53,38 @@ fn push_byte(out: &mut Vec<u8>, byte: u8) -> Result<(), AllocError>
     }
 }
 
-/// Writes the text of a name or a number: none of < > & " ' is written but as an entity.
+/// What stands for a byte behind these two: U+FFFD for a control byte, and for U+FFFE and U+FFFF, which XML does not have.
+fn push_mended(out: &mut Vec<u8>, before: u8, last: u8, byte: u8) -> Result<(), AllocError>
+    ensures { OnOk result (out.new.items ≡ out.old.items ++ mended_byte before last byte) }
+{
+    if byte < 32 {
+        return out.extend_from_slice(b"\xef\xbf\xbd");
+    }
+    if before == 0xef && last == 0xbf && byte >= 0xbe {
+        return Ok(out.push(0xbd)?);
+    }
+    Ok(out.push(byte)?)
+}
+
+/// A text of characters that XML has.
+fn mended_text(alloc: Global, text: &[u8]) -> Result<Vec<u8>, AllocError>
+    ensures { IfOk result (λ r. r.items ≡ mended text.now) }
+{
+    let mut out = Vec::new(alloc);
+    let mut before = 0u8;
+    let mut last = 0u8;
+    for byte in text {
+        push_mended(&mut out, before, last, *byte)?;
+        before = last;
+        last = *byte;
+    }
+    Ok(out)
+}
+
+/// Writes a text: none of < > & " ' is written but as an entity.
 fn push_escaped(out: &mut Vec<u8>, text: &[u8]) -> Result<(), AllocError>
-    ensures written { OnOk result (out.new.items ≡ out.old.items ++ escaped text.now) }
-    ensures clean { IsClean (escaped text.now) }
+    ensures written { OnOk result (out.new.items ≡ out.old.items ++ written text.now) }
+    ensures clean { IsClean (written text.now) }
 {
     for byte in text {
         push_byte(out, *byte)?;
@@ -68,8 +96,9 @@ fn push_escaped(out: &mut Vec<u8>, text: &[u8]) -> Result<(), AllocError>
 fn name_text(alloc: Global, name: &[u8]) -> Result<Vec<u8>, AllocError>
     ensures { IfOk result (λ text. text.items ≡ escaped name.now) }
 {
+    let mended = mended_text(alloc, name)?;
     let mut text = Vec::new(alloc);
-    push_escaped(&mut text, name)?;
+    push_escaped(&mut text, mended.as_slice())?;
     Ok(text)
 }
 
@@ -117,6 +146,8 @@ impl Model for Canvas {
 }
 
 impl Canvas {
+    ghost use Rattle.std.specs.Prelude.{Bool};
+
     /// The head of Graphviz text, or of SVG.
     pub fn new(alloc: Global, is_dot: bool) -> Result<Canvas, AllocError>
         ensures { IfOk result (λ canvas. canvas ≡ head_of is_dot) }
@@ -156,7 +187,8 @@ impl Canvas {
 
     /// The text with its foot.
     pub fn into_text(self) -> Result<Vec<u8>, AllocError>
-        ensures { IfOk result (λ text. IsPicture text.items) }
+        ensures picture { IfOk result (λ text. IsPicture text.items) }
+        ensures whole { IfOk result (λ text. (is_dot : Bool) × (text.items ≡ self ++ foot_of is_dot)) }
     {
         let mut text = self.text;
         text.extend_from_slice(foot(self.is_dot).as_bytes())?;

@@ -11,4 +11,5 @@ mod marks;
 mod scene;
 mod svg;
 
+pub use canvas::{Canvas, Part};
 pub use engine::{Wanted, draw};

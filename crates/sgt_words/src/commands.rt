@@ -46,7 +46,7 @@ const REPLAY_USAGE: &str =
 const SERVE_USAGE: &str = "sgt serve [--bundles DIR] [FILE]\n  e.g. sgt serve --bundles bundles";
 
 const CHECK_USAGE: &str =
-    "sgt check [--order] [-q] [--progress] [FILE]\n       sgt check --against ORDER [-q] [FILE]\n  e.g. sgt check history.jsonl";
+    "sgt check [--order] [--svg FILE] [-q] [--progress] [FILE]\n       sgt check --against ORDER [-q] [FILE]\n  e.g. sgt check history.jsonl";
 
 const CERTIFY_USAGE: &str = "sgt certify [FILE]\n  e.g. sgt certify logs.txt > bundle.txt";
 
@@ -259,9 +259,14 @@ fn full_check<'a>(alloc: Global) -> Result<Command<'a>, AllocError> {
         .long("against")
         .value_name("ORDER")
         .help("Judges the order in this file, an id a line as --order writes it");
+    let svg = Arg::new(alloc, "svg")
+        .long("svg")
+        .value_name("FILE")
+        .help("Draws the circle of a no in this file, as SVG; without a circle it stays as it is");
     check_line(alloc)?
         .arg(file(alloc))?
         .arg(against)?
+        .arg(svg)?
         .arg(quiet(alloc))?
         .arg(progress(alloc))
 }

@@ -1,8 +1,8 @@
-use Rattle.sgt_draw.proofs.Clean.{escaped-clean}
+use Rattle.sgt_draw.proofs.Clean.{written-clean}
 use Rattle.sgt_draw.proofs.canvas.push_escaped.Goals as goal
 
 pub returns-in_err-push_byte-clause-clean : goal.returns-in_err-push_byte-clause-clean
-returns-in_err-push_byte-clause-clean c = escaped-clean c.args.text.now
+returns-in_err-push_byte-clause-clean c = written-clean c.args.text.now
 
 pub returns-clause-clean : goal.returns-clause-clean
-returns-clause-clean c = escaped-clean c.args.text.now
+returns-clause-clean c = written-clean c.args.text.now

@@ -1,0 +1,5 @@
+pub mod Cycles
+pub mod Growing
+pub mod Quiet
+pub mod Steps
+pub mod Words

@@ -1,0 +1,24 @@
+-- What is drawn of a cycle.
+use Rattle.std.specs.Prelude.{◌≡◌, ◌≢◌, ℕ, List, [], ◌∷◌, ◌++◌, codes}
+use Rattle.sgt_draw.specs.Picture.{IsPicture}
+use Rattle.sgt_history_picture.specs.Label.{box_text, title_text, words_text}
+use Rattle.sgt_history_picture.specs.Told.{IsCycleTold, Step}
+
+-- no title begins in the text
+abbrev pub HasNoTitle : List ℕ → Type 0
+HasNoTitle text = (front behind : List ℕ) → text ≢ front ++ (codes "<title>" ++ behind)
+
+-- these steps, one behind the other, each with a box, a title and words, and no title but theirs
+abbrev pub AreDrawn : List ℕ → List Step → Type 0
+AreDrawn text [] = HasNoTitle text
+AreDrawn text (s ∷ steps) = (front : List ℕ) × (arrow : List ℕ) × (gap : List ℕ) × (behind : List ℕ)
+    × (text ≡ front ++ (box_text s.from ++ (arrow ++ (title_text s ++ (gap ++ (words_text s ++ behind))))))
+    × HasNoTitle front × HasNoTitle arrow × HasNoTitle gap × AreDrawn behind steps
+
+-- a picture of the cycle that the answer tells: each of its steps is drawn once, in this order, and no other
+pub record IsPictureOf (answer text : List ℕ) : Type 0 where
+  pub name : List ℕ
+  pub steps : List Step
+  pub told : IsCycleTold answer name steps
+  pub picture : IsPicture text
+  pub drawn : AreDrawn text steps

@@ -1,0 +1,20 @@
+-- How a step of a cycle is written in a picture. What isn't markup is escaped.
+use Rattle.std.specs.Prelude.{ℕ, List, ◌++◌, codes}
+use Rattle.sgt_draw.specs.Escaped.{escaped}
+use Rattle.sgt_history_picture.specs.Told.{Step, kind_text}
+
+-- its line
+abbrev pub label_text : Step → List ℕ
+label_text s = escaped s.from ++ (codes " " ++ (kind_text s.kind ++ (codes " " ++ (escaped s.to ++ (codes " " ++ escaped s.about)))))
+
+-- the name in the box of its first transaction
+abbrev pub box_text : List ℕ → List ℕ
+box_text name = codes ">" ++ (escaped name ++ codes "</text>")
+
+-- the title of its arrow
+abbrev pub title_text : Step → List ℕ
+title_text s = codes "<title>" ++ (label_text s ++ codes "</title>")
+
+-- the words beside its arrow: the kind, and what shows it
+abbrev pub words_text : Step → List ℕ
+words_text s = codes ">" ++ (kind_text s.kind ++ (codes " " ++ (escaped s.about ++ codes "</text>")))

@@ -1,0 +1,44 @@
+-- A picture as far as it is made.
+use Rattle.std.specs.Prelude.{◌≡◌, ◌==◌, ℕ, List, [], ◌∷◌, ◌++◌, if◌then◌else◌}
+use Rattle.sgt_history_picture.specs.Label.{box_text, title_text, words_text}
+use Rattle.sgt_history_picture.specs.Told.{Step}
+
+-- how much of `<ti` a text ends with, or that it stands somewhere in it
+pub data Seen : Type 0 where
+  Elsewhere : Seen
+  Bracket : Seen
+  Letter : Seen
+  Found : Seen
+
+abbrev pub seen : Seen → ℕ → Seen
+seen Elsewhere b = if b == 60 then Bracket else Elsewhere
+seen Bracket b = if b == 116 then Letter else if b == 60 then Bracket else Elsewhere
+seen Letter b = if b == 105 then Found else if b == 60 then Bracket else Elsewhere
+seen Found b = Found
+
+abbrev pub sees : Seen → List ℕ → Seen
+sees so_far [] = so_far
+sees so_far (b ∷ text) = sees (seen so_far b) text
+
+-- `<ti` neither stands in the text nor begins at its end
+abbrev pub IsQuiet : List ℕ → Type 0
+IsQuiet text = sees Elsewhere text ≡ Elsewhere
+
+-- such a text stands behind what there was
+abbrev pub Grows : (old new : List ℕ) → Type 0
+Grows old new = (rest : List ℕ) × (new ≡ old ++ rest) × IsQuiet rest
+
+-- the step stands there
+pub record IsPut (s : Step) (old new : List ℕ) : Type 0 where
+  pub front : List ℕ
+  pub arrow : List ℕ
+  pub gap : List ℕ
+  pub is : new ≡ old ++ (front ++ (box_text s.from ++ (arrow ++ (title_text s ++ (gap ++ words_text s)))))
+  pub quiet_front : IsQuiet front
+  pub quiet_arrow : IsQuiet arrow
+  pub quiet_gap : IsQuiet gap
+
+-- these steps stand there, and what is quiet behind them
+abbrev pub ArePut : List Step → (old new : List ℕ) → Type 0
+ArePut [] old new = Grows old new
+ArePut (s ∷ steps) old new = (between : List ℕ) × IsPut s old between × ArePut steps between new

@@ -1,0 +1,12 @@
+//! A cycle of a history's transactions, drawn from the answer that tells it.
+#![tactic(auto)]
+
+mod cycle;
+mod picture;
+mod places;
+#[cfg(test)]
+mod tests;
+mod told;
+mod word;
+
+pub use picture::picture_of;
