@@ -30,19 +30,19 @@ PROGRAM = r"""//! Runs the scripts of standard input on new services, and says h
 #![tactic(auto)]
 
 ghost use Rattle.std.specs.Prelude.{◌≡◌, ◌≤◌};
+ghost use Rattle.sgt_service_locks.specs.Ledgers.{AreOf};
 
 use anyhow::Error;
 use sgt_names::{FromRead, Holding, Listed};
 use sgt_notation::Script;
 use sgt_service::{Input, Reading, read_input, run, settle};
-use sgt_service_locks::Service;
+use sgt_service_locks::{Blanks, Ledgers, Service};
 use sgt_workers::NoGate;
 use std::alloc::{AllocError, Global};
 use std::env;
 use std::marker::Brand;
 use std::rt::Clock;
 use std::sync::Wait;
-use std::sync::ledger::{Blank, Ledger};
 use std::thread::Threads;
 use std::time::Instant;
 
@@ -55,20 +55,20 @@ struct Times {
 }
 
 // The scripts on a service of these sites, run by so many workers with four tries each, and settled.
-fn timed<L: Ledger + Send + Sync, R: Threads + Wait + Clock + Sync>(
+fn timed<L: Ledgers + Send + Sync, R: Threads + Wait + Clock + Sync>(
     rt: &R,
     alloc: Global,
-    blank: Blank,
+    blanks: Blanks,
     workers: u64,
     sites: &[Listed<Holding>],
     scripts: &[Script],
 ) -> Option<Times>
-    requires { (blank.name ≡ L.name) × (blank.parts ≡ L.parts) × (blank.parts ≡ workers) × (1 ≤ workers) }
+    requires { AreOf L.name L.begins L.parts blanks × (L.parts ≡ workers) × (1 ≤ workers) }
 {
     if sites.len() > 64 {
         return None;
     }
-    let (service, seats) = Service::<L, _>::new(alloc, blank, sites, workers, NoGate).ok()?;
+    let (service, seats) = Service::<L, _>::new(alloc, blanks, sites, workers, NoGate).ok()?;
     let start = Instant::now(rt).ok()?;
     let (dones, seats) = run(rt, alloc, &service, seats, scripts, 4).ok()?;
     let run = start.elapsed(rt).ok()?.as_nanos();
@@ -120,7 +120,7 @@ fn main(rt: HostRuntime) -> Result<(), Error> {
         let times = timed::<Brand, _>(
             &rt,
             alloc,
-            Blank::new(seats),
+            Blanks::new(seats),
             seats,
             items.as_slice(),
             scripts.as_slice(),
@@ -140,8 +140,11 @@ fn main(rt: HostRuntime) -> Result<(), Error> {
 
 GHOSTS = """use Rattle.run_load.proofs.main.Given as goal
 
-abbrev pub ghosts-timed : goal.ghosts-timed
-ghosts-timed g a = record { name = a.blank.name; parts = a.blank.parts }
+abbrev pub ghosts-timed-L-Ledger : goal.ghosts-timed-L-Ledger
+ghosts-timed-L-Ledger g a = record { name = a.blanks.decisions.name; parts = a.blanks.decisions.parts }
+
+abbrev pub ghosts-timed-L-Ledgers : goal.ghosts-timed-L-Ledgers
+ghosts-timed-L-Ledgers g a = record { begins = a.blanks.begins.name }
 """
 
 

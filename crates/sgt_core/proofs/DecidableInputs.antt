@@ -14,7 +14,7 @@ use Rattle.sgt_notation.proofs.Decidable.{Decidable, decidable-as, decidable-bot
 use Rattle.sgt_core.specs.declared.input.Input.{Input}
 use Rattle.sgt_core.specs.Input.{Begins, IsBegun, input_lines}
 use Rattle.sgt_core.proofs.SearchedEvents.{searched-events}
-use Rattle.sgt_core.proofs.SearchedSites.{searched-site_lines}
+use Rattle.sgt_input.proofs.SearchedSites.{searched-site_lines}
 
 -- ---- lines of sites
 

@@ -2,9 +2,7 @@ pub mod DecidableInputs
 pub mod OneInput
 pub mod OneText
 pub mod PlayedLines
-pub mod ReadOrNot
 pub mod Running
 pub mod SearchedEvents
-pub mod SearchedSites
 pub mod Unreadable
 pub mod Writing

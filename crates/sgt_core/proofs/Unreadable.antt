@@ -18,7 +18,7 @@ use Rattle.sgt_input.proofs.SiteLines.{site-plain}
 use Rattle.sgt_input.proofs.Unreadable as any
 use Rattle.sgt_input.proofs.Unreadable.{AreInputs, IsPlain}
 use Rattle.sgt_core.proofs.DecidableInputs.{known-begins}
-use Rattle.sgt_core.proofs.ReadOrNot.{read-or_not}
+use Rattle.sgt_input.proofs.ReadOrNot.{read-or_not}
 use Rattle.sgt_core.specs.declared.input.Input.{Input}
 use Rattle.sgt_core.specs.Input.{Begins, FirstUnreadable, IsBegun, IsInput, Spells, input_lines}
 use Rattle.sgt_core.specs.Replay.{IsAnswer, TellsUnreadable}

@@ -147,7 +147,7 @@ module _ (m : Parts) (c : CoreState) (s : StandsFor m c) (tx slot : ℕ) (h : Is
     decided_place : (t : ℕ) (p : Place) → slice_get m.places t ≡ Some p → IsPlace n d t p
     decided_place t p at =
         let is = s.places t p at in
-        record { number = is.number; entries = is.entries; handles = λ i member. handle_stays i (is.handles i member); part = decided_part t p p.part is.part }
+        record { number = is.number; entries = is.entries; handles = λ i member. handle_stays i (is.handles i member); apart = is.apart; part = decided_part t p p.part is.part }
 
     open_there : (o : Option Open) → IsStep m c o → (q : Open) → o ≡ Some q → IsStep n d (Some (record { tx = tx; phase = phase_after reply }))
     open_there None is q e = absurd cc
@@ -227,7 +227,7 @@ module _ (m : Parts) (c : CoreState) (s : StandsFor m c) (tx slot : ℕ) (h : Is
     ended_place : (t : ℕ) (p : Place) → slice_get m.places t ≡ Some p → IsPlace b f t p
     ended_place t p at =
         let is = s.places t p at in
-        record { number = is.number; entries = is.entries; handles = λ i member. handle_stays i (is.handles i member); part = ended_part t p at p.part refl is.part }
+        record { number = is.number; entries = is.entries; handles = λ i member. handle_stays i (is.handles i member); apart = is.apart; part = ended_part t p at p.part refl is.part }
 
     nowhere_due : (t : ℕ) → v.due t ≡ []
     nowhere_due t = elim (cases_Bool (touches c tx t)) [

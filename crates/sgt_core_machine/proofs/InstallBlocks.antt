@@ -39,6 +39,7 @@ use Rattle.sgt_core_model.proofs.Kept.{IsKept, IsRead}
 use Rattle.sgt_core_model.proofs.Entries.{as_wants}
 use Rattle.sgt_core_model.proofs.Faults.{is_in-Decides}
 use Rattle.sgt_core_model.proofs.LegalSteps.{only_here, only_there, cleared_here, cleared_there}
+use Rattle.sgt_core_machine.proofs.OwnHandles.{own_by}
 use Rattle.sgt_core_machine.proofs.Standing.{reached_kept}
 use Rattle.sgt_core_machine.proofs.Noting.{install_noted}
 
@@ -350,6 +351,7 @@ module _ (m : Parts) (c : CoreState) (s : StandsFor m c) (verdict : Verdict) (tx
       number = g.number;
       entries = ap (λ es. c.entries u ++ es) (only_there t (c.due t) u ne) ∙ (append-nil (c.entries u) ∙ g.entries);
       handles = λ i member. handle_stays c.certifier d.certifier d.certifier.installs same_state i (g.handles i member);
+      apart = g.apart;
       part = part_elsewhere u ne v v.part g.part;
     }
 
@@ -360,6 +362,7 @@ module _ (m : Parts) (c : CoreState) (s : StandsFor m c) (verdict : Verdict) (tx
       entries = ap (λ es. c.entries t ++ es) (only_here t (c.due t) ∙ block) ∙ ap (λ es. es ++ block_by verdict tx (writing_in (at_site p.site.number r.draft.touched))) at_t.entries;
       handles = λ i member. handle_stays c.certifier d.certifier d.certifier.installs same_state i
           (handles_by verdict c.certifier tx slot r.handle p.site.installed decided_so.committed (w.number ∙ ap (λ b. suc (b + slot)) (sym s.before)) own.handle at_t.handles i member);
+      apart = own_by c.certifier tx slot r.handle p.site.installed (w.number ∙ ap (λ b. suc (b + slot)) (sym s.before)) own.handle at_t.handles at_t.apart verdict;
       part = record {
         place = slot;
         running = r;

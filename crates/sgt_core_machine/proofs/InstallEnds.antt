@@ -108,7 +108,7 @@ module _ (m : Parts) (c : CoreState) (s : StandsFor m c) (verdict : Verdict) (tx
           let is : v ≡ record found.0 { part = Idle } = ends.places.each u found.0 v found.1 at in
           let g = places u found.0 found.1 in
           let clear = nothing_due u found.0 found.0.part (not_due u found.0 found.1) g.part in
-          subst (IsPlace e f u) (sym is) (record { number = g.number; entries = g.entries; handles = g.handles; part = (clear.0, refl, λ member. nil_none u member) })
+          subst (IsPlace e f u) (sym is) (record { number = g.number; entries = g.entries; handles = g.handles; apart = g.apart; part = (clear.0, refl, λ member. nil_none u member) })
 
       freed : Contains f.certifier.active (suc (n.before + slot)) → ⊥
       freed member =

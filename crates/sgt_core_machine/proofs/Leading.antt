@@ -24,13 +24,14 @@ use Rattle.sgt_site.specs.Refused.{MayPledge}
 use Rattle.sgt_site.proofs.Appends.{chosen_from, count_before}
 use Rattle.sgt_order.specs.Graph.{Reaches}
 use Rattle.sgt_edges.specs.declared.edge.Edge.{Edge}
-use Rattle.sgt_edges.specs.Edges.{IsEdge, IsOldEdge, IsGiven, Walks, given, old, on, StandsForAll, IsActive, IsConflict}
+use Rattle.sgt_edges.specs.Edges.{IsEdge, IsOldEdge, IsGiven, Walks, given, old, on, StandsForAll, AreApart, IsActive, IsConflict}
 use Rattle.sgt_edges.specs.Edges as edges
 use Rattle.sgt_edges.proofs.Logged.{edge_is, conflict_is}
+use Rattle.sgt_edges.proofs.Once.{no-edges}
 use Rattle.sgt_certifier.specs.Certifier.{State, Arc, Joins, Ruling, committed, ruled}
 use Rattle.sgt_certifier.specs.History.{tx_under, arcs_of, IsKnown, Fits}
 use Rattle.sgt_certifier.specs.Sound.{IsRuled}
-use Rattle.sgt_certifier.proofs.Members.{cons_cases, cons_here, cons_later, nil_none, filter_member, member_filter, place_cases}
+use Rattle.sgt_certifier.proofs.Members.{AllPairs-append, cons_cases, cons_here, cons_later, nil_none, filter_member, member_filter, place_cases}
 use Rattle.sgt_certifier.proofs.Ruling.{map_place, place_map}
 use Rattle.sgt_core_machine.specs.declared.machine.Place.{Place}
 use Rattle.sgt_core_machine.specs.declared.machine.Running.{Running}
@@ -159,7 +160,8 @@ followed_older before tx es cs late w = record {
 module _ (m : Parts) (c : CoreState) (k : IsKept c) (carries : Carries m.certifier c.certifier) (same_before : c.certifier.before ≡ m.before)
     (undecided : c.certifier.step ≡ None) (tx slot : ℕ) (number : tx ≡ suc (m.before + slot)) (r : Running) (own : IsRunning c m.before slot r)
     (t : ℕ) (p : Place) (place : IsPlace m c t p) (site : IsSite p.site) (may : MayPledge p.site tx r.draft.touched)
-    (more : List Edge) (gave : All (IsGiven p.site r.draft.touched r.handle) more) (stand : StandsForAll p.site r.draft.touched r.handle more) where
+    (more : List Edge) (gave : All (IsGiven p.site r.draft.touched r.handle) more) (stand : StandsForAll p.site r.draft.touched r.handle more) (differ : AreApart more)
+    (fresh : Contains (gathered_in c.step) t → ⊥) where
   abbrev s : State
   s = c.certifier
 
@@ -459,6 +461,12 @@ module _ (m : Parts) (c : CoreState) (k : IsKept c) (carries : Carries m.certifi
         | inl old_edge ↦ h.forward e old_edge from
         | inr new_edge ↦ forward_of e new_edge (from ∙ sym handle_is) ∙ ap (λ (st : State). st.generation) carries.same
       ];
+      here = λ e member. elim (Contains-append_cases before_edges more e member) [
+        | inl old_edge ↦ cons_later t (gathered_in c.step) e.label.site (h.here e old_edge)
+        | inr new_edge ↦ subst (Contains (t ∷ gathered_in c.step)) (sym (label_site e new_edge)) (cons_here t (gathered_in c.step))
+      ];
+      once = AllPairs-append (λ e f. e ≢ f) before_edges more h.once differ (λ e f old_edge new_edge same.
+          fresh (subst (Contains (gathered_in c.step)) (ap (λ (d : Edge). d.label.site) same ∙ label_site f new_edge) (h.here e old_edge)));
       own = λ arc member. elim (arcs_both arc member) [
         | inl old_arc ↦ too arc (h.own arc old_arc)
         | inr new_arc ↦
@@ -488,6 +496,8 @@ none_gathered s c tx slot number none = record {
   window = number;
   fit = λ e member. absurd (nil_none e member);
   forward = λ e member from. absurd (nil_none e member);
+  here = λ e member. absurd (nil_none e member);
+  once = no-edges [] refl;
   own = λ arc member. absurd (nil_none arc member);
   lead = λ arc is gathered. absurd (nil_none arc.label.site (subst (λ ts. Contains ts arc.label.site) none gathered));
 }

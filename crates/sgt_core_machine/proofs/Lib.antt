@@ -16,6 +16,7 @@ pub mod Reading
 pub mod Touching
 pub mod Refusing
 pub mod Leading
+pub mod OwnHandles
 pub mod Stepping
 pub mod Opening
 pub mod Bundles

@@ -11,6 +11,7 @@ use Rattle.sgt_names.proofs.Places.{All-from_at}
 use Rattle.sgt_site.specs.State.{AreItems, opened}
 use Rattle.sgt_certifier.specs.Certifier.{State, opening}
 use Rattle.sgt_certifier.proofs.Members.{nil_none, place_cases}
+use Rattle.sgt_core_machine.proofs.OwnHandles.{own_none}
 use Rattle.sgt_notation.specs.declared.event.Event.{Event}
 use Rattle.sgt_core_model.specs.declared.reply.Reply.{Reply}
 use Rattle.sgt_core_machine.specs.declared.machine.Place.{Place}
@@ -92,6 +93,7 @@ new_stands sites places certifier h is some few = record {
         number = refl;
         entries = refl;
         handles = λ i m. absurd (nil_none i m);
+        apart = own_none;
         part = (refl, refl, nil_none k);
       });
   step = (refl, refl);

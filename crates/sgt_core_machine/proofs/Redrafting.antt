@@ -23,6 +23,7 @@ use Rattle.sgt_core_model.specs.Core.{CoreState, IsEdgeOf}
 use Rattle.sgt_core_model.specs.Step.{StepIs, IsOwnOpen}
 use Rattle.sgt_core_machine.specs.Machine.{Parts, IsReached, IsRunning, RunsAt, IsDueBy, IsWrittenAt, IsPart, IsPlace, IsPhase, IsStep, StandsFor, IsSlotOf}
 use Rattle.sgt_core_machine.proofs.Standing.{reached_kept}
+use Rattle.sgt_core_machine.proofs.OwnHandles.{own_stays}
 
 -- an active transaction was begun and is active
 pub slot_begun : (m : Parts) (c : CoreState) (tx slot : ℕ) → StandsFor m c → IsSlotOf m tx slot → tx ≤ c.certifier.begun
@@ -127,6 +128,7 @@ module _ (m : Parts) (c : CoreState) (s : StandsFor m c) (tx slot : ℕ) (number
         number = l.number ∙ h.number;
         entries = l.entries;
         handles = λ i member. h.handles i (subst (λ is. Contains is i) l.installed member);
+        apart = own_stays p.site w.site l.installed h.apart;
         part = subst (IsPart n d t w) (sym l.part) (redraft_part t p w l p.part h.part);
       }
 
@@ -151,6 +153,8 @@ module _ (m : Parts) (c : CoreState) (s : StandsFor m c) (tx slot : ℕ) (number
       window = h.1.window;
       fit = h.1.fit;
       forward = h.1.forward;
+      here = h.1.here;
+      once = h.1.once;
       own = λ arc member. (other_edges o.tx arc other).0 (h.1.own arc member);
       lead = λ arc is gathered. h.1.lead arc ((other_edges o.tx arc other).1 is) gathered;
     },

@@ -33,6 +33,7 @@ use Rattle.sgt_core_model.proofs.Kept.{IsKept}
 use Rattle.sgt_core_model.proofs.Runs.{gather_idle}
 use Rattle.sgt_core_machine.proofs.Standing.{reached_more, reached_kept}
 use Rattle.sgt_core_machine.proofs.Leading.{gathered_more, none_gathered}
+use Rattle.sgt_core_machine.proofs.OwnHandles.{own_stays, not_yet}
 
 -- what is left of a site, whether or not the pledge stood
 pub record IsLeft (tx : ℕ) (old new : Place) : Type 0 where
@@ -132,6 +133,7 @@ module _ (m : Parts) (c : CoreState) (s : StandsFor m c) (tx : ℕ) (no_other : 
         number = ap (λ (st : SiteState). st.number) r.site ∙ old.number;
         entries = old.entries ∙ sym (ap (λ (st : SiteState). st.entries) r.site);
         handles = λ i member. old.handles i (subst (λ is. Contains is i) (ap (λ (st : SiteState). st.installed) r.site) member);
+        apart = own_stays p.site q.site (ap (λ (st : SiteState). st.installed) r.site) old.apart;
         part = subst (IsPart closed_parts closed_state t q) (sym r.part) (no_pledge t p q r p.part old.part, nothing_due c (reached_kept c s.reached) undecided t, λ g. nil_none t g);
       }
 
@@ -234,7 +236,8 @@ module _ (m : Parts) (c : CoreState) (s : StandsFor m c) (tx slot : ℕ) (number
       (subst (λ (w : Running). Rattle.std.specs.Prelude.All (Rattle.sgt_edges.specs.Edges.IsGiven g.given.place.site w.draft.touched w.handle) g.edges) same_running g.given.given))
       (subst (λ (q : Place). Rattle.sgt_edges.specs.Edges.StandsForAll q.site r.draft.touched r.handle g.edges) same_place
       (subst (λ (w : Running). Rattle.sgt_edges.specs.Edges.StandsForAll g.given.place.site w.draft.touched w.handle g.edges) same_running g.given.stand))
-      edges h
+      (g.given.once (subst (λ (q : Place). Rattle.sgt_edges.specs.Edges.HaveOwnHandles q.site) (sym same_place) at_t.apart))
+      (not_yet c tx t allowed no_other) edges h
 
   grown : (o : Option Open) → IsStep m c o → ((q : Open) → o ≡ Some q → q.tx ≡ tx) → IsGrown m d tx (step_with o tx g.edges)
   grown None h own_step = record {
@@ -297,6 +300,7 @@ module _ (m : Parts) (c : CoreState) (s : StandsFor m c) (tx slot : ℕ) (number
         number = at_t.number;
         entries = at_t.entries;
         handles = at_t.handles;
+        apart = at_t.apart;
         part = (
           o,
           record {
@@ -322,7 +326,7 @@ module _ (m : Parts) (c : CoreState) (s : StandsFor m c) (tx slot : ℕ) (number
     | inr ne ↦
         let there : slice_get m.places u ≡ Some q = sym (get_set_other m.places t u pledged ne) ∙ (ap (λ ps. slice_get ps u) (sym g.pledge.is) ∙ at) in
         let h = s.places u q there in
-        record { number = h.number; entries = h.entries; handles = h.handles; part = other_part u q (λ e. ne (sym e)) q.part h.part }
+        record { number = h.number; entries = h.entries; handles = h.handles; apart = h.apart; part = other_part u q (λ e. ne (sym e)) q.part h.part }
   ]
 
   same_list : map (λ (w : Place). w.site.items) new.places ≡ map (λ (w : Place). w.site.items) m.places

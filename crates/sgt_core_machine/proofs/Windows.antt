@@ -115,7 +115,7 @@ module _ (m : Parts) (c : CoreState) (s : StandsFor m c) (none : m.step ≡ None
   begun_place n p at =
       let h = s.places n p at in
       let closed = core_closed m c s none in
-      record { number = h.number; entries = h.entries; handles = h.handles; part = part_closed m (begun_parts m new r) c (begun_state c) n p p.part h.part none closed closed refl }
+      record { number = h.number; entries = h.entries; handles = h.handles; apart = h.apart; part = part_closed m (begun_parts m new r) c (begun_state c) n p p.part h.part none closed closed refl }
 
   pub begin_goes : (d : CoreState) × MayStep c Begin (Begun tx) d × StandsFor (begun_parts m new r) d
   begin_goes =
@@ -229,6 +229,7 @@ module _ (m : Parts) (c : CoreState) (s : StandsFor m c) (none : m.step ≡ None
         number = h.number;
         entries = h.entries;
         handles = λ i there. closed_handle i (h.handles i there);
+        apart = h.apart;
         part = part_closed m (closed_parts m new) c (closed_state c) n p p.part h.part none closed closed refl;
       }
 

@@ -213,6 +213,7 @@ module _ (m : Parts) (c : CoreState) (s : StandsFor m c) (none : m.step ≡ None
             number = old.number;
             entries = ap (λ es. es ++ withdrawn_block c tx t) old.entries;
             handles = old.handles;
+            apart = old.apart;
             part = withdrawn_part t p.0 p.0.part old.part;
           })
 

@@ -4,7 +4,7 @@ use Rattle.sgt_names.specs.Draft.{at_site}
 use Rattle.sgt_names.specs.declared.draft.Touch.{Touch}
 use Rattle.sgt_site.specs.State.{IsSite, IsPledged}
 use Rattle.sgt_site.specs.Refused.{MayPledge}
-use Rattle.sgt_edges.specs.Edges.{IsGiven, StandsForAll}
+use Rattle.sgt_edges.specs.Edges.{IsGiven, StandsForAll, HaveOwnHandles, AreApart}
 use Rattle.sgt_edges.specs.declared.edge.Edge.{Edge}
 use Rattle.sgt_core_machine.specs.Machine.{Parts}
 use Rattle.sgt_core_machine.specs.declared.machine.Place.{Place}
@@ -15,7 +15,7 @@ use Rattle.sgt_core_machine.specs.declared.machine.Phase.{Phase}
 use Rattle.sgt_core_machine.specs.declared.machine.Phase.TheVariants.{Gathering}
 
 -- the edges are given of the transaction at this place of the table, and stand for all of its edges
--- at the site
+-- at the site; no two are the same
 pub record AreGiven (places : List Place) (table : List (Option Running)) (site slot : ℕ) (edges : List Edge) : Type 0 where
   pub place : Place
   pub running : Running
@@ -24,6 +24,7 @@ pub record AreGiven (places : List Place) (table : List (Option Running)) (site 
   pub legal : IsSite place.site
   pub given : All (IsGiven place.site running.draft.touched running.handle) edges
   pub stand : StandsForAll place.site running.draft.touched running.handle edges
+  pub once : HaveOwnHandles place.site → AreApart edges
 
 -- the site refuses no pledge of the transaction at this place of the table
 abbrev pub MayPledgeAt : List Place → List (Option Running) → (site slot tx : ℕ) → Type 0

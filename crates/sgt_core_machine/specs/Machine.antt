@@ -13,6 +13,7 @@ use Rattle.sgt_site.specs.declared.fault.SiteFault.{SiteFault}
 use Rattle.sgt_site.specs.declared.fault.SiteFault.TheVariants as site_fault
 use Rattle.sgt_site.specs.declared.cell.Install.{Install}
 use Rattle.sgt_order.specs.Graph.{Reaches}
+use Rattle.sgt_edges.specs.Edges.{HaveOwnHandles, AreApart}
 use Rattle.sgt_edges.specs.declared.edge.Edge.{Edge}
 use Rattle.sgt_certifier.specs.Certifier.{State, Arc, Joins, serial}
 use Rattle.sgt_certifier.specs.Certifier.{Install as Noted}
@@ -145,10 +146,11 @@ pub record IsPlace (m : Parts) (c : CoreState) (s : ℕ) (p : Place) : Type 0 wh
   pub number : p.site.number ≡ s
   pub entries : c.entries s ≡ p.site.entries
   pub handles : (i : Install) → Contains p.site.installed i → IsHandleOf c.certifier i
+  pub apart : HaveOwnHandles p.site
   pub part : IsPart m c s p p.part
 
--- the edges that were gathered of the transaction under the handle: each is one of its own, and
--- those that weren't given are walks
+-- the edges that were gathered of the transaction under the handle: each is one of its own at a
+-- gathered site, no two are the same, and those that weren't given are walks
 pub record AreGathered (s : State) (c : CoreState) (tx : ℕ) (edges : List Edge) : Type 0 where
   pub place : ℕ
   pub window : tx ≡ suc (s.before + place)
@@ -157,6 +159,8 @@ pub record AreGathered (s : State) (c : CoreState) (tx : ℕ) (edges : List Edge
   pub forward : (e : Edge) → Contains edges e
       → e.from ≡ record { index = place; generation = s.generation }
       → e.to.generation ≡ s.generation
+  pub here : (e : Edge) → Contains edges e → Contains (gathered_in c.step) e.label.site
+  pub once : AreApart edges
   pub own : (arc : Arc) → Contains (arcs_of s edges) arc → IsEdgeOf c tx arc
   pub lead : (arc : Arc) → IsEdgeOf c tx arc → Contains (gathered_in c.step) arc.label.site
       → Reaches (λ a b. Joins s.arcs a b ⊎ Joins (arcs_of s edges) a b) arc.from arc.to

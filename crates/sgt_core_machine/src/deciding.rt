@@ -1,11 +1,11 @@
 //! A gathered transaction is decided.
 
-ghost use Rattle.std.specs.Prelude.{◌≡◌, ◌↔◌, ◌<◌, Some, Any, length, slice_get, IsTrue, IfOk, IfErr, OnErr};
+ghost use Rattle.std.specs.Prelude.{◌≡◌, ◌↔◌, ◌<◌, ◌≤◌, ◌++◌, ◌∷◌, [], None, Some, Any, length, slice_get, vec_len, vec_capacity, IsTrue, IfOk, IfErr, IfSome, OnErr};
 ghost use Rattle.sgt_notation.specs.declared.event.Event.TheVariants as event;
 ghost use Rattle.sgt_core_model.specs.Core.{CoreState};
 ghost use Rattle.sgt_core_model.specs.Step.{IsAllowed, MayStep};
 ghost use Rattle.sgt_core_machine.specs.Machine.{parts_of, StandsFor, Stands, GoesOn, IsSlotOf};
-ghost use Rattle.sgt_core_machine.specs.private.Decided.{edges_in, IsRuled, MayRuleAt, phase_after, reply_after, RulesAt, EndsAt};
+ghost use Rattle.sgt_core_machine.specs.private.Decided.{edges_in, IsRuled, MayRuleAt, most_drafts, phase_after, reply_after, RulesAt, EndsAt};
 ghost use Rattle.sgt_core_machine.specs.declared.machine.Part.TheVariants.{Due};
 ghost use Rattle.sgt_core_machine.specs.declared.machine.Running.{Running as ARunning};
 
@@ -86,7 +86,16 @@ impl Machine {
 }
 
 // Keeps the draft of a transaction that has ended, for another, where there is room for it. It takes no memory.
-fn keep_draft(drafts: &mut Vec<Draft>, ended: Option<Running>) {
+fn keep_draft(drafts: &mut Vec<Draft>, ended: Option<Running>)
+    ensures none { ended ≡ None → drafts.new.items ≡ drafts.old.items }
+    ensures kept { IfSome ended (λ r. vec_len drafts.old < most_drafts
+        → vec_len drafts.old < vec_capacity drafts.old
+        → drafts.new.items ≡ drafts.old.items ++ r.draft ∷ []) }
+    ensures full { most_drafts ≤ vec_len drafts.old → drafts.new.items ≡ drafts.old.items }
+    ensures narrow { vec_capacity drafts.old ≤ vec_len drafts.old
+        → drafts.new.items ≡ drafts.old.items }
+    ensures room { vec_capacity drafts.new ≡ vec_capacity drafts.old }
+{
     if let Some(running) = ended {
         if drafts.len() < DRAFTS && drafts.len() < drafts.capacity() {
             drafts.push_reserved(running.draft);

@@ -21,7 +21,7 @@ use Rattle.sgt_notation.proofs.OneSite.{site-one}
 use Rattle.sgt_service.specs.declared.input.Input.{Input}
 use Rattle.sgt_service.specs.Input.{Begins, HasPlace, IsBegun, IsPlaced, IsScriptOver, input_lines}
 use Rattle.sgt_service.proofs.SearchedScripts.{searched-scripts}
-use Rattle.sgt_service.proofs.SearchedSites.{searched-site_lines}
+use Rattle.sgt_input.proofs.SearchedSites.{searched-site_lines}
 
 -- ---- lines of sites
 

@@ -14,6 +14,4 @@ pub mod Unreadable
 pub mod Walks
 pub mod Shares
 pub mod DecidableInputs
-pub mod ReadOrNot
 pub mod SearchedScripts
-pub mod SearchedSites

@@ -13,7 +13,7 @@ use Rattle.sgt_notation.specs.declared.script.Op.{Op}
 use Rattle.sgt_notation.specs.declared.script.Op.TheVariants.{Read, Put, Add, Sum}
 use Rattle.sgt_notation.specs.declared.script.Script.{Script}
 use Rattle.sgt_notation.proofs.Decidable.{Decidable, decidable-as, decidable-both, decidable-three, decidable-each, decidable-Any, decidable-most, decidable-text, or_else, IsSearched, searched-below, searched-both}
-use Rattle.sgt_service.proofs.SearchedSites.{IsUpTo, searched-lists, searched-places, up_to, up_to-all}
+use Rattle.sgt_input.proofs.SearchedSites.{IsUpTo, searched-lists, searched-places, up_to, up_to-all}
 
 -- ---- operations
 

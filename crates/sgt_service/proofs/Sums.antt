@@ -13,7 +13,7 @@ use Rattle.sgt_workers.specs.declared.ticket.Ticket.{Ticket}
 use Rattle.sgt_notation.specs.declared.script.Op.{Op}
 use Rattle.sgt_notation.specs.declared.script.Script.{Script}
 use Rattle.sgt_service_locks.specs.Counts.{capped}
-use Rattle.sgt_service_locks.specs.Together.{amount_of, begun_of, parts_of}
+use Rattle.sgt_service_locks.specs.Together.{amount_of, begin_parts_of, begins_of, begun_of, parts_of}
 use Rattle.sgt_service_locks.specs.declared.seat.Seat.{Seat}
 use Rattle.sgt_service_settle.specs.Settled.{tickets_of}
 use Rattle.sgt_service.specs.Tries.{AreTried, TriesJob}
@@ -102,8 +102,22 @@ capped_sums a b c d ab cd = elim (alike a b ab) [
 ]
 
 module _ {L : Type 0} where
-  pub parts_stay : (old new : List (Seat L)) → AllZip (λ (s t : Seat L). t.share.parts ≡ s.share.parts) old new → parts_of new ≡ parts_of old
-  parts_stay old new stay = sum_zip (λ (s : Seat L). s.share.parts) (λ (s : Seat L). s.share.parts) old new stay
+  abbrev KeepsParts : Seat L → Seat L → Type 0
+  KeepsParts s t = (t.share.parts ≡ s.share.parts) × (t.begins.parts ≡ s.begins.parts)
+
+  kept : (R : Seat L → Seat L → Type 0) (old new : List (Seat L)) → ((s t : Seat L) → KeepsParts s t → R s t) → AllZip KeepsParts old new → AllZip R old new
+  kept R [] [] each stay = tt
+  kept R [] (t ∷ new) each stay = absurd stay
+  kept R (s ∷ old) [] each stay = absurd stay
+  kept R (s ∷ old) (t ∷ new) each stay = (each s t stay.0, kept R old new each stay.1)
+
+  pub parts_stay : (old new : List (Seat L)) → AllZip KeepsParts old new → parts_of new ≡ parts_of old
+  parts_stay old new stay =
+      sum_zip (λ (s : Seat L). s.share.parts) (λ (s : Seat L). s.share.parts) old new (kept (λ s t. t.share.parts ≡ s.share.parts) old new (λ s t h. h.0) stay)
+
+  pub begin_parts_stay : (old new : List (Seat L)) → AllZip KeepsParts old new → begin_parts_of new ≡ begin_parts_of old
+  begin_parts_stay old new stay =
+      sum_zip (λ (s : Seat L). s.begins.parts) (λ (s : Seat L). s.begins.parts) old new (kept (λ s t. t.begins.parts ≡ s.begins.parts) old new (λ s t h. h.1) stay)
 
   -- as many decisions as tickets, and as many begins
   tried_amount : (ops : List Op) (tickets : List Ticket) (old new : Seat L) → AreTried ops tickets old new
@@ -118,6 +132,17 @@ module _ {L : Type 0} where
       let many = length tickets in
       let once = capped_sums tried.0.begun (old.begun + 1) many many (ap capped tried.1.1.2.0 ∙ capped_twice (old.begun + 1)) refl in
       tried_begun ops tickets tried.0 new tried.2 ∙ (once ∙ ap capped (omega arith))
+
+  tried_begins : (ops : List Op) (tickets : List Ticket) (old new : Seat L) → AreTried ops tickets old new
+      → new.begins.amount ≡ old.begins.amount + length tickets
+  tried_begins ops [] old new same = omega (arith, ap (λ (s : Seat L). s.begins.amount) same)
+  tried_begins ops (t ∷ tickets) old new tried = omega (arith, tried.1.1.2.4, tried_begins ops tickets tried.0 new tried.2)
+
+  pub begin_amounts_grow : (scripts : List Script) (old new : List (Seat L)) (dones : List Done) → AreShared TriesJob scripts old dones new
+      → begins_of new ≡ begins_of old + length (tickets_of dones)
+  begin_amounts_grow scripts old new dones shared =
+      shared_amount TriesJob scripts (λ (s : Seat L). s.begins.amount) (λ n. n) (λ a b c d ab cd. omega (arith, ab, cd))
+      (λ s n c d t does. tried_begins c.operations d.tickets.items s t does) old new dones shared
 
   pub amounts_grow : (scripts : List Script) (old new : List (Seat L)) (dones : List Done) → AreShared TriesJob scripts old dones new
       → amount_of new ≡ amount_of old + length (tickets_of dones)

@@ -96,8 +96,8 @@ module _ {L : Type 0} where
   pub try_counts : (t : Ticket) (first last : Active) (start begun read end : Seat L) → CountsBegin start begun → first.draft.touched ≡ []
       → (read.share ≡ begun.share) × (read.begun ≡ begun.begun)
       → CountsReads first.draft.touched last.draft.touched begun.counts.items read.counts.items
-      → CountsEnd t.verdict last read end → CountsTry t.verdict last.draft.touched start end
-  try_counts t first last start begun read end begins empty same reads ends =
+      → CountsEnd t.verdict last read end → end.begins.amount ≡ start.begins.amount + 1 → CountsTry t.verdict last.draft.touched start end
+  try_counts t first last start begun read end begins empty same reads ends more =
       let touched = last.draft.touched in
       let parts : read.share.parts ≡ start.share.parts = (λ i. (same.0 i).parts) ∙ (λ i. (begins.0 i).parts) in
       let amount : read.share.amount ≡ start.share.amount = (λ i. (same.0 i).amount) ∙ (λ i. (begins.0 i).amount) in
@@ -109,6 +109,7 @@ module _ {L : Type 0} where
         ends.1 ∙ ap (λ n. n + 1) amount,
         counted_both (λ site. with_reads (reads_at site touched)) (λ site. with_others (blocks_of t.verdict touched site)) start.counts.items
             read.counts.items end.counts.items counted ends.2,
+        more,
       )
 
   -- a try of the script by some transaction

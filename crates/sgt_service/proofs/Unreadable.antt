@@ -19,7 +19,7 @@ use Rattle.sgt_input.proofs.SiteLines.{site-plain}
 use Rattle.sgt_input.proofs.Unreadable as any
 use Rattle.sgt_input.proofs.Unreadable.{AreInputs, IsPlain}
 use Rattle.sgt_service.proofs.DecidableInputs.{known-begins}
-use Rattle.sgt_service.proofs.ReadOrNot.{read-or_not}
+use Rattle.sgt_input.proofs.ReadOrNot.{read-or_not}
 use Rattle.sgt_service.specs.declared.input.Input.{Input}
 use Rattle.sgt_service.specs.Input.{Begins, FirstUnreadable, IsBegun, IsInput, IsScriptOver, Spells, input_lines}
 use Rattle.sgt_service.specs.Report.{IsAnswer, TellsUnreadable}

@@ -88,6 +88,7 @@ module _ {L : Type 0} where
       × AreCounted (λ site c.
       with_others (blocks_of verdict touched site)
       (with_reads (reads_at site touched) c)) old.counts.items new.counts.items
+      × (new.begins.amount ≡ old.begins.amount + 1)
 
   -- the one transaction that the seat counts is the one that tried the script
   abbrev pub TriesAt : List Op → Ticket → List ℕ → Seat L → Seat L → Type 0

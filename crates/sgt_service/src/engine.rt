@@ -4,6 +4,7 @@ ghost use Rattle.std.specs.Prelude.{◌≡◌, ◌≢◌, ◌⊎◌, ◌++◌, �
 ghost use Rattle.sgt_names.specs.Limits.{max_sites};
 ghost use Rattle.sgt_notation.specs.Lines.{ReadFaultIsDue};
 ghost use Rattle.sgt_site.specs.State.{AreItems};
+ghost use Rattle.sgt_service_locks.specs.Ledgers.{AreOf};
 ghost use Rattle.sgt_service_settle.specs.Settled.{IsSettled};
 ghost use Rattle.sgt_service.specs.Input.{IsInput, IsRead, IsUsable};
 ghost use Rattle.sgt_service.specs.Report.{EndsRun, IsAnswer, IsFaultLine, IsOutcome, IsRunAnswer, IsRunOf, IsTextOf, IsWant, TellsUnreadable, WroteAnswer, WroteAnswerFront, pool_fault_number, service_fault_number, site_items, unreadable_text};
@@ -19,12 +20,11 @@ use sgt_audit::Verdict;
 use sgt_names::{EngineFail, Holding, Listed, Outcome, Sink, Source, write_all};
 use sgt_notation::{NotationFault, Script, SiteLine, push_number};
 use sgt_service_agreement::ServiceFault;
-use sgt_service_locks::Service;
+use sgt_service_locks::{Blanks, Ledgers, Service};
 use sgt_workers::{Done, Gate, PoolFail, PoolFault};
 use std::alloc::{AllocError, Global};
 use std::marker::Brand;
 use std::sync::Wait;
-use std::sync::ledger::{Blank, Ledger};
 use std::thread::Threads;
 
 /// An outcome, and what is to be written.
@@ -149,19 +149,19 @@ fn run_text(alloc: Global, settled: &Settled) -> Result<Answer, AllocError>
     Ok(Answer { outcome, text })
 }
 
-// Runs the scripts by as many workers as the blank has parts, on a service of these sites, and settles the run. The sites that were
+// Runs the scripts by as many workers as the blanks have parts, on a service of these sites, and settles the run. The sites that were
 // settled are those that were put there; V9 names the first that isn't.
-fn settled_run<L: Ledger + Send + Sync, G: Gate + Sync, R: Threads + Wait + Sync>(
+fn settled_run<L: Ledgers + Send + Sync, G: Gate + Sync, R: Threads + Wait + Sync>(
     rt: &R,
     alloc: Global,
-    blank: Blank,
+    blanks: Blanks,
     workers: u64,
     sites: &[Listed<Holding>],
     scripts: &[Script],
     tries: u64,
     gate: &G,
 ) -> Result<Settled, PoolFail<ServiceFault>>
-    requires ledger { (blank.name ≡ L.name) × (blank.parts ≡ L.parts) × (blank.parts ≡ workers) }
+    requires ledgers { AreOf L.name L.begins L.parts blanks × (L.parts ≡ workers) }
     requires some { (1 ≤ workers) × (1 ≤ tries) }
     requires sites { (1 ≤ length sites.now) × (length sites.now ≤ max_sites) }
     requires items { All AreItems sites.now }
@@ -170,7 +170,7 @@ fn settled_run<L: Ledger + Send + Sync, G: Gate + Sync, R: Threads + Wait + Sync
     ensures items { IfOk result (λ s. site_items s ≡ sites.now) }
     ensures fault { IfErr result (λ f. IsWant f ⊎ EndsRun scripts.now sites.now tries f) }
 {
-    let (service, seats) = match Service::<L, &G>::new(alloc, blank, sites, workers, gate) {
+    let (service, seats) = match Service::<L, &G>::new(alloc, blanks, sites, workers, gate) {
         Ok(opened) => opened,
         Err(fault) => return Err(PoolFail::Work(fault)),
     };
@@ -214,7 +214,7 @@ fn answer_to<G: Gate + Sync, R: Threads + Wait + Sync>(
     let settled = settled_run::<Brand, G, R>(
         rt,
         alloc,
-        Blank::new(workers),
+        Blanks::new(workers),
         workers,
         items.as_slice(),
         scripts.as_slice(),

@@ -5,16 +5,15 @@ ghost use Rattle.std.specs.Prelude.{◌≡◌, ◌≤◌};
 use sgt_names::{Item, SiteNo, Value};
 use sgt_notation::{Op, Script};
 use sgt_service_agreement::ServiceFault;
-use sgt_service_locks::{Active, Seat, Service};
+use sgt_service_locks::{Active, Ledgers, Seat, Service};
 use sgt_site::SiteFault;
 use sgt_workers::{Done, Ending, Gate, Job, Place, Ticket, Work};
 use std::alloc::Global;
 use std::sync::Wait;
-use std::sync::ledger::Ledger;
 
 /// What the workers of a run share.
 #[derive(Drop)]
-pub struct Runner<'a, L: Ledger, G: Gate> {
+pub struct Runner<'a, L: Ledgers, G: Gate> {
     pub alloc: Global,
     pub service: &'a Service<L, G>,
     /// How often a script is tried at most.
@@ -22,7 +21,7 @@ pub struct Runner<'a, L: Ledger, G: Gate> {
     pub ghost some: { 1 ≤ tries },
 }
 
-impl<'a, L: Ledger, G: Gate> Runner<'a, L, G> {
+impl<'a, L: Ledgers, G: Gate> Runner<'a, L, G> {
     ghost use Rattle.std.specs.Prelude.{◌≡◌, true, false, All, Ok, IfOk, IfErr, OnOk, OnErr};
     ghost use Rattle.sgt_service_locks.specs.Reads.{look_in, IsOfActive};
     ghost use Rattle.sgt_service_locks.specs.Refused.{IsOfCall, IsOfChange};
@@ -77,6 +76,7 @@ impl<'a, L: Ledger, G: Gate> Runner<'a, L, G> {
         ensures named { IsOfActive active.old active.new }
         ensures share { (seat.new.share ≡ seat.old.share)
             × (seat.new.begun ≡ seat.old.begun) }
+        ensures begins { seat.new.begins ≡ seat.old.begins }
         ensures counts { OnOk result
             (CountsOp op.now active.old.draft.touched seat.old.counts.items seat.new.counts.items) }
         ensures err { OnErr result ((active.new.draft.touched ≡ active.old.draft.touched)
@@ -125,6 +125,7 @@ impl<'a, L: Ledger, G: Gate> Runner<'a, L, G> {
         ensures named { IsOfActive active.old active.new }
         ensures share { (seat.new.share ≡ seat.old.share)
             × (seat.new.begun ≡ seat.old.begun) }
+        ensures begins { seat.new.begins ≡ seat.old.begins }
         ensures counts { CountsReads active.old.draft.touched active.new.draft.touched
             seat.old.counts.items seat.new.counts.items }
         ensures fault { IfErr result IsOfOperation }
@@ -153,6 +154,7 @@ impl<'a, L: Ledger, G: Gate> Runner<'a, L, G> {
         ensures tries { IfOk result
             (λ t. TriesAt script.now.operations t reads.new.items seat.old seat.new) }
         ensures parts { seat.new.share.parts ≡ seat.old.share.parts }
+        ensures begin_parts { seat.new.begins.parts ≡ seat.old.begins.parts }
         ensures halt { IfErr result (IsStopped seat.old seat.new) }
         ensures fault { IfErr result IsOfCall }
     {
@@ -172,7 +174,7 @@ impl<'a, L: Ledger, G: Gate> Runner<'a, L, G> {
     }
 }
 
-impl<'a, L: Ledger, G: Gate> Work<Seat<L>, Script, ServiceFault> for Runner<'a, L, G> {
+impl<'a, L: Ledgers, G: Gate> Work<Seat<L>, Script, ServiceFault> for Runner<'a, L, G> {
     ghost use Rattle.std.specs.Prelude.{◌≡◌, refl};
     ghost use Rattle.std.proofs.Common.{◌∙◌};
     ghost use Rattle.sgt_service_locks.specs.Refused.{IsOfCall};
@@ -182,7 +184,7 @@ impl<'a, L: Ledger, G: Gate> Work<Seat<L>, Script, ServiceFault> for Runner<'a, 
 
     ghost faults = { λ w fault. IsOfCall fault };
 
-    ghost keeps = { λ s t. t.share.parts ≡ s.share.parts };
+    ghost keeps = { λ s t. (t.share.parts ≡ s.share.parts) × (t.begins.parts ≡ s.begins.parts) };
 
     ghost does = { λ w s number script done t. TriesJob s number script done t };
 
@@ -216,7 +218,7 @@ impl<'a, L: Ledger, G: Gate> Work<Seat<L>, Script, ServiceFault> for Runner<'a, 
         })
     }
 
-    ghost keeps_same = { λ s. refl };
+    ghost keeps_same = { λ s. (refl, refl) };
 
-    ghost keeps_on = { λ r s t a b. b ∙ a };
+    ghost keeps_on = { λ r s t a b. (b.0 ∙ a.0, b.1 ∙ a.1) };
 }

@@ -4,18 +4,17 @@ ghost use Rattle.std.specs.Prelude.{◌≡◌, ◌+◌, ◌<◌, ◌≤◌, IfOk
 ghost use Rattle.sgt_workers.specs.Answers.{AreShared, IsFault};
 ghost use Rattle.sgt_service_locks.specs.Refused.{IsOfCall};
 ghost use Rattle.sgt_service_locks.specs.Counts.{capped};
-ghost use Rattle.sgt_service_locks.specs.Together.{parts_of, amount_of, begun_of};
+ghost use Rattle.sgt_service_locks.specs.Together.{parts_of, amount_of, begin_parts_of, begins_of, begun_of};
 ghost use Rattle.sgt_service_settle.specs.Settled.{tickets_of};
 ghost use Rattle.sgt_service.specs.Tries.{AreDonesOf, TriesJob};
 
 use crate::runner::Runner;
 use sgt_notation::Script;
 use sgt_service_agreement::ServiceFault;
-use sgt_service_locks::{Seat, Service};
+use sgt_service_locks::{Ledgers, Seat, Service};
 use sgt_workers::{Done, Gate, PoolFail, pool};
 use std::alloc::Global;
 use std::sync::Wait;
-use std::sync::ledger::Ledger;
 use std::thread::Threads;
 
 /// Runs each script by so many tries at most, each of them a transaction of its own: by the service's workers, of which there is
@@ -27,7 +26,7 @@ use std::thread::Threads;
 /// A sum whose source no earlier operation reads or writes is S1. The seats and the tickets are then spent.
 ///
 /// The service's gate is told of each job that a worker takes, and of what the service's calls tell. A worker's number is its seat's.
-pub fn run<L: Ledger + Send + Sync, G: Gate + Sync, R: Threads + Wait + Sync>(
+pub fn run<L: Ledgers + Send + Sync, G: Gate + Sync, R: Threads + Wait + Sync>(
     rt: &R,
     alloc: Global,
     service: &Service<L, G>,
@@ -42,6 +41,10 @@ pub fn run<L: Ledger + Send + Sync, G: Gate + Sync, R: Threads + Wait + Sync>(
     ensures parts { IfOk result (λ r. parts_of r.1.items ≡ parts_of seats.items) }
     ensures counted { IfOk result
         (λ r. amount_of r.1.items ≡ amount_of seats.items + length (tickets_of r.0.items)) }
+    ensures begin_parts { IfOk result
+        (λ r. begin_parts_of r.1.items ≡ begin_parts_of seats.items) }
+    ensures begins { IfOk result
+        (λ r. begins_of r.1.items ≡ begins_of seats.items + length (tickets_of r.0.items)) }
     ensures begun { IfOk result
         (λ r. begun_of r.1.items ≡ capped (begun_of seats.items + length (tickets_of r.0.items))) }
     ensures tried { IfOk result

@@ -7,7 +7,7 @@ ghost use Rattle.sgt_site.specs.State.{IsSite};
 ghost use Rattle.sgt_certifier.specs.History.{Replays};
 ghost use Rattle.sgt_certifier.specs.Kept.{Kept};
 ghost use Rattle.sgt_service_locks.specs.Guarded.{decision_count};
-ghost use Rattle.sgt_service_locks.specs.Together.{parts_of, amount_of, counts_of};
+ghost use Rattle.sgt_service_locks.specs.Together.{parts_of, amount_of, begin_parts_of, begins_of, counts_of};
 ghost use Rattle.sgt_service_settle.specs.Settled.{AreTickets, IsSettled};
 ghost use Rattle.sgt_workers.specs.Answers.{JobsRise};
 ghost use Rattle.sgt_workers.specs.declared.ticket.Done.{Done as ADone};
@@ -17,13 +17,12 @@ use sgt_cert::{Bundle, SiteLog};
 use sgt_certifier::Certifier;
 use sgt_names::Listed;
 use sgt_service_agreement::{EntryCounts, ServiceFault};
-use sgt_service_locks::{Opened, Seat, Service};
+use sgt_service_locks::{Ledgers, Opened, Seat, Service};
 use sgt_service_settle::{check_settled, check_told};
 use sgt_site::Site;
 use sgt_workers::{Done, Gate};
 use std::alloc::{AllocError, Global};
 use std::marker::Model;
-use std::sync::ledger::Ledger;
 
 /// What lay behind the locks of a service, what its seats counted, and what its callers were told: a settled run.
 #[derive(Drop)]
@@ -120,14 +119,14 @@ impl Settled {
 }
 
 /// Takes a service apart, once all its callers are done, and checks what was left against what they were told. Where the seats
-/// are all that there are, the history has as many decisions as their shares together. It waits for nobody. The Dones come back by
-/// rising job, in whatever order they were given.
+/// are all that there are, the history has as many decisions as their shares together, and as many begins. It waits for nobody. The
+/// Dones come back by rising job, in whatever order they were given.
 ///
 /// A run that isn't settled is refused as `Settled::of_opened` refuses it: V1, V2, V6, V8, V9, V10 and V4 with C4, in this order,
 /// each with the least number of its kind. V3: there was no memory, and the tickets are the decisions. Where there is none for the sites, the
 /// certifier and the tickets alone are looked at.
 #[tactic(auto, using(crate::proofs::Counts::counts_many))]
-pub fn settle<L: Ledger, G: Gate>(
+pub fn settle<L: Ledgers, G: Gate>(
     alloc: Global,
     service: Service<L, G>,
     dones: Vec<Done>,
@@ -139,6 +138,8 @@ pub fn settle<L: Ledger, G: Gate>(
     ensures sites { IfOk result (λ s. length s.sites ≡ vec_len service.names) }
     ensures decisions { IfOk result (λ s. parts_of seats.items ≡ L.parts
         → decision_count s.certifier ≡ amount_of seats.items) }
+    ensures begins { IfOk result (λ s. begin_parts_of seats.items ≡ L.parts
+        → s.certifier.state.begun ≡ begins_of seats.items) }
     ensures refused { IfErr result (λ f. (told : List ADone) × ArePutInOrder dones.items told
         × IsRefused (vec_len service.names) L.parts seats.items told f) }
     ensures memory { result ≡ Err Memory

@@ -9,3 +9,4 @@ pub mod Seats
 pub mod Stops
 pub mod Together
 pub mod Undecided
+pub mod Ledgers

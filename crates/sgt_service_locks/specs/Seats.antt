@@ -21,6 +21,10 @@ module _ {L : Type 0} where
       × (seat.counts.items ≡ replicate sites no_counts)
       × (seat.begun ≡ 0)
 
+  -- it has one part of the ledger of begins, and no transaction was begun from it
+  abbrev pub HasBegunNone : Seat L → Type 0
+  HasBegunNone seat = (seat.begins.parts ≡ 1) × (seat.begins.amount ≡ 0)
+
   -- nothing of it changed
   abbrev pub SameSeat : Seat L → Seat L → Type 0
   SameSeat old new = (new.share ≡ old.share) × (new.counts.items ≡ old.counts.items)

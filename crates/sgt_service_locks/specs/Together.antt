@@ -26,6 +26,13 @@ module _ {L : Type 0} where
   abbrev pub amount_of : List (Seat L) → ℕ
   amount_of seats = sum_by (λ (s : Seat L). s.share.amount) seats
 
+  -- the same of the ledger of begins
+  abbrev pub begin_parts_of : List (Seat L) → ℕ
+  begin_parts_of seats = sum_by (λ (s : Seat L). s.begins.parts) seats
+
+  abbrev pub begins_of : List (Seat L) → ℕ
+  begins_of seats = sum_by (λ (s : Seat L). s.begins.amount) seats
+
   -- how many transactions they began together, up to the greatest number
   abbrev pub begun_of : List (Seat L) → ℕ
   begun_of seats = capped (sum_by (λ (s : Seat L). s.begun) seats)

@@ -5,6 +5,7 @@ ghost use Rattle.sgt_service_locks.specs.Stops.{back_of};
 
 use crate::active::{Active, Back};
 use crate::guarded::Guarded;
+use crate::ledgers::Ledgers;
 use crate::pledging::Lost;
 use crate::seat::Seat;
 use crate::service::Service;
@@ -14,7 +15,6 @@ use sgt_service_agreement::ServiceFault;
 use sgt_workers::{Ending, Gate, Place, Ticket};
 use std::alloc::Global;
 use std::sync::Wait;
-use std::sync::ledger::Ledger;
 
 // Why a transaction has no ticket.
 #[derive(Clone, Copy)]
@@ -41,7 +41,7 @@ fn back_of(active: Active, stop: Stop) -> Back
     }
 }
 
-impl<L: Ledger, G: Gate> Service<L, G> {
+impl<L: Ledgers, G: Gate> Service<L, G> {
     ghost use Rattle.std.specs.Prelude.{◌≡◌, ◌≢◌, Err, IfOk, IfErr, IfSome, OnOk, vec_len};
     ghost use Rattle.sgt_service_agreement.specs.declared.fault.ServiceFault.TheVariants.{NotPledged};
     ghost use Rattle.sgt_workers.specs.declared.ticket.Ending.TheVariants.{Withdrawn};
@@ -77,6 +77,7 @@ impl<L: Ledger, G: Gate> Service<L, G> {
         ensures ok { IfOk result
             (λ t. (t.tx ≡ active.tx) × (t.verdict ≢ Withdrawn)
             × CountsEnd t.verdict active seat.old seat.new) }
+        ensures begins { seat.new.begins ≡ seat.old.begins }
         ensures step { IfOk result (IsDecidedBy (vec_len self.now.sites) active) }
         ensures back { IfErr result
             (IsBack (λ verdict. verdict ≢ Withdrawn) active seat.old seat.new) }
@@ -111,6 +112,7 @@ impl<L: Ledger, G: Gate> Service<L, G> {
         ensures ok { IfOk result
             (λ t. (t.tx ≡ active.tx) × (t.verdict ≡ Withdrawn)
             × CountsEnd Withdrawn active seat.old seat.new) }
+        ensures begins { seat.new.begins ≡ seat.old.begins }
         ensures step { IfOk result (IsWithdrawnBy active) }
         ensures back { IfErr result
             (IsBack (λ verdict. verdict ≡ Withdrawn) active seat.old seat.new) }
@@ -137,6 +139,7 @@ impl<L: Ledger, G: Gate> Service<L, G> {
     ) -> Result<Ticket, Stop>
         ensures ok { IfOk result (λ t. (t.tx ≡ active.now.tx) × (t.verdict ≢ Withdrawn)
             × CountsEnd t.verdict active.now seat.old seat.new) }
+        ensures begins { seat.new.begins ≡ seat.old.begins }
         ensures stop { IfErr result
             (IsStop (λ verdict. verdict ≢ Withdrawn) active.now seat.old seat.new) }
         ensures why { IfErr result (IsUndecidedBy
@@ -183,6 +186,7 @@ impl<L: Ledger, G: Gate> Service<L, G> {
     ) -> Result<Ticket, Stop>
         ensures ok { IfOk result (λ t. (t.tx ≡ active.now.tx) × (t.verdict ≡ Withdrawn)
             × CountsEnd Withdrawn active.now seat.old seat.new) }
+        ensures begins { seat.new.begins ≡ seat.old.begins }
         ensures stop { IfErr result
             (IsStop (λ verdict. verdict ≡ Withdrawn) active.now seat.old seat.new) }
         ensures why { IfErr result (IsUndecidedBy

@@ -6,6 +6,7 @@ ghost use Rattle.sgt_service_locks.specs.Guarded.{decision_count, ticket_of};
 ghost use Rattle.sgt_service_locks.specs.Undecided.{RefusesPledgeAt};
 
 use crate::active::Active;
+use crate::ledgers::{Begins, Ledgers};
 use sgt_arena::Handle;
 use sgt_certifier::{Certifier, CertifierFault, Decided};
 use sgt_edges::EdgeList;
@@ -14,11 +15,11 @@ use sgt_service_agreement::{ServiceFault, gather_agreed};
 use sgt_site::Site;
 use sgt_workers::{Ending, Ticket};
 use std::alloc::{AllocError, Global};
-use std::sync::ledger::{Book, Ledger, Share};
+use std::sync::ledger::{Book, Share};
 
 /// The certifier beside the book of its decisions. Its own calls alone change it, and note that a site has lost its pledge.
 #[derive(Drop)]
-pub struct Guarded<L: Ledger> {
+pub struct Guarded<L: Ledgers> {
     certifier: Certifier,
     // the site that was found to have lost its pledge
     lost: Option<SiteNo>,
@@ -26,11 +27,16 @@ pub struct Guarded<L: Ledger> {
     book: Book<L>,
     // a share with no part, into which the seats' shares are put together at the end
     none: Share<L>,
+    // the number of transactions that it began, in the ledger of begins, and a share of that with no part
+    begins: Book<Begins<L>>,
+    nobody: Share<Begins<L>>,
     pub ghost counted: { book.total ≡ decision_count certifier },
+    pub ghost begun: { begins.total ≡ certifier.state.begun },
     pub ghost empty: { (none.parts ≡ 0) × (none.amount ≡ 0) },
+    pub ghost idle: { (nobody.parts ≡ 0) × (nobody.amount ≡ 0) },
 }
 
-impl<L: Ledger> Guarded<L> {
+impl<L: Ledgers> Guarded<L> {
     ghost use Rattle.std.specs.Prelude.{◌≡◌, ◌↔◌, ◌<◌, ◌+◌, ◌++◌, [], ℕ, ◌⊎◌, List, false, None, Some, Err, IsTrue, IfOk, IfErr, IfSome, OnOk, OnErr};
     ghost use Rattle.sgt_certifier.specs.declared.call.Call.TheVariants as call;
     ghost use Rattle.sgt_certifier.specs.declared.call.Decided.{Decided as Reply};
@@ -47,10 +53,17 @@ impl<L: Ledger> Guarded<L> {
     ghost use Rattle.sgt_service_locks.specs.Stops.{NotesLoss};
     ghost use Rattle.sgt_service_locks.specs.Undecided.{RefusesActive, RefusesGather, RefusesPledgeAt, IsHeld};
 
-    /// A certifier to which nothing has happened, with its empty book.
-    pub(crate) fn new(alloc: Global, book: Book<L>, none: Share<L>) -> Guarded<L>
-        requires book { book.total ≡ 0 }
+    /// A certifier to which nothing has happened, with its empty books.
+    pub(crate) fn new(
+        alloc: Global,
+        book: Book<L>,
+        none: Share<L>,
+        begins: Book<Begins<L>>,
+        nobody: Share<Begins<L>>,
+    ) -> Guarded<L>
+        requires book { (book.total ≡ 0) × (begins.total ≡ 0) }
         requires none { (none.parts ≡ 0) × (none.amount ≡ 0) }
+        requires nobody { (nobody.parts ≡ 0) × (nobody.amount ≡ 0) }
         ensures { (result.certifier.state ≡ opening) × (result.certifier.history ≡ [])
             × (result.lost ≡ None) }
     {
@@ -59,6 +72,8 @@ impl<L: Ledger> Guarded<L> {
             lost: None,
             book,
             none,
+            begins,
+            nobody,
         }
     }
 
@@ -69,36 +84,59 @@ impl<L: Ledger> Guarded<L> {
         &self.certifier
     }
 
-    /// The certifier, the book of its decisions, and the share with no part.
-    pub(crate) fn into_parts(self) -> (Certifier, Book<L>, Share<L>)
+    /// The certifier, and the books of its decisions and of its begins, each with the share that has no part.
+    pub(crate) fn into_parts(
+        self,
+    ) -> (
+        Certifier,
+        (Book<L>, Share<L>),
+        (Book<Begins<L>>, Share<Begins<L>>),
+    )
         ensures certifier { result.0 ≡ self.certifier }
-        ensures counted { result.1.total ≡ decision_count result.0 }
-        ensures none { (result.2.parts ≡ 0) × (result.2.amount ≡ 0) }
+        ensures counted { result.1.0.total ≡ decision_count result.0 }
+        ensures begun { result.2.0.total ≡ result.0.state.begun }
+        ensures none { (result.1.1.parts ≡ 0) × (result.1.1.amount ≡ 0) }
+        ensures nobody { (result.2.1.parts ≡ 0) × (result.2.1.amount ≡ 0) }
     {
         let Guarded {
             certifier,
             lost: _,
             book,
             none,
+            begins,
+            nobody,
         } = self;
-        (certifier, book, none)
+        (certifier, (book, none), (begins, nobody))
     }
 
-    /// Begins the next transaction.
-    pub(crate) fn begin(&mut self) -> Result<(Tx, Handle), ServiceFault>
+    /// Begins the next transaction, and counts it in the book of begins and in the share.
+    pub(crate) fn begin(
+        &mut self,
+        share: &mut Share<Begins<L>>,
+    ) -> Result<(Tx, Handle), ServiceFault>
+        requires { 0 < share.old.parts }
         ensures ok { IfOk result (λ r. (self.old.lost ≡ None)
             × Adds self.old.certifier (call.Begin r.0 r.1) self.new.certifier) }
         ensures replays { Replays self.old.certifier.history self.old.certifier.state }
         ensures err { IfErr result (λ f. IsRefusedBy self.old.lost self.old.certifier.state begin f
             × (self.new.certifier ≡ self.old.certifier)) }
+        ensures counted { OnOk result (share.new.amount ≡ share.old.amount + 1) }
+        ensures parts { share.new.parts ≡ share.old.parts }
+        ensures uncounted { OnErr result (share.new ≡ share.old) }
         ensures lost { self.new.lost ≡ self.old.lost }
     {
         let _history = self.certifier.history();
         if let Some(site) = self.lost {
             return Err(ServiceFault::NotPledged(site));
         }
-        let Guarded { certifier, .. } = self;
-        Ok(certifier.begin()?)
+        let Guarded {
+            certifier,
+            begins,
+            ..
+        } = self;
+        let begun = certifier.begin()?;
+        begins.add(share, 1);
+        Ok(begun)
     }
 
     /// Closes the window.

@@ -5,6 +5,7 @@
 mod active;
 mod ending;
 mod guarded;
+mod ledgers;
 mod logged;
 mod opened;
 mod pledges;
@@ -15,6 +16,7 @@ mod service;
 mod touched;
 
 pub use active::{Active, Back};
+pub use ledgers::{Begins, Blanks, Ledgers};
 pub use opened::Opened;
 pub use seat::Seat;
 pub use service::Service;

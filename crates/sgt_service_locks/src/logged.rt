@@ -4,13 +4,13 @@ ghost use Rattle.std.specs.Prelude.{◌≡◌};
 ghost use Rattle.sgt_service_locks.specs.Counts.{with_read};
 
 use crate::active::Active;
+use crate::ledgers::Ledgers;
 use crate::seat::Seat;
 use sgt_names::{Item, SiteNo};
 use sgt_service_agreement::EntryCounts;
 use sgt_site::Site;
 use std::snapshot::Snapshot;
 use std::sync::MutexGuard;
-use std::sync::ledger::Ledger;
 
 /// A site whose lock was taken for a read, and the transaction that is to read, both as they were then. It can't be dropped: the lock is
 /// let go with the one read that the site logged and the transaction keeps, or with both as they were.
@@ -68,7 +68,7 @@ pub(crate) struct Logged {
     site: SiteNo,
 }
 
-impl<L: Ledger> Seat<L> {
+impl<L: Ledgers> Seat<L> {
     ghost use Rattle.std.specs.Prelude.{◌≡◌};
     ghost use Rattle.sgt_service_locks.specs.Counts.{AreCounted, only_at, with_read};
 
@@ -77,6 +77,7 @@ impl<L: Ledger> Seat<L> {
     pub(crate) fn count_read(&mut self, logged: Logged)
         ensures share { (self.new.share ≡ self.old.share) × (self.new.begun ≡ self.old.begun)
             × (self.new.number ≡ self.old.number) }
+        ensures begins { self.new.begins ≡ self.old.begins }
         ensures counts { AreCounted
             (only_at logged.site with_read) self.old.counts.items self.new.counts.items }
     {

@@ -2,8 +2,9 @@
 
 ghost use Rattle.std.specs.Prelude.{◌≡◌, ◌+◌, IfOk, vec_len};
 ghost use Rattle.std.specs.List.{AllZip};
-ghost use Rattle.sgt_service_locks.specs.Together.{added, both, parts_of, amount_of, counts_of};
+ghost use Rattle.sgt_service_locks.specs.Together.{added, both, parts_of, amount_of, begin_parts_of, begins_of, counts_of};
 
+use crate::ledgers::{Begins, Ledgers};
 use crate::seat::Seat;
 use crate::service::Service;
 use sgt_certifier::Certifier;
@@ -12,7 +13,7 @@ use sgt_site::Site;
 use sgt_workers::Gate;
 use std::alloc::{AllocError, Global};
 use std::sync::Mutex;
-use std::sync::ledger::{Ledger, Share};
+use std::sync::ledger::Share;
 
 /// What lay behind the locks of a service, with what its seats counted together at each site.
 #[derive(Drop)]
@@ -22,21 +23,25 @@ pub struct Opened {
     pub counts: Vec<EntryCounts>,
 }
 
-impl<L: Ledger, G: Gate> Service<L, G> {
+impl<L: Ledgers, G: Gate> Service<L, G> {
     ghost use Rattle.std.specs.Prelude.{◌≡◌, IfOk, IfErr, vec_len};
     ghost use Rattle.sgt_service_locks.specs.Guarded.{decision_count};
-    ghost use Rattle.sgt_service_locks.specs.Together.{parts_of, amount_of, counts_of};
+    ghost use Rattle.sgt_service_locks.specs.Together.{parts_of, amount_of, begin_parts_of, begins_of, counts_of};
 
     /// Takes the locks apart, and puts together what the seats counted. Where the seats are all that there are, the history has as
-    /// many decisions as their shares together. It waits for nobody. Where there was no memory, the certifier alone is handed out.
+    /// many decisions as their shares together, and as many begins. It waits for nobody. Where there was no memory, the certifier alone is handed out.
     pub fn open(self, alloc: Global, seats: Vec<Seat<L>>) -> Result<Opened, Certifier>
         ensures decisions { IfOk result (λ o. parts_of seats.items ≡ L.parts
             → decision_count o.certifier ≡ amount_of seats.items) }
+        ensures begins { IfOk result (λ o. begin_parts_of seats.items ≡ L.parts
+            → o.certifier.state.begun ≡ begins_of seats.items) }
         ensures sites { IfOk result (λ o. vec_len o.sites ≡ vec_len self.names) }
         ensures counts { IfOk result
             (λ o. o.counts.items ≡ counts_of (vec_len self.names) seats.items) }
         ensures unopened { IfErr result (λ certifier. parts_of seats.items ≡ L.parts
             → decision_count certifier ≡ amount_of seats.items) }
+        ensures unopened_begins { IfErr result (λ certifier. begin_parts_of seats.items ≡ L.parts
+            → certifier.state.begun ≡ begins_of seats.items) }
     {
         let Service {
             certifier,
@@ -44,10 +49,13 @@ impl<L: Ledger, G: Gate> Service<L, G> {
             gate: _,
             names: _,
         } = self;
-        let (certifier, mut book, none) = certifier.into_inner().into_parts();
+        let (certifier, decisions, begins) = certifier.into_inner().into_parts();
+        let (mut book, none) = decisions;
+        let (mut begun, nobody) = begins;
         let counts = counted(alloc, seats.as_slice(), sites.len());
-        let mut all = merged(none, seats);
+        let (mut all, mut beginning) = merged(none, nobody, seats);
         book.audit(&mut all);
+        begun.audit(&mut beginning);
         let Ok(sites) = unlocked(alloc, sites) else {
             return Err(certifier);
         };
@@ -62,20 +70,27 @@ impl<L: Ledger, G: Gate> Service<L, G> {
     }
 }
 
-// All shares as one.
-fn merged<L: Ledger>(mut all: Share<L>, seats: Vec<Seat<L>>) -> Share<L>
-    ensures parts { result.parts ≡ all.parts + parts_of seats.items }
-    ensures amount { result.amount ≡ all.amount + amount_of seats.items }
+// All shares as one of each ledger.
+fn merged<L: Ledgers>(
+    mut all: Share<L>,
+    mut beginning: Share<Begins<L>>,
+    seats: Vec<Seat<L>>,
+) -> (Share<L>, Share<Begins<L>>)
+    ensures parts { result.0.parts ≡ all.parts + parts_of seats.items }
+    ensures amount { result.0.amount ≡ all.amount + amount_of seats.items }
+    ensures begin_parts { result.1.parts ≡ beginning.parts + begin_parts_of seats.items }
+    ensures begins { result.1.amount ≡ beginning.amount + begins_of seats.items }
 {
     for seat in seats {
-        let Seat { share, .. } = seat;
+        let Seat { share, begins, .. } = seat;
         all.merge(share);
+        beginning.merge(begins);
     }
-    all
+    (all, beginning)
 }
 
 // What the seats counted together at each site.
-fn counted<L: Ledger>(
+fn counted<L: Ledgers>(
     alloc: Global,
     seats: &[Seat<L>],
     sites: usize,

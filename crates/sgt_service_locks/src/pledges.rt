@@ -2,12 +2,12 @@
 
 use crate::active::Active;
 use crate::guarded::Guarded;
+use crate::ledgers::Ledgers;
 use sgt_certifier::Certifier;
 use sgt_names::{SiteNo, Tx};
 use sgt_site::Site;
 use sgt_workers::Ending;
 use std::sync::MutexGuard;
-use std::sync::ledger::Ledger;
 
 /// The pledges that a transaction took at those sites below a number that it touches, but for those from the first on that were given back.
 /// They can't be dropped: whoever has them gives each back at its site, or owes the blocks of the transaction once it is decided.
@@ -184,7 +184,7 @@ impl Blocks {
     }
 
     /// No further one is written, since the next site has lost its pledge, which is noted.
-    pub(crate) fn give_up<L: Ledger>(self, guarded: &Guarded<L>, here: SiteNo)
+    pub(crate) fn give_up<L: Ledgers>(self, guarded: &Guarded<L>, here: SiteNo)
         requires stopped { self.stopped ≡ true }
         requires next { here ≡ self.written }
         requires noted { guarded.now.lost ≡ Some here }

@@ -8,6 +8,7 @@ ghost use Rattle.sgt_site.specs.State.{IsPledged};
 
 use crate::active::Active;
 use crate::guarded::Guarded;
+use crate::ledgers::Ledgers;
 use crate::pledges::{Blocks, Pledges};
 use crate::seat::Seat;
 use crate::service::Service;
@@ -18,7 +19,6 @@ use sgt_service_agreement::ServiceFault;
 use sgt_site::{Site, SiteFault};
 use sgt_workers::{Ending, Gate, Place};
 use std::alloc::Global;
-use std::sync::ledger::Ledger;
 use std::sync::{MutexGuard, Wait};
 
 /// This site was found to have lost its pledge.
@@ -27,7 +27,7 @@ pub struct Lost {
     pub site: SiteNo,
 }
 
-impl<L: Ledger, G: Gate> Service<L, G> {
+impl<L: Ledgers, G: Gate> Service<L, G> {
     ghost use Rattle.std.specs.Prelude.{◌≡◌, ◌≢◌, ◌<◌, ◌≤◌, ◌+◌, ◌++◌, [], ℕ, List, false, Some, Err, IsTrue, IfOk, IfErr, IfSome, OnOk, OnErr, vec_len};
     ghost use Rattle.sgt_service_agreement.specs.declared.fault.ServiceFault.TheVariants.{NotPledged};
     ghost use Rattle.sgt_names.specs.Draft.{at_site};
@@ -323,6 +323,7 @@ impl<L: Ledger, G: Gate> Service<L, G> {
         ensures step { guarded.new.certifier.state.step ≡ guarded.old.certifier.state.step }
         ensures share { (seat.new.share ≡ seat.old.share) × (seat.new.begun ≡ seat.old.begun)
             × (seat.new.number ≡ seat.old.number) }
+        ensures begins { seat.new.begins ≡ seat.old.begins }
         ensures ok { OnOk result
             (AreCounted (λ site. with_others (blocks_of verdict active.now.draft.touched site))
             seat.old.counts.items seat.new.counts.items) }
@@ -382,6 +383,7 @@ impl<L: Ledger, G: Gate> Service<L, G> {
         ensures step { guarded.new.certifier.state.step ≡ guarded.old.certifier.state.step }
         ensures share { (seat.new.share ≡ seat.old.share) × (seat.new.begun ≡ seat.old.begun)
             × (seat.new.number ≡ seat.old.number) }
+        ensures begins { seat.new.begins ≡ seat.old.begins }
         ensures counted { IsTrue result → AreCounted
             (only_at here (with_others (blocks_of verdict active.now.draft.touched here)))
             seat.old.counts.items seat.new.counts.items }

@@ -7,6 +7,7 @@ ghost use Rattle.sgt_service_locks.specs.Refused.{IsToldOfRead};
 
 use crate::active::Active;
 use crate::guarded::is_numbered;
+use crate::ledgers::Ledgers;
 use crate::logged::{Logged, Unread};
 use crate::seat::Seat;
 use crate::service::Service;
@@ -14,10 +15,9 @@ use sgt_names::{Draft, Item, Seen, SiteNo, Value, changes_show_at_their_place};
 use sgt_service_agreement::ServiceFault;
 use sgt_site::{Site, SiteFault};
 use sgt_workers::{Gate, Place};
-use std::sync::ledger::Ledger;
 use std::sync::{MutexGuard, Wait};
 
-impl<L: Ledger, G: Gate> Service<L, G> {
+impl<L: Ledgers, G: Gate> Service<L, G> {
     ghost use Rattle.sgt_service_agreement.specs.declared.fault.ServiceFault.TheVariants.{Site as AtSite};
     ghost use Rattle.sgt_site.specs.declared.fault.SiteFault.TheVariants.{UnknownItem};
     ghost use Rattle.std.specs.Sync.Mutex.{mutex_guard_value as held};
@@ -51,6 +51,7 @@ impl<L: Ledger, G: Gate> Service<L, G> {
             × AreCounted (only_at site with_read) seat.old.counts.items seat.new.counts.items) }
         ensures named { IsOfActive active.old active.new × (seat.new.share ≡ seat.old.share)
             × (seat.new.begun ≡ seat.old.begun) × (seat.new.number ≡ seat.old.number) }
+        ensures begins { seat.new.begins ≡ seat.old.begins }
         ensures err { OnErr result (SameActive active.old active.new × SameSeat seat.old seat.new) }
         ensures allowed { OnOk result
             (look_in active.old.draft.touched site item ≡ None

@@ -3,21 +3,25 @@
 ghost use Rattle.std.specs.Prelude.{◌≡◌, ◌<◌};
 ghost use Rattle.sgt_service_locks.specs.Counts.{with_others};
 
+use crate::ledgers::{Begins, Ledgers};
 use sgt_names::SiteNo;
 use sgt_service_agreement::EntryCounts;
-use std::sync::ledger::{Ledger, Share};
+use std::sync::ledger::Share;
 
-/// One worker's number and its part of the ledger of decisions, with its counts at each site and of the transactions that it began.
+/// One worker's number and its parts of the ledgers of decisions and of begins, with its counts at each site and of the transactions
+/// that it began.
 #[derive(Drop)]
-pub struct Seat<L: Ledger> {
+pub struct Seat<L: Ledgers> {
     pub(crate) number: usize,
     pub(crate) share: Share<L>,
+    pub(crate) begins: Share<Begins<L>>,
     pub(crate) counts: Vec<EntryCounts>,
     pub(crate) begun: u64,
     pub ghost some_part: { 0 < share.parts },
+    pub ghost some_begins: { 0 < begins.parts },
 }
 
-impl<L: Ledger> Seat<L> {
+impl<L: Ledgers> Seat<L> {
     ghost use Rattle.std.specs.Prelude.{◌≡◌};
     ghost use Rattle.sgt_service_locks.specs.Counts.{AreCounted, only_at, with_others};
     ghost use Rattle.sgt_service_locks.specs.Seats.{CountsBegin};
@@ -45,7 +49,8 @@ impl<L: Ledger> Seat<L> {
 
     // Counts a transaction that it began.
     pub(crate) fn count_begin(&mut self)
-        ensures { CountsBegin self.old self.new }
+        ensures seat { CountsBegin self.old self.new }
+        ensures begins { self.new.begins ≡ self.old.begins }
     {
         self.begun = self.begun.saturating_add(1);
     }
@@ -55,6 +60,7 @@ impl<L: Ledger> Seat<L> {
     pub(crate) fn count_others(&mut self, site: SiteNo, more: u64)
         ensures share { (self.new.share ≡ self.old.share) × (self.new.begun ≡ self.old.begun)
             × (self.new.number ≡ self.old.number) }
+        ensures begins { self.new.begins ≡ self.old.begins }
         ensures counts { AreCounted
             (only_at site (with_others more)) self.old.counts.items self.new.counts.items }
     {

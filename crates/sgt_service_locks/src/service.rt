@@ -9,23 +9,24 @@ ghost use Rattle.sgt_site.specs.declared.fault.SiteFault.TheVariants.{BadItems};
 ghost use Rattle.sgt_service_agreement.specs.declared.fault.ServiceFault.TheVariants.{Site as AtSite};
 ghost use Rattle.sgt_service_locks.specs.Opened.{sites_from};
 ghost use Rattle.sgt_service_locks.specs.Refused.{NamesRise, RefusesSites};
-ghost use Rattle.sgt_service_locks.specs.Seats.{IsNew};
+ghost use Rattle.sgt_service_locks.specs.Seats.{IsNew, HasBegunNone};
 
 use crate::active::Active;
 use crate::guarded::Guarded;
+use crate::ledgers::{Begins, Blanks, Ledgers};
 use crate::seat::Seat;
 use sgt_names::{Draft, Holding, Item, Listed, SiteNo, Value};
 use sgt_service_agreement::{EntryCounts, ServiceFault};
 use sgt_site::{Site, SiteFault};
 use sgt_workers::Gate;
 use std::alloc::{AllocError, Global};
-use std::sync::ledger::{Blank, Ledger, Share};
+use std::sync::ledger::Share;
 use std::sync::{Mutex, Wait};
 
 /// A certifier and its sites, each under a lock of its own. A thread that holds the certifier's lock may take a site's, one
 /// after another; one that holds a site's takes none.
 #[derive(Drop)]
-pub struct Service<L: Ledger, G: Gate> {
+pub struct Service<L: Ledgers, G: Gate> {
     /// The certifier with its book, under its lock.
     pub(crate) certifier: Mutex<Guarded<L>>,
     /// The sites, by number, each under its lock. Of what somebody does to one behind the service's back V7, V9 and V10 tell as far as
@@ -41,36 +42,38 @@ pub struct Service<L: Ledger, G: Gate> {
     pub ghost rising: { All NamesRise names.items },
 }
 
-impl<L: Ledger, G: Gate> Service<L, G> {
-    ghost use Rattle.std.specs.Prelude.{◌≡◌, ◌↔◌, ◌≤◌, [], Some, length, map, replicate, All, IsTrue, IfOk, IfErr, OnOk, OnErr, vec_len};
+impl<L: Ledgers, G: Gate> Service<L, G> {
+    ghost use Rattle.std.specs.Prelude.{◌≡◌, ◌↔◌, ◌≤◌, ◌+◌, [], Some, length, map, replicate, All, IsTrue, IfOk, IfErr, OnOk, OnErr, vec_len};
     ghost use Rattle.std.specs.List.{range_with_len};
     ghost use Rattle.sgt_names.specs.Limits.{max_sites};
     ghost use Rattle.sgt_names.specs.Log.{names};
     ghost use Rattle.sgt_names.specs.Draft.{seen_at, change_at, added_to, ChangesOnly};
     ghost use Rattle.sgt_names.specs.declared.entry.Change.TheVariants.{Put};
     ghost use Rattle.sgt_site.specs.State.{AreItems};
-    ghost use Rattle.sgt_service_locks.specs.Seats.{IsNew, SameSeat, CountsBegin};
+    ghost use Rattle.sgt_service_locks.specs.Seats.{IsNew, HasBegunNone, SameSeat, CountsBegin};
+    ghost use Rattle.sgt_service_locks.specs.Ledgers.{AreOf};
     ghost use Rattle.sgt_certifier.specs.History.{begin, close};
     ghost use Rattle.sgt_certifier.specs.declared.call.Call.TheVariants as call;
     ghost use Rattle.sgt_service_locks.specs.Guarded.{HasAdded};
     ghost use Rattle.sgt_service_locks.specs.Refused.{HasItem, RefusesItem, RefusesSites, IsOfBegin, IsToldOf};
 
-    /// A service of these sites, at least one, none of which has an entry yet, and all its seats, numbered from 0. The blank of the
-    /// ledger has a part for each seat. A site is named by its place.
+    /// A service of these sites, at least one, none of which has an entry yet, and all its seats, numbered from 0. The blanks of the
+    /// ledgers have a part for each seat. A site is named by its place.
     ///
     /// - V4 with S6: the names of a site's items don't rise, or there are more than 1,024.
     /// - V3: there was no memory.
     pub fn new(
         alloc: Global,
-        blank: Blank,
+        blanks: Blanks,
         sites: &[Listed<Holding>],
         seats: u64,
         gate: G,
     ) -> Result<(Service<L, G>, Vec<Seat<L>>), ServiceFault>
-        requires ledger { (blank.name ≡ L.name) × (blank.parts ≡ L.parts) × (blank.parts ≡ seats) }
+        requires ledgers { AreOf L.name L.begins L.parts blanks × (L.parts ≡ seats) }
         requires sites { (1 ≤ length sites.now) × (length sites.now ≤ max_sites) }
         ensures seats { IfOk result
             (λ r. (vec_len r.1 ≡ seats) × All (IsNew (length sites.now)) r.1.items) }
+        ensures begins { IfOk result (λ r. All HasBegunNone r.1.items) }
         ensures numbers { IfOk result
             (λ r. map (λ s. s.number) r.1.items ≡ range_with_len 0 seats) }
         ensures names { IfOk result (λ r. r.0.names.items ≡ map names sites.now) }
@@ -78,14 +81,16 @@ impl<L: Ledger, G: Gate> Service<L, G> {
         ensures allowed { OnOk result (All AreItems sites.now) }
         ensures refused { IfErr result (RefusesSites sites.now) }
     {
-        let (book, mut share) = blank.open::<L>();
-        let none = share.empty();
+        let Blanks { decisions, begins } = blanks;
+        let (book, mut share) = decisions.open::<L>();
+        let (begun, mut beginning) = begins.open::<Begins<L>>();
+        let guarded = Guarded::new(alloc, book, share.empty(), begun, beginning.empty());
         let opened = open_sites(alloc, sites)?;
         let locks = locked(alloc, opened)?;
         let names = rising_names(alloc, sites)?;
-        let seats = new_seats(alloc, share, seats, sites.len())?;
+        let seats = new_seats(alloc, share, beginning, seats, sites.len())?;
         let service = Service {
-            certifier: Mutex::new(Guarded::new(alloc, book, none)),
+            certifier: Mutex::new(guarded),
             sites: locks,
             gate,
             names,
@@ -125,12 +130,16 @@ impl<L: Ledger, G: Gate> Service<L, G> {
     ) -> Result<Active, ServiceFault>
         ensures seat { OnOk result (CountsBegin seat.old seat.new) }
         ensures err { OnErr result (SameSeat seat.old seat.new) }
+        ensures counted { OnOk result
+            (seat.new.begins.amount ≡ seat.old.begins.amount + 1) }
+        ensures parts { seat.new.begins.parts ≡ seat.old.begins.parts }
+        ensures uncounted { OnErr result (seat.new.begins ≡ seat.old.begins) }
         ensures draft { IfOk result (λ a. a.draft.touched ≡ []) }
         ensures begun { IfOk result (λ a. HasAdded (call.Begin a.tx a.handle)) }
         ensures refused { IfErr result (IsToldOf begin) }
         ensures fault { IfErr result IsOfBegin }
     {
-        let (tx, handle) = self.certifier.lock(rt).begin()?;
+        let (tx, handle) = self.certifier.lock(rt).begin(&mut seat.begins)?;
         seat.count_begin();
         Ok(Active {
             tx,
@@ -213,16 +222,19 @@ impl<L: Ledger, G: Gate> Service<L, G> {
     }
 }
 
-// Seats with nothing counted, numbered from 0, one for each part of the share.
-fn new_seats<L: Ledger>(
+// Seats with nothing counted, numbered from 0, one for each part of the shares.
+fn new_seats<L: Ledgers>(
     alloc: Global,
     mut rest: Share<L>,
+    mut beginning: Share<Begins<L>>,
     count: u64,
     sites: usize,
 ) -> Result<Vec<Seat<L>>, AllocError>
-    requires { (rest.parts ≡ count) × (rest.amount ≡ 0) }
+    requires rest { (rest.parts ≡ count) × (rest.amount ≡ 0) }
+    requires beginning { (beginning.parts ≡ count) × (beginning.amount ≡ 0) }
     ensures seats { IfOk result
         (λ seats. (vec_len seats ≡ count) × All (IsNew sites) seats.items) }
+    ensures begins { IfOk result (λ seats. All HasBegunNone seats.items) }
     ensures numbers { IfOk result
         (λ seats. map (λ s. s.number) seats.items ≡ range_with_len 0 count) }
 {
@@ -234,9 +246,11 @@ fn new_seats<L: Ledger>(
     for number in 0..count {
         let counts = Vec::from_elem(alloc, nothing, sites)?;
         let share = rest.split_off(1, 0);
+        let begins = beginning.split_off(1, 0);
         seats.push(Seat {
             number: number as usize,
             share,
+            begins,
             counts,
             begun: 0,
         })?;

@@ -1,6 +1,7 @@
 //! Runs whose locks somebody takes behind the service's back, and runs whose tickets are changed.
 
 ghost use Rattle.std.specs.Prelude.{◌≡◌};
+ghost use Rattle.sgt_service_locks.specs.Ledgers.{AreOf};
 
 use crate::gates::{HoldThree, HoldUntil};
 use crate::given::{other_site, scripts_of, sites_of};
@@ -8,13 +9,12 @@ use sgt_names::{Holding, Item, Listed, SiteNo, Tx};
 use sgt_notation::Script;
 use sgt_service::{run, settle};
 use sgt_service_agreement::ServiceFault;
-use sgt_service_locks::{Seat, Service};
+use sgt_service_locks::{Blanks, Ledgers, Seat, Service};
 use sgt_site::Site;
 use sgt_workers::{Done, Ending, Gate, Place, PoolFail, Ticket};
 use std::alloc::Global;
 use std::marker::Brand;
 use std::sync::Wait;
-use std::sync::ledger::{Blank, Ledger};
 use std::test::Fail;
 use std::thread::{Threads, join};
 
@@ -28,7 +28,7 @@ enum Meddling {
 }
 
 // Does this, where it does something while the gate holds whoever has decided; and then nobody is held any more.
-fn meddle<L: Ledger, R: Wait>(
+fn meddle<L: Ledgers, R: Wait>(
     rt: &R,
     service: &Service<L, &HoldThree>,
     does: Meddling,
@@ -61,14 +61,14 @@ enum End {
 }
 
 /// Puts another site in the place of the first.
-pub fn exchange<L: Ledger, G: Gate, R: Wait>(rt: &R, service: &Service<L, G>, other: Site) {
+pub fn exchange<L: Ledgers, G: Gate, R: Wait>(rt: &R, service: &Service<L, G>, other: Site) {
     if let Some(site) = service.sites.first() {
         *site.lock(rt) = other;
     }
 }
 
 // What became of the scripts, where there is a seat to run them by.
-fn run_by<L: Ledger + Send + Sync, G: Gate + Sync, R: Threads + Wait + Sync>(
+fn run_by<L: Ledgers + Send + Sync, G: Gate + Sync, R: Threads + Wait + Sync>(
     rt: &R,
     alloc: Global,
     service: &Service<L, G>,
@@ -83,17 +83,17 @@ fn run_by<L: Ledger + Send + Sync, G: Gate + Sync, R: Threads + Wait + Sync>(
 
 // How a run with the first of two seats ends, settled with both; its callers were told what they were told, or this. None: it came to
 // no end.
-fn ended<L: Ledger + Send + Sync, R: Threads + Wait + Sync>(
+fn ended<L: Ledgers + Send + Sync, R: Threads + Wait + Sync>(
     rt: &R,
     alloc: Global,
-    blank: Blank,
+    blanks: Blanks,
     sites: &[Listed<Holding>],
     scripts: &[Script],
     does: Meddling,
     exchanged: Option<Site>,
     told: Option<Vec<Done>>,
 ) -> Option<End>
-    requires { (blank.name ≡ L.name) × (blank.parts ≡ L.parts) × (blank.parts ≡ 2) }
+    requires { AreOf L.name L.begins L.parts blanks × (L.parts ≡ 2) }
 {
     if sites.is_empty() || sites.len() > 64 {
         return None;
@@ -105,7 +105,7 @@ fn ended<L: Ledger + Send + Sync, R: Threads + Wait + Sync>(
         HoldUntil::new(Place::InRead(nowhere), Place::InStep),
         HoldUntil::new(Place::InRead(nowhere), Place::InStep),
     );
-    let (service, mut seats) = Service::<L, _>::new(alloc, blank, sites, 2, &gate).ok()?;
+    let (service, mut seats) = Service::<L, _>::new(alloc, blanks, sites, 2, &gate).ok()?;
     let second = seats.pop()?;
     let ours = &service;
     let (ran, ()) = join(
@@ -131,7 +131,7 @@ fn ended<L: Ledger + Send + Sync, R: Threads + Wait + Sync>(
     }
 }
 
-fn later<L: Ledger, G: Gate, R: Wait>(
+fn later<L: Ledgers, G: Gate, R: Wait>(
     rt: &R,
     alloc: Global,
     service: &Service<L, G>,
@@ -157,7 +157,7 @@ fn changed<R: Threads + Wait + Sync>(
     Ok(ended::<Brand, _>(
         rt,
         alloc,
-        Blank::new(2),
+        Blanks::new(2),
         sites.as_slice(),
         scripts.as_slice(),
         does,
@@ -250,7 +250,7 @@ fn told_otherwise<R: Threads + Wait + Sync>(
     Ok(ended::<Brand, _>(
         rt,
         alloc,
-        Blank::new(2),
+        Blanks::new(2),
         sites.as_slice(),
         scripts.as_slice(),
         Meddling::Nothing,

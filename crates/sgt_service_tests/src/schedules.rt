@@ -1,36 +1,36 @@
 //! Schedules of two workers that gates bring about.
 
 ghost use Rattle.std.specs.Prelude.{◌≡◌};
+ghost use Rattle.sgt_service_locks.specs.Ledgers.{AreOf};
 
 use crate::gates::{HoldThree, HoldUntil};
 use crate::given::{scripts_of, sites_of};
 use sgt_names::{Holding, Listed, SiteNo};
 use sgt_notation::Script;
 use sgt_service::{Settled, run, settle};
-use sgt_service_locks::Service;
+use sgt_service_locks::{Blanks, Ledgers, Service};
 use sgt_workers::{Ending, Place};
 use std::alloc::Global;
 use std::marker::Brand;
 use std::sync::Wait;
-use std::sync::ledger::{Blank, Ledger};
 use std::test::Fail;
 use std::thread::Threads;
 
 // The scripts on a service of these sites, each tried once by one of two workers, and settled.
-fn ran<L: Ledger + Send + Sync, R: Threads + Wait + Sync>(
+fn ran<L: Ledgers + Send + Sync, R: Threads + Wait + Sync>(
     rt: &R,
     alloc: Global,
-    blank: Blank,
+    blanks: Blanks,
     sites: &[Listed<Holding>],
     scripts: &[Script],
     gate: &HoldThree,
 ) -> Option<Settled>
-    requires { (blank.name ≡ L.name) × (blank.parts ≡ L.parts) × (blank.parts ≡ 2) }
+    requires { AreOf L.name L.begins L.parts blanks × (L.parts ≡ 2) }
 {
     if sites.is_empty() || sites.len() > 64 {
         return None;
     }
-    let (service, seats) = Service::<L, _>::new(alloc, blank, sites, 2, gate).ok()?;
+    let (service, seats) = Service::<L, _>::new(alloc, blanks, sites, 2, gate).ok()?;
     let (dones, seats) = run(rt, alloc, &service, seats, scripts, 1).ok()?;
     settle(alloc, service, dones, seats).ok()
 }
@@ -67,7 +67,7 @@ fn two_sites_at_once(rt: HostRuntime) -> Result<(), Fail> {
     let sites = sites_of(alloc, &["site 0 x=5", "site 1 y=2"]).ok_or("no sites")?;
     let scripts = scripts_of(alloc, &["r[0.x]", "r[1.y]"])?;
     let (sites, scripts) = (sites.as_slice(), scripts.as_slice());
-    let ended = ran::<Brand, _>(&rt, alloc, Blank::new(2), sites, scripts, &gate);
+    let ended = ran::<Brand, _>(&rt, alloc, Blanks::new(2), sites, scripts, &gate);
     let Some(settled) = &ended else {
         panic!(rt; "not settled");
     };
@@ -89,7 +89,7 @@ fn read_in_step(rt: HostRuntime) -> Result<(), Fail> {
     let sites = sites_of(alloc, &["site 0 x=5", "site 1 y=2", "site 2 z=1"]).ok_or("no sites")?;
     let scripts = scripts_of(alloc, &["r[2.z] w[0.x]=6", "r[1.y] r[0.x]"])?;
     let (sites, scripts) = (sites.as_slice(), scripts.as_slice());
-    let ended = ran::<Brand, _>(&rt, alloc, Blank::new(2), sites, scripts, &gate);
+    let ended = ran::<Brand, _>(&rt, alloc, Blanks::new(2), sites, scripts, &gate);
     let Some(settled) = &ended else {
         panic!(rt; "not settled");
     };

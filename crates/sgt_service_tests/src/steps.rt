@@ -1,17 +1,17 @@
 //! A service of one seat, whose calls are made one after another.
 
 ghost use Rattle.std.specs.Prelude.{◌≡◌};
+ghost use Rattle.sgt_service_locks.specs.Ledgers.{AreOf};
 
 use crate::meddling::exchange;
 use sgt_names::{Holding, Item, Listed, SiteNo, Value};
 use sgt_service::{Settled, settle};
 use sgt_service_agreement::ServiceFault;
-use sgt_service_locks::{Active, Back, Seat, Service};
+use sgt_service_locks::{Active, Back, Blanks, Ledgers, Seat, Service};
 use sgt_site::Site;
 use sgt_workers::{Done, NoGate, Ticket};
 use std::alloc::Global;
 use std::sync::Wait;
-use std::sync::ledger::{Blank, Ledger};
 
 /// A call. What is read and changed is at site 0.
 #[derive(Clone, Copy)]
@@ -41,7 +41,7 @@ pub enum Answer {
 }
 
 // Reads, or keeps a change.
-fn touch<L: Ledger, R: Wait>(
+fn touch<L: Ledgers, R: Wait>(
     rt: &R,
     service: &Service<L, NoGate>,
     seat: &mut Seat<L>,
@@ -67,7 +67,7 @@ fn touch<L: Ledger, R: Wait>(
 }
 
 // Commits or withdraws, and answers what comes back.
-fn end<L: Ledger, R: Wait>(
+fn end<L: Ledgers, R: Wait>(
     rt: &R,
     alloc: Global,
     service: &Service<L, NoGate>,
@@ -91,7 +91,7 @@ fn end<L: Ledger, R: Wait>(
 }
 
 // What a call answers.
-fn call<L: Ledger, R: Wait>(
+fn call<L: Ledgers, R: Wait>(
     rt: &R,
     alloc: Global,
     service: &Service<L, NoGate>,
@@ -152,7 +152,7 @@ pub struct Run {
 }
 
 // The place of the first call that answers otherwise. One that had no memory is made again. There is room for the tickets.
-fn first_wrong<L: Ledger, R: Wait>(
+fn first_wrong<L: Ledgers, R: Wait>(
     rt: &R,
     alloc: Global,
     service: &Service<L, NoGate>,
@@ -181,18 +181,30 @@ fn first_wrong<L: Ledger, R: Wait>(
     None
 }
 
+<<<<<<< HEAD
 /// Makes the calls, and settles what is left, whose one job was told all tickets. Between the first calls and the others another
 /// site may be put in the place of site 0. None: there was no memory before the first call.
 pub fn stepped<L: Ledger, R: Wait>(
+=======
+/// Which of the calls is the first that answers otherwise, and how what is left is settled, whose one job was told all tickets.
+/// Between the first calls and the others another site may be put in the place of site 0. None: there was no memory before
+/// the first call.
+pub fn stepped<L: Ledgers, R: Wait>(
+>>>>>>> 6ae1d3e8903fbaea11d9ee8bc6c9c621874604a7
     rt: &R,
     alloc: Global,
-    blank: Blank,
+    blanks: Blanks,
     sites: &[Listed<Holding>],
     steps: &[(Step, Answer)],
     exchanged: Option<Site>,
     others: &[(Step, Answer)],
+<<<<<<< HEAD
 ) -> Option<Run>
     requires { (blank.name ≡ L.name) × (blank.parts ≡ L.parts) × (blank.parts ≡ 1) }
+=======
+) -> Option<(Option<usize>, Result<Settled, ServiceFault>)>
+    requires { AreOf L.name L.begins L.parts blanks × (L.parts ≡ 1) }
+>>>>>>> 6ae1d3e8903fbaea11d9ee8bc6c9c621874604a7
 {
     if sites.is_empty() || sites.len() > 64 {
         return None;
@@ -203,7 +215,7 @@ pub fn stepped<L: Ledger, R: Wait>(
         wanted: false,
     };
     let mut dones = Vec::with_capacity(alloc, 1).ok()?;
-    let (service, mut seats) = Service::<L, _>::new(alloc, blank, sites, 1, NoGate).ok()?;
+    let (service, mut seats) = Service::<L, _>::new(alloc, blanks, sites, 1, NoGate).ok()?;
     let mut wrong = None;
     if let Some(seat) = seats.as_mut_slice().first_mut() {
         let mut active = None;

@@ -8,10 +8,10 @@ use sgt_certifier::CertifierFault;
 use sgt_names::{Entry, Holding, Item, MemSink, MemSource, SiteNo, Tx};
 use sgt_service::{Settled, bundle};
 use sgt_service_agreement::ServiceFault;
+use sgt_service_locks::Blanks;
 use sgt_workers::{Ending, Ticket};
 use std::alloc::Global;
 use std::marker::Brand;
-use std::sync::ledger::Blank;
 use std::test::Fail;
 
 fn ended(number: u64, tx: Tx, verdict: Ending) -> Answer {
@@ -49,8 +49,8 @@ fn closed_window(rt: HostRuntime) -> Result<(), Fail> {
         (Step::Commit, ended(1, two, Ending::Committed)),
     ];
     let sites = sites_of(alloc, &["site 0 x=5"]).ok_or("no sites")?;
-    let blank = Blank::new(1);
-    let run = stepped::<Brand, _>(&rt, alloc, blank, sites.as_slice(), &steps, None, &[]);
+    let blanks = Blanks::new(1);
+    let run = stepped::<Brand, _>(&rt, alloc, blanks, sites.as_slice(), &steps, None, &[]);
     let Some(
         Run {
             wrong: None,
@@ -82,8 +82,8 @@ fn withdrawn(rt: HostRuntime) -> Result<(), Fail> {
         (Step::Withdraw, ended(0, tx, Ending::Withdrawn)),
     ];
     let sites = sites_of(alloc, &["site 0 x=5"]).ok_or("no sites")?;
-    let blank = Blank::new(1);
-    let run = stepped::<Brand, _>(&rt, alloc, blank, sites.as_slice(), &steps, None, &[]);
+    let blanks = Blanks::new(1);
+    let run = stepped::<Brand, _>(&rt, alloc, blanks, sites.as_slice(), &steps, None, &[]);
     let Some(
         Run {
             wrong: None,
@@ -120,8 +120,8 @@ fn left_active(rt: HostRuntime) -> Result<(), Fail> {
         (Step::Read(x), Answer::Seen(6)),
     ];
     let sites = sites_of(alloc, &["site 0 x=5"]).ok_or("no sites")?;
-    let blank = Blank::new(1);
-    let run = stepped::<Brand, _>(&rt, alloc, blank, sites.as_slice(), &steps, None, &[]);
+    let blanks = Blanks::new(1);
+    let run = stepped::<Brand, _>(&rt, alloc, blanks, sites.as_slice(), &steps, None, &[]);
     let Some(
         Run {
             wrong: None,
@@ -156,11 +156,11 @@ fn other_history(rt: HostRuntime) -> Result<(), Fail> {
         (Step::Close, Answer::Refused(lost)),
     ];
     let sites = sites_of(alloc, &["site 0 x=5 y=2"]).ok_or("no sites")?;
-    let blank = Blank::new(1);
+    let blanks = Blanks::new(1);
     let run = stepped::<Brand, _>(
         &rt,
         alloc,
-        blank,
+        blanks,
         sites.as_slice(),
         &steps,
         Some(other),
@@ -199,8 +199,8 @@ fn growth_service(rt: HostRuntime) -> Result<(), Fail> {
         let Some(sites) = sites_of(alloc, &["site 0 x=5 y=0"]) else {
             continue;
         };
-        let blank = Blank::new(1);
-        let run = stepped::<Brand, _>(&rt, alloc, blank, sites.as_slice(), &steps, None, &[]);
+        let blanks = Blanks::new(1);
+        let run = stepped::<Brand, _>(&rt, alloc, blanks, sites.as_slice(), &steps, None, &[]);
         let Some(run) = run else {
             continue;
         };

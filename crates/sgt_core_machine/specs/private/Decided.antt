@@ -58,3 +58,7 @@ pub record RulesAt (old new : State) (table : List (Option Running)) (slot : ℕ
 pub record EndsAt (old new : Parts) (tx slot : ℕ) : Type 0 where
   pub ends : JudgeEnds old.certifier tx new.certifier
   pub is : new ≡ record old { certifier = new.certifier; table = slice_set old.table slot None }
+
+-- how many drafts of transactions that have ended are kept at most
+abbrev pub most_drafts : ℕ
+most_drafts = 16

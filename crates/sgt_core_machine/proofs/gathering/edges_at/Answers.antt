@@ -5,16 +5,16 @@ use Rattle.sgt_names.proofs.Lists.{element_at}
 use Rattle.sgt_core_machine.proofs.Versions.{memory_alone}
 use Rattle.sgt_core_machine.proofs.gathering.edges_at.Goals as goal
 
-both_ok : {A E P Q R : Type 0} → (P → Q → R) → (r : Result A E) → OnOk r P → OnOk r Q → OnOk r R
-both_ok f (Ok a) p q = f p q
-both_ok f (Err e) p q = tt
+all_ok : {A E P Q H S R : Type 0} → (P → Q → (H → S) → R) → (r : Result A E) → OnOk r P → OnOk r Q → (H → OnOk r S) → OnOk r R
+all_ok f (Ok a) p q s = f p q s
+all_ok f (Err e) p q s = tt
 
 pub returns-clause-ok : goal.returns-clause-ok
 returns-clause-ok c =
     let here = element_at c.args.places.now c.args.at c.index-places-at.result c.requires.site c.index-places-at.is in
     let within = slice_get_within c.args.table.now c.args.slot _ c.requires.slot.1 in
     let runs = element_at c.args.table.now c.args.slot c.index-table-slot.result within c.index-table-slot.is ∙ ap Some c.in-Some.is in
-    both_ok (λ given stand. record {
+    all_ok (λ given stand once. record {
       place = c.index-places-at.result;
       running = c.in-Some.running;
       there = here;
@@ -22,7 +22,8 @@ returns-clause-ok c =
       legal = c.items-items.ensures.site;
       given = given;
       stand = stand;
-    }) c.gather_into.result c.gather_into.ensures.given c.gather_into.ensures.stands
+      once = once;
+    }) c.gather_into.result c.gather_into.ensures.given c.gather_into.ensures.stands c.gather_into.ensures.once
 
 pub returns-clause-memory : goal.returns-clause-memory
 returns-clause-memory c =

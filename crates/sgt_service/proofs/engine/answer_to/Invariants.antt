@@ -1,4 +1,7 @@
 use Rattle.sgt_service.proofs.engine.answer_to.Given as goal
 
-abbrev pub ghosts-settled_run : goal.ghosts-settled_run
-ghosts-settled_run g a = record { name = a.blank.name; parts = a.blank.parts }
+abbrev pub ghosts-settled_run-L-Ledger : goal.ghosts-settled_run-L-Ledger
+ghosts-settled_run-L-Ledger g a = record { name = a.blanks.decisions.name; parts = a.blanks.decisions.parts }
+
+abbrev pub ghosts-settled_run-L-Ledgers : goal.ghosts-settled_run-L-Ledgers
+ghosts-settled_run-L-Ledgers g a = record { begins = a.blanks.begins.name }

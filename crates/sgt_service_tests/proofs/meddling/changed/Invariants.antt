@@ -1,4 +1,7 @@
 use Rattle.sgt_service_tests.proofs.meddling.changed.Given as goal
 
-abbrev pub ghosts-ended : goal.ghosts-ended
-ghosts-ended g a = record { name = a.blank.name; parts = a.blank.parts }
+abbrev pub ghosts-ended-L-Ledger : goal.ghosts-ended-L-Ledger
+ghosts-ended-L-Ledger g a = record { name = a.blanks.decisions.name; parts = a.blanks.decisions.parts }
+
+abbrev pub ghosts-ended-L-Ledgers : goal.ghosts-ended-L-Ledgers
+ghosts-ended-L-Ledgers g a = record { begins = a.blanks.begins.name }

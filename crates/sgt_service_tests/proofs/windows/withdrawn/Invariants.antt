@@ -1,4 +1,7 @@
 use Rattle.sgt_service_tests.proofs.windows.withdrawn.Given as goal
 
-abbrev pub ghosts-stepped : goal.ghosts-stepped
-ghosts-stepped g a = record { name = a.blank.name; parts = a.blank.parts }
+abbrev pub ghosts-stepped-L-Ledger : goal.ghosts-stepped-L-Ledger
+ghosts-stepped-L-Ledger g a = record { name = a.blanks.decisions.name; parts = a.blanks.decisions.parts }
+
+abbrev pub ghosts-stepped-L-Ledgers : goal.ghosts-stepped-L-Ledgers
+ghosts-stepped-L-Ledgers g a = record { begins = a.blanks.begins.name }

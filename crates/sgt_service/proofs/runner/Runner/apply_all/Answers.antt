@@ -10,6 +10,7 @@ pub loop-op-init : goal.loop-op-init
 loop-op-init g c = record {
   named = search rules;
   share = search rules;
+  begins = search rules;
   counts = counted_same c.args.active.now.draft.touched c.args.active.now.draft.touched c.args.seat.now.counts.items c.args.seat.now.counts.items refl refl;
   done = search rules;
 }
@@ -22,6 +23,7 @@ loop-op-preserved g c =
     record {
       named = search rules;
       share = search rules;
+      begins = search rules;
       counts = reads_on _ _ _ _ _ _ c.loop-op.invariant.counts
           (op_counts c.op-item.result _ _ _ _ _ _ rising (c.in_ok-apply.ensures.does (ap Ok c.if-not-branch.false)) c.in_ok-apply.ensures.counts);
       done = does_next_at c.as_slice-operations.result.now c.loop-op.op-index c.op-item.result _ _ _ _ _ _ here c.loop-op.invariant.done (search rules) (search rules);

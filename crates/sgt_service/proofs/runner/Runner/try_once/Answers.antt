@@ -16,7 +16,8 @@ returns-in-Ok-commit-clause-tries g c =
           (vec_len c.args.self.now.service.now.sites) c.clear.new.self.items c.apply_all.new.reads.items c.in_ok-active.ensures.begun
           c.in_ok-active.ensures.draft c.clear.ensures.items c.apply_all.ensures.named c.in_ok-fits.ensures.does (fitting t c.in_ok-fits.fits told.ok.1 c.if-not-fits.false) (inl told.step),
       try_counts t c.in_ok-active.active c.apply_all.new.active c.args.seat.now c.begin.new.seat c.apply_all.new.seat
-          c.commit.new.seat c.in_ok-active.ensures.seat c.in_ok-active.ensures.draft c.apply_all.ensures.share c.apply_all.ensures.counts told.ok.2,
+          c.commit.new.seat c.in_ok-active.ensures.seat c.in_ok-active.ensures.draft c.apply_all.ensures.share c.apply_all.ensures.counts told.ok.2
+          ((λ i. ((told.begins ∙ c.apply_all.ensures.begins) i).amount) ∙ c.in_ok-active.ensures.counted),
     )
 
 pub returns-in-Ok-clause-tries : goal.returns-in-Ok-clause-tries
@@ -29,7 +30,8 @@ returns-in-Ok-clause-tries g c =
           (vec_len c.args.self.now.service.now.sites) c.clear.new.self.items c.apply_all.new.reads.items c.in_ok-active.ensures.begun
           c.in_ok-active.ensures.draft c.clear.ensures.items c.apply_all.ensures.named c.in_ok-fits.ensures.does (unfitting t c.in_ok-fits.fits told.ok.1 c.if-not-fits.true) (inr told.step),
       try_counts t c.in_ok-active.active c.apply_all.new.active c.args.seat.now c.begin.new.seat c.apply_all.new.seat
-          c.withdraw.new.seat c.in_ok-active.ensures.seat c.in_ok-active.ensures.draft c.apply_all.ensures.share c.apply_all.ensures.counts ends,
+          c.withdraw.new.seat c.in_ok-active.ensures.seat c.in_ok-active.ensures.draft c.apply_all.ensures.share c.apply_all.ensures.counts ends
+          ((λ i. ((told.begins ∙ c.apply_all.ensures.begins) i).amount) ∙ c.in_ok-active.ensures.counted),
     )
 
 pub returns-in-Err-commit-clause-halt : goal.returns-in-Err-commit-clause-halt

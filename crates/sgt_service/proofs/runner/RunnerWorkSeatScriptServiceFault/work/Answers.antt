@@ -29,6 +29,7 @@ loop-preserved g c =
     let tried = try_of ops t c.try_once.new.reads.items c.loop.seat c.try_once.new.seat at in
     record {
       parts = search rules;
+      begin_parts = search rules;
       tried = rw pushed (tried_more ops c.loop.tickets.items t c.try_once.new.reads.items c.args.seat.now c.loop.seat c.try_once.new.seat c.loop.invariant.tried at);
       refused = rw pushed (All-push IsRefused c.loop.tickets.items t c.loop.invariant.refused (search rules));
       each = rw pushed (tries_more ops c.loop.tickets.items t c.try_once.new.reads.items c.loop.invariant.each tried);

@@ -8,6 +8,7 @@ use Rattle.sgt_service.proofs.runner.RunnerWorkSeatScriptServiceFault.work.Given
 abbrev pub invariant-loop : goal.invariant-loop
 invariant-loop g l = record {
   parts : l.seat.share.parts ≡ l.fn.seat.share.parts;
+  begin_parts : l.seat.begins.parts ≡ l.fn.seat.begins.parts;
   tried : AreTried l.job.script.now.operations l.tickets.items l.fn.seat l.seat;
   refused : All IsRefused l.tickets.items;
   each : All (IsTryOf l.job.script.now.operations) l.tickets.items;

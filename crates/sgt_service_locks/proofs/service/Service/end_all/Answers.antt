@@ -18,6 +18,7 @@ loop-place-preserved g c =
       awaits = λ v. subst (λ n. AwaitsInstalls c.end_one.new.guarded.certifier c.args.active.now.tx touched (n + 1)) here (one.awaits c.if-not-end_one.false v);
       step = one.step ∙ c.loop-place.invariant.step;
       share = (one.share.0 ∙ c.loop-place.invariant.share.0, one.share.1 ∙ c.loop-place.invariant.share.1, one.share.2 ∙ c.loop-place.invariant.share.2);
+      begins = one.begins ∙ c.loop-place.invariant.begins;
       within = omega (arith, c.loop-place-test.true);
       history = notes_next verdict c.args.active.now c.loop-place.place c.args.guarded.now.certifier.history c.loop-place.guarded.certifier.history
           c.end_one.new.guarded.certifier.history c.loop-place.invariant.history

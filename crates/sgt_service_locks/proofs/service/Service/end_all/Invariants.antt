@@ -10,6 +10,7 @@ invariant-loop-place g l = record {
   awaits : l.verdict ≡ Committed → AwaitsInstalls l.guarded.certifier l.active.tx l.active.draft.touched l.place;
   step : l.guarded.certifier.state.step ≡ l.fn.guarded.certifier.state.step;
   share : (l.seat.share ≡ l.fn.seat.share) × (l.seat.begun ≡ l.fn.seat.begun) × (l.seat.number ≡ l.fn.seat.number);
+  begins : l.seat.begins ≡ l.fn.seat.begins;
   within : l.place ≤ vec_len l.self.sites;
   history : l.guarded.certifier.history ≡ l.fn.guarded.certifier.history ++ notes_below l.verdict l.active l.place;
   owed : (l.blocks.written ≡ l.place) × (l.blocks.below ≡ vec_len l.self.sites);
