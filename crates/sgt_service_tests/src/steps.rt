@@ -181,16 +181,9 @@ fn first_wrong<L: Ledgers, R: Wait>(
     None
 }
 
-<<<<<<< HEAD
 /// Makes the calls, and settles what is left, whose one job was told all tickets. Between the first calls and the others another
 /// site may be put in the place of site 0. None: there was no memory before the first call.
-pub fn stepped<L: Ledger, R: Wait>(
-=======
-/// Which of the calls is the first that answers otherwise, and how what is left is settled, whose one job was told all tickets.
-/// Between the first calls and the others another site may be put in the place of site 0. None: there was no memory before
-/// the first call.
 pub fn stepped<L: Ledgers, R: Wait>(
->>>>>>> 6ae1d3e8903fbaea11d9ee8bc6c9c621874604a7
     rt: &R,
     alloc: Global,
     blanks: Blanks,
@@ -198,13 +191,8 @@ pub fn stepped<L: Ledgers, R: Wait>(
     steps: &[(Step, Answer)],
     exchanged: Option<Site>,
     others: &[(Step, Answer)],
-<<<<<<< HEAD
 ) -> Option<Run>
-    requires { (blank.name ≡ L.name) × (blank.parts ≡ L.parts) × (blank.parts ≡ 1) }
-=======
-) -> Option<(Option<usize>, Result<Settled, ServiceFault>)>
     requires { AreOf L.name L.begins L.parts blanks × (L.parts ≡ 1) }
->>>>>>> 6ae1d3e8903fbaea11d9ee8bc6c9c621874604a7
 {
     if sites.is_empty() || sites.len() > 64 {
         return None;
