@@ -1,5 +1,5 @@
 -- What lines that keep the rules say of the decisions on the transactions of their entries.
-use Rattle.std.proofs.Common.{◌≡◌, ◌≢◌, ℕ, suc, ◌+◌, ◌<◌, ◌≤◌, List, [], ◌∷◌, ◌++◌, length, map, take, drop, Option, Some, None, inl, inr, refl, sym, ap, ◌∙◌, subst, arith, All, Contains}
+use Rattle.std.proofs.Common.{◌≡◌, ◌≢◌, Bool, ℕ, zero, suc, ◌+◌, ◌<◌, ◌≤◌, List, [], ◌∷◌, ◌++◌, length, map, take, drop, Option, Some, None, inl, inr, refl, sym, ap, ◌∙◌, subst, arith, All, Contains}
 use Rattle.std.specs.Prelude.{fold, slice_get, Any, AllPairs, ◌⊎◌}
 use Rattle.std.specs.List.{filter_map}
 use Rattle.std.proofs.lemmas.List.Elements.{Contains-append_cases, Contains-push_cases, All-from_recursion}
@@ -98,7 +98,7 @@ entry-among ls e has = let at = Contains_at (filter_map entry_in ls) e has in le
   where
     from : (ks : List SectionLine) (n : ℕ) → slice_get (filter_map entry_in ks) n ≡ Some e → (m : ℕ) × (slice_get ks m ≡ Some (Logged e))
     from [] n at = absurd (none-some e at)
-    from (Logged f ∷ ks) 0 at = (0, ap Some (ap Logged (same_Some f e at)))
+    from (Logged f ∷ ks) zero at = (0, ap Some (ap Logged (same_Some f e at)))
     from (Logged f ∷ ks) (suc n) at = let more = from ks n at in (suc more.0, more.1)
     from (Site k ∷ ks) n at = let more = from ks n at in (suc more.0, more.1)
     from (Initial h ∷ ks) n at = let more = from ks n at in (suc more.0, more.1)
@@ -131,7 +131,7 @@ any-end entries tx has =
   where
     mapped : (ls : List LoggedEntry) (n : ℕ) → slice_get ls n ≡ Some has.0 → slice_get (entries_of ls) n ≡ Some has.0.entry
     mapped [] n at = absurd (none-some has.0 at)
-    mapped (l ∷ ls) 0 at = ap Some (ap (λ (k : LoggedEntry). k.entry) (same_Some l has.0 at))
+    mapped (l ∷ ls) zero at = ap Some (ap (λ (k : LoggedEntry). k.entry) (same_Some l has.0 at))
     mapped (l ∷ ls) (suc n) at = mapped ls n at
 
 all-ended : (before : List SectionLine) → All (λ (l : LoggedEntry). HasEnd (numbered_entries before) (tx_of l.entry)) (numbered_entries before) → AllEnded (entries_in before)

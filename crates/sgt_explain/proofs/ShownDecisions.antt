@@ -206,7 +206,7 @@ module _ (bytes : List ℕ) (n : ℕ) (first : FirstFault bytes n fault.Decision
       let parts = logged-parts n misplaced.line logged (at misplaced.before misplaced.line misplaced.has) in
       let keeps = λ (f : Fault). λ (k : Keeps misplaced.c misplaced.before misplaced.line f). subst (λ (l : SectionLine). Keeps misplaced.c misplaced.before l f) parts.0 k in
       let overtaken = overtaken-by misplaced.c misplaced.before logged (misplaced.kept.itself fault.DecidedTwice) (keeps fault.End (misplaced.decided (omega arith)))
-          (λ k. misplaced.broken (subst (λ (l : SectionLine). Keeps misplaced.c misplaced.before l fault.DecisionOrder) (sym parts.0) k)) in
+      (λ k. misplaced.broken (subst (λ (l : SectionLine). Keeps misplaced.c misplaced.before l fault.DecisionOrder) (sym parts.0) k)) in
       on-ok r (λ shown. subst (λ s. ShowsMisplaced (decisions_before s) (lines_before s) (bytes_of first.next) n old new) (sym misplaced.at) (record {
         logged = logged;
         entry = record { spelled = ap bytes_of misplaced.comes ∙ ap line_text parts.0; counted = parts.1 };
@@ -224,15 +224,15 @@ module _ (bytes : List ℕ) (n : ℕ) (first : FirstFault bytes n fault.NotEnded
   pub shows-left : {T E : Type 0} (r : Result T E) (section : Section) (d : Certificate) (placed : List Placed) (old new : List ℕ)
       → ((before : List SectionLine) (l : SectionLine) → HasLine bytes n before l → IsSectionOf before section) → Reads bytes (Some d) → ArePlaced d.decisions placed
       → (All (λ l. IsUndecided d.decisions (tx_of l.entry) → ⊥) section.entries.items → (All (λ l. HasEnd section.entries.items (tx_of l.entry)) section.entries.items → ⊥)
-          → OnOk r (TellsNotEnded d.decisions section.entries.items (unwrap_or section.site 0) old new))
+      → OnOk r (TellsNotEnded d.decisions section.entries.items (unwrap_or section.site 0) old new))
       → OnOk r (ShowsUnended (decisions_before first.stage) (lines_before first.stage) old new)
   shows-left r section d placed old new are one is_placed told =
       let is = are left.before left.line left.has in
       let decisions = same-decisions bytes n fault.NotEnded first.stage first.next left d one in
       let decided = subst (λ ds. All (λ (l : LoggedEntry). IsUndecided ds (tx_of l.entry) → ⊥) section.entries.items) (sym decisions)
-          (subst (λ (ls : List LoggedEntry). All (λ (l : LoggedEntry). IsUndecided left.c.decisions (tx_of l.entry) → ⊥) ls) (sym is.entries) (all-decided left.second left.c left.before left.kept)) in
+      (subst (λ (ls : List LoggedEntry). All (λ (l : LoggedEntry). IsUndecided left.c.decisions (tx_of l.entry) → ⊥) ls) (sym is.entries) (all-decided left.second left.c left.before left.kept)) in
       let lacking = λ (all : All (λ (l : LoggedEntry). HasEnd section.entries.items (tx_of l.entry)) section.entries.items).
-          left.broken (ended-kept left.c left.before left.line (subst (λ (ls : List LoggedEntry). All (λ (l : LoggedEntry). HasEnd ls (tx_of l.entry)) ls) is.entries all)) in
+      left.broken (ended-kept left.c left.before left.line (subst (λ (ls : List LoggedEntry). All (λ (l : LoggedEntry). HasEnd ls (tx_of l.entry)) ls) is.entries all)) in
       on-ok r (λ shown. subst (λ s. ShowsUnended (decisions_before s) (lines_before s) old new) (sym left.at)
       (subst (λ k. TellsNotEnded left.c.decisions (numbered_entries left.before) k old new) (ap (λ o. unwrap_or o 0) is.site)
       (subst (λ (ls : List LoggedEntry). TellsNotEnded left.c.decisions ls (unwrap_or section.site 0) old new) is.entries

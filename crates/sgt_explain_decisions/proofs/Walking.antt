@@ -1,8 +1,8 @@
 -- Walks that are cycles, and what is wrong with those that aren't.
 use Rattle.std.proofs.Common.{◌≡◌, ◌≢◌, ℕ, suc, ◌+◌, ◌-◌, ◌<◌, ◌≤◌, Bool, true, false, cond, List, [], ◌∷◌, ◌++◌, length, map, take, take_all, Option, Some, None, inl, inr, refl, sym, subst, ap, ◌∙◌, arith, All}
-use Rattle.std.specs.Prelude.{slice_get, AllPairs, IfSome, IfNone}
+use Rattle.std.specs.Prelude.{slice_get, AllPairs, IfSome, IfNone, is_some, not, ◌==◌}
 use Rattle.std.specs.Ordering.{nat_cmp, is_eq}
-use Rattle.std.proofs.lemmas.Bool.{cases_order, false≢true}
+use Rattle.std.proofs.lemmas.Bool.{cases_order, cases_eq, ne_eqb, false≢true, true≢false}
 use Rattle.std.proofs.lemmas.List.{map-append, length-map, length-take-le}
 use Rattle.std.proofs.lemmas.Option.{same_Some, slice_get_within}
 use Rattle.sgt_names.proofs.Lists.{take_next, map_at, All-next, All-weaken, All-from_map}
@@ -12,7 +12,7 @@ use Rattle.sgt_cert.specs.declared.certificate.Step.{Step}
 use Rattle.sgt_cert.specs.declared.certificate.Decision.{Decision}
 use Rattle.sgt_cert.specs.declared.certificate.Decision.TheVariants.{Commit, Refuse, Withdraw}
 use Rattle.sgt_explain_decisions.specs.Placed.{IsFirstOn}
-use Rattle.sgt_explain_decisions.specs.Walks.{IsRefusal, IsCommittedBefore, MayBePassed, steps_between, LeadsTo, AreApart, HaveCycles}
+use Rattle.sgt_explain_decisions.specs.Walks.{IsRefusal, IsCommittedBefore, MayBePassed, steps_between, LeadsTo, AreApart, IsFirstAgain, HaveCycles}
 use Rattle.sgt_explain_decisions.proofs.Doubling.{pairs-next}
 use Rattle.sgt_explain_decisions.proofs.Seeking.{same-number, number-same}
 
@@ -75,6 +75,30 @@ passed-next between n step old new at none updated so_far = record {
     unseen-at a false e None is =
         All-next (λ (s : Step). s.to ≢ a) between n step at (λ same. false≢true (sym e ∙ number-same step.to a same))
         (subst (λ r. IfNone r (All (λ (s : Step). s.to ≢ a) (take n between))) is (so_far.unseen a))
+
+-- the transaction was passed before
+pub again-of : (between : List Step) (n : ℕ) (step : Step) (passed : ℕ → Option ℕ) (old : Option ℕ) → slice_get between n ≡ Some step → old ≡ passed step.to → is_some old ≡ true
+    → ArePassed between n passed → IsFirstAgain between step.to
+again-of between n step passed old at is some so_far = record {
+  place = n;
+  step = step;
+  there = at;
+  to = refl;
+  earlier = earlier old some (subst (λ o. IfSome o (λ m. (s : Step) × (m < n) × (slice_get between m ≡ Some s) × (s.to ≡ step.to))) (sym is) (so_far.seen step.to));
+  before = so_far.apart;
+}
+  where
+    earlier : (o : Option ℕ) → is_some o ≡ true → IfSome o (λ m. (s : Step) × (m < n) × (slice_get between m ≡ Some s) × (s.to ≡ step.to))
+        → (m : ℕ) × (s : Step) × (m < n) × (slice_get between m ≡ Some s) × (s.to ≡ step.to)
+    earlier (Some m) e h = (m, h.0, h.1, h.2, h.3)
+    earlier None e h = absurd (false≢true e)
+
+pub none-of : (o : Option ℕ) → is_some o ≡ false → o ≡ None
+none-of (Some m) e = absurd (false≢true (sym e))
+none-of None e = refl
+
+pub ne-same : (a b : ℕ) (r : Bool) → r ≡ not (a == b) → r ≡ false → a ≡ b
+ne-same a b r is miss = elim (cases_eq a b) [ inl same ↦ same | inr apart ↦ absurd (true≢false (sym (ap not (ne_eqb a b apart)) ∙ sym is ∙ miss)) ]
 
 -- ---- cycles
 

@@ -123,15 +123,25 @@ pub fn push_end(
     push_reason(out, decisions, placed, tx, ended.is_some())
 }
 
+/// Adds the number of the entry's transaction, if the entry is an end.
+fn add_end(ended: &mut Vec<u32>, logged: &Logged) -> Result<(), AllocError>
+    ensures { (entries : List Logged) → Contains entries logged.now
+        → All (HasEnd entries) ended.old.items → OnOk result (All (HasEnd entries) ended.new.items) }
+{
+    if logged.entry.is_end() {
+        ended.push(logged.entry.tx().number())?;
+        return Ok(());
+    }
+    Ok(())
+}
+
 /// The numbers of the transactions that end among these entries, sorted.
 fn ended_in(alloc: Global, entries: &[Logged]) -> Result<Vec<u32>, AllocError>
     ensures { IfOk result (λ ended. All (HasEnd entries.now) ended.items) }
 {
     let mut ended = Vec::new(alloc);
     for logged in entries {
-        if logged.entry.is_end() {
-            ended.push(logged.entry.tx().number())?;
-        }
+        add_end(&mut ended, logged)?;
     }
     ended.sort()?;
     Ok(ended)

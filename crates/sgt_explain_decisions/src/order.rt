@@ -234,11 +234,7 @@ fn later_decided(placed: &[Placed], other: &Logged, own: usize) -> Option<Decide
         → IfNone result (IsNotLater decisions own other.now) }
 {
     let end = decided_end(placed, other)?;
-    if end.number > own {
-        Some(end)
-    } else {
-        None
-    }
+    if end.number > own { Some(end) } else { None }
 }
 
 /// The first of these ends that was decided later than by the decision of this number.

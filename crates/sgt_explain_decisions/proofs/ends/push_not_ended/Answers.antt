@@ -17,9 +17,13 @@ returns c = λ placed decided lacking.
     let found = subst (λ (ls : List Logged). IsFirstUnended ls l) c.as_slice-entries.ensures.value (rw c.in-Some.is at c.in_ok-logged.ensures.some) in
     let some = All_at (λ (k : Logged). IsUndecided ds (tx_of k.entry) → ⊥) items found.place l decided found.there in
     let head = c.in_ok-push_unended.ensures ∙ ap (λ s. string_bytes c.args.out.now ++ not_ended_head s l) c.site_number.ensures in
-    on-ok c.push_place.result _ _ (λ more. (l, found, more.0,
-    subst (λ (ls : List Logged). TellsPlace ds ls (tx_of l.entry) more.0) c.as_slice-entries.ensures.value (subst (λ t. TellsPlace ds c.as_slice-entries.result.now t more.0) c.tx.ensures more.1),
-    two-parts _ _ _ _ _ head more.2)) (c.push_place.ensures placed (λ none. some (subst (IsUndecided ds) c.tx.ensures none)))
+    on-ok c.push_place.result _ _ (λ more. (
+      l,
+      found,
+      more.0,
+      subst (λ (ls : List Logged). TellsPlace ds ls (tx_of l.entry) more.0) c.as_slice-entries.ensures.value (subst (λ t. TellsPlace ds c.as_slice-entries.result.now t more.0) c.tx.ensures more.1),
+      two-parts _ _ _ _ _ head more.2,
+    )) (c.push_place.ensures placed (λ none. some (subst (IsUndecided ds) c.tx.ensures none)))
 
 pub returns-in_default : goal.returns-in_default
 returns-in_default c = λ placed decided lacking.
