@@ -77,6 +77,7 @@ pub record FaultyLine (bytes : List ℕ) (n : ℕ) (f : Fault) (stage : Stage) (
   pub certified : (first : List ℕ) × (more : List ℕ) × HasNoLf first × (bytes ≡ first ++ 10 ∷ (certificate_text c ++ 10 ∷ more))
   pub begun : Keeps c before line fault.Section
   pub known : fault_number fault.Item < fault_number f → Keeps c before line fault.Item
+  pub decided : fault_number fault.End < fault_number f → Keeps c before line fault.End
   pub broken : Keeps c before line f → ⊥
 
 split_at : (ls : List SectionLine) (n : ℕ) (l : SectionLine) → slice_get ls n ≡ Some l → ls ≡ take n ls ++ l ∷ drop (n + 1) ls
@@ -111,9 +112,10 @@ module _ (bytes rest l : List ℕ) (n : ℕ) (second : Bool) (c : Certificate) (
       }
 
   inside : (f : Fault) → Rule (within second c before) (whole l) fault.Notation → Rule (within second c before) (whole l) fault.Section
-      → (fault_number fault.Item < fault_number f → Rule (within second c before) (whole l) fault.Item) → (((line : SectionLine) → IsLineIn second line → l ≡ line_text line → Keeps c before line f) → ⊥)
+      → (fault_number fault.Item < fault_number f → Rule (within second c before) (whole l) fault.Item)
+      → (fault_number fault.End < fault_number f → Rule (within second c before) (whole l) fault.End) → (((line : SectionLine) → IsLineIn second line → l ≡ line_text line → Keeps c before line f) → ⊥)
       → FaultyLine bytes n f (within second c before) (whole l)
-  inside f spelled begun known broken = record {
+  inside f spelled begun known decided broken = record {
     second = second;
     c = c;
     before = before;
@@ -131,6 +133,7 @@ module _ (bytes rest l : List ℕ) (n : ℕ) (second : Bool) (c : Certificate) (
     );
     begun = begun spelled.0 spelled.1 spelled.2;
     known = λ less. known less spelled.0 spelled.1 spelled.2;
+    decided = λ less. decided less spelled.0 spelled.1 spelled.2;
     broken = λ keeps. broken (λ m is e. subst (λ k. Keeps c before k f) (line-one spelled.0 m spelled.1.0 is.0 (sym spelled.2 ∙ e)) keeps);
   }
 
@@ -146,7 +149,7 @@ module _ (bytes rest : List ℕ) (n : ℕ) where
   read-of (complete second c before) (whole l) text kept number comes breaks = absurd (breaks.broken tt)
   read-of (complete second c before) (last l) text kept number comes breaks = absurd (breaks.broken tt)
   read-of (within second c before) (whole l) text kept number comes breaks =
-      inside bytes rest l n second c before text kept number comes fault.ReadValue (breaks.least fault.Notation (omega arith)) (breaks.least fault.Section (omega arith)) (breaks.least fault.Item) breaks.broken
+      inside bytes rest l n second c before text kept number comes fault.ReadValue (breaks.least fault.Notation (omega arith)) (breaks.least fault.Section (omega arith)) (breaks.least fault.Item) (breaks.least fault.End) breaks.broken
 
   final-of : (stage : Stage) (next : Piece) → bytes ≡ text_of_lines (lines_so_far stage) ++ rest → IsFaultless stage → n ≡ length (lines_so_far stage) + 1 → ComesNext rest next
       → Breaks (Rule stage next) fault.Final → FaultyLine bytes n fault.Final stage next
@@ -158,7 +161,7 @@ module _ (bytes rest : List ℕ) (n : ℕ) where
   final-of (complete second c before) (whole l) text kept number comes breaks = absurd (breaks.broken tt)
   final-of (complete second c before) (last l) text kept number comes breaks = absurd (breaks.broken tt)
   final-of (within second c before) (whole l) text kept number comes breaks =
-      inside bytes rest l n second c before text kept number comes fault.Final (breaks.least fault.Notation (omega arith)) (breaks.least fault.Section (omega arith)) (breaks.least fault.Item) breaks.broken
+      inside bytes rest l n second c before text kept number comes fault.Final (breaks.least fault.Notation (omega arith)) (breaks.least fault.Section (omega arith)) (breaks.least fault.Item) (breaks.least fault.End) breaks.broken
 
   rank-of : (stage : Stage) (next : Piece) → bytes ≡ text_of_lines (lines_so_far stage) ++ rest → IsFaultless stage → n ≡ length (lines_so_far stage) + 1 → ComesNext rest next
       → Breaks (Rule stage next) fault.RankOrder → FaultyLine bytes n fault.RankOrder stage next
@@ -170,7 +173,7 @@ module _ (bytes rest : List ℕ) (n : ℕ) where
   rank-of (complete second c before) (whole l) text kept number comes breaks = absurd (breaks.broken tt)
   rank-of (complete second c before) (last l) text kept number comes breaks = absurd (breaks.broken tt)
   rank-of (within second c before) (whole l) text kept number comes breaks =
-      inside bytes rest l n second c before text kept number comes fault.RankOrder (breaks.least fault.Notation (omega arith)) (breaks.least fault.Section (omega arith)) (breaks.least fault.Item) breaks.broken
+      inside bytes rest l n second c before text kept number comes fault.RankOrder (breaks.least fault.Notation (omega arith)) (breaks.least fault.Section (omega arith)) (breaks.least fault.Item) (breaks.least fault.End) breaks.broken
 
   step-of : (stage : Stage) (next : Piece) → bytes ≡ text_of_lines (lines_so_far stage) ++ rest → IsFaultless stage → n ≡ length (lines_so_far stage) + 1 → ComesNext rest next
       → Breaks (Rule stage next) fault.WalkStep → FaultyLine bytes n fault.WalkStep stage next
@@ -182,7 +185,7 @@ module _ (bytes rest : List ℕ) (n : ℕ) where
   step-of (complete second c before) (whole l) text kept number comes breaks = absurd (breaks.broken tt)
   step-of (complete second c before) (last l) text kept number comes breaks = absurd (breaks.broken tt)
   step-of (within second c before) (whole l) text kept number comes breaks =
-      inside bytes rest l n second c before text kept number comes fault.WalkStep (breaks.least fault.Notation (omega arith)) (breaks.least fault.Section (omega arith)) (breaks.least fault.Item) breaks.broken
+      inside bytes rest l n second c before text kept number comes fault.WalkStep (breaks.least fault.Notation (omega arith)) (breaks.least fault.Section (omega arith)) (breaks.least fault.Item) (breaks.least fault.End) breaks.broken
 
   item-of : (stage : Stage) (next : Piece) → bytes ≡ text_of_lines (lines_so_far stage) ++ rest → IsFaultless stage → n ≡ length (lines_so_far stage) + 1 → ComesNext rest next
       → Breaks (Rule stage next) fault.Item → FaultyLine bytes n fault.Item stage next
@@ -194,7 +197,7 @@ module _ (bytes rest : List ℕ) (n : ℕ) where
   item-of (complete second c before) (whole l) text kept number comes breaks = absurd (breaks.broken tt)
   item-of (complete second c before) (last l) text kept number comes breaks = absurd (breaks.broken tt)
   item-of (within second c before) (whole l) text kept number comes breaks =
-      inside bytes rest l n second c before text kept number comes fault.Item (breaks.least fault.Notation (omega arith)) (breaks.least fault.Section (omega arith)) (breaks.least fault.Item) breaks.broken
+      inside bytes rest l n second c before text kept number comes fault.Item (breaks.least fault.Notation (omega arith)) (breaks.least fault.Section (omega arith)) (breaks.least fault.Item) (breaks.least fault.End) breaks.broken
 
   twice-of : (stage : Stage) (next : Piece) → bytes ≡ text_of_lines (lines_so_far stage) ++ rest → IsFaultless stage → n ≡ length (lines_so_far stage) + 1 → ComesNext rest next
       → Breaks (Rule stage next) fault.Twice → FaultyLine bytes n fault.Twice stage next
@@ -206,7 +209,7 @@ module _ (bytes rest : List ℕ) (n : ℕ) where
   twice-of (complete second c before) (whole l) text kept number comes breaks = absurd (breaks.broken tt)
   twice-of (complete second c before) (last l) text kept number comes breaks = absurd (breaks.broken tt)
   twice-of (within second c before) (whole l) text kept number comes breaks =
-      inside bytes rest l n second c before text kept number comes fault.Twice (breaks.least fault.Notation (omega arith)) (breaks.least fault.Section (omega arith)) (breaks.least fault.Item) breaks.broken
+      inside bytes rest l n second c before text kept number comes fault.Twice (breaks.least fault.Notation (omega arith)) (breaks.least fault.Section (omega arith)) (breaks.least fault.Item) (breaks.least fault.End) breaks.broken
 
   block-of : (stage : Stage) (next : Piece) → bytes ≡ text_of_lines (lines_so_far stage) ++ rest → IsFaultless stage → n ≡ length (lines_so_far stage) + 1 → ComesNext rest next
       → Breaks (Rule stage next) fault.Block → FaultyLine bytes n fault.Block stage next
@@ -218,7 +221,7 @@ module _ (bytes rest : List ℕ) (n : ℕ) where
   block-of (complete second c before) (whole l) text kept number comes breaks = absurd (breaks.broken tt)
   block-of (complete second c before) (last l) text kept number comes breaks = absurd (breaks.broken tt)
   block-of (within second c before) (whole l) text kept number comes breaks =
-      inside bytes rest l n second c before text kept number comes fault.Block (breaks.least fault.Notation (omega arith)) (breaks.least fault.Section (omega arith)) (breaks.least fault.Item) breaks.broken
+      inside bytes rest l n second c before text kept number comes fault.Block (breaks.least fault.Notation (omega arith)) (breaks.least fault.Section (omega arith)) (breaks.least fault.Item) (breaks.least fault.End) breaks.broken
 
   end-of : (stage : Stage) (next : Piece) → bytes ≡ text_of_lines (lines_so_far stage) ++ rest → IsFaultless stage → n ≡ length (lines_so_far stage) + 1 → ComesNext rest next
       → Breaks (Rule stage next) fault.End → FaultyLine bytes n fault.End stage next
@@ -230,7 +233,7 @@ module _ (bytes rest : List ℕ) (n : ℕ) where
   end-of (complete second c before) (whole l) text kept number comes breaks = absurd (breaks.broken tt)
   end-of (complete second c before) (last l) text kept number comes breaks = absurd (breaks.broken tt)
   end-of (within second c before) (whole l) text kept number comes breaks =
-      inside bytes rest l n second c before text kept number comes fault.End (breaks.least fault.Notation (omega arith)) (breaks.least fault.Section (omega arith)) (breaks.least fault.Item) breaks.broken
+      inside bytes rest l n second c before text kept number comes fault.End (breaks.least fault.Notation (omega arith)) (breaks.least fault.Section (omega arith)) (breaks.least fault.Item) (breaks.least fault.End) breaks.broken
 
   decision-of : (stage : Stage) (next : Piece) → bytes ≡ text_of_lines (lines_so_far stage) ++ rest → IsFaultless stage → n ≡ length (lines_so_far stage) + 1 → ComesNext rest next
       → Breaks (Rule stage next) fault.DecisionOrder → FaultyLine bytes n fault.DecisionOrder stage next
@@ -242,7 +245,7 @@ module _ (bytes rest : List ℕ) (n : ℕ) where
   decision-of (complete second c before) (whole l) text kept number comes breaks = absurd (breaks.broken tt)
   decision-of (complete second c before) (last l) text kept number comes breaks = absurd (breaks.broken tt)
   decision-of (within second c before) (whole l) text kept number comes breaks =
-      inside bytes rest l n second c before text kept number comes fault.DecisionOrder (breaks.least fault.Notation (omega arith)) (breaks.least fault.Section (omega arith)) (breaks.least fault.Item) breaks.broken
+      inside bytes rest l n second c before text kept number comes fault.DecisionOrder (breaks.least fault.Notation (omega arith)) (breaks.least fault.Section (omega arith)) (breaks.least fault.Item) (breaks.least fault.End) breaks.broken
 
   left-of : (stage : Stage) (next : Piece) → bytes ≡ text_of_lines (lines_so_far stage) ++ rest → IsFaultless stage → n ≡ length (lines_so_far stage) + 1 → ComesNext rest next
       → Breaks (Rule stage next) fault.NotEnded → FaultyLine bytes n fault.NotEnded stage next
@@ -254,7 +257,7 @@ module _ (bytes rest : List ℕ) (n : ℕ) where
   left-of (complete second c before) (whole l) text kept number comes breaks = absurd (breaks.broken tt)
   left-of (complete second c before) (last l) text kept number comes breaks = absurd (breaks.broken tt)
   left-of (within second c before) (whole l) text kept number comes breaks =
-      inside bytes rest l n second c before text kept number comes fault.NotEnded (breaks.least fault.Notation (omega arith)) (breaks.least fault.Section (omega arith)) (breaks.least fault.Item) breaks.broken
+      inside bytes rest l n second c before text kept number comes fault.NotEnded (breaks.least fault.Notation (omega arith)) (breaks.least fault.Section (omega arith)) (breaks.least fault.Item) (breaks.least fault.End) breaks.broken
 
 pub rank-line : (bytes : List ℕ) (n : ℕ) (first : FirstFault bytes n fault.RankOrder) → FaultyLine bytes n fault.RankOrder first.stage first.next
 rank-line bytes n first = rank-of bytes first.rest n first.stage first.next first.text first.faultless first.number first.comes first.breaks

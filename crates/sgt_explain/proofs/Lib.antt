@@ -1,5 +1,6 @@
 pub mod FaultyLine
 pub mod FaultyText
+pub mod KeptDecisions
 pub mod ListedItems
 pub mod SeenLines
 pub mod ShownDecisions

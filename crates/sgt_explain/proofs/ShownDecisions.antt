@@ -1,8 +1,8 @@
 -- What is shown by the certificate of a text.
-use Rattle.std.proofs.Common.{◌≡◌, ◌≢◌, ℕ, List, [], ◌∷◌, ◌++◌, Option, Some, None, Bool, sym, ap, ◌∙◌, subst}
+use Rattle.std.proofs.Common.{◌≡◌, ◌≢◌, ℕ, List, [], ◌∷◌, ◌++◌, length, Option, Some, None, Bool, sym, ap, ◌∙◌, subst, arith, All}
 use Rattle.std.specs.Prelude.{Result, Ok, Err, OnOk, unwrap_or}
 use Rattle.std.proofs.lemmas.List.Elements.{All-from_recursion}
-use Rattle.std.proofs.lemmas.Option.{same_Some, none-some}
+use Rattle.std.proofs.lemmas.Option.{same_Some, none-some, slice_get_within}
 use Rattle.sgt_notation.specs.Spelling.{line_text, text_of_lines, HasNoLf}
 use Rattle.sgt_notation.specs.declared.SectionLine.{SectionLine}
 use Rattle.sgt_notation.specs.declared.SectionLine.TheVariants.{Logged}
@@ -10,6 +10,8 @@ use Rattle.sgt_cert.specs.Text.{certificate_text, format_line, IsCertificate}
 use Rattle.sgt_cert.specs.declared.certificate.Certificate.{Certificate}
 use Rattle.sgt_cert.specs.Certificate.{IsDecidedOnce}
 use Rattle.sgt_cert.specs.declared.certificate.Decision.{Decision}
+use Rattle.sgt_cert.specs.declared.certificate.Decision.TheVariants.{Refuse}
+use Rattle.sgt_names.specs.Entry.{tx_of}
 use Rattle.sgt_cert.proofs.OneText.{format-one_line, line_front}
 use Rattle.sgt_audit.specs.declared.faults.Fault.{Fault}
 use Rattle.sgt_audit.specs.declared.faults.Fault.TheVariants as fault
@@ -18,14 +20,17 @@ use Rattle.sgt_explain_lines.specs.Numbered.{HasLine, IsSectionOf, logged_in, nu
 use Rattle.sgt_explain_lines.specs.declared.section.Logged.{Logged as LoggedEntry}
 use Rattle.sgt_explain_lines.specs.declared.section.Section.{Section}
 use Rattle.sgt_explain_decisions.specs.declared.placed.Placed.{Placed}
-use Rattle.sgt_explain_decisions.specs.Placed.{ArePlaced}
-use Rattle.sgt_explain_decisions.specs.Decided.{TellsDecisionOrder}
-use Rattle.sgt_explain_decisions.specs.Ends.{TellsEnd, TellsNotEnded}
+use Rattle.sgt_explain_decisions.specs.Placed.{ArePlaced, IsUndecided}
+use Rattle.sgt_explain_decisions.specs.Decided.{IsOvertaken, TellsDecisionOrder}
+use Rattle.sgt_explain_decisions.specs.Ends.{HasEnd, TellsEnd, TellsNotEnded}
+use Rattle.sgt_explain_decisions.specs.Walks.{HaveCycles}
 use Rattle.sgt_explain.specs.Asked.{HoldsCertificate}
 use Rattle.sgt_explain.specs.Certified.{ShowsAgainstEnd, ShowsMisplaced, ShowsUnended}
 use Rattle.sgt_explain.specs.Shown.{lines_before, decisions_before}
 use Rattle.sgt_explain.proofs.FaultyLine.{FaultyLine, end-line, decision-line, left-line}
+use Rattle.sgt_explain.proofs.KeptDecisions.{overtaken-by, all-decided, ended-kept}
 use Rattle.sgt_explain.proofs.ShownValues.{logged-parts}
+use Rattle.sgt_explain.proofs.Telling.{on-ok}
 
 -- what was read there
 abbrev pub Reads : List ℕ → Option Certificate → Type 0
@@ -103,9 +108,25 @@ twice-kept (within second c before) (last l) d one once = tt
 twice-kept (complete second c before) (whole l) d one once = tt
 twice-kept (complete second c before) (last l) d one once = tt
 
+walk-kept : (stage : Stage) (next : Piece) (d : Certificate) → ((c : Certificate) → IsCertificate c → bytes_of next ≡ certificate_text c → d ≡ c)
+    → HaveCycles d.decisions (length d.decisions) → Rule stage next fault.WalkShape
+walk-kept start (whole l) d one have = tt
+walk-kept start (last l) d one have = tt
+walk-kept (headed second) (whole l) d one have = λ c is e number tx walk at.
+    subst (λ (k : Certificate). HaveCycles k.decisions (length k.decisions)) (one c is e) have number tx walk (slice_get_within c.decisions number (Refuse tx walk) at) at
+walk-kept (headed second) (last l) d one have = tt
+walk-kept (within second c before) (whole l) d one have = λ m is e. tt
+walk-kept (within second c before) (last l) d one have = tt
+walk-kept (complete second c before) (whole l) d one have = tt
+walk-kept (complete second c before) (last l) d one have = tt
+
 pub twice-broken : (bytes : List ℕ) (n : ℕ) (first : FirstFault bytes n fault.DecidedTwice) (d : Certificate) → Reads bytes (Some d) → IsDecidedOnce d.decisions → ⊥
 twice-broken bytes n first d reads once =
     first.breaks.broken (twice-kept first.stage first.next d (λ c is e. same_Some d c (read-held bytes (Some d) c reads (twice-held bytes n first c is e))) once)
+
+pub walk-broken : (bytes : List ℕ) (n : ℕ) (first : FirstFault bytes n fault.WalkShape) (d : Certificate) → Reads bytes (Some d) → HaveCycles d.decisions (length d.decisions) → ⊥
+walk-broken bytes n first d reads have =
+    first.breaks.broken (walk-kept first.stage first.next d (λ c is e. same_Some d c (read-held bytes (Some d) c reads (walk-held bytes n first c is e))) have)
 
 -- what is told of the certificate that was read
 pub tells-read_certificate : {T E : Type 0} (r : Result T E) (bytes line : List ℕ) (d : Certificate) (P : List Decision → Type 0) → Reads bytes (Some d)
@@ -177,19 +198,21 @@ module _ (bytes : List ℕ) (n : ℕ) (first : FirstFault bytes n fault.Decision
   pub shows-misplaced : {T E : Type 0} (r : Result T E) (section : Section) (d : Certificate) (logged : LoggedEntry) (placed : List Placed) (old new : List ℕ)
       → ((before : List SectionLine) (l : SectionLine) → HasLine bytes n before l → IsSectionOf before section) → Reads bytes (Some d)
       → ((before : List SectionLine) (l : SectionLine) → HasLine bytes n before l → Some logged ≡ logged_in (n, l)) → ArePlaced d.decisions placed
-      → OnOk r (TellsDecisionOrder placed section.entries.items logged old new) → OnOk r (ShowsMisplaced (decisions_before first.stage) (lines_before first.stage) (bytes_of first.next) n old new)
-  shows-misplaced (Err e) section d logged placed old new are one at is_placed told = tt
-  shows-misplaced (Ok t) section d logged placed old new are one at is_placed told =
+      → ((ds : List Decision) → ArePlaced ds placed → IsOvertaken ds section.entries.items logged → OnOk r (TellsDecisionOrder ds section.entries.items logged old new))
+      → OnOk r (ShowsMisplaced (decisions_before first.stage) (lines_before first.stage) (bytes_of first.next) n old new)
+  shows-misplaced r section d logged placed old new are one at is_placed told =
       let is = are misplaced.before misplaced.line misplaced.has in
       let decisions = same-decisions bytes n fault.DecisionOrder first.stage first.next misplaced d one in
       let parts = logged-parts n misplaced.line logged (at misplaced.before misplaced.line misplaced.has) in
-      subst (λ s. ShowsMisplaced (decisions_before s) (lines_before s) (bytes_of first.next) n old new) (sym misplaced.at) (record {
+      let keeps = λ (f : Fault). λ (k : Keeps misplaced.c misplaced.before misplaced.line f). subst (λ (l : SectionLine). Keeps misplaced.c misplaced.before l f) parts.0 k in
+      let overtaken = overtaken-by misplaced.c misplaced.before logged (misplaced.kept.itself fault.DecidedTwice) (keeps fault.End (misplaced.decided (omega arith)))
+      (λ k. misplaced.broken (subst (λ (l : SectionLine). Keeps misplaced.c misplaced.before l fault.DecisionOrder) (sym parts.0) k)) in
+      on-ok r (λ shown. subst (λ s. ShowsMisplaced (decisions_before s) (lines_before s) (bytes_of first.next) n old new) (sym misplaced.at) (record {
         logged = logged;
         entry = record { spelled = ap bytes_of misplaced.comes ∙ ap line_text parts.0; counted = parts.1 };
-        placed = placed;
-        are = subst (λ ds. ArePlaced ds placed) decisions is_placed;
-        told = subst (λ (ls : List LoggedEntry). TellsDecisionOrder placed ls logged old new) is.entries told;
-      })
+        told = subst (λ (ls : List LoggedEntry). TellsDecisionOrder misplaced.c.decisions ls logged old new) is.entries shown;
+      }))
+      (told misplaced.c.decisions (subst (λ ds. ArePlaced ds placed) decisions is_placed) (subst (λ (ls : List LoggedEntry). IsOvertaken misplaced.c.decisions ls logged) (sym is.entries) overtaken))
 
 module _ (bytes : List ℕ) (n : ℕ) (first : FirstFault bytes n fault.NotEnded) where
   left : FaultyLine bytes n fault.NotEnded first.stage first.next
@@ -198,12 +221,20 @@ module _ (bytes : List ℕ) (n : ℕ) (first : FirstFault bytes n fault.NotEnded
   pub left-certificate : Reads bytes None → ⊥
   left-certificate one = no-certificate_of bytes n fault.NotEnded first.stage first.next left one
 
-  pub shows-left : {T E : Type 0} (r : Result T E) (section : Section) (old new : List ℕ)
-      → ((before : List SectionLine) (l : SectionLine) → HasLine bytes n before l → IsSectionOf before section)
-      → OnOk r (TellsNotEnded section.entries.items (unwrap_or section.site 0) old new) → OnOk r (ShowsUnended (lines_before first.stage) old new)
-  shows-left (Err e) section old new are told = tt
-  shows-left (Ok t) section old new are told =
+  pub shows-left : {T E : Type 0} (r : Result T E) (section : Section) (d : Certificate) (placed : List Placed) (old new : List ℕ)
+      → ((before : List SectionLine) (l : SectionLine) → HasLine bytes n before l → IsSectionOf before section) → Reads bytes (Some d) → ArePlaced d.decisions placed
+      → (All (λ l. IsUndecided d.decisions (tx_of l.entry) → ⊥) section.entries.items → (All (λ l. HasEnd section.entries.items (tx_of l.entry)) section.entries.items → ⊥)
+      → OnOk r (TellsNotEnded d.decisions section.entries.items (unwrap_or section.site 0) old new))
+      → OnOk r (ShowsUnended (decisions_before first.stage) (lines_before first.stage) old new)
+  shows-left r section d placed old new are one is_placed told =
       let is = are left.before left.line left.has in
-      subst (λ s. ShowsUnended (lines_before s) old new) (sym left.at)
-      (subst (λ k. TellsNotEnded (numbered_entries left.before) k old new) (ap (λ o. unwrap_or o 0) is.site)
-      (subst (λ (ls : List LoggedEntry). TellsNotEnded ls (unwrap_or section.site 0) old new) is.entries told))
+      let decisions = same-decisions bytes n fault.NotEnded first.stage first.next left d one in
+      let decided = subst (λ ds. All (λ (l : LoggedEntry). IsUndecided ds (tx_of l.entry) → ⊥) section.entries.items) (sym decisions)
+      (subst (λ (ls : List LoggedEntry). All (λ (l : LoggedEntry). IsUndecided left.c.decisions (tx_of l.entry) → ⊥) ls) (sym is.entries) (all-decided left.second left.c left.before left.kept)) in
+      let lacking = λ (all : All (λ (l : LoggedEntry). HasEnd section.entries.items (tx_of l.entry)) section.entries.items).
+      left.broken (ended-kept left.c left.before left.line (subst (λ (ls : List LoggedEntry). All (λ (l : LoggedEntry). HasEnd ls (tx_of l.entry)) ls) is.entries all)) in
+      on-ok r (λ shown. subst (λ s. ShowsUnended (decisions_before s) (lines_before s) old new) (sym left.at)
+      (subst (λ k. TellsNotEnded left.c.decisions (numbered_entries left.before) k old new) (ap (λ o. unwrap_or o 0) is.site)
+      (subst (λ (ls : List LoggedEntry). TellsNotEnded left.c.decisions ls (unwrap_or section.site 0) old new) is.entries
+      (subst (λ ds. TellsNotEnded ds section.entries.items (unwrap_or section.site 0) old new) decisions shown))))
+      (told decided lacking)

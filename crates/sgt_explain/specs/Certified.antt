@@ -38,15 +38,14 @@ pub record ShowsAgainstEnd (decisions : List Decision) (before : List SectionLin
   pub are : ArePlaced decisions placed
   pub told : TellsEnd decisions placed (numbered_entries before) logged old new
 
--- the end of the line is shown with one of the section that was decided later
+-- the end of the line is shown, and before it the first of the section that was decided later
 pub record ShowsMisplaced (decisions : List Decision) (before : List SectionLine) (line : List ℕ) (n : ℕ) (old new : List ℕ) : Type 0 where
   pub logged : Logged
   pub entry : IsEntryOf line n logged
-  pub placed : List Placed
-  pub are : ArePlaced decisions placed
-  pub told : TellsDecisionOrder placed (numbered_entries before) logged old new
+  pub told : TellsDecisionOrder decisions (numbered_entries before) logged old new
 
--- an entry of the section is shown whose transaction has no end there
-abbrev pub ShowsUnended : List SectionLine → (old new : List ℕ) → Type 0
-ShowsUnended before old new =
-    TellsNotEnded (numbered_entries before) (unwrap_or (open_site before) 0) old new
+-- the first entry of the section is shown whose transaction has no end there, and between which
+-- ends that has to stand
+abbrev pub ShowsUnended : List Decision → List SectionLine → (old new : List ℕ) → Type 0
+ShowsUnended decisions before old new =
+    TellsNotEnded decisions (numbered_entries before) (unwrap_or (open_site before) 0) old new

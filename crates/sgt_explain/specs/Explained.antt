@@ -57,7 +57,7 @@ Tells bytes (No line fault.DecisionOrder) old new =
     → ShowsMisplaced (decisions_before first.stage) (lines_before first.stage)
     (bytes_of first.next) line old new
 Tells bytes (No line fault.NotEnded) old new = (first : FirstFault bytes line fault.NotEnded)
-    → ShowsUnended (lines_before first.stage) old new
+    → ShowsUnended (decisions_before first.stage) (lines_before first.stage) old new
 Tells bytes (No line fault.Section) old new =
     ShowsFaulty (codes "Section: ") bytes line fault.Section old new
 Tells bytes (No line fault.Trailing) old new =

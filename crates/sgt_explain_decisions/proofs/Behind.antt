@@ -6,10 +6,8 @@ use Rattle.sgt_cert.specs.declared.certificate.Decision.{Decision}
 use Rattle.sgt_explain_lines.specs.declared.section.Logged.{Logged}
 use Rattle.sgt_explain_lines.specs.Told.{Adds}
 use Rattle.sgt_explain_lines.proofs.Adding.{adds-more}
-use Rattle.sgt_explain_decisions.specs.declared.order.Decided.{Decided}
 use Rattle.sgt_explain_decisions.specs.declared.placed.Placed.{Placed}
-use Rattle.sgt_explain_decisions.specs.Decided.{IsDecidedAs, decision_order_head, if_decided, decided_text, TellsDecisionOrder}
-use Rattle.sgt_explain_decisions.specs.Ends.{EndsTx, HasNoEnd, IsEndOf, IsReason, end_head, TellsEnd, not_ended_head, TellsNotEnded}
+use Rattle.sgt_explain_decisions.specs.Ends.{EndsTx, HasNoEnd, IsEndOf, IsReason, end_head, TellsEnd}
 
 -- what a last text put there, where there was memory for it
 pub str-ok : {T E : Type 0} (r : Result T E) (new a b : List ℕ) → new ≡ (if is_ok r then a else b) → OnOk r (new ≡ a)
@@ -33,22 +31,6 @@ adds-behind old head a new e adds = subst (λ t. Adds t new) e adds
 pub adds-last : (old head a b last new : List ℕ) → a ≡ old ++ head → Adds a b → new ≡ b ++ last → Adds (old ++ head) new
 adds-last old head a b last new e adds f = adds-more (old ++ head) b new (adds-behind old head a b e adds) (last, f)
 
--- an end and the number of its decision, and one that was decided later
-pub tells-order : (placed : List Placed) (entries given : List Logged) (l : Logged) (tx number : ℕ) (first : Option Decided) (own : Decided) (old a b new : List ℕ)
-    → given ≡ entries → tx ≡ tx_of l.entry → own ≡ record { logged = l; number = number } → Contains placed (record { tx = tx; number = number })
-    → IfSome first (λ d. Contains given d.logged × IsEnd d.logged.entry × IsDecidedAs placed d × (number < d.number))
-    → a ≡ old ++ decision_order_head → b ≡ a ++ if_decided first → new ≡ b ++ decided_text own → TellsDecisionOrder placed entries l old new
-tells-order placed entries given l tx number first own old a b new same of is has there e f g = inr (
-  first,
-  record { logged = l; number = number },
-  record {
-    same = refl;
-    decided = subst (λ t. Contains placed (record { tx = t; number = number })) of has;
-    there = subst (λ (ls : List Logged). IfSome first (λ d. Contains ls d.logged × IsEnd d.logged.entry × IsDecidedAs placed d × (number < d.number))) same there;
-  },
-  three-parts old a b decision_order_head (if_decided first) (decided_text (record { logged = l; number = number })) new e f (g ∙ ap (λ d. b ++ decided_text d) is),
-)
-
 -- the end of the transaction of an entry, and why this may not stand there
 pub tells-end : (ds : List Decision) (ps : List Placed) (entries given : List Logged) (tx : ℕ) (l : Logged) (ended : Option Logged) (has_ended : Bool) (reason old a new : List ℕ)
     → given ≡ entries → tx ≡ tx_of l.entry → IfSome ended (λ e. Contains given e × EndsTx tx e.entry) → IfNone ended (HasNoEnd given tx) → has_ended ≡ is_some ended
@@ -59,14 +41,4 @@ tells-end ds ps entries given tx l ended has_ended reason old a new same of ther
   subst (λ ls. IsEndOf ls (tx_of l.entry) ended) same (subst (λ t. IsEndOf given t ended) of (record { there = there; none = none })),
   subst (λ b. IsReason ds ps (tx_of l.entry) b reason) has (subst (λ t. IsReason ds ps t has_ended reason) of why),
   two-parts old a (end_head ended l) reason new e f,
-)
-
--- an entry whose transaction has no end
-pub tells-not-ended : (entries given : List Logged) (k site : ℕ) (l : Logged) (old a new : List ℕ) → given ≡ entries → k ≡ site → Contains given l → HasNoEnd given (tx_of l.entry)
-    → a ≡ old ++ not_ended_head k l → Adds a new → TellsNotEnded entries site old new
-tells-not-ended entries given k site l old a new same at has none e adds = inr (
-  l,
-  subst (λ ls. Contains ls l) same has,
-  subst (λ ls. HasNoEnd ls (tx_of l.entry)) same none,
-  adds-behind old (not_ended_head site l) a new (e ∙ ap (λ n. old ++ not_ended_head n l) at) adds,
 )

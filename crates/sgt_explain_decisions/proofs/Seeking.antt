@@ -18,13 +18,16 @@ both-equal Less p e = absurd (false≢true e)
 both-equal Equal p e = (refl, e)
 both-equal Greater p e = absurd (false≢true e)
 
-same-number : (a b : ℕ) → is_eq (nat_cmp a b) ≡ true → a ≡ b
+pub same-number : (a b : ℕ) → is_eq (nat_cmp a b) ≡ true → a ≡ b
 same-number a b e =
     elim (cases_order a b) [
       | inl same ↦ same
       | inr (inl less) ↦ absurd (false≢true (ap is_eq (nat_cmp_is a b Less less) ∙ e))
       | inr (inr more) ↦ absurd (false≢true (ap is_eq (nat_cmp_is a b Greater more) ∙ e))
     ]
+
+pub number-same : (a b : ℕ) → a ≡ b → is_eq (nat_cmp a b) ≡ true
+number-same a b e = sym (ap is_eq (nat_cmp_is a b Equal e))
 
 -- keys that compare as equal have one item and one transaction
 pub same-key : (k q : ℕ × Name × ℕ) → is_eq (key_cmp k q) ≡ true → (k.0 ≡ q.0) × (k.1 ≡ q.1) × (k.2 ≡ q.2)

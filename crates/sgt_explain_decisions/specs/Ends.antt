@@ -1,15 +1,17 @@
 -- What is said of the ends of transactions at a site.
-use Rattle.std.specs.Prelude.{◌≡◌, ◌⊎◌, ℕ, Bool, List, ◌++◌, All, Contains, codes, decimal, Option, is_some, IfSome, IfNone, if◌then◌else◌}
+use Rattle.std.specs.Prelude.{◌≡◌, ◌⊎◌, ℕ, ◌<◌, ◌≤◌, Bool, List, ◌++◌, take, slice_get, All, Contains, codes, decimal, Option, Some, None, is_some, IfSome, IfNone, IsSomeAnd, if◌then◌else◌}
 use Rattle.sgt_names.specs.Entry.{tx_of, IsEnd}
 use Rattle.sgt_names.specs.declared.entry.Entry.{Entry}
 use Rattle.sgt_cert.specs.Certificate.{decided_tx}
 use Rattle.sgt_cert.specs.declared.certificate.Decision.{Decision}
 use Rattle.sgt_cert.specs.declared.certificate.Decision.TheVariants.{Commit, Refuse, Withdraw}
 use Rattle.sgt_explain_lines.specs.declared.section.Logged.{Logged}
-use Rattle.sgt_explain_lines.specs.Told.{Adds, shown_line}
+use Rattle.sgt_explain_lines.specs.Told.{shown_line}
 use Rattle.sgt_explain_lines.specs.Beside.{line_if_there}
+use Rattle.sgt_explain_decisions.specs.declared.order.Decided.{Decided}
 use Rattle.sgt_explain_decisions.specs.declared.placed.Placed.{Placed}
-use Rattle.sgt_explain_decisions.specs.Placed.{ArePlaced, IsDecisionOn, IsUndecided}
+use Rattle.sgt_explain_decisions.specs.Decided.{IsDecidedEnd}
+use Rattle.sgt_explain_decisions.specs.Placed.{ArePlaced, IsDecisionOn, IsFirstOn, IsUndecided}
 use Rattle.sgt_explain_decisions.specs.Told.{decision_text, no_decision_text}
 
 -- the entry ends the transaction
@@ -65,7 +67,61 @@ without_end site tx = codes "NotEnded: transaction " ++ (decimal tx ++ (codes " 
 abbrev pub not_ended_head : ℕ → Logged → List ℕ
 not_ended_head site l = without_end site (tx_of l.entry) ++ (shown_line l ++ codes "\n")
 
--- an entry is shown whose transaction has no end, and more is said; nothing where there is none
-abbrev pub TellsNotEnded : List Logged → ℕ → (old new : List ℕ) → Type 0
-TellsNotEnded entries site old new = (new ≡ old) ⊎ ((l : Logged) × Contains entries l × HasNoEnd entries (tx_of l.entry)
-    × Adds (old ++ not_ended_head site l) new)
+-- one of these entries ends it
+abbrev pub HasEnd : List Logged → ℕ → Type 0
+HasEnd entries tx = (l : Logged) × Contains entries l × EndsTx tx l.entry
+
+-- of these entries the first whose transaction has no end among them
+pub record IsFirstUnended (entries : List Logged) (l : Logged) : Type 0 where
+  pub place : ℕ
+  pub there : slice_get entries place ≡ Some l
+  pub none : HasNoEnd entries (tx_of l.entry)
+  pub before : All (λ o. HasEnd entries (tx_of o.entry)) (take place entries)
+
+-- an end that it has to stand beside, where there is one: of the ends that Q holds of, by the numbers of their decisions, none
+-- comes behind it as R has it
+pub record IsBeside (Q : ℕ → Type 0) (R : ℕ → ℕ → Type 0) (decisions : List Decision) (entries : List Logged) (found : Option Decided) : Type 0 where
+  pub there : IfSome found (λ d. Contains entries d.logged × IsDecidedEnd decisions d × Q d.number)
+  pub nearest : All (λ l. (number : ℕ) → IsDecidedEnd decisions (record { logged = l; number = number }) → Q number
+      → IsSomeAnd found (λ d. R number d.number)) entries
+
+-- of the ends that were decided before the decision of this number the last decided
+abbrev pub IsLastBefore : List Decision → List Logged → ℕ → Option Decided → Type 0
+IsLastBefore decisions entries own found = IsBeside (λ n. n < own) (λ m n. m ≤ n) decisions entries found
+
+-- of those that were decided behind it the first decided
+abbrev pub IsFirstBehind : List Decision → List Logged → ℕ → Option Decided → Type 0
+IsFirstBehind decisions entries own found = IsBeside (λ n. own < n) (λ m n. n ≤ m) decisions entries found
+
+-- the end that is missing
+abbrev pub wanted_end : Decision → List ℕ
+wanted_end (Commit tx rank) = codes ": c" ++ (decimal tx ++ codes " has to stand among the entries\n")
+wanted_end (Refuse tx walk) = codes ": n" ++ (decimal tx ++ codes " has to stand among the entries\n")
+wanted_end (Withdraw tx) = codes ": a" ++ (decimal tx ++ codes " has to stand among the entries\n")
+
+abbrev pub beside_text : List ℕ → Option Decided → List ℕ
+beside_text word (Some d) = word ++ (codes " the end of decision " ++ (decimal d.number ++ (codes " (line " ++ (decimal d.logged.line ++ codes ")\n"))))
+beside_text word None = codes ""
+
+abbrev pub wanted_text : ℕ → Decision → List ℕ
+wanted_text n d = decision_text n d ++ wanted_end d
+
+abbrev pub both_beside : (before behind : Option Decided) → List ℕ
+both_beside before behind = beside_text (codes "behind") before ++ beside_text (codes "before") behind
+
+-- the decision on the transaction, and between which ends its own has to stand
+pub record TellsPlace (decisions : List Decision) (entries : List Logged) (tx : ℕ) (told : List ℕ) : Type 0 where
+  pub number : ℕ
+  pub decision : Decision
+  pub on : IsDecisionOn decisions tx number decision
+  pub first : IsFirstOn decisions tx number
+  pub before : Option Decided
+  pub behind : Option Decided
+  pub last : IsLastBefore decisions entries number before
+  pub next : IsFirstBehind decisions entries number behind
+  pub text : told ≡ wanted_text number decision ++ both_beside before behind
+
+-- the first entry is shown whose transaction has no end, and where that has to stand
+abbrev pub TellsNotEnded : List Decision → List Logged → ℕ → (old new : List ℕ) → Type 0
+TellsNotEnded decisions entries site old new = (l : Logged) × IsFirstUnended entries l × (told : List ℕ)
+    × TellsPlace decisions entries (tx_of l.entry) told × (new ≡ old ++ (not_ended_head site l ++ told))

@@ -1,11 +1,14 @@
 //! What is said of the ends of transactions.
 
-ghost use Rattle.std.specs.Prelude.{◌≡◌, ◌↔◌, ◌++◌, ℕ, List, All, Contains, IfNone, IfOk, IfSome, IsTrue, OnOk, string_bytes, unwrap_or};
+ghost use Rattle.std.specs.Prelude.{◌≡◌, ◌↔◌, ◌⊎◌, ◌<◌, ◌≤◌, ◌++◌, ℕ, List, All, Contains, IfNone, IfOk, IfSome, IsSomeAnd, IsTrue, IsFalse, OnOk, string_bytes, unwrap_or};
 ghost use Rattle.sgt_names.specs.Entry.{tx_of, IsEnd};
-ghost use Rattle.sgt_explain_lines.specs.Told.{Adds};
-ghost use Rattle.sgt_explain_decisions.specs.Ends.{EndsTx, HasNoEnd, letters_of, letters_text, reason_text, IsReason, end_head, TellsEnd, without_end, not_ended_head, TellsNotEnded};
+ghost use Rattle.sgt_cert.specs.declared.certificate.Decision.{Decision};
+ghost use Rattle.sgt_explain_decisions.specs.Placed.{ArePlaced, IsUndecided};
+ghost use Rattle.sgt_explain_decisions.specs.Ends.{EndsTx, HasEnd, HasNoEnd, letters_of, letters_text, reason_text, IsReason, end_head, TellsEnd, without_end, not_ended_head};
+ghost use Rattle.sgt_explain_decisions.specs.Ends.{IsFirstUnended, IsLastBefore, IsFirstBehind, wanted_end, wanted_text, beside_text, both_beside, TellsPlace, TellsNotEnded};
 
-use crate::placed::{Placed, decision_on, number_on};
+use crate::order::{Decided, decided_end};
+use crate::placed::{Placed, decision_on};
 use crate::words::{push_decision, push_no_decision};
 use sgt_cert::Decision;
 use sgt_explain_lines::{Logged, Section, push_if_there, push_logged};
@@ -120,23 +123,43 @@ pub fn push_end(
     push_reason(out, decisions, placed, tx, ended.is_some())
 }
 
+/// Adds the number of the entry's transaction, if the entry is an end.
+fn add_end(ended: &mut Vec<u32>, logged: &Logged) -> Result<(), AllocError>
+    ensures { (entries : List Logged) → Contains entries logged.now
+        → All (HasEnd entries) ended.old.items → OnOk result (All (HasEnd entries) ended.new.items) }
+{
+    if logged.entry.is_end() {
+        ended.push(logged.entry.tx().number())?;
+        return Ok(());
+    }
+    Ok(())
+}
+
 /// The numbers of the transactions that end among these entries, sorted.
-fn ended_in(alloc: Global, entries: &[Logged]) -> Result<Vec<u32>, AllocError> {
+fn ended_in(alloc: Global, entries: &[Logged]) -> Result<Vec<u32>, AllocError>
+    ensures { IfOk result (λ ended. All (HasEnd entries.now) ended.items) }
+{
     let mut ended = Vec::new(alloc);
     for logged in entries {
-        if logged.entry.is_end() {
-            ended.push(logged.entry.tx().number())?;
-        }
+        add_end(&mut ended, logged)?;
     }
     ended.sort()?;
     Ok(ended)
 }
 
+/// Whether the transaction is among these, which are sorted.
+fn is_among(ended: &[u32], tx: Tx) -> bool
+    ensures { IsTrue result → Contains ended.now tx }
+{
+    ended.binary_search(&tx.number()).is_ok()
+}
+
 /// Whether the transaction doesn't end among these, of which the ends' numbers are given.
 fn lacks_end(entries: &[Logged], ended: &[u32], tx: Tx) -> bool
-    ensures { IsTrue result → HasNoEnd entries.now tx }
+    ensures lacks { IsTrue result → HasNoEnd entries.now tx }
+    ensures has { All (HasEnd entries.now) ended.now → IsFalse result → HasEnd entries.now tx }
 {
-    if ended.binary_search(&tx.number()).is_ok() {
+    if is_among(ended, tx) {
         return false;
     }
     match end_of(entries, tx) {
@@ -147,8 +170,9 @@ fn lacks_end(entries: &[Logged], ended: &[u32], tx: Tx) -> bool
 
 /// The first entry whose transaction doesn't end among these.
 fn unended(alloc: Global, entries: &[Logged]) -> Result<Option<Logged>, AllocError>
-    ensures { IfOk result (λ found. IfSome found
-        (λ l. Contains entries.now l × HasNoEnd entries.now (tx_of l.entry))) }
+    ensures some { IfOk result (λ found. IfSome found (IsFirstUnended entries.now)) }
+    ensures none { IfOk result (λ found. IfNone found
+        (All (λ l. HasEnd entries.now (tx_of l.entry)) entries.now)) }
 {
     let ended = ended_in(alloc, entries)?;
     for logged in entries {
@@ -159,87 +183,131 @@ fn unended(alloc: Global, entries: &[Logged]) -> Result<Option<Logged>, AllocErr
     Ok(None)
 }
 
-/// An end, and the number of the decision on its transaction.
-#[derive(Clone, Copy)]
-struct DecidedEnd {
-    number: usize,
-    line: u64,
-}
-
-/// The entry as an end, if it is one of a decided transaction.
-fn decided_end(placed: &[Placed], logged: &Logged) -> Option<DecidedEnd> {
-    if !logged.entry.is_end() {
-        return None;
-    }
-    let number = number_on(placed, logged.entry.tx())?;
-    Some(DecidedEnd {
-        number,
-        line: logged.line,
-    })
-}
-
-/// Whichever was decided later.
-fn later_of(found: Option<DecidedEnd>, end: DecidedEnd) -> DecidedEnd {
+/// Whether an end was found that was decided later than by this number.
+fn has_later(found: &Option<Decided>, number: usize) -> bool
+    ensures yes { IsTrue result → IsSomeAnd found.now (λ d. number ≤ d.number) }
+    ensures no { IsFalse result → IfSome found.now (λ d. d.number ≤ number) }
+{
     match found {
-        Some(other) if other.number > end.number => other,
-        _ => end,
+        Some(other) => other.number > number,
+        None => false,
     }
 }
 
-/// Whichever was decided earlier.
-fn earlier_of(found: Option<DecidedEnd>, end: DecidedEnd) -> DecidedEnd {
+/// Whether an end was found that was decided earlier than by this number.
+fn has_earlier(found: &Option<Decided>, number: usize) -> bool
+    ensures yes { IsTrue result → IsSomeAnd found.now (λ d. d.number ≤ number) }
+    ensures no { IsFalse result → IfSome found.now (λ d. number ≤ d.number) }
+{
     match found {
-        Some(other) if other.number < end.number => other,
-        _ => end,
+        Some(other) => other.number < number,
+        None => false,
     }
 }
 
-/// Of the ends that were decided before this one, the last decided.
-fn last_before(placed: &[Placed], entries: &[Logged], own: usize) -> Option<DecidedEnd> {
+/// Whichever was decided later, of ends that were decided before the decision of this number.
+fn later_of(found: Option<Decided>, end: Option<Decided>, own: usize) -> Option<Decided>
+    ensures one { (result ≡ found) ⊎ ((result ≡ end) × IfSome end (λ d. d.number < own)) }
+    ensures kept { IfSome found (λ d. IsSomeAnd result (λ g. d.number ≤ g.number)) }
+    ensures more { IfSome end (λ d. d.number < own → IsSomeAnd result (λ g. d.number ≤ g.number)) }
+{
+    let number = match &end {
+        Some(one) => one.number,
+        None => return found,
+    };
+    if number >= own || has_later(&found, number) {
+        return found;
+    }
+    end
+}
+
+/// Whichever was decided earlier, of ends that were decided behind the decision of this number.
+fn earlier_of(found: Option<Decided>, end: Option<Decided>, own: usize) -> Option<Decided>
+    ensures one { (result ≡ found) ⊎ ((result ≡ end) × IfSome end (λ d. own < d.number)) }
+    ensures kept { IfSome found (λ d. IsSomeAnd result (λ g. g.number ≤ d.number)) }
+    ensures more { IfSome end (λ d. own < d.number → IsSomeAnd result (λ g. g.number ≤ d.number)) }
+{
+    let number = match &end {
+        Some(one) => one.number,
+        None => return found,
+    };
+    if number <= own || has_earlier(&found, number) {
+        return found;
+    }
+    end
+}
+
+/// Of the ends that were decided before the decision of this number, the last decided.
+fn last_before(placed: &[Placed], entries: &[Logged], own: usize) -> Option<Decided>
+    ensures { (decisions : List Decision) → ArePlaced decisions placed.now
+        → IsLastBefore decisions entries.now own result }
+{
     let mut found = None;
     for logged in entries {
-        match decided_end(placed, logged) {
-            Some(end) if end.number < own => found = Some(later_of(found, end)),
-            _ => {}
-        }
+        found = later_of(found, decided_end(placed, logged), own);
     }
     found
 }
 
-/// Of the ends that were decided behind this one, the first decided.
-fn first_behind(placed: &[Placed], entries: &[Logged], own: usize) -> Option<DecidedEnd> {
+/// Of the ends that were decided behind the decision of this number, the first decided.
+fn first_behind(placed: &[Placed], entries: &[Logged], own: usize) -> Option<Decided>
+    ensures { (decisions : List Decision) → ArePlaced decisions placed.now
+        → IsFirstBehind decisions entries.now own result }
+{
     let mut found = None;
     for logged in entries {
-        match decided_end(placed, logged) {
-            Some(end) if end.number > own => found = Some(earlier_of(found, end)),
-            _ => {}
-        }
+        found = earlier_of(found, decided_end(placed, logged), own);
     }
     found
 }
 
 /// How the end of a decision reads: `n2`.
 fn push_wanted_end(out: &mut String, decision: &Decision) -> Result<(), AllocError>
-    ensures { OnOk result (Adds (string_bytes out.old) (string_bytes out.new)) }
+    ensures { OnOk result (string_bytes out.new ≡ string_bytes out.old ++ wanted_end decision.now) }
 {
     let tx = decision.tx();
     match decision {
-        Decision::Commit { .. } => writeln!(out, ": c{tx} has to stand among the entries"),
-        Decision::Refuse { .. } => writeln!(out, ": n{tx} has to stand among the entries"),
-        Decision::Withdraw { .. } => writeln!(out, ": a{tx} has to stand among the entries"),
+        Decision::Commit { .. } => write!(out, ": c{tx} has to stand among the entries\n"),
+        Decision::Refuse { .. } => write!(out, ": n{tx} has to stand among the entries\n"),
+        Decision::Withdraw { .. } => write!(out, ": a{tx} has to stand among the entries\n"),
     }
 }
 
-/// An end and the number of its decision, in a line of words.
-fn push_near(out: &mut String, word: &str, found: Option<DecidedEnd>) -> Result<(), AllocError>
-    ensures { OnOk result (Adds (string_bytes out.old) (string_bytes out.new)) }
+/// The decision, and its end.
+fn push_wanted(out: &mut String, number: usize, decision: &Decision) -> Result<(), AllocError>
+    ensures { OnOk result (string_bytes out.new ≡ string_bytes out.old
+        ++ wanted_text number decision.now) }
 {
-    if let Some(end) = found {
-        let number = end.number;
-        let line = end.line;
-        writeln!(out, "{word} the end of decision {number} (line {line})")?;
+    push_decision(out, number, decision)?;
+    push_wanted_end(out, decision)
+}
+
+/// An end and the number of its decision, in a line of words.
+fn push_beside(out: &mut String, word: &str, found: &Option<Decided>) -> Result<(), AllocError>
+    ensures { OnOk result (string_bytes out.new ≡ string_bytes out.old
+        ++ beside_text word.now found.now) }
+{
+    match found {
+        Some(end) => {
+            let number = end.number;
+            let line = end.logged.line;
+            write!(out, "{word} the end of decision {number} (line {line})\n")
+        }
+        None => out.push_str(""),
     }
-    Ok(())
+}
+
+/// The ends that the missing one has to stand behind and before.
+fn push_both_beside(
+    out: &mut String,
+    before: &Option<Decided>,
+    behind: &Option<Decided>,
+) -> Result<(), AllocError>
+    ensures { OnOk result (string_bytes out.new ≡ string_bytes out.old
+        ++ both_beside before.now behind.now) }
+{
+    push_beside(out, "behind", before)?;
+    push_beside(out, "before", behind)
 }
 
 /// Where the end of a transaction would have to stand.
@@ -250,15 +318,17 @@ fn push_place(
     entries: &[Logged],
     tx: Tx,
 ) -> Result<(), AllocError>
-    ensures { OnOk result (Adds (string_bytes out.old) (string_bytes out.new)) }
+    ensures { ArePlaced decisions.now placed.now → (IsUndecided decisions.now tx → ⊥)
+        → OnOk result ((told : List ℕ) × TellsPlace decisions.now entries.now tx told
+        × (string_bytes out.new ≡ string_bytes out.old ++ told)) }
 {
     let Some((number, decision)) = decision_on(decisions, placed, tx) else {
         return Ok(());
     };
-    push_decision(out, number, decision)?;
-    push_wanted_end(out, decision)?;
-    push_near(out, "behind", last_before(placed, entries, number))?;
-    push_near(out, "before", first_behind(placed, entries, number))
+    let before = last_before(placed, entries, number);
+    let behind = first_behind(placed, entries, number);
+    push_wanted(out, number, decision)?;
+    push_both_beside(out, &before, &behind)
 }
 
 /// That the transaction has no end at the site.
@@ -289,12 +359,14 @@ pub fn push_not_ended(
     placed: &[Placed],
     section: &Section,
 ) -> Result<(), AllocError>
-    ensures { OnOk result (TellsNotEnded section.now.entries.items (unwrap_or section.now.site 0)
-        (string_bytes out.old) (string_bytes out.new)) }
+    ensures { ArePlaced decisions.now placed.now
+        → All (λ l. IsUndecided decisions.now (tx_of l.entry) → ⊥) section.now.entries.items
+        → (All (λ l. HasEnd section.now.entries.items (tx_of l.entry)) section.now.entries.items → ⊥)
+        → OnOk result (TellsNotEnded decisions.now section.now.entries.items
+        (unwrap_or section.now.site 0) (string_bytes out.old) (string_bytes out.new)) }
 {
     let entries = section.entries.as_slice();
-    let found = unended(alloc, entries)?;
-    let Some(logged) = found else {
+    let Some(logged) = unended(alloc, entries)? else {
         return Ok(());
     };
     push_unended(out, section.site_number(), &logged)?;

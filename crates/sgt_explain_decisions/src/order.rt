@@ -1,13 +1,14 @@
 //! What is said of entries that stand against the ranks or the decisions.
 
-ghost use Rattle.std.specs.Prelude.{◌≡◌, ◌<◌, ◌++◌, ℕ, All, IfSome, IfNone, OnOk, Contains, string_bytes, unwrap_or};
+ghost use Rattle.std.specs.Prelude.{◌≡◌, ◌<◌, ◌++◌, ℕ, List, All, IfSome, IfNone, OnOk, Contains, string_bytes, unwrap_or};
 ghost use Rattle.sgt_names.specs.Name.{Name};
 ghost use Rattle.sgt_names.specs.Entry.{tx_of, IsEnd};
 ghost use Rattle.sgt_cert.specs.Certificate.{IsCommitted, IsDecidedOnce};
 ghost use Rattle.sgt_cert.specs.Valid.{RiseInRank};
+ghost use Rattle.sgt_cert.specs.declared.certificate.Decision.{Decision};
 ghost use Rattle.sgt_explain_decisions.specs.Against.{StandAgainst, IsAgainst};
-ghost use Rattle.sgt_explain_decisions.specs.Decided.{IsDecidedAs, decided_text, if_decided, undecided_text, decision_order_head, TellsDecisionOrder};
-ghost use Rattle.sgt_explain_decisions.specs.Placed.{ArePlaced, IsUncommitted};
+ghost use Rattle.sgt_explain_decisions.specs.Decided.{IsDecidedEnd, IsNotLater, IsFirstLater, IsOvertaken, decided_text, decision_order_head, TellsDecisionOrder};
+ghost use Rattle.sgt_explain_decisions.specs.Placed.{ArePlaced, IsUndecided, IsUncommitted};
 ghost use Rattle.sgt_explain_decisions.specs.Told.{ranked_text, both_ranked, first_deed, second_deed, rank_wish, ranks_wanted, rank_order_head, rank_order_text};
 
 use crate::placed::{Placed, number_on, rank_on};
@@ -204,32 +205,48 @@ pub fn push_rank_order(out: &mut String, shown: &RanksShown) -> Result<(), Alloc
     push_wanted_ranks(out, shown)
 }
 
-/// An end with the number of its decision, if that is later than this one.
-fn later_decided(placed: &[Placed], other: &Logged, own: usize) -> Option<Decided>
-    ensures { IfSome result (λ d. (d.logged ≡ other.now) × IsEnd d.logged.entry
-        × IsDecidedAs placed.now d × (own < d.number)) }
+/// The entry as an end with the number of the first decision on its transaction, if it is an end and decided.
+pub(crate) fn decided_end(placed: &[Placed], logged: &Logged) -> Option<Decided>
+    ensures same { IfSome result (λ d. d.logged ≡ logged.now) }
+    ensures is { (decisions : List Decision) → ArePlaced decisions placed.now
+        → IfSome result (IsDecidedEnd decisions) }
+    ensures none { (decisions : List Decision) → ArePlaced decisions placed.now
+        → IfNone result (IsEnd logged.now.entry → IsUndecided decisions (tx_of logged.now.entry)) }
 {
-    if !other.entry.is_end() {
+    if !logged.entry.is_end() {
         return None;
     }
-    match number_on(placed, other.entry.tx()) {
-        Some(number) if number > own => Some(Decided {
-            logged: *other,
+    match number_on(placed, logged.entry.tx()) {
+        Some(number) => Some(Decided {
+            logged: *logged,
             number,
         }),
-        _ => None,
+        None => None,
     }
 }
 
-/// The first of these ends that was decided later than the decision of this number.
+/// The same, if the decision is later than that of this number.
+fn later_decided(placed: &[Placed], other: &Logged, own: usize) -> Option<Decided>
+    ensures same { IfSome result (λ d. d.logged ≡ other.now) }
+    ensures some { (decisions : List Decision) → ArePlaced decisions placed.now
+        → IfSome result (λ d. IsDecidedEnd decisions d × (own < d.number)) }
+    ensures none { (decisions : List Decision) → ArePlaced decisions placed.now
+        → IfNone result (IsNotLater decisions own other.now) }
+{
+    let end = decided_end(placed, other)?;
+    if end.number > own { Some(end) } else { None }
+}
+
+/// The first of these ends that was decided later than by the decision of this number.
 fn decided_later(placed: &[Placed], entries: &[Logged], own: usize) -> Option<Decided>
-    ensures { IfSome result (λ d. Contains entries.now d.logged × IsEnd d.logged.entry
-        × IsDecidedAs placed.now d × (own < d.number)) }
+    ensures some { (decisions : List Decision) → ArePlaced decisions placed.now
+        → IfSome result (IsFirstLater decisions entries.now own) }
+    ensures none { (decisions : List Decision) → ArePlaced decisions placed.now
+        → IfNone result (All (IsNotLater decisions own) entries.now) }
 {
     for other in entries {
-        let found = later_decided(placed, other, own);
-        if found.is_some() {
-            return found;
+        if let Some(end) = later_decided(placed, other, own) {
+            return Some(end);
         }
     }
     None
@@ -245,25 +262,6 @@ fn push_decided(out: &mut String, decided: &Decided) -> Result<(), AllocError>
     write!(out, "decision {number}\n")
 }
 
-/// The same, if there is one.
-fn push_if_decided(out: &mut String, decided: &Option<Decided>) -> Result<(), AllocError>
-    ensures { OnOk result (string_bytes out.new ≡ string_bytes out.old ++ if_decided decided.now) }
-{
-    match decided {
-        Some(end) => push_decided(out, end),
-        None => out.push_str(""),
-    }
-}
-
-/// An end on whose transaction there is no decision.
-fn push_undecided(out: &mut String, logged: &Logged) -> Result<(), AllocError>
-    ensures { OnOk result (string_bytes out.new ≡ string_bytes out.old
-        ++ undecided_text logged.now) }
-{
-    push_aside(out, logged)?;
-    out.push_str("\n")
-}
-
 fn push_decision_order_head(out: &mut String) -> Result<(), AllocError>
     ensures { OnOk result (string_bytes out.new ≡ string_bytes out.old ++ decision_order_head) }
 {
@@ -277,18 +275,22 @@ pub fn push_decision_order(
     section: &Section,
     logged: &Logged,
 ) -> Result<(), AllocError>
-    ensures { OnOk result (TellsDecisionOrder placed.now section.now.entries.items logged.now
+    ensures { (decisions : List Decision) → ArePlaced decisions placed.now
+        → IsOvertaken decisions section.now.entries.items logged.now
+        → OnOk result (TellsDecisionOrder decisions section.now.entries.items logged.now
         (string_bytes out.old) (string_bytes out.new)) }
 {
     push_decision_order_head(out)?;
     let Some(number) = number_on(placed, logged.entry.tx()) else {
-        return push_undecided(out, logged);
+        return Ok(());
     };
     let own = Decided {
         logged: *logged,
         number,
     };
-    let first = decided_later(placed, section.entries.as_slice(), number);
-    push_if_decided(out, &first)?;
+    let Some(first) = decided_later(placed, section.entries.as_slice(), number) else {
+        return Ok(());
+    };
+    push_decided(out, &first)?;
     push_decided(out, &own)
 }

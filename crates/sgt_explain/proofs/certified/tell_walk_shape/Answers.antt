@@ -1,9 +1,9 @@
-use Rattle.std.proofs.Common.{List, sym, ◌∙◌, subst}
+use Rattle.std.proofs.Common.{List, length, sym, ◌∙◌, subst}
 use Rattle.std.specs.Prelude.{OnOk, string_bytes}
 use Rattle.sgt_cert.specs.declared.certificate.Decision.{Decision}
 use Rattle.sgt_audit.specs.Faults.{bytes_of}
-use Rattle.sgt_explain_decisions.specs.Walks.{TellsWalk}
-use Rattle.sgt_explain.proofs.ShownDecisions.{walk-held, tells-read_certificate, none-read}
+use Rattle.sgt_explain_decisions.specs.Walks.{HaveCycles, TellsWalk}
+use Rattle.sgt_explain.proofs.ShownDecisions.{walk-held, walk-broken, tells-read_certificate, none-read}
 use Rattle.sgt_explain.proofs.Telling.{on-all}
 use Rattle.sgt_explain.proofs.certified.tell_walk_shape.Goals as goal
 
@@ -13,7 +13,8 @@ returns-in-Some c =
     on-all _ c.push_walk_shape.result (λ first. tells-read_certificate c.push_walk_shape.result c.args.bytes.now (bytes_of first.next) c.in-Some.certificate told
     (λ front d rest none is e. sym c.in-Some.is ∙ c.in_ok-certificate.ensures front d rest none is e)
     (walk-held c.args.bytes.now c.args.number first)
-    (subst (λ ds. OnOk c.push_walk_shape.result (told ds)) c.decisions.ensures c.push_walk_shape.ensures))
+    (subst (λ ds. OnOk c.push_walk_shape.result (told ds)) c.decisions.ensures (c.push_walk_shape.ensures (λ have. walk-broken c.args.bytes.now c.args.number first c.in-Some.certificate
+    (λ front d rest none is e. sym c.in-Some.is ∙ c.in_ok-certificate.ensures front d rest none is e) (subst (λ (ds : List Decision). HaveCycles ds (length ds)) c.decisions.ensures have)))))
 
 pub returns-in-None : goal.returns-in-None
 returns-in-None c = λ first. none-read c.args.bytes.now (bytes_of first.next) (λ ds. TellsWalk ds (string_bytes c.args.out.now) (string_bytes c.args.out.now))
