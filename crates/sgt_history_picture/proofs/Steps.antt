@@ -1,5 +1,5 @@
 -- A line tells one step.
-use Rattle.std.proofs.Common.{◌≡◌, ◌==◌, ◌++◌, ℕ, List, [], ◌∷◌, get_or, if◌then◌else◌, refl, sym, ap, ◌∙◌, arith}
+use Rattle.std.proofs.Common.{◌≡◌, ◌==◌, ◌++◌, ℕ, List, ◌∷◌, get_or, if◌then◌else◌, refl, sym, ap, ◌∙◌, arith}
 use Rattle.sgt_history_picture.specs.Words.{IsWord}
 use Rattle.sgt_history_picture.specs.Told.{IsStep, Step, kind_text, step_text}
 use Rattle.sgt_history_picture.specs.declared.told.Kind.{Kind}

@@ -2,7 +2,7 @@
 use Rattle.std.proofs.Common.{◌≡◌, ◌≢◌, ◌+◌, ◌++◌, ℕ, List, [], ◌∷◌, Some, take, refl, sym, ap, ap₂, ◌∙◌, subst}
 use Rattle.std.specs.Prelude.{slice_get}
 use Rattle.sgt_names.proofs.Lists.{heads, tails, take_next}
-use Rattle.sgt_history_picture.specs.Words.{HasNoGap, IsWord, after, next}
+use Rattle.sgt_history_picture.specs.Words.{HasNoGap, after, next}
 use Rattle.sgt_history_picture.specs.declared.word.Place.{Place}
 use Rattle.sgt_history_picture.specs.declared.word.Place.TheVariants.{Outside}
 

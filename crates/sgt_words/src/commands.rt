@@ -259,10 +259,9 @@ fn full_check<'a>(alloc: Global) -> Result<Command<'a>, AllocError> {
         .long("against")
         .value_name("ORDER")
         .help("Judges the order in this file, an id a line as --order writes it");
-    let svg = Arg::new(alloc, "svg")
-        .long("svg")
-        .value_name("FILE")
-        .help("Draws the circle of a no in this file, as SVG; without a circle it stays as it is");
+    let svg = Arg::new(alloc, "svg").long("svg").value_name("FILE").help(
+        "Draws the circle of a no in this file, as SVG; without a circle it stays as it is",
+    );
     check_line(alloc)?
         .arg(file(alloc))?
         .arg(against)?

@@ -1,4 +1,4 @@
-use Rattle.std.proofs.Common.{◌≡◌, List, [], ◌∷◌, map, refl, sym, subst}
+use Rattle.std.proofs.Common.{List, [], map, refl, sym, subst}
 use Rattle.std.proofs.lemmas.Bool.{false≢true}
 use Rattle.sgt_history_picture.specs.Told.{IsCircle, step_of}
 use Rattle.sgt_history_picture.specs.declared.told.Kind.TheVariants.{WriteWrite}

@@ -1,4 +1,4 @@
-use Rattle.std.proofs.Common.{◌≡◌, ◌≤◌, ◌+◌, ◌==◌, ◌++◌, [], ◌∷◌, ℕ, List, length, take, drop, map, refl, sym, ap, ◌∙◌, subst, arith, length-drop}
+use Rattle.std.proofs.Common.{◌≤◌, ◌+◌, ◌==◌, [], ℕ, List, length, drop, map, refl, sym, ap, ◌∙◌, subst, arith, length-drop}
 use Rattle.std.proofs.lemmas.Bool.{false≢true}
 use Rattle.std.proofs.lemmas.List.{map_push, take_all}
 use Rattle.sgt_history_picture.specs.Told.{step_of}

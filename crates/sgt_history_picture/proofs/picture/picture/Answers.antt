@@ -1,6 +1,5 @@
 use Rattle.std.proofs.Common.{List, [], map, refl, subst}
 use Rattle.std.proofs.lemmas.Result.{IfOk-weaker}
-use Rattle.sgt_draw.specs.Picture.{foot_of, head_of}
 use Rattle.sgt_history_picture.specs.Drawn.{AreDrawn}
 use Rattle.sgt_history_picture.specs.Told.{step_of}
 use Rattle.sgt_history_picture.specs.declared.told.Told.{Told}

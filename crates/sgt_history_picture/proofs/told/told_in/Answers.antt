@@ -1,4 +1,3 @@
-use Rattle.std.proofs.Common.{◌≡◌}
 use Rattle.sgt_history_picture.specs.Told.{kind_text}
 use Rattle.sgt_history_picture.proofs.Steps.{behind-from, behind-kind, kind-word}
 use Rattle.sgt_history_picture.proofs.told.told_in.Goals as goal
