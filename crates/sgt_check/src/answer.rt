@@ -13,12 +13,14 @@ ghost use Rattle.sgt_history_verdict.specs.Verdict.{IsCyclic};
 
 use crate::cycle::push_cycle;
 use crate::fault::push_fault;
+use crate::kept::{KeptAnswer, kept_answer};
 use crate::naming::Naming;
 use crate::options::Options;
 use crate::ranks::ranks_of;
 use crate::yes::{push_counts, push_order};
 use sgt_history::{History, Line};
 use sgt_history_faults::{Fault, Judged, Touch, judge};
+use sgt_history_kept::Asked;
 use sgt_history_text::{HistoryText, LineFault, Reading};
 use sgt_history_verdict::{Cyclic, Decided, Verdict, decide_judged, steps_of};
 use sgt_names::Outcome;
@@ -108,6 +110,7 @@ fn history_answer(
     alloc: Global,
     naming: &Naming,
     history: History,
+    asked: &Asked,
     options: Options,
 ) -> Result<Answer, AllocError>
     ensures { IfOk result (λ a. IsTold options naming.now (closed_of history) a.outcome a.text.items) }
@@ -118,7 +121,30 @@ fn history_answer(
             outcome: Outcome::No,
             text: faulty_text(alloc, naming, &history, fault)?,
         }),
-        Judged::Faultless(touches) => faultless_answer(alloc, naming, history, touches, options),
+        Judged::Faultless(touches) => {
+            if !options.real_time && !options.sessions {
+                return faultless_answer(alloc, naming, history, touches, options);
+            }
+            match kept_answer(alloc, naming, history.lines.len(), touches, asked)? {
+                KeptAnswer::Serial(order) => Ok(Answer {
+                    outcome: Outcome::Yes,
+                    text: serial_text(
+                        alloc,
+                        naming,
+                        history.lines.as_slice(),
+                        order.as_slice(),
+                        options,
+                    )?,
+                }),
+                KeptAnswer::Conflicting(touches) => {
+                    faultless_answer(alloc, naming, history, touches, options)
+                }
+                KeptAnswer::Cyclic(text) => Ok(Answer {
+                    outcome: Outcome::No,
+                    text,
+                }),
+            }
+        }
     }
 }
 
@@ -131,9 +157,18 @@ fn reading_answer(alloc: Global, reading: Reading, options: Options) -> Result<A
         ids,
         items,
         values,
+        times,
+        sessions,
+        session_names,
     } = reading;
-    let naming = Naming { ids, items, values };
-    history_answer(alloc, &naming, history, options)
+    let naming = Naming {
+        ids,
+        items,
+        values,
+        sessions: session_names,
+    };
+    let asked = Asked { times, sessions };
+    history_answer(alloc, &naming, history, &asked, options)
 }
 
 /// The front of the line of a fault of reading.

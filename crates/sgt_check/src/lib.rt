@@ -5,6 +5,7 @@ mod answer;
 mod cycle;
 mod engine;
 mod fault;
+mod kept;
 mod laws;
 mod naming;
 mod options;
