@@ -34,16 +34,7 @@ fn check_text(alloc: Global, bytes: &[u8]) -> Result<Answered, NoAnswer>
         last: 0,
     };
     let mut writer = Written::new(alloc);
-    match check(
-        alloc,
-        &mut reader,
-        &mut writer,
-        Options {
-            order: false,
-            real_time: false,
-            sessions: false,
-        },
-    ) {
+    match check(alloc, &mut reader, &mut writer, Options { order: false }) {
         Ok(outcome) => Ok(Answered {
             number: number_of_check(outcome),
             text: writer.bytes,

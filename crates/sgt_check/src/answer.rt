@@ -1,7 +1,7 @@
 //! The answer to a text.
 
 ghost use Rattle.std.specs.Prelude.{◌≡◌, ℕ, List, IfOk};
-ghost use Rattle.sgt_check.specs.Answer.{IsAnswer};
+ghost use Rattle.sgt_check.specs.Answer.{IsAnswer, neither};
 ghost use Rattle.sgt_check.specs.Text.{line_fault_text, unreadable_text};
 ghost use Rattle.sgt_check.specs.Told.{IsCyclicTold, IsFaultyTold, IsTold, yes_text};
 ghost use Rattle.sgt_history.specs.Flaws.{IsFirstFault};
@@ -13,14 +13,12 @@ ghost use Rattle.sgt_history_verdict.specs.Verdict.{IsCyclic};
 
 use crate::cycle::push_cycle;
 use crate::fault::push_fault;
-use crate::kept::{KeptAnswer, kept_answer};
 use crate::naming::Naming;
 use crate::options::Options;
 use crate::ranks::ranks_of;
 use crate::yes::{push_counts, push_order};
 use sgt_history::{History, Line};
 use sgt_history_faults::{Fault, Judged, Touch, judge};
-use sgt_history_kept::Asked;
 use sgt_history_text::{HistoryText, LineFault, Reading};
 use sgt_history_verdict::{Cyclic, Decided, Verdict, decide_judged, steps_of};
 use sgt_names::Outcome;
@@ -35,7 +33,7 @@ pub struct Answer {
 }
 
 /// The text of the first fault.
-fn faulty_text(
+pub fn faulty_text(
     alloc: Global,
     naming: &Naming,
     history: &History,
@@ -50,7 +48,7 @@ fn faulty_text(
 }
 
 /// The text of a cycle.
-fn cyclic_text(alloc: Global, naming: &Naming, cyclic: &Cyclic) -> Result<Vec<u8>, AllocError>
+pub fn cyclic_text(alloc: Global, naming: &Naming, cyclic: &Cyclic) -> Result<Vec<u8>, AllocError>
     requires { (h : List (Transaction ℕ ℕ)) × IsCyclic h cyclic.now }
     ensures { IfOk result (λ text. (h : List (Transaction ℕ ℕ)) → IsCyclic h cyclic.now
         → IsCyclicTold naming.now h text.items) }
@@ -63,7 +61,7 @@ fn cyclic_text(alloc: Global, naming: &Naming, cyclic: &Cyclic) -> Result<Vec<u8
 }
 
 /// The text of a yes: how many lines commit and abort, and the order, where it is asked for.
-fn serial_text(
+pub fn serial_text(
     alloc: Global,
     naming: &Naming,
     lines: &[Line],
@@ -110,7 +108,6 @@ fn history_answer(
     alloc: Global,
     naming: &Naming,
     history: History,
-    asked: &Asked,
     options: Options,
 ) -> Result<Answer, AllocError>
     ensures { IfOk result (λ a. IsTold options naming.now (closed_of history) a.outcome a.text.items) }
@@ -121,54 +118,25 @@ fn history_answer(
             outcome: Outcome::No,
             text: faulty_text(alloc, naming, &history, fault)?,
         }),
-        Judged::Faultless(touches) => {
-            if !options.real_time && !options.sessions {
-                return faultless_answer(alloc, naming, history, touches, options);
-            }
-            match kept_answer(alloc, naming, history.lines.len(), touches, asked)? {
-                KeptAnswer::Serial(order) => Ok(Answer {
-                    outcome: Outcome::Yes,
-                    text: serial_text(
-                        alloc,
-                        naming,
-                        history.lines.as_slice(),
-                        order.as_slice(),
-                        options,
-                    )?,
-                }),
-                KeptAnswer::Conflicting(touches) => {
-                    faultless_answer(alloc, naming, history, touches, options)
-                }
-                KeptAnswer::Cyclic(text) => Ok(Answer {
-                    outcome: Outcome::No,
-                    text,
-                }),
-            }
-        }
+        Judged::Faultless(touches) => faultless_answer(alloc, naming, history, touches, options),
     }
 }
 
 /// The answer to a text that was read.
 fn reading_answer(alloc: Global, reading: Reading, options: Options) -> Result<Answer, AllocError>
-    ensures { IfOk result (λ a. (bytes : List ℕ) → IsReading bytes reading → IsAnswer options bytes a.outcome a.text.items) }
+    ensures { IfOk result (λ a. (bytes : List ℕ) → IsReading neither bytes reading → IsAnswer options bytes a.outcome a.text.items) }
 {
     let Reading {
         history,
         ids,
         items,
         values,
-        times,
-        sessions,
-        session_names,
+        times: _,
+        sessions: _,
+        session_names: _,
     } = reading;
-    let naming = Naming {
-        ids,
-        items,
-        values,
-        sessions: session_names,
-    };
-    let asked = Asked { times, sessions };
-    history_answer(alloc, &naming, history, &asked, options)
+    let naming = Naming { ids, items, values };
+    history_answer(alloc, &naming, history, options)
 }
 
 /// The front of the line of a fault of reading.
@@ -194,7 +162,7 @@ pub fn unread_text(alloc: Global, line: u64, fault: LineFault) -> Result<Vec<u8>
 
 /// The answer to a text.
 pub fn answer_to(alloc: Global, text: HistoryText, options: Options) -> Result<Answer, AllocError>
-    ensures { IfOk result (λ a. (bytes : List ℕ) → IsToldOf bytes text → IsAnswer options bytes a.outcome a.text.items) }
+    ensures { IfOk result (λ a. (bytes : List ℕ) → IsToldOf neither bytes text → IsAnswer options bytes a.outcome a.text.items) }
 {
     match text {
         HistoryText::Read(reading) => reading_answer(alloc, reading, options),

@@ -43,11 +43,11 @@ pub fn check<R: Source, W: Sink>(
     ensures quiet_writer { result ≢ Err EngineFail.WriteFault
         → W.failures writer.new ≡ W.failures writer.old }
 {
-    let wanted = Wanted {
-        real_time: options.real_time,
-        sessions: options.sessions,
+    let neither = Wanted {
+        real_time: false,
+        sessions: false,
     };
-    let text = read_history(alloc, reader, wanted)?;
+    let text = read_history(alloc, reader, neither)?;
     let answer = answer_to(alloc, text, options)?;
     match write_all(writer, answer.text.as_slice()) {
         Ok(()) => Ok(answer.outcome),

@@ -14,7 +14,6 @@ pub struct Naming {
     pub ids: Names,
     pub items: Names,
     pub values: Names,
-    pub sessions: Names,
 }
 
 /// The text with this number; JSON's null where there is none.

@@ -16,7 +16,7 @@ fn is_answered(
 ) -> Result<bool, AllocError> {
     let mut reader = MemSource::new(text, 65_536, None);
     let mut writer = MemSink::new(alloc, 1_000)?;
-    let ended = check(alloc, &mut reader, &mut writer, Options { order, real_time: false, sessions: false });
+    let ended = check(alloc, &mut reader, &mut writer, Options { order });
     Ok(ended == Ok(outcome) && writer.bytes() == answer)
 }
 
