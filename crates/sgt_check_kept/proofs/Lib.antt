@@ -1,6 +1,6 @@
 pub mod Gathered
 pub mod Linking
-pub mod Deciding
+pub mod KeptFrom
 pub mod Sessions
 pub mod Committed
 pub mod Telling

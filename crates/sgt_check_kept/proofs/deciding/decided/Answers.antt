@@ -3,7 +3,7 @@ use Rattle.sgt_history.specs.declared.named.Graph.TheVariants.{Whole}
 use Rattle.sgt_history_graph.specs.Ordered.{IsOrdered}
 use Rattle.sgt_history_kept.specs.Decided.{IsKept}
 use Rattle.sgt_history_verdict.proofs.Least.{edges-join, found-cycle, none-found}
-use Rattle.sgt_check_kept.proofs.Deciding.{kept-from}
+use Rattle.sgt_check_kept.proofs.KeptFrom.{kept-from}
 use Rattle.sgt_check_kept.proofs.deciding.decided.Goals as goal
 
 pub decide_kept-requires-clause-ends : goal.decide_kept-requires-clause-ends

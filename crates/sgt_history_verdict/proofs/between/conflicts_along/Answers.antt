@@ -2,7 +2,7 @@ use Rattle.std.proofs.Common.{ℕ, List, Option, Vec, Global, sym, subst}
 use Rattle.std.proofs.lemmas.Result.{IfOk-weaker}
 use Rattle.sgt_history.specs.declared.named.Graph.TheVariants.{Whole}
 use Rattle.sgt_history_conflicts.specs.Edges.{ArePairsOf}
-use Rattle.sgt_history_verdict.proofs.Between.{least-along}
+use Rattle.sgt_history_verdict.proofs.LeastAlong.{least-along}
 use Rattle.sgt_history_verdict.proofs.Stepping.{pairs-join}
 use Rattle.sgt_history_verdict.proofs.between.conflicts_along.Goals as goal
 

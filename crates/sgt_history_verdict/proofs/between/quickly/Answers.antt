@@ -1,6 +1,6 @@
 use Rattle.std.proofs.Common.{ℕ, get_or, length, subst, Some, arith, List}
 use Rattle.std.proofs.lemmas.Option.{slice_get-get_or}
-use Rattle.sgt_history_verdict.proofs.Between.{best-leads, best_to-next, best_to-none, best_to-whole}
+use Rattle.sgt_history_verdict.proofs.LeastAlong.{best-leads, best_to-next, best_to-none, best_to-whole}
 use Rattle.sgt_history_verdict.proofs.between.quickly.Goals as goal
 
 pub loop-place-entry : goal.loop-place-entry

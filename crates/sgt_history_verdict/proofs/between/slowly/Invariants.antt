@@ -1,4 +1,4 @@
-use Rattle.sgt_history_verdict.proofs.Between.{AreBestTo}
+use Rattle.sgt_history_verdict.proofs.LeastAlong.{AreBestTo}
 use Rattle.sgt_history_verdict.proofs.between.slowly.Given as goal
 
 abbrev pub invariant-loop-place : goal.invariant-loop-place
