@@ -39,8 +39,8 @@ fn has_word(line: &Line, option: &str) -> bool {
     false
 }
 
-// A word that a check doesn't take, where its words ask for what it can't do: a picture, time or sessions, or an order beside one that
-// is given.
+// A word that a check doesn't take, where its words ask for what it can't do: a picture; or beside an order that is given another one, or
+// what an order is to keep.
 fn unknown(line: &Line) -> Option<&'static str> {
     let is_check = line
         .words
@@ -55,11 +55,11 @@ fn unknown(line: &Line) -> Option<&'static str> {
     if line.against.is_some() && has_word(line, "--order") {
         return Some("--order (with --against)");
     }
-    if has_word(line, "--real-time") {
-        return Some("--real-time (not in this version)");
+    if line.against.is_some() && has_word(line, "--real-time") {
+        return Some("--real-time (with --against)");
     }
-    if has_word(line, "--sessions") {
-        return Some("--sessions (not in this version)");
+    if line.against.is_some() && has_word(line, "--sessions") {
+        return Some("--sessions (with --against)");
     }
     None
 }

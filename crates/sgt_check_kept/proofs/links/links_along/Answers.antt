@@ -7,8 +7,8 @@ use Rattle.sgt_check_kept.specs.Link.{IsLinkBetween}
 use Rattle.sgt_check_kept.proofs.Gathered.{to-next, to-none, to-whole}
 use Rattle.sgt_check_kept.proofs.links.links_along.Goals as goal
 
-pub loop-place-entry : goal.loop-place-entry
-loop-place-entry c = λ h ranks least cycle. to-none (IsLinkBetween h c.args.asked.now ranks) c.args.lines.now _ c.new-links.ensures.items
+pub loop-place-init : goal.loop-place-init
+loop-place-init c = λ h ranks least cycle. to-none (IsLinkBetween h c.args.asked.now ranks) c.args.lines.now _ c.new-links.ensures.items
 
 pub loop-place-preserved : goal.loop-place-preserved
 loop-place-preserved c = λ h ranks least cycle.

@@ -3,8 +3,8 @@ use Rattle.std.proofs.lemmas.Option.{slice_get-get_or}
 use Rattle.sgt_history_verdict.proofs.LeastAlong.{best-leads, best_to-next, best_to-none, best_to-whole}
 use Rattle.sgt_history_verdict.proofs.between.quickly.Goals as goal
 
-pub loop-place-entry : goal.loop-place-entry
-loop-place-entry c = λ touches pairs ranks are. best_to-none touches pairs ranks c.args.lines.now _ c.new-steps.ensures.items
+pub loop-place-init : goal.loop-place-init
+loop-place-init c = λ touches pairs ranks are. best_to-none touches pairs ranks c.args.lines.now _ c.new-steps.ensures.items
 
 pub loop-place-preserved : goal.loop-place-preserved
 loop-place-preserved c = λ touches pairs ranks are.

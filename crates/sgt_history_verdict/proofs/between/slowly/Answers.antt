@@ -3,8 +3,8 @@ use Rattle.std.proofs.lemmas.Option.{slice_get-get_or}
 use Rattle.sgt_history_verdict.proofs.LeastAlong.{best_to-next, best_to-none, best_to-whole}
 use Rattle.sgt_history_verdict.proofs.between.slowly.Goals as goal
 
-pub loop-place-entry : goal.loop-place-entry
-loop-place-entry c = best_to-none c.args.touches.now c.args.pairs.now c.args.ranks.now c.args.lines.now _ c.new-steps.ensures.items
+pub loop-place-init : goal.loop-place-init
+loop-place-init c = best_to-none c.args.touches.now c.args.pairs.now c.args.ranks.now c.args.lines.now _ c.new-steps.ensures.items
 
 pub loop-place-preserved : goal.loop-place-preserved
 loop-place-preserved c =
