@@ -1,14 +1,17 @@
 -- Only lines of committed transactions tell something, and each one thing.
-use Rattle.std.proofs.Common.{◌≡◌, ℕ, zero, suc, ◌<◌, ◌≤◌, ◌^◌, Bool, true, false, List, [], ◌∷◌, Option, Some, None, refl, sym, ap, ap₂, ◌∙◌, subst, arith, codes, decimal}
+use Rattle.std.proofs.Common.{◌≡◌, ℕ, zero, suc, ◌+◌, ◌<◌, ◌≤◌, ◌^◌, Bool, true, false, List, [], ◌∷◌, Option, Some, None, refl, sym, ap, ap₂, ◌∙◌, subst, arith, codes, decimal}
 use Rattle.std.specs.Prelude.{slice_get}
 use Rattle.std.proofs.lemmas.Fmt.{decimal_injective}
+use Rattle.std.proofs.lemmas.List.{append-nil}
 use Rattle.std.proofs.lemmas.Option.{same_Some, slice_get_within}
 use Rattle.json.specs.Find.{get}
 use Rattle.json.specs.Json.{Json, number, object}
+use Rattle.json.specs.Tree.{depth, json_tokens}
+use Rattle.json.specs.Json.{value}
+use Rattle.json.proofs.Printed.Trees.{value-json_tokens}
 use Rattle.sgt_history.specs.Serial.{IsCommitted}
 use Rattle.sgt_history.specs.Transaction.{Transaction}
 use Rattle.sgt_history_text.specs.Moment.{AreEntries, AreTold, HasSession, HasTimes, IsEntry}
-use Rattle.sgt_history_text.proofs.Trees.{same_tokens}
 use Rattle.sgt_history_time.specs.declared.times.Times.{Times}
 use Rattle.sgt_history_time.specs.Serializable.{AreOfCommitted}
 
@@ -60,6 +63,17 @@ module _ {E : Type 0} (Has : List ℕ → E → Type 0) where
         → AreTold Has wanted lines h fs → es ≡ fs
     told-one true lines h es fs are are' = entries-one lines h es fs are are'
     told-one false lines h es fs are are' = are ∙ sym are'
+
+-- ---- values of JSON
+
+read_back : (j : Json) (d : ℕ) → depth j ≤ d → value d (json_tokens j) ≡ Some (j, [])
+read_back j d h = ap (value d) (sym (append-nil (json_tokens j))) ∙ value-json_tokens j d [] h
+
+same_tokens : (i j : Json) → json_tokens i ≡ json_tokens j → i ≡ j
+same_tokens i j e =
+    let d = depth i + depth j in
+    let both : Some (i, []) ≡ Some (j, []) = sym (read_back i d (omega arith)) ∙ ap (value d) e ∙ read_back j d (omega arith) in
+    ap (λ p. p.0) (same_Some (i, []) (j, []) both)
 
 number_is : (s t : List ℕ) → Some (number s) ≡ Some (number t) → s ≡ t
 number_is s t e = cc

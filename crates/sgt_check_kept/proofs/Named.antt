@@ -9,6 +9,7 @@ use Rattle.sgt_names.specs.declared.outcome.Outcome.TheVariants.{Yes, No, Unread
 use Rattle.sgt_names.proofs.Lists.{map_at}
 use Rattle.sgt_history.proofs.Renaming.{serves-on}
 use Rattle.sgt_history.specs.Conflicts.{ConflictIn, HaveConflict, IsCycle}
+use Rattle.sgt_history.specs.History.{closed_of}
 use Rattle.sgt_history.specs.Serial.{IsCommitted}
 use Rattle.sgt_history.specs.Transaction.{Transaction, renamed}
 use Rattle.sgt_history.specs.declared.named.Conflict.{Conflict}
@@ -52,7 +53,7 @@ link-same ids items values name (link.Time from to done begin) = refl
 module _ (w : Wanted) (options : Options) (bytes : List ℕ) (r : Reading) (is : IsReading w bytes r) where
   -- the numbered history
   abbrev m : List (Transaction ℕ ℕ)
-  m = plain.m w options bytes r is (record { ids = r.ids; items = r.items; values = r.values }) refl refl refl
+  m = closed_of r.history
 
   abbrev named : List (Transaction Json Json)
   named = map (renamed (nth is.items) (nth is.values)) m

@@ -10,12 +10,12 @@ use Rattle.sgt_history_time.specs.Kept.{IsEarlier}
 use Rattle.sgt_check_kept.specs.Link.{IsOfSession}
 
 -- what the number stands for
-record Stands (names : List Json) (es : List (Option Json)) (k n : ℕ) : Type 0 where
+pub record Stands (names : List Json) (es : List (Option Json)) (k n : ℕ) : Type 0 where
   pub j : Json
   pub at : slice_get es k ≡ Some (Some j)
   pub name : slice_get names n ≡ Some j
 
-record Numbers (names : List Json) (ns : List (Option ℕ)) (k : ℕ) (j : Json) : Type 0 where
+pub record Numbers (names : List Json) (ns : List (Option ℕ)) (k : ℕ) (j : Json) : Type 0 where
   pub n : ℕ
   pub at : slice_get ns k ≡ Some (Some n)
   pub name : slice_get names n ≡ Some j

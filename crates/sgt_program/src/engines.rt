@@ -1,9 +1,9 @@
 //! The engines behind the commands, and the help, each with how it ended.
 
-ghost use Rattle.std.specs.Prelude.{⊤, ◌≡◌, ◌<◌, length, IfOk, IfErr, OnErr, OnOk};
+ghost use Rattle.std.specs.Prelude.{⊤, ◌≡◌, ◌<◌, ◌↔◌, length, IsTrue, IfOk, IfErr, OnErr, OnOk};
 ghost use Rattle.std.specs.Io.KnownBytes.{Appends};
 ghost use Rattle.sgt_names.specs.Device.{WritesFront};
-ghost use Rattle.sgt_program.specs.Commands.{Answers, AnswersAudit, AnswersCheck, kept_of, options_of, outcome};
+ghost use Rattle.sgt_program.specs.Commands.{Answers, AnswersAudit, AnswersCheck, AsksKept, kept_of, options_of, outcome};
 ghost use Rattle.sgt_program.specs.Ending.{LeavesDevices, ReadFailed, ReaderIsQuiet, ReadsOn, status_of};
 ghost use Rattle.sgt_words.specs.Words.{CanRun, command_of};
 ghost use Rattle.sgt_line.specs.declared.name.CommandName.TheVariants as command;
@@ -53,6 +53,12 @@ fn kept_of(wanted: CheckWanted) -> KeptWanted
     }
 }
 
+fn asks_kept(wanted: CheckWanted) -> bool
+    ensures { IsTrue result ↔ AsksKept wanted }
+{
+    wanted.real_time || wanted.sessions
+}
+
 // Checks a history, by orders that keep real time or sessions where that is wanted.
 fn check_by<R: Source, W: Sink>(
     alloc: Global,
@@ -70,10 +76,11 @@ fn check_by<R: Source, W: Sink>(
         (W.failures writer.old < W.failures writer.new)
         (writer.new ≡ writer.old) }
 {
-    if wanted.real_time || wanted.sessions {
-        check_kept(alloc, reader, writer, options_of(wanted), kept_of(wanted))
+    let options = options_of(wanted);
+    if asks_kept(wanted) {
+        check_kept(alloc, reader, writer, options, kept_of(wanted))
     } else {
-        check(alloc, reader, writer, options_of(wanted))
+        check(alloc, reader, writer, options)
     }
 }
 

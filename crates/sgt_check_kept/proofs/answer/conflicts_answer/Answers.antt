@@ -13,17 +13,17 @@ unreachable-requires c =
     let v = subst (IsVerdict h) c.in-Serial.is (c.in_ok-decide_faultless.ensures h from) in
     cycle-excludes h Whole has (committed_in h c.in-Serial.field-0.items, v.serves)
 
-pub unreachable-requires-2 : goal.unreachable-requires-2
-unreachable-requires-2 c =
+pub unreachable-requires-in-Faulty : goal.unreachable-requires-in-Faulty
+unreachable-requires-in-Faulty c =
     let (h, from, has) = c.requires.from in
     let f = c.in-Faulty.field-0 in
     let v = subst (IsVerdict h) c.in-Faulty.is (c.in_ok-decide_faultless.ensures h from) in
     from.faultless.faultless f.line f.flaw f.place v.faulty
 
-pub cyclic_text-requires-in-Cyclic : goal.cyclic_text-requires-in-Cyclic
-cyclic_text-requires-in-Cyclic c =
+pub cyclic_text-requires : goal.cyclic_text-requires
+cyclic_text-requires c =
     let (h, from, has) = c.requires.from in
     (h, subst (IsVerdict h) c.in-Cyclic.is (c.in_ok-decide_faultless.ensures h from))
 
-pub returns-in-Cyclic : goal.returns-in-Cyclic
-returns-in-Cyclic c = (refl, λ h from. c.in_ok-cyclic_text-in-Cyclic.ensures h (subst (IsVerdict h) c.in-Cyclic.is (c.in_ok-decide_faultless.ensures h from)))
+pub returns : goal.returns
+returns c = (refl, λ h from. c.in_ok-cyclic_text-in-Cyclic.ensures h (subst (IsVerdict h) c.in-Cyclic.is (c.in_ok-decide_faultless.ensures h from)))
