@@ -14,7 +14,7 @@ _sgt() {
         serial) options='--progress --help' ;;
         certify) options='--help' ;;
         serve) options='--bundles --help' ;;
-        check) options='--order --against --svg --quiet -q --progress --help' ;;
+        check) options='--order --real-time --sessions --against --svg --quiet -q --progress --help' ;;
         help) COMPREPLY=($(compgen -W 'audit serial replay run serve certify check explain draw' -- "$word")); return ;;
     esac
     COMPREPLY=($(compgen -W "$options" -- "$word") $(compgen -f -- "$word"))

@@ -41,8 +41,8 @@ fn has_word(line: &Line, option: &str) -> bool {
     false
 }
 
-// A word that a check doesn't take, where its words ask for what it can't do: time or sessions, or an order or a picture beside an order
-// that is given.
+// A word that a check doesn't take, where its words ask for what it can't do: beside an order that is given another one, a picture, or
+// what an order is to keep.
 fn unknown(line: &Line) -> Option<&'static str> {
     let is_check = line
         .words
@@ -57,11 +57,11 @@ fn unknown(line: &Line) -> Option<&'static str> {
     if line.against.is_some() && has_word(line, "--order") {
         return Some("--order (with --against)");
     }
-    if has_word(line, "--real-time") {
-        return Some("--real-time (not in this version)");
+    if line.against.is_some() && has_word(line, "--real-time") {
+        return Some("--real-time (with --against)");
     }
-    if has_word(line, "--sessions") {
-        return Some("--sessions (not in this version)");
+    if line.against.is_some() && has_word(line, "--sessions") {
+        return Some("--sessions (with --against)");
     }
     None
 }

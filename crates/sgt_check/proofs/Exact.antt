@@ -11,9 +11,9 @@ use Rattle.sgt_history.specs.Transaction.{Transaction}
 use Rattle.sgt_history_text.specs.Reading.{IsToldOf}
 use Rattle.sgt_history_text.specs.Text.{Spells}
 use Rattle.sgt_history_text.specs.declared.reading.HistoryText.{HistoryText}
-use Rattle.sgt_check.specs.Answer.{IsAnswer, SpellsSerializable}
+use Rattle.sgt_check.specs.Answer.{IsAnswer, SpellsSerializable, neither}
 use Rattle.sgt_check.specs.declared.options.Options.{Options}
-use Rattle.sgt_check.proofs.NoHistory.{unreadable-none}
+use Rattle.sgt_check.proofs.NoHistory.{none-told}
 use Rattle.sgt_check.proofs.OneHistory.{history-one}
 
 -- where the history that the bytes spell isn't serializable, none that they spell is
@@ -33,13 +33,13 @@ answer-exact options bytes text No (inr a) = (
 )
 answer-exact options bytes text Unreadable a = (
   λ same. absurd (cc (same)),
-  λ (ids, h, spells, serves). absurd (unreadable-none bytes a.line a.fault ids h a.first spells),
+  λ (ids, h, spells, serves). absurd (none-told bytes a.line a.fault ids h a.first spells),
 )
 
 -- ---- of what a reader told
 
-pub told-answers : (options : Options) (told : Option (List ℕ)) (t : HistoryText) (text : List ℕ) (outcome : Outcome) → IfSome told (λ bytes. IsToldOf bytes t)
-    → ((bytes : List ℕ) → IsToldOf bytes t → IsAnswer options bytes outcome text) → IfSome told (λ bytes. IsAnswer options bytes outcome text)
+pub told-answers : (options : Options) (told : Option (List ℕ)) (t : HistoryText) (text : List ℕ) (outcome : Outcome) → IfSome told (λ bytes. IsToldOf neither bytes t)
+    → ((bytes : List ℕ) → IsToldOf neither bytes t → IsAnswer options bytes outcome text) → IfSome told (λ bytes. IsAnswer options bytes outcome text)
 told-answers options None t text outcome is answers = tt
 told-answers options (Some bytes) t text outcome is answers = answers bytes is
 

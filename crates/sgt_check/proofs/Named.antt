@@ -20,6 +20,7 @@ use Rattle.sgt_history_text.specs.Name.{compact}
 use Rattle.sgt_history_text.specs.Reading.{IsReading, nth}
 use Rattle.sgt_history_text.specs.Text.{Spells}
 use Rattle.sgt_history_text.specs.declared.reading.Reading.{Reading}
+use Rattle.sgt_history_text.specs.declared.wanted.Wanted.{Wanted}
 use Rattle.sgt_history_verdict.specs.Steps.{AreSteps, IsStep, IsToldBefore, Leads, kind_place, lines_of}
 use Rattle.sgt_history_verdict.specs.Verdict.{MayFollow}
 use Rattle.sgt_history_verdict.specs.declared.step.Step.{Step}
@@ -30,16 +31,16 @@ use Rattle.sgt_check.specs.declared.naming.Naming.{Naming}
 use Rattle.sgt_check.specs.declared.options.Options.{Options}
 use Rattle.sgt_check.proofs.Spelled.{aborted-same, committed-same, fault-same, numbered, spelled-is}
 
-module _ (options : Options) (bytes : List ℕ) (r : Reading) (is : IsReading bytes r) (n : Naming)
+module _ (w : Wanted) (options : Options) (bytes : List ℕ) (r : Reading) (is : IsReading w bytes r) (n : Naming)
     (ids_are : n.ids ≡ r.ids) (items_are : n.items ≡ r.items) (values_are : n.values ≡ r.values) where
   -- the numbered history
-  abbrev m : List (Transaction ℕ ℕ)
+  abbrev pub m : List (Transaction ℕ ℕ)
   m = closed_of r.history
 
-  abbrev named : List (Transaction Json Json)
+  abbrev pub named : List (Transaction Json Json)
   named = map (renamed (nth is.items) (nth is.values)) m
 
-  spelled_as : spelled n ≡ numbered is.ids is.items is.values
+  pub spelled_as : spelled n ≡ numbered is.ids is.items is.values
   spelled_as = spelled-is n is.ids is.items is.values (ids_are ∙ is.id_texts) (items_are ∙ is.item_texts) (values_are ∙ is.value_texts)
 
   follow-back : (written : List ℕ) (line : ℕ) → MayFollow named written line → MayFollow m written line
@@ -93,7 +94,7 @@ module _ (options : Options) (bytes : List ℕ) (r : Reading) (is : IsReading by
             ∙ sym (fault-same (nth is.items) (nth is.values) (compactly is.ids) m f.line f.flaw told.o told.evidence);
       }
 
-  step-on : {g : Graph} (s : Step) → IsStep m g s → IsStepOf named (nth is.items) g s
+  pub step-on : {g : Graph} (s : Step) → IsStep m g s → IsStepOf named (nth is.items) g s
   step-on s step = record {
     among = step.among;
     conflict = conflict-on (nth is.items) (nth is.values) m is.apart s.kind s.from s.to s.item s.from_version s.to_version step.conflict;
@@ -106,7 +107,7 @@ module _ (options : Options) (bytes : List ℕ) (r : Reading) (is : IsReading by
       let t : Step = record { kind = kind; from = s.from; to = s.to; item = old.0; from_version = v; to_version = w } in
       elim (told t (record { among = among; conflict = old.1 }) (refl, refl)) [ inl less ↦ omega (arith, less) | inr same ↦ omega (arith, same.0) ]
 
-  cyclic-answer : (text : List ℕ) → IsCyclicTold n m text → IsCycleTold bytes text
+  pub cyclic-answer : (text : List ℕ) → IsCyclicTold n m text → IsCycleTold bytes text
   cyclic-answer text a = record {
     ids = is.ids;
     h = named;

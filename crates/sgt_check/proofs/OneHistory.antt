@@ -66,7 +66,7 @@ whole lines bytes h (inr l) =
     let parts = no_lf-front l.front l.last (subst (AllByRecursion (HasNot 10)) l.lines_are h) in
     record { xs = l.front; r = l.last; no_lf = parts.0; none = parts.1; bytes_are = l.bytes_are; lines_are = inr (l.some_byte, l.lines_are) }
 
-lines-one : (lines lines' : List (List ℕ)) (bytes : List ℕ) → Whole lines bytes → Whole lines' bytes → lines ≡ lines'
+pub lines-one : (lines lines' : List (List ℕ)) (bytes : List ℕ) → Whole lines bytes → Whole lines' bytes → lines ≡ lines'
 lines-one lines lines' bytes a b =
     let cut = cut-one a.xs b.xs a.r b.r a.no_lf b.no_lf a.none b.none (sym a.bytes_are ∙ b.bytes_are) in
     elim a.lines_are [

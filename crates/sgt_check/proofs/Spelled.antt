@@ -29,7 +29,7 @@ null_is : compact null ≡ codes "null"
 unfolding print_from
 null_is = refl
 
-text-is : (texts : List (List ℕ)) (js : List Json) → texts ≡ map compact js → (n : ℕ) → text_at texts n ≡ compact (nth js n)
+pub text-is : (texts : List (List ℕ)) (js : List Json) → texts ≡ map compact js → (n : ℕ) → text_at texts n ≡ compact (nth js n)
 text-is texts js is n =
     ap (λ (ts : List (List ℕ)). get_or ts n (codes "null")) is ∙ ap (λ (d : List ℕ). get_or (map compact js) n d) (sym null_is) ∙ get_or-map compact js n null
 

@@ -1,5 +1,5 @@
 -- What a text of a history is answered by.
-use Rattle.std.specs.Prelude.{◌≡◌, ◌⊎◌, ℕ, ◌<◌, ◌≤◌, List, [], ◌++◌, length, All, Option, Some, IfSome, slice_get}
+use Rattle.std.specs.Prelude.{◌≡◌, ◌⊎◌, ℕ, ◌<◌, ◌≤◌, false, List, [], ◌++◌, length, All, Option, Some, IfSome, slice_get}
 use Rattle.std.specs.Io.KnownBytes.{Appends}
 use Rattle.json.specs.Json.{Json}
 use Rattle.sgt_names.specs.Device.{AppendsOrForgets, WritesFront}
@@ -20,6 +20,7 @@ use Rattle.sgt_history_text.specs.Name.{compact}
 use Rattle.sgt_history_text.specs.Reading.{nth}
 use Rattle.sgt_history_text.specs.Text.{IsFirstUnreadable, Spells}
 use Rattle.sgt_history_text.specs.declared.fault.LineFault.{LineFault}
+use Rattle.sgt_history_text.specs.declared.wanted.Wanted.{Wanted}
 use Rattle.sgt_history_verdict.specs.Steps.{kind_place, lines_of, place_behind}
 use Rattle.sgt_history_verdict.specs.Verdict.{IsBelow, IsLeastFirst}
 use Rattle.sgt_history_verdict.specs.declared.step.Step.{Step}
@@ -103,10 +104,15 @@ pub record IsCycleTold (bytes text : List ℕ) : Type 0 where
 
 -- ---- a line that can't be read
 
-pub record IsUnreadable (bytes text : List ℕ) : Type 0 where
+-- lines needn't tell more than their transactions
+abbrev pub neither : Wanted
+neither = record { real_time = false; sessions = false }
+
+-- the first line that can't be read, or doesn't tell what is wanted besides
+pub record IsUnreadable (w : Wanted) (bytes text : List ℕ) : Type 0 where
   pub line : ℕ
   pub fault : LineFault
-  pub first : IsFirstUnreadable bytes line fault
+  pub first : IsFirstUnreadable w bytes line fault
   pub text_is : text ≡ unreadable_text line fault
 
 -- ---- the answer
@@ -114,7 +120,7 @@ pub record IsUnreadable (bytes text : List ℕ) : Type 0 where
 abbrev pub IsAnswer : Options → List ℕ → Outcome → List ℕ → Type 0
 IsAnswer options bytes Yes text = IsYes options bytes text
 IsAnswer options bytes No text = IsFaultTold bytes text ⊎ IsCycleTold bytes text
-IsAnswer options bytes Unreadable text = IsUnreadable bytes text
+IsAnswer options bytes Unreadable text = IsUnreadable neither bytes text
 
 -- the bytes spell a serializable history
 abbrev pub SpellsSerializable : List ℕ → Type 0

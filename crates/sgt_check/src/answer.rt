@@ -1,7 +1,7 @@
 //! The answer to a text.
 
 ghost use Rattle.std.specs.Prelude.{◌≡◌, ℕ, List, IfOk};
-ghost use Rattle.sgt_check.specs.Answer.{IsAnswer};
+ghost use Rattle.sgt_check.specs.Answer.{IsAnswer, neither};
 ghost use Rattle.sgt_check.specs.Text.{line_fault_text, unreadable_text};
 ghost use Rattle.sgt_check.specs.Told.{IsCyclicTold, IsFaultyTold, IsTold, yes_text};
 ghost use Rattle.sgt_history.specs.Flaws.{IsFirstFault};
@@ -33,7 +33,7 @@ pub struct Answer {
 }
 
 /// The text of the first fault.
-fn faulty_text(
+pub fn faulty_text(
     alloc: Global,
     naming: &Naming,
     history: &History,
@@ -48,7 +48,7 @@ fn faulty_text(
 }
 
 /// The text of a cycle.
-fn cyclic_text(alloc: Global, naming: &Naming, cyclic: &Cyclic) -> Result<Vec<u8>, AllocError>
+pub fn cyclic_text(alloc: Global, naming: &Naming, cyclic: &Cyclic) -> Result<Vec<u8>, AllocError>
     requires { (h : List (Transaction ℕ ℕ)) × IsCyclic h cyclic.now }
     ensures { IfOk result (λ text. (h : List (Transaction ℕ ℕ)) → IsCyclic h cyclic.now
         → IsCyclicTold naming.now h text.items) }
@@ -61,7 +61,7 @@ fn cyclic_text(alloc: Global, naming: &Naming, cyclic: &Cyclic) -> Result<Vec<u8
 }
 
 /// The text of a yes: how many lines commit and abort, and the order, where it is asked for.
-fn serial_text(
+pub fn serial_text(
     alloc: Global,
     naming: &Naming,
     lines: &[Line],
@@ -124,13 +124,16 @@ fn history_answer(
 
 /// The answer to a text that was read.
 fn reading_answer(alloc: Global, reading: Reading, options: Options) -> Result<Answer, AllocError>
-    ensures { IfOk result (λ a. (bytes : List ℕ) → IsReading bytes reading → IsAnswer options bytes a.outcome a.text.items) }
+    ensures { IfOk result (λ a. (bytes : List ℕ) → IsReading neither bytes reading → IsAnswer options bytes a.outcome a.text.items) }
 {
     let Reading {
         history,
         ids,
         items,
         values,
+        times: _,
+        sessions: _,
+        session_names: _,
     } = reading;
     let naming = Naming { ids, items, values };
     history_answer(alloc, &naming, history, options)
@@ -159,7 +162,7 @@ pub fn unread_text(alloc: Global, line: u64, fault: LineFault) -> Result<Vec<u8>
 
 /// The answer to a text.
 pub fn answer_to(alloc: Global, text: HistoryText, options: Options) -> Result<Answer, AllocError>
-    ensures { IfOk result (λ a. (bytes : List ℕ) → IsToldOf bytes text → IsAnswer options bytes a.outcome a.text.items) }
+    ensures { IfOk result (λ a. (bytes : List ℕ) → IsToldOf neither bytes text → IsAnswer options bytes a.outcome a.text.items) }
 {
     match text {
         HistoryText::Read(reading) => reading_answer(alloc, reading, options),

@@ -56,7 +56,7 @@ fn push_versions(out: &mut Vec<u8>, naming: &Naming, step: &Step) -> Result<(), 
 }
 
 /// Puts the line of a step.
-fn push_step(out: &mut Vec<u8>, naming: &Naming, step: &Step) -> Result<(), AllocError>
+pub fn push_step(out: &mut Vec<u8>, naming: &Naming, step: &Step) -> Result<(), AllocError>
     ensures { OnOk result (out.new.items ≡ out.old.items ++ step_text (spelled naming.now) step.now) }
 {
     push_ends(out, naming, step)?;

@@ -6,7 +6,7 @@ ghost use Rattle.sgt_check.specs.Answer.{SpellsSerializable, WroteAnswer, WroteA
 
 use crate::answer::answer_to;
 use crate::options::Options;
-use sgt_history_text::read_history;
+use sgt_history_text::{Wanted, read_history};
 use sgt_names::{EngineFail, Outcome, Sink, Source, write_all};
 use std::alloc::Global;
 
@@ -43,7 +43,11 @@ pub fn check<R: Source, W: Sink>(
     ensures quiet_writer { result ≢ Err EngineFail.WriteFault
         → W.failures writer.new ≡ W.failures writer.old }
 {
-    let text = read_history(alloc, reader)?;
+    let neither = Wanted {
+        real_time: false,
+        sessions: false,
+    };
+    let text = read_history(alloc, reader, neither)?;
     let answer = answer_to(alloc, text, options)?;
     match write_all(writer, answer.text.as_slice()) {
         Ok(()) => Ok(answer.outcome),

@@ -2,7 +2,7 @@
 
 ghost use Rattle.std.specs.Prelude.{◌≡◌, ◌↔◌, ℕ, List};
 ghost use Rattle.json.specs.Json.{Json};
-ghost use Rattle.sgt_check.specs.Answer.{IsAnswer, SpellsSerializable};
+ghost use Rattle.sgt_check.specs.Answer.{IsAnswer, SpellsSerializable, neither};
 ghost use Rattle.sgt_check.specs.declared.options.Options.{Options};
 ghost use Rattle.sgt_history.specs.Transaction.{Transaction};
 ghost use Rattle.sgt_history_text.specs.Text.{IsFirstUnreadable, Spells};
@@ -19,7 +19,7 @@ pub fn a_text_spells_one_history()
 /// It spells none where a line can't be read.
 pub fn an_unreadable_line_spells_none()
     ensures { (bytes : List ℕ) (line : ℕ) (fault : LineFault) (ids : List Json) (h : List (Transaction Json Json))
-        → IsFirstUnreadable bytes line fault → Spells bytes ids h → ⊥ }
+        → IsFirstUnreadable neither bytes line fault → Spells bytes ids h → ⊥ }
 {}
 
 /// The answer is a yes exactly where the bytes spell a history that is serializable.

@@ -13,7 +13,8 @@ mod ranks;
 mod tests;
 mod yes;
 
-pub use answer::unread_text;
+pub use answer::{Answer, cyclic_text, faulty_text, serial_text, unread_text};
+pub use cycle::push_step;
 pub use engine::check;
 pub use fault::{push_fault, push_operation};
 pub use laws::{
@@ -22,4 +23,5 @@ pub use laws::{
 };
 pub use naming::{Naming, push_line_number, push_name};
 pub use options::Options;
+pub use ranks::ranks_of;
 pub use yes::push_counts;

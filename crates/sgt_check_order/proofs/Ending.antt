@@ -6,7 +6,7 @@ use Rattle.sgt_names.specs.declared.outcome.Outcome.{Outcome}
 use Rattle.sgt_names.specs.declared.outcome.Outcome.TheVariants.{Yes, No, Unreadable}
 use Rattle.sgt_history.specs.Serial.{IsCommitted}
 use Rattle.sgt_history.specs.Transaction.{Transaction}
-use Rattle.sgt_check.specs.Answer.{IsUnreadable}
+use Rattle.sgt_check.specs.Answer.{IsUnreadable, neither}
 use Rattle.sgt_check.specs.Told.{IsFaultyTold, spelled}
 use Rattle.sgt_check.specs.declared.naming.Naming.{Naming}
 use Rattle.sgt_check_order.specs.Answer.{IsAnswer, IsJudged}
@@ -47,6 +47,6 @@ pub judged-if : (told : Option (List ℕ)) (js : List Json) (n : Naming) (h : Li
 judged-if None js n h named outcome text is judged = tt
 judged-if (Some lines) js n h named outcome text is judged = judged-told lines js n h outcome text (judged js lines is)
 
-pub unread-if : (told : Option (List ℕ)) (bytes text : List ℕ) → IsUnreadable bytes text → IfSome told (λ lines. IsAnswer lines bytes Unreadable text)
+pub unread-if : (told : Option (List ℕ)) (bytes text : List ℕ) → IsUnreadable neither bytes text → IfSome told (λ lines. IsAnswer lines bytes Unreadable text)
 unread-if None bytes text is = tt
 unread-if (Some lines) bytes text is = is

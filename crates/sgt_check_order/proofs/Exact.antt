@@ -10,8 +10,8 @@ use Rattle.sgt_history.specs.Transaction.{Transaction}
 use Rattle.sgt_history_text.specs.Reading.{IsToldOf}
 use Rattle.sgt_history_text.specs.Text.{Spells}
 use Rattle.sgt_history_text.specs.declared.reading.HistoryText.{HistoryText}
-use Rattle.sgt_check.specs.Answer.{compactly}
-use Rattle.sgt_check.proofs.NoHistory.{unreadable-none}
+use Rattle.sgt_check.specs.Answer.{compactly, neither}
+use Rattle.sgt_check.proofs.NoHistory.{none-told}
 use Rattle.sgt_check.proofs.OneHistory.{history-one}
 use Rattle.sgt_check_order.specs.Answer.{IsAnswer, IsJudged, IsToldAnswer, SpellsServed}
 use Rattle.sgt_check_order.specs.Order.{NameEach, lines_of}
@@ -46,13 +46,13 @@ answer-exact order bytes text No (inr a) = (
 )
 answer-exact order bytes text Unreadable a = (
   λ same. absurd (cc (same)),
-  λ (ids, h, spells, numbers, names, serves). absurd (unreadable-none bytes a.line a.fault ids h a.first spells),
+  λ (ids, h, spells, numbers, names, serves). absurd (none-told bytes a.line a.fault ids h a.first spells),
 )
 
 -- ---- of what readers told
 
-pub told-answers : (order told : Option (List ℕ)) (t : HistoryText) (text : List ℕ) (outcome : Outcome) → IfSome told (λ bytes. IsToldOf bytes t)
-    → ((bytes : List ℕ) → IsToldOf bytes t → IfSome order (λ lines. IsAnswer lines bytes outcome text)) → IsToldAnswer order told outcome text
+pub told-answers : (order told : Option (List ℕ)) (t : HistoryText) (text : List ℕ) (outcome : Outcome) → IfSome told (λ bytes. IsToldOf neither bytes t)
+    → ((bytes : List ℕ) → IsToldOf neither bytes t → IfSome order (λ lines. IsAnswer lines bytes outcome text)) → IsToldAnswer order told outcome text
 told-answers order None t text outcome is answers = tt
 told-answers order (Some bytes) t text outcome is answers = answers bytes is
 

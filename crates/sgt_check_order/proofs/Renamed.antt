@@ -22,7 +22,7 @@ use Rattle.sgt_history_text.specs.Text.{SpellEach}
 use Rattle.sgt_history_text.specs.declared.reading.Reading.{Reading}
 use Rattle.sgt_check.proofs.Named.{faulty-answer}
 use Rattle.sgt_check.proofs.Spelled.{aborted-same, committed-same, numbered, spelled-is}
-use Rattle.sgt_check.specs.Answer.{compactly}
+use Rattle.sgt_check.specs.Answer.{compactly, neither}
 use Rattle.sgt_check.specs.Text.{Spelling, counts_text}
 use Rattle.sgt_check.specs.Told.{spelled}
 use Rattle.sgt_check.specs.declared.naming.Naming.{Naming}
@@ -119,7 +119,7 @@ each-id (line ∷ lines) (id ∷ ids) (t ∷ h) s = (s.2.id_is, each-id lines id
 
 -- ---- what is told
 
-module _ (order bytes : List ℕ) (r : Reading) (is : IsReading bytes r) where
+module _ (order bytes : List ℕ) (r : Reading) (is : IsReading neither bytes r) where
   pub ids-are : AreIds r.ids is.ids
   ids-are = record {
     texts_are = is.id_texts;
@@ -176,13 +176,13 @@ module _ (order bytes : List ℕ) (r : Reading) (is : IsReading bytes r) where
 
     pub told : (outcome : Outcome) (text : List ℕ) → IsTold order is.ids n m outcome text → IsAnswer order bytes outcome text
     told Yes text a = record { ids = is.ids; h = named; spells = is.spells; judged = judged Yes text a }
-    told No text (inl a) = inl (faulty-answer (record { order = false }) bytes r is n ids_are items_are values_are text a)
+    told No text (inl a) = inl (faulty-answer neither (record { order = false }) bytes r is n ids_are items_are values_are text a)
     told No text (inr a) = inr (record { ids = is.ids; h = named; spells = is.spells; judged = judged No text a })
     told Unreadable text a = absurd a
 
 -- ---- of what a reader told
 
-pub told-if : (lines : Option (List ℕ)) (bytes : List ℕ) (r : Reading) (is : IsReading bytes r) (n : Naming) → n.ids ≡ r.ids → n.items ≡ r.items → n.values ≡ r.values
+pub told-if : (lines : Option (List ℕ)) (bytes : List ℕ) (r : Reading) (is : IsReading neither bytes r) (n : Naming) → n.ids ≡ r.ids → n.items ≡ r.items → n.values ≡ r.values
     → (outcome : Outcome) (text : List ℕ) → IfSome lines (λ order. IsTold order is.ids n (closed_of r.history) outcome text)
     → IfSome lines (λ order. IsAnswer order bytes outcome text)
 told-if None bytes r is n one two three outcome text a = tt

@@ -10,7 +10,7 @@ use Rattle.sgt_history.specs.Serial.{IsOrder, Serves}
 use Rattle.sgt_history.specs.Transaction.{Transaction}
 use Rattle.sgt_history.specs.declared.history.Operation.{Operation}
 use Rattle.sgt_history_text.specs.Text.{Spells}
-use Rattle.sgt_check.specs.Answer.{IsFaultTold, IsUnreadable, compactly}
+use Rattle.sgt_check.specs.Answer.{IsFaultTold, IsUnreadable, compactly, neither}
 use Rattle.sgt_check.specs.Text.{Spelling, aborted_of, committed_of, counts_text}
 use Rattle.sgt_check_order.specs.Order.{IsFirstStray, NameEach, lines_of}
 use Rattle.sgt_check_order.specs.Run.{IsFirstBreak}
@@ -62,7 +62,7 @@ pub record IsOrderJudged (order bytes : List ℕ) (outcome : Outcome) (text : Li
 abbrev pub IsAnswer : (order bytes : List ℕ) → Outcome → List ℕ → Type 0
 IsAnswer order bytes Yes text = IsOrderJudged order bytes Yes text
 IsAnswer order bytes No text = IsFaultTold bytes text ⊎ IsOrderJudged order bytes No text
-IsAnswer order bytes Unreadable text = IsUnreadable bytes text
+IsAnswer order bytes Unreadable text = IsUnreadable neither bytes text
 
 -- the order names each committed transaction of the history that the bytes spell once, and serves
 abbrev pub SpellsServed : (order bytes : List ℕ) → Type 0

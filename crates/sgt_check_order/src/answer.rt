@@ -8,6 +8,7 @@ ghost use Rattle.sgt_history.specs.History.{closed_of};
 ghost use Rattle.sgt_history.specs.Serial.{IsOrder};
 ghost use Rattle.sgt_history_text.specs.Ids.{AreIds};
 ghost use Rattle.sgt_history_text.specs.Reading.{IsReading, IsToldOf};
+ghost use Rattle.sgt_check.specs.Answer.{neither};
 ghost use Rattle.sgt_check.specs.Text.{aborted_of, committed_of, counts_text};
 ghost use Rattle.sgt_check.specs.Told.{IsFaultyTold, spelled};
 ghost use Rattle.sgt_check_order.specs.Answer.{IsAnswer, IsJudged};
@@ -147,7 +148,7 @@ fn reading_answer<R: Source>(
     reader: &mut R,
     reading: Reading,
 ) -> Result<Answer, EngineFail>
-    ensures answer { IfOk result (λ a. (bytes : List ℕ) → IsReading bytes reading
+    ensures answer { IfOk result (λ a. (bytes : List ℕ) → IsReading neither bytes reading
         → IfSome (R.tells reader.old) (λ lines. IsAnswer lines bytes a.outcome a.text.items)) }
     ensures quiet { result ≢ Err EngineFail.ReadFault
         → R.failures reader.new ≡ R.failures reader.old }
@@ -160,6 +161,9 @@ fn reading_answer<R: Source>(
         ids,
         items,
         values,
+        times: _,
+        sessions: _,
+        session_names: _,
     } = reading;
     let found = Ids::new(alloc, &ids)?;
     let naming = Naming { ids, items, values };
@@ -172,7 +176,7 @@ pub(crate) fn answer_against<R: Source>(
     reader: &mut R,
     text: HistoryText,
 ) -> Result<Answer, EngineFail>
-    ensures answer { IfOk result (λ a. (bytes : List ℕ) → IsToldOf bytes text
+    ensures answer { IfOk result (λ a. (bytes : List ℕ) → IsToldOf neither bytes text
         → IfSome (R.tells reader.old) (λ lines. IsAnswer lines bytes a.outcome a.text.items)) }
     ensures quiet { result ≢ Err EngineFail.ReadFault
         → R.failures reader.new ≡ R.failures reader.old }

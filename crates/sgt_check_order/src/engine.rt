@@ -5,7 +5,7 @@ ghost use Rattle.sgt_notation.specs.Lines.{ReadFaultIsDue};
 ghost use Rattle.sgt_check_order.specs.Answer.{SpellsServed, WroteAnswer, WroteAnswerFront};
 
 use crate::answer::answer_against;
-use sgt_history_text::read_history;
+use sgt_history_text::{Wanted, read_history};
 use sgt_names::{EngineFail, Outcome, Sink, Source, write_all};
 use std::alloc::Global;
 
@@ -46,7 +46,11 @@ pub fn check_against<O: Source, R: Source, W: Sink>(
     ensures quiet_writer { result ≢ Err EngineFail.WriteFault
         → W.failures writer.new ≡ W.failures writer.old }
 {
-    let text = read_history(alloc, reader)?;
+    let neither = Wanted {
+        real_time: false,
+        sessions: false,
+    };
+    let text = read_history(alloc, reader, neither)?;
     let answer = answer_against(alloc, order, text)?;
     match write_all(writer, answer.text.as_slice()) {
         Ok(()) => Ok(answer.outcome),

@@ -8,14 +8,16 @@ use Rattle.sgt_notation.specs.Spelling.{HasNoLf, text_of_lines}
 use Rattle.sgt_notation.specs.Lines.{Ahead, Gives, MetReadFault, ReadFaultIsDue, Spends, Stream, coming}
 use Rattle.sgt_notation.specs.declared.lines.Next.TheVariants.{Line, Cut, TooLong as Long, End}
 use Rattle.sgt_history.specs.Transaction.{Transaction}
-use Rattle.sgt_history_text.specs.Built.{IsBuilt, IsTaken}
+use Rattle.sgt_history_text.specs.Built.{AreMoments, IsBuilt, IsTaken}
 use Rattle.sgt_history_text.specs.Line.{IsLine}
 use Rattle.sgt_history_text.specs.Reading.{IsStop, stop_of}
 use Rattle.sgt_history_text.specs.Text.{AreLines, Blocks, IsFirstUnreadable, IsInFront, SpellEach, Spells, longest_line}
 use Rattle.sgt_history_text.specs.declared.building.Builder.{Builder}
 use Rattle.sgt_history_text.specs.declared.fault.LineFault.{LineFault}
 use Rattle.sgt_history_text.specs.declared.fault.LineFault.TheVariants.{NotALine, TooLong, IdAgain}
+use Rattle.sgt_history_text.specs.declared.moments.Moments.{Moments}
 use Rattle.sgt_history_text.specs.declared.reading.Stop.TheVariants.{Ended, At}
+use Rattle.sgt_history_text.specs.declared.wanted.Wanted.{Wanted}
 
 -- ---- lines
 
@@ -62,20 +64,23 @@ IsRest lines (Some bytes) None = ⊥
 IsRest lines (Some bytes) (Some rest) = bytes ≡ text_of_lines lines ++ rest
 
 -- so much was read
-pub record Goes (told coming : Option (List ℕ)) (b : Builder) : Type 0 where
+pub record Goes (w : Wanted) (told coming : Option (List ℕ)) (b : Builder) (m : Moments) : Type 0 where
   pub lines : List (List ℕ)
   pub ids : List Json
   pub h : List (Transaction Json Json)
   pub spell : SpellEach lines ids h
   pub built : IsBuilt b ids h []
+  pub moments : AreMoments w m lines h
   pub rest : IsRest lines told coming
 
 rest-empty : (told : Option (List ℕ)) (ahead : Ahead) → ahead.held ≡ [] → IsRest [] told (coming ahead told)
 rest-empty None ahead fresh = tt
 rest-empty (Some bytes) ahead fresh = ap (λ (held : List ℕ). held ++ bytes) (sym fresh)
 
-pub goes-none : (told : Option (List ℕ)) (ahead : Ahead) (b : Builder) → IsBuilt b [] [] [] → ahead.held ≡ [] → Goes told (coming ahead told) b
-goes-none told ahead b built fresh = record { lines = []; ids = []; h = []; spell = tt; built = built; rest = rest-empty told ahead fresh }
+pub goes-none : (w : Wanted) (told : Option (List ℕ)) (ahead : Ahead) (b : Builder) (m : Moments) → IsBuilt b [] [] [] → AreMoments w m [] [] → ahead.held ≡ []
+    → Goes w told (coming ahead told) b m
+goes-none w told ahead b m built moments fresh =
+    record { lines = []; ids = []; h = []; spell = tt; built = built; moments = moments; rest = rest-empty told ahead fresh }
 
 rest-line : (xs : List (List ℕ)) (limit : ℕ) (told old new : Option (List ℕ)) (l : List ℕ) → IsRest xs told old → Gives limit old Line l new
     → IsRest (xs ++ l ∷ []) told new
@@ -85,14 +90,15 @@ rest-line xs limit (Some bytes) (Some os) None l rest gives = absurd gives
 rest-line xs limit (Some bytes) (Some os) (Some ns) l rest gives =
     rest ∙ ap (λ (t : List ℕ). text_of_lines xs ++ t) gives.2 ∙ sym (one-line xs l ns)
 
-pub goes-line : (told old new : Option (List ℕ)) (b b' : Builder) (l : List ℕ) (goes : Goes told old b) → HasNoLf l → length l ≤ longest_line
-    → Gives longest_line old Line l new → IsTaken goes.ids goes.h l b' None → Goes told new b'
-goes-line told old new b b' l goes none short gives (id, t, is, fresh, built) = record {
+pub goes-line : (w : Wanted) (told old new : Option (List ℕ)) (b b' : Builder) (m m' : Moments) (l : List ℕ) (goes : Goes w told old b m) → HasNoLf l
+    → length l ≤ longest_line → Gives longest_line old Line l new → IsTaken w goes.lines goes.ids goes.h l b' m' None → Goes w told new b' m'
+goes-line w told old new b b' m m' l goes none short gives (id, t, is, fresh, built, moments) = record {
   lines = goes.lines ++ l ∷ [];
   ids = goes.ids ++ id ∷ [];
   h = goes.h ++ t ∷ [];
   spell = each-push goes.lines goes.ids goes.h l id t goes.spell none short is;
   built = built;
+  moments = moments;
   rest = rest-line goes.lines longest_line told old new l goes.rest gives;
 }
 
@@ -106,14 +112,21 @@ end-lines lines (Some bytes) (Some xs) None l rest gives = absurd gives
 end-lines lines (Some bytes) (Some xs) (Some ys) l rest gives =
     inl (rest ∙ ap (λ (t : List ℕ). text_of_lines lines ++ t) gives.0 ∙ append-nil (text_of_lines lines))
 
-spelled : (told : Option (List ℕ)) (lines : List (List ℕ)) (ids : List Json) (h : List (Transaction Json Json)) (b : Builder) → SpellEach lines ids h → IsBuilt b ids h []
-    → IfSome told (λ bytes. AreLines lines bytes) → IfSome told (λ bytes. Spells bytes ids h)
-spelled None lines ids h b each built are = tt
-spelled (Some bytes) lines ids h b each built are = record { lines = lines; are_lines = are; spell = each; apart = built.ids_kept.once }
+spelled : (w : Wanted) (told : Option (List ℕ)) (lines : List (List ℕ)) (ids : List Json) (h : List (Transaction Json Json)) (b : Builder) (m : Moments)
+    → SpellEach lines ids h → IsBuilt b ids h [] → AreMoments w m lines h → IfSome told (λ bytes. AreLines lines bytes)
+    → IfSome told (λ bytes. (spells : Spells bytes ids h) × AreMoments w m spells.lines h)
+spelled w None lines ids h b m each built moments are = tt
+spelled w (Some bytes) lines ids h b m each built moments are =
+    (record { lines = lines; are_lines = are; spell = each; apart = built.ids_kept.once }, moments)
 
-pub stops-end : (told old new : Option (List ℕ)) (b : Builder) (l : List ℕ) → Goes told old b → Gives longest_line old End l new → IsStop told b Ended
-stops-end told old new b l goes gives =
-    (goes.ids, goes.h, goes.built, spelled told goes.lines goes.ids goes.h b goes.spell goes.built (end-lines goes.lines told old new l goes.rest gives))
+pub stops-end : (w : Wanted) (told old new : Option (List ℕ)) (b : Builder) (m : Moments) (l : List ℕ) → Goes w told old b m → Gives longest_line old End l new
+    → IsStop w told b m Ended
+stops-end w told old new b m l goes gives = (
+  goes.ids,
+  goes.h,
+  goes.built,
+  spelled w told goes.lines goes.ids goes.h b m goes.spell goes.built goes.moments (end-lines goes.lines told old new l goes.rest gives),
+)
 
 some_byte : (l : List ℕ) → 0 < length l → l ≢ []
 some_byte l h e = omega (arith, ap length e)
@@ -147,53 +160,58 @@ front-cut None new l none short gives = tt
 front-cut (Some xs) None l none short gives = absurd gives
 front-cut (Some xs) (Some ys) l none short gives = record { none = none; short = short; there = inr (gives.3, some_byte l gives.1) }
 
-taken-blocks : (ids : List Json) (h : List (Transaction Json Json)) (b : Builder) (l : List ℕ) (fault : LineFault) (old : Option (List ℕ)) → InFront l old
-    → IsTaken ids h l b (Some fault) → IfSome old (λ rest. Blocks ids rest fault)
-taken-blocks ids h b l fault None front taken = tt
-taken-blocks ids h b l NotALine (Some rest) front taken = (l, front, taken)
-taken-blocks ids h b l TooLong (Some rest) front taken = absurd taken
-taken-blocks ids h b l IdAgain (Some rest) front (id, t, is, again) = (l, id, t, front, is, again)
+taken-blocks : (w : Wanted) (lines : List (List ℕ)) (ids : List Json) (h : List (Transaction Json Json)) (b : Builder) (m : Moments) (l : List ℕ)
+    (fault : LineFault) (old : Option (List ℕ)) → InFront l old
+    → IsTaken w lines ids h l b m (Some fault) → IfSome old (λ rest. Blocks w ids rest fault)
+taken-blocks w lines ids h b m l fault None front taken = tt
+taken-blocks w lines ids h b m l NotALine (Some rest) front taken = (l, front, taken)
+taken-blocks w lines ids h b m l TooLong (Some rest) front taken = absurd taken
+taken-blocks w lines ids h b m l IdAgain (Some rest) front (id, t, is, again) = (l, id, t, front, is, again)
 
-long-blocks : (ids : List Json) (old new : Option (List ℕ)) (l : List ℕ) → Gives longest_line old Long l new → IfSome old (λ rest. Blocks ids rest TooLong)
-long-blocks ids None new l gives = tt
-long-blocks ids (Some xs) None l gives = absurd gives
-long-blocks ids (Some xs) (Some ys) l gives = gives.0
+long-blocks : (w : Wanted) (ids : List Json) (old new : Option (List ℕ)) (l : List ℕ) → Gives longest_line old Long l new
+    → IfSome old (λ rest. Blocks w ids rest TooLong)
+long-blocks w ids None new l gives = tt
+long-blocks w ids (Some xs) None l gives = absurd gives
+long-blocks w ids (Some xs) (Some ys) l gives = gives.0
 
-module _ (told old : Option (List ℕ)) (b : Builder) (n : ℕ) (goes : Goes told old b) (number : n ≡ length goes.ids + 1) where
-  stops-at : (told old : Option (List ℕ)) (fault : LineFault) → IsRest goes.lines told old → IfSome old (λ rest. Blocks goes.ids rest fault)
-      → IfSome told (λ bytes. IsFirstUnreadable bytes n fault)
+module _ (w : Wanted) (told old : Option (List ℕ)) (b : Builder) (m : Moments) (n : ℕ) (goes : Goes w told old b m) (number : n ≡ length goes.ids + 1) where
+  stops-at : (told old : Option (List ℕ)) (fault : LineFault) → IsRest goes.lines told old → IfSome old (λ rest. Blocks w goes.ids rest fault)
+      → IfSome told (λ bytes. IsFirstUnreadable w bytes n fault)
   stops-at None old fault rest blocks = tt
   stops-at (Some bytes) None fault rest blocks = absurd rest
   stops-at (Some bytes) (Some xs) fault rest blocks = record {
     before = goes.lines;
     ids = goes.ids;
     h = goes.h;
+    times = m.times.items;
+    sessions = goes.moments.sessions;
     rest = xs;
     text = rest;
     spell = goes.spell;
+    tell = goes.moments.tell;
     apart = goes.built.ids_kept.once;
     number_is = number ∙ ap (λ k. k + 1) (sym (each-length goes.lines goes.ids goes.h goes.spell));
     blocks = blocks;
   }
 
-  pub stops-line : (new : Option (List ℕ)) (b' : Builder) (l : List ℕ) (fault : LineFault) → HasNoLf l → length l ≤ longest_line → Gives longest_line old Line l new
-      → IsTaken goes.ids goes.h l b' (Some fault) → IsStop told b' (At n fault)
-  stops-line new b' l fault none short gives taken =
-      stops-at told old fault goes.rest (taken-blocks goes.ids goes.h b' l fault old (front-line old new l none short gives) taken)
+  pub stops-line : (new : Option (List ℕ)) (b' : Builder) (m' : Moments) (l : List ℕ) (fault : LineFault) → HasNoLf l → length l ≤ longest_line
+      → Gives longest_line old Line l new → IsTaken w goes.lines goes.ids goes.h l b' m' (Some fault) → IsStop w told b' m' (At n fault)
+  stops-line new b' m' l fault none short gives taken =
+      stops-at told old fault goes.rest (taken-blocks w goes.lines goes.ids goes.h b' m' l fault old (front-line old new l none short gives) taken)
 
-  pub stops-long : (new : Option (List ℕ)) (l : List ℕ) → Gives longest_line old Long l new → IsStop told b (At n TooLong)
-  stops-long new l gives = stops-at told old TooLong goes.rest (long-blocks goes.ids old new l gives)
+  pub stops-long : (new : Option (List ℕ)) (l : List ℕ) → Gives longest_line old Long l new → IsStop w told b m (At n TooLong)
+  stops-long new l gives = stops-at told old TooLong goes.rest (long-blocks w goes.ids old new l gives)
 
-  pub stops-cut : (new : Option (List ℕ)) (b' : Builder) (l : List ℕ) (fault : Option LineFault) → HasNoLf l → length l ≤ longest_line → Gives longest_line old Cut l new
-      → IsTaken goes.ids goes.h l b' fault → IsStop told b' (stop_of n fault)
-  stops-cut new b' l (Some fault) none short gives taken =
-      stops-at told old fault goes.rest (taken-blocks goes.ids goes.h b' l fault old (front-cut old new l none short gives) taken)
-  stops-cut new b' l None none short gives (id, t, is, fresh, built) = (
+  pub stops-cut : (new : Option (List ℕ)) (b' : Builder) (m' : Moments) (l : List ℕ) (fault : Option LineFault) → HasNoLf l → length l ≤ longest_line
+      → Gives longest_line old Cut l new → IsTaken w goes.lines goes.ids goes.h l b' m' fault → IsStop w told b' m' (stop_of n fault)
+  stops-cut new b' m' l (Some fault) none short gives taken =
+      stops-at told old fault goes.rest (taken-blocks w goes.lines goes.ids goes.h b' m' l fault old (front-cut old new l none short gives) taken)
+  stops-cut new b' m' l None none short gives (id, t, is, fresh, built, moments) = (
     goes.ids ++ id ∷ [],
     goes.h ++ t ∷ [],
     built,
-    spelled told (goes.lines ++ l ∷ []) (goes.ids ++ id ∷ []) (goes.h ++ t ∷ []) b' (each-push goes.lines goes.ids goes.h l id t goes.spell none short is) built
-        (cut-lines goes.lines told old new l goes.rest gives),
+    spelled w told (goes.lines ++ l ∷ []) (goes.ids ++ id ∷ []) (goes.h ++ t ∷ []) b' m' (each-push goes.lines goes.ids goes.h l id t goes.spell none short is) built
+        moments (cut-lines goes.lines told old new l goes.rest gives),
   )
 
 -- ---- the reads

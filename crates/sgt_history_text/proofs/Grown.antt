@@ -14,12 +14,12 @@ use Rattle.sgt_history_text.proofs.Kept.{kept_push}
 use Rattle.sgt_history_text.proofs.Named.{history_more, history_push, operations_more, operations_push}
 
 -- the values that are kept then, and the number's among them
-record ValueNamed (old : List Json) (v : Option Json) (texts : List (List ℕ)) (n : Option ℕ) : Type 0 where
+pub record ValueNamed (old : List Json) (v : Option Json) (texts : List (List ℕ)) (n : Option ℕ) : Type 0 where
   pub more : List Json
   pub kept : AreKept texts (old ++ more)
   pub named : NamesValue (old ++ more) n v
 
-value_named : (old : List Json) (v : Option Json) (texts : List (List ℕ)) (n : Option ℕ) → IsNumberedValue old v texts n → ValueNamed old v texts n
+pub value_named : (old : List Json) (v : Option Json) (texts : List (List ℕ)) (n : Option ℕ) → IsNumberedValue old v texts n → ValueNamed old v texts n
 value_named old None texts None h = record { more = []; kept = subst (λ l. AreKept texts l) (sym (append-nil old)) h; named = tt }
 value_named old None texts (Some n) h = absurd h
 value_named old (Some j) texts None h = absurd h

@@ -12,7 +12,7 @@ use Rattle.sgt_history_text.specs.Reading.{IsWithin, nth}
 
 -- ---- more names
 
-value_more : (values more : List Json) (n : Option ℕ) (v : Option Json) → NamesValue values n v → NamesValue (values ++ more) n v
+pub value_more : (values more : List Json) (n : Option ℕ) (v : Option Json) → NamesValue values n v → NamesValue (values ++ more) n v
 value_more values more None None h = tt
 value_more values more None (Some j) h = absurd h
 value_more values more (Some n) None h = absurd h

@@ -9,7 +9,8 @@ use Rattle.sgt_history.specs.Transaction.{Transaction}
 use Rattle.sgt_history.specs.declared.history.Operation.{Operation}
 use Rattle.sgt_history_text.specs.Line.{IsOperation, end_word, given, kind_word, operation_json}
 use Rattle.sgt_history_text.specs.Name.{IsKey, IsValue}
-use Rattle.sgt_history_text.specs.Parsed.{IsTransaction}
+use Rattle.sgt_history_time.specs.declared.times.Times.{Times}
+use Rattle.sgt_history_text.specs.Parsed.{AreTimes, IsSession, IsTransaction}
 use Rattle.sgt_history_text.specs.Shallow.{IsScalar, arrays, empty, leaf, map_items, map_members, read_members}
 
 -- it is as it is read, and nothing else is read so
@@ -173,4 +174,34 @@ transaction_back ms id t is = record {
       (array_solid (arrays leaf) (items_of (map operation_json t.operations)) (operations_solid t.operations is.each)) is.ops;
   id_is = is.id_is;
   each = is.each;
+}
+
+-- ---- and says when it ran, and its session, exactly where it does
+
+pub times_on : (ms : Members) (x : Times) → AreTimes (object (read_members ms)) x → AreTimes (object ms) x
+times_on ms x is = record {
+  begin = member_on (arrays (arrays leaf)) ms (codes "begin") (number (decimal x.begin)) (arrays_solid (arrays leaf) (number (decimal x.begin)) tt) is.begin;
+  done = member_on (arrays (arrays leaf)) ms (codes "done") (number (decimal x.done)) (arrays_solid (arrays leaf) (number (decimal x.done)) tt) is.done;
+  in_order = is.in_order;
+  fits = is.fits;
+}
+
+pub times_back : (ms : Members) (x : Times) → AreTimes (object ms) x → AreTimes (object (read_members ms)) x
+times_back ms x is = record {
+  begin = member_back (arrays (arrays leaf)) ms (codes "begin") (number (decimal x.begin)) (arrays_solid (arrays leaf) (number (decimal x.begin)) tt) is.begin;
+  done = member_back (arrays (arrays leaf)) ms (codes "done") (number (decimal x.done)) (arrays_solid (arrays leaf) (number (decimal x.done)) tt) is.done;
+  in_order = is.in_order;
+  fits = is.fits;
+}
+
+pub session_on : (ms : Members) (s : Json) → IsSession (object (read_members ms)) s → IsSession (object ms) s
+session_on ms s is = record {
+  there = member_on (arrays (arrays leaf)) ms (codes "session") s (arrays_solid (arrays leaf) s (key_scalar 0 1024 s is.session_is)) is.there;
+  session_is = is.session_is;
+}
+
+pub session_back : (ms : Members) (s : Json) → IsSession (object ms) s → IsSession (object (read_members ms)) s
+session_back ms s is = record {
+  there = member_back (arrays (arrays leaf)) ms (codes "session") s (arrays_solid (arrays leaf) s (key_scalar 0 1024 s is.session_is)) is.there;
+  session_is = is.session_is;
 }

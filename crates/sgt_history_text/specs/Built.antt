@@ -7,10 +7,13 @@ use Rattle.sgt_history.specs.Serial.{StandOnce}
 use Rattle.sgt_history.specs.Transaction.{Transaction}
 use Rattle.sgt_history.specs.declared.history.Operation.{Operation}
 use Rattle.sgt_history_text.specs.Line.{IsLine}
+use Rattle.sgt_history_text.specs.Moment.{IsLineWith, Tell}
 use Rattle.sgt_history_text.specs.Name.{compact}
 use Rattle.sgt_history_text.specs.declared.building.Builder.{Builder}
 use Rattle.sgt_history_text.specs.declared.fault.LineFault.{LineFault}
 use Rattle.sgt_history_text.specs.declared.fault.LineFault.TheVariants.{NotALine, TooLong, IdAgain}
+use Rattle.sgt_history_text.specs.declared.moments.Moments.{Moments}
+use Rattle.sgt_history_text.specs.declared.wanted.Wanted.{Wanted}
 
 -- the texts are those of these values, of which no two are equal; and each can be written
 pub record AreKept (texts : List (List ℕ)) (js : List Json) : Type 0 where
@@ -65,6 +68,26 @@ pub record IsBuilt (b : Builder) (ids : List Json) (h : List (Transaction Json J
   pub closed : NamesHistory items values (closed_of b.history) h
   pub opened : NamesOperations items values (open_of b.history) begun
 
+-- the number of each session stands for it, and no line has one where none is known
+abbrev pub NamesEach : List Json → List (Option ℕ) → List (Option Json) → Type 0
+NamesEach names [] [] = Unit {0}
+NamesEach names [] (e ∷ es) = ⊥
+NamesEach names (n ∷ ns) [] = ⊥
+NamesEach names (n ∷ ns) (e ∷ es) = NamesValue names n e × NamesEach names ns es
+
+-- the texts are those of the sessions that the numbers stand for
+pub record AreSessions (texts : List (List ℕ)) (numbers : List (Option ℕ)) (sessions : List (Option Json)) : Type 0 where
+  pub names : List Json
+  pub kept : AreKept texts names
+  pub each : NamesEach names numbers sessions
+
+-- what these lines, which spell these transactions, tell of what is wanted
+pub record AreMoments (w : Wanted) (m : Moments) (lines : List (List ℕ)) (h : List (Transaction Json Json)) : Type 0 where
+  pub sessions : List (Option Json)
+  pub wanted_is : m.wanted ≡ w
+  pub sessions_are : AreSessions m.names m.sessions.items sessions
+  pub tell : Tell w lines h m.times.items sessions
+
 -- ---- one more
 
 -- the same of a value that needn't be
@@ -88,9 +111,9 @@ IsAdded ids h id t b true = (Contains ids id → ⊥) × IsBuilt b (ids ++ id �
 IsAdded ids h id t b false = Contains ids id
 
 -- what was told of a line, behind lines that were read
-abbrev pub IsTaken : List Json → List (Transaction Json Json) → List ℕ → Builder → Option LineFault → Type 0
-IsTaken ids h line b None =
-    (id : Json) × (t : Transaction Json Json) × IsLine line id t × (Contains ids id → ⊥) × IsBuilt b (ids ++ id ∷ []) (h ++ t ∷ []) []
-IsTaken ids h line b (Some NotALine) = (id : Json) (t : Transaction Json Json) → IsLine line id t → ⊥
-IsTaken ids h line b (Some TooLong) = ⊥
-IsTaken ids h line b (Some IdAgain) = (id : Json) × (t : Transaction Json Json) × IsLine line id t × Contains ids id
+abbrev pub IsTaken : Wanted → List (List ℕ) → List Json → List (Transaction Json Json) → List ℕ → Builder → Moments → Option LineFault → Type 0
+IsTaken w lines ids h line b m None = (id : Json) × (t : Transaction Json Json) × IsLine line id t × (Contains ids id → ⊥)
+    × IsBuilt b (ids ++ id ∷ []) (h ++ t ∷ []) [] × AreMoments w m (lines ++ line ∷ []) (h ++ t ∷ [])
+IsTaken w lines ids h line b m (Some NotALine) = (id : Json) (t : Transaction Json Json) → IsLineWith w line id t → ⊥
+IsTaken w lines ids h line b m (Some TooLong) = ⊥
+IsTaken w lines ids h line b m (Some IdAgain) = (id : Json) × (t : Transaction Json Json) × IsLineWith w line id t × Contains ids id

@@ -1,5 +1,6 @@
 pub mod Name
 pub mod Line
+pub mod Moment
 pub mod Text
 pub mod Parsed
 pub mod Shallow

@@ -1,15 +1,19 @@
 -- What a line's value of JSON is.
-use Rattle.std.specs.Prelude.{◌≡◌, map, All, Some, codes}
+use Rattle.std.specs.Prelude.{◌≡◌, ◌<◌, ◌≤◌, ◌^◌, ◌⊎◌, Bool, map, All, Option, Some, codes, decimal}
 use Rattle.std.specs.Borrow.{Bor}
-use Rattle.json.specs.Json.{Json, string, array}
+use Rattle.json.specs.Json.{Json, string, number, array}
 use Rattle.json.specs.Find.{get}
 use Rattle.json.specs.Value.{items_of, value_view}
 use Rattle.json.specs.declared.value.Value.{Value}
-use Rattle.sgt_history.specs.Transaction.{Transaction, renamed_operation}
+use Rattle.sgt_history.specs.Transaction.{Transaction, renamed_operation, renamed_value}
 use Rattle.sgt_history.specs.declared.history.Operation.{Operation}
+use Rattle.sgt_history_time.specs.declared.times.Times.{Times}
 use Rattle.sgt_history_text.specs.Line.{IsOperation, end_word, operation_json}
-use Rattle.sgt_history_text.specs.Name.{IsId}
+use Rattle.sgt_history_text.specs.Moment.{IsWantedEntry, LacksEntry}
+use Rattle.sgt_history_text.specs.Name.{IsId, IsItem}
 use Rattle.sgt_history_text.specs.declared.line.Lent.{Lent}
+use Rattle.sgt_history_text.specs.declared.moment.LentMoment.{LentMoment}
+use Rattle.sgt_history_text.specs.declared.wanted.Wanted.{Wanted}
 
 -- the value of JSON that is lent
 abbrev pub seen : {A : Type 0} → Bor (Value A) → Json
@@ -30,3 +34,24 @@ pub record IsTransaction (j id : Json) (t : Transaction Json Json) : Type 0 wher
   pub ops : get (codes "ops") j ≡ Some (array (items_of (map operation_json t.operations)))
   pub id_is : IsId id
   pub each : All IsOperation t.operations
+
+-- and says when it ran
+pub record AreTimes (j : Json) (x : Times) : Type 0 where
+  pub begin : get (codes "begin") j ≡ Some (number (decimal x.begin))
+  pub done : get (codes "done") j ≡ Some (number (decimal x.done))
+  pub in_order : x.begin ≤ x.done
+  pub fits : x.done < 2 ^ 64
+
+-- and its session
+pub record IsSession (j session : Json) : Type 0 where
+  pub there : get (codes "session") j ≡ Some session
+  pub session_is : IsItem session
+
+-- what is wanted of it, of a transaction that commits or doesn't
+pub record IsMoment (w : Wanted) (commits : Bool) (j : Json) (m : LentMoment) : Type 0 where
+  pub times_are : IsWantedEntry (AreTimes j) w.real_time commits m.times
+  pub session_is : IsWantedEntry (IsSession j) w.sessions commits (renamed_value seen m.session)
+
+-- something of that isn't there
+abbrev pub LacksMoment : Wanted → Bool → Json → Type 0
+LacksMoment w commits j = LacksEntry (AreTimes j) w.real_time commits ⊎ LacksEntry (IsSession j) w.sessions commits

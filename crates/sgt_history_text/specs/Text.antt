@@ -1,13 +1,16 @@
 -- Which history a text spells, and its first line that can't be read.
-use Rattle.std.specs.Prelude.{◌≡◌, ◌≢◌, ◌⊎◌, ℕ, ◌+◌, ◌≤◌, List, [], ◌∷◌, ◌++◌, length, Contains}
+use Rattle.std.specs.Prelude.{◌≡◌, ◌≢◌, ◌⊎◌, ℕ, ◌+◌, ◌≤◌, List, [], ◌∷◌, ◌++◌, length, Option, Contains}
 use Rattle.json.specs.Json.{Json}
 use Rattle.sgt_notation.specs.Lines.{IsLongerThan}
 use Rattle.sgt_notation.specs.Spelling.{HasNoLf, text_of_lines}
 use Rattle.sgt_history.specs.Serial.{StandOnce}
 use Rattle.sgt_history.specs.Transaction.{Transaction}
+use Rattle.sgt_history_time.specs.declared.times.Times.{Times}
 use Rattle.sgt_history_text.specs.Line.{IsLine}
+use Rattle.sgt_history_text.specs.Moment.{IsLineWith, Tell}
 use Rattle.sgt_history_text.specs.declared.fault.LineFault.{LineFault}
 use Rattle.sgt_history_text.specs.declared.fault.LineFault.TheVariants.{NotALine, TooLong, IdAgain}
+use Rattle.sgt_history_text.specs.declared.wanted.Wanted.{Wanted}
 
 -- the bytes that a line has at most, its LF left out
 abbrev pub longest_line : ℕ
@@ -42,6 +45,12 @@ pub record Spells (bytes : List ℕ) (ids : List Json) (h : List (Transaction Js
   pub spell : SpellEach lines ids h
   pub apart : StandOnce ids
 
+-- and its lines tell what is wanted: when these ran, and their sessions
+pub record SpellsWith (w : Wanted) (bytes : List ℕ) (ids : List Json) (h : List (Transaction Json Json)) (times : List (Option Times))
+    (sessions : List (Option Json)) : Type 0 where
+  pub spells : Spells bytes ids h
+  pub tell : Tell w spells.lines h times sessions
+
 -- ---- the first line that can't be read
 
 -- a line stands in front of the rest, with its LF or as the last
@@ -51,21 +60,24 @@ pub record IsInFront (line rest : List ℕ) : Type 0 where
   pub there : ((more : List ℕ) × (rest ≡ line ++ 10 ∷ more)) ⊎ ((rest ≡ line) × (line ≢ []))
 
 -- why the line in front can't be read, behind lines with these ids
-abbrev pub Blocks : List Json → List ℕ → LineFault → Type 0
-Blocks ids rest NotALine =
-    (line : List ℕ) × IsInFront line rest × ((id : Json) (t : Transaction Json Json) → IsLine line id t → ⊥)
-Blocks ids rest TooLong = IsLongerThan longest_line rest
-Blocks ids rest IdAgain = (line : List ℕ) × (id : Json) × (t : Transaction Json Json)
-    × IsInFront line rest × IsLine line id t × Contains ids id
+abbrev pub Blocks : Wanted → List Json → List ℕ → LineFault → Type 0
+Blocks w ids rest NotALine =
+    (line : List ℕ) × IsInFront line rest × ((id : Json) (t : Transaction Json Json) → IsLineWith w line id t → ⊥)
+Blocks w ids rest TooLong = IsLongerThan longest_line rest
+Blocks w ids rest IdAgain = (line : List ℕ) × (id : Json) × (t : Transaction Json Json)
+    × IsInFront line rest × IsLineWith w line id t × Contains ids id
 
 -- the first line that can't be read has this number, from 1, and this fault
-pub record IsFirstUnreadable (bytes : List ℕ) (number : ℕ) (fault : LineFault) : Type 0 where
+pub record IsFirstUnreadable (w : Wanted) (bytes : List ℕ) (number : ℕ) (fault : LineFault) : Type 0 where
   pub before : List (List ℕ)
   pub ids : List Json
   pub h : List (Transaction Json Json)
+  pub times : List (Option Times)
+  pub sessions : List (Option Json)
   pub rest : List ℕ
   pub text : bytes ≡ text_of_lines before ++ rest
   pub spell : SpellEach before ids h
+  pub tell : Tell w before h times sessions
   pub apart : StandOnce ids
   pub number_is : number ≡ length before + 1
-  pub blocks : Blocks ids rest fault
+  pub blocks : Blocks w ids rest fault

@@ -54,8 +54,8 @@ fn number(alloc: Global, names: &mut Table, value: &Value<'_>) -> Result<u32, Al
     }
 }
 
-/// The number of the value that an operation gives, if it gives one.
-fn number_given(
+/// The number of the value that is given, if one is.
+pub(crate) fn number_given(
     alloc: Global,
     names: &mut Table,
     value: Option<&Value<'_>>,

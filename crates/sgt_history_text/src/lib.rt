@@ -5,6 +5,8 @@ mod building;
 mod fault;
 mod ids;
 mod line;
+mod moment;
+mod moments;
 mod names;
 mod operations;
 mod reading;
@@ -13,9 +15,11 @@ mod table;
 #[cfg(test)]
 mod tests;
 mod values;
+mod wanted;
 mod whole;
 
 pub use fault::{LineFault, MAX_HISTORY_LINE, MOST_ID_BYTES, MOST_ITEM_BYTES};
 pub use ids::Ids;
 pub use names::Names;
 pub use reading::{HistoryText, Reading, read_history};
+pub use wanted::Wanted;

@@ -5,16 +5,21 @@ ghost use Rattle.json.specs.Json.{Json};
 ghost use Rattle.sgt_history.specs.Transaction.{Transaction};
 ghost use Rattle.sgt_names.specs.Limits.{most_reads};
 ghost use Rattle.sgt_notation.specs.Lines.{ReadFaultIsDue};
-ghost use Rattle.sgt_history_text.specs.Built.{IsBuilt, IsTaken};
+ghost use Rattle.sgt_history_text.specs.Built.{AreMoments, IsBuilt, IsTaken};
 ghost use Rattle.sgt_history_text.specs.Reading.{IsReading, IsStop, IsToldOf, stop_of};
 ghost use Rattle.sgt_history_text.specs.Text.{Spells};
+ghost use Rattle.sgt_history_text.specs.declared.wanted.Wanted.{Wanted};
 
 use crate::building::{Builder, add, no_lines};
 use crate::fault::{LineFault, MAX_HISTORY_LINE};
 use crate::line::{parsed, transaction};
+use crate::moment::moment;
+use crate::moments::{Moments, add_moment, no_moments};
 use crate::names::Names;
+use crate::wanted::Wanted;
 use json::Scratch;
 use sgt_history::History;
+use sgt_history_time::Times;
 use sgt_names::{EngineFail, Source};
 use sgt_notation::{Lines, LinesFault, Next};
 use std::alloc::{AllocError, Global};
@@ -30,6 +35,12 @@ pub struct Reading {
     pub items: Names,
     /// The values by number.
     pub values: Names,
+    /// When transactions ran, by line, of those that commit; empty if that wasn't wanted.
+    pub times: Vec<Option<Times>>,
+    /// Their sessions, numbered, likewise.
+    pub sessions: Vec<Option<u32>>,
+    /// The sessions by number.
+    pub session_names: Names,
 }
 
 /// What a text was read as.
@@ -45,11 +56,12 @@ pub enum HistoryText {
 fn take_line(
     alloc: Global,
     builder: &mut Builder,
+    moments: &mut Moments,
     scratch: &mut Scratch,
     line: &[u8],
 ) -> Result<Option<LineFault>, AllocError>
-    ensures { (ids : List Json) (h : List (Transaction Json Json)) → IsBuilt builder.old ids h []
-        → IfOk result (IsTaken ids h line.now builder.new) }
+    ensures { (w : Wanted) (lines : List (List ℕ)) (ids : List Json) (h : List (Transaction Json Json)) → IsBuilt builder.old ids h []
+        → AreMoments w moments.old lines h → IfOk result (IsTaken w lines ids h line.now builder.new moments.new) }
 {
     let Some(value) = parsed(alloc, line, scratch)? else {
         return Ok(Some(LineFault::NotALine));
@@ -57,7 +69,11 @@ fn take_line(
     let Some(lent) = transaction(alloc, &value)? else {
         return Ok(Some(LineFault::NotALine));
     };
+    let Some(moment) = moment(moments.wanted, lent.commits, &value) else {
+        return Ok(Some(LineFault::NotALine));
+    };
     if add(alloc, builder, &lent)? {
+        add_moment(alloc, moments, &moment)?;
         Ok(None)
     } else {
         Ok(Some(LineFault::IdAgain))
@@ -95,10 +111,12 @@ fn read_lines<R: Source>(
     reader: &mut R,
     lines: &mut Lines,
     builder: &mut Builder,
+    moments: &mut Moments,
 ) -> Result<Stop, EngineFail>
     requires fresh { lines.old ≡ record { held = []; reads = most_reads } }
     requires none { IsBuilt builder.old [] [] [] }
-    ensures stops { IfOk result (IsStop (R.tells reader.old) builder.new) }
+    requires no_moments { AreMoments moments.old.wanted moments.old [] [] }
+    ensures stops { IfOk result (IsStop moments.old.wanted (R.tells reader.old) builder.new moments.new) }
     ensures quiet { result ≢ Err EngineFail.ReadFault
         → R.failures reader.new ≡ R.failures reader.old }
     ensures read_fault { IsErrOf result EngineFail.ReadFault → ReadFaultIsDue (R.tells reader.old)
@@ -111,7 +129,13 @@ fn read_lines<R: Source>(
         let number = next_line(builder);
         match lines.next(reader, &mut line, MAX_HISTORY_LINE) {
             Ok(Next::Line) => {
-                if let Some(fault) = take_line(alloc, builder, &mut scratch, line.as_slice())? {
+                if let Some(fault) = take_line(
+                    alloc,
+                    builder,
+                    moments,
+                    &mut scratch,
+                    line.as_slice(),
+                )? {
                     return Ok(Stop::At {
                         line: number,
                         fault,
@@ -119,7 +143,7 @@ fn read_lines<R: Source>(
                 }
             }
             Ok(Next::Cut) => {
-                let fault = take_line(alloc, builder, &mut scratch, line.as_slice())?;
+                let fault = take_line(alloc, builder, moments, &mut scratch, line.as_slice())?;
                 return Ok(stop_with(number, fault));
             }
             Ok(Next::End) => return Ok(Stop::Ended),
@@ -136,9 +160,9 @@ fn read_lines<R: Source>(
 }
 
 /// The history that was read, with its names.
-fn finished(builder: Builder) -> Reading
-    ensures { (bytes : List ℕ) (ids : List Json) (h : List (Transaction Json Json)) → IsBuilt builder ids h []
-        → Spells bytes ids h → IsReading bytes result }
+fn finished(builder: Builder, moments: Moments) -> Reading
+    ensures { (w : Wanted) (bytes : List ℕ) (ids : List Json) (h : List (Transaction Json Json)) → IsBuilt builder ids h []
+        → (spells : Spells bytes ids h) → AreMoments w moments spells.lines h → IsReading w bytes result }
 {
     let Builder {
         history,
@@ -146,19 +170,33 @@ fn finished(builder: Builder) -> Reading
         items,
         values,
     } = builder;
+    let Moments {
+        wanted: _,
+        times,
+        sessions,
+        names,
+    } = moments;
     Reading {
         history,
         ids: ids.into_names(),
         items: items.into_names(),
         values: values.into_names(),
+        times,
+        sessions,
+        session_names: names.into_names(),
     }
 }
 
-/// Reads a history, a transaction a line. Each line is read whole before the next, and no line behind the first that can't be read.
+/// Reads a history, a transaction a line, and what is wanted besides of those that commit. Each line is read whole before the next, and
+/// no line behind the first that can't be read.
 ///
 /// An Err is ReadFault, where a read failed or too many were needed, or Memory, where a growth was refused.
-pub fn read_history<R: Source>(alloc: Global, reader: &mut R) -> Result<HistoryText, EngineFail>
-    ensures told { IfOk result (λ text. IfSome (R.tells reader.old) (λ bytes. IsToldOf bytes text)) }
+pub fn read_history<R: Source>(
+    alloc: Global,
+    reader: &mut R,
+    wanted: Wanted,
+) -> Result<HistoryText, EngineFail>
+    ensures told { IfOk result (λ text. IfSome (R.tells reader.old) (λ bytes. IsToldOf wanted bytes text)) }
     ensures quiet { result ≢ Err EngineFail.ReadFault
         → R.failures reader.new ≡ R.failures reader.old }
     ensures read_fault { IsErrOf result EngineFail.ReadFault → ReadFaultIsDue (R.tells reader.old)
@@ -167,8 +205,10 @@ pub fn read_history<R: Source>(alloc: Global, reader: &mut R) -> Result<HistoryT
 {
     let mut lines = Lines::new(alloc)?;
     let mut builder = no_lines(alloc)?;
-    match read_lines(alloc, reader, &mut lines, &mut builder)? {
-        Stop::Ended => Ok(HistoryText::Read(finished(builder))),
-        Stop::At { line, fault } => Ok(HistoryText::Unreadable { line, fault }),
+    let mut moments = no_moments(alloc, wanted)?;
+    match read_lines(alloc, reader, &mut lines, &mut builder, &mut moments) {
+        Ok(Stop::Ended) => Ok(HistoryText::Read(finished(builder, moments))),
+        Ok(Stop::At { line, fault }) => Ok(HistoryText::Unreadable { line, fault }),
+        Err(fail) => Err(fail),
     }
 }

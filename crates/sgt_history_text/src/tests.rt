@@ -1,15 +1,21 @@
 //! What no clause says: that texts are read where memory can be had.
 
-use crate::{HistoryText, LineFault, MAX_HISTORY_LINE, Names, Reading, read_history};
+use crate::{HistoryText, LineFault, MAX_HISTORY_LINE, Names, Reading, Wanted, read_history};
 use sgt_history::{Kind, Operation};
 use sgt_names::MemSource;
 use std::alloc::Global;
 use std::test::Fail;
 
+/// Neither times nor sessions.
+const NOTHING: Wanted = Wanted {
+    real_time: false,
+    sessions: false,
+};
+
 /// What the bytes are read as, a few at a time.
 fn told(alloc: Global, bytes: &[u8]) -> Result<HistoryText, Fail> {
     let mut reader = MemSource::new(bytes, 7, None);
-    Ok(read_history(alloc, &mut reader)?)
+    Ok(read_history(alloc, &mut reader, NOTHING)?)
 }
 
 /// The line and the fault, if it is no history.
@@ -38,6 +44,7 @@ fn two_lines(rt: HostRuntime) -> Result<(), Fail> {
         ids,
         items,
         values,
+        ..
     } = &reading;
     assert_eq!(rt; ids.len(), 2);
     assert!(rt; is_name(ids, 0, "\"T-1\"") && is_name(ids, 1, "7"));
@@ -118,7 +125,7 @@ fn a_long_line(rt: HostRuntime) -> Result<(), Fail> {
     let mut text = Vec::from_slice(rt.alloc(), b"{\"tx\":1,\"end\":\"commit\",\"ops\":[]}")?;
     text.resize(MAX_HISTORY_LINE + 1, b' ')?;
     let mut reader = MemSource::new(text.as_slice(), 65536, None);
-    match read_history(rt.alloc(), &mut reader)? {
+    match read_history(rt.alloc(), &mut reader, NOTHING)? {
         HistoryText::Unreadable { line, fault } => {
             assert!(rt; line == 1 && fault == LineFault::TooLong);
         }
@@ -136,5 +143,37 @@ fn a_deep_line(rt: HostRuntime) -> Result<(), Fail> {
     assert!(rt; fault(rt.alloc(), text.as_slice())?.is_none());
     text.push(b']')?;
     assert!(rt; fault(rt.alloc(), text.as_slice())? == Some((1, LineFault::NotALine)));
+    Ok(())
+}
+
+/// What the bytes are read as, with times and sessions.
+fn told_with(alloc: Global, bytes: &[u8]) -> Result<HistoryText, Fail> {
+    let mut reader = MemSource::new(bytes, 7, None);
+    let wanted = Wanted {
+        real_time: true,
+        sessions: true,
+    };
+    Ok(read_history(alloc, &mut reader, wanted)?)
+}
+
+#[test]
+fn times_and_sessions(rt: HostRuntime) -> Result<(), Fail> {
+    let text =
+        b"{\"tx\":1,\"end\":\"commit\",\"ops\":[],\"begin\":3,\"done\":5,\"session\":\"a\"}\n{\"tx\":2,\"end\":\"abort\",\"ops\":[]}\n";
+    let HistoryText::Read(reading) = told_with(rt.alloc(), text)? else {
+        return Err(Fail::new("no history"));
+    };
+    let times = reading.times.as_slice();
+    assert_eq!(rt; times.len(), 2);
+    assert!(rt; times[1].is_none());
+    assert!(rt;
+        match times[0] {
+            Some(ran) => ran.begin == 3 && ran.done == 5,
+            None => false,
+        }
+    );
+    let sessions = reading.sessions.as_slice();
+    assert!(rt; sessions.len() == 2 && sessions[0] == Some(0) && sessions[1].is_none());
+    assert!(rt; is_name(&reading.session_names, 0, "\"a\""));
     Ok(())
 }

@@ -5,3 +5,4 @@ pub mod Telling
 pub mod Stepping
 pub mod Excluding
 pub mod Names
+pub mod LeastAlong

@@ -42,7 +42,7 @@ pairs-join touches g pairs are = All-from_at (JoinsTouches touches) pairs (λ k 
 
 module _ (h : List (Transaction ℕ ℕ)) (touches : List Touch) (by : IsFaultlessBy h touches) (g : Graph) (pairs : List Edge)
     (are : ArePairsOf touches g pairs) where
-  step-is : (s : Step) → IsOfPairs touches pairs s → IsStep h g s
+  pub step-is : (s : Step) → IsOfPairs touches pairs s → IsStep h g s
   step-is s (e, in_it, of) =
       let found = are.sound e in_it in
       let p = found.2 in
@@ -57,7 +57,7 @@ module _ (h : List (Transaction ℕ ℕ)) (touches : List Touch) (by : IsFaultle
       subst (IsStep h g) (sym of.is) (subst (λ y. IsStep h g (step_between of.a y)) b_is (subst (λ x. IsStep h g (step_between x p.b)) a_is step))
 
   -- a step of the history is as good as one of a pair
-  same-step : (t : Step) → IsStep h g t
+  pub same-step : (t : Step) → IsStep h g t
       → (u : Step) × IsOfPairs touches pairs u × Leads u t.from t.to × ((ranks : List ℕ) (s : Step) → IsToldBefore ranks s u → IsToldBefore ranks s t)
   same-step t is =
       let p = conflict-pair h touches by.touches_are by.ordered by.faultless t.kind t.from t.to t.item t.from_version t.to_version is.conflict in
@@ -72,7 +72,7 @@ module _ (h : List (Transaction ℕ ℕ)) (touches : List Touch) (by : IsFaultle
             (subst (λ (v : ℕ). IsPlaceBefore ranks s (kind_between p.pair.a.kind p.pair.b.kind) p.pair.a.item v) p.version_is told)),
       )
 
-  leads-step : (a b : ℕ) → ConflictIn h g a b → (s : Step) × IsOfPairs touches pairs s × Leads s a b
+  pub leads-step : (a b : ℕ) → ConflictIn h g a b → (s : Step) × IsOfPairs touches pairs s × Leads s a b
   leads-step a b c =
       let p = conflict-pair h touches by.touches_are by.ordered by.faultless c.kind a b c.x c.v c.w c.conflict in
       let in_it = are.all c.kind p.i p.k c.among p.pair in

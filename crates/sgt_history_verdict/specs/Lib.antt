@@ -2,3 +2,4 @@ pub mod Verdict
 pub mod Decided
 pub mod Steps
 pub mod Named
+pub mod Between

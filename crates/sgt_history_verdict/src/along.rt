@@ -10,7 +10,7 @@ use sgt_history_graph::Edge;
 use std::alloc::{AllocError, Global};
 
 /// The line behind this place; behind the last place is the first.
-pub(crate) fn line_behind(lines: &[u32], place: usize) -> u32
+pub fn line_behind(lines: &[u32], place: usize) -> u32
     requires { place < length lines.now }
     ensures { slice_get lines.now (place_behind place (length lines.now)) ≡ Some result }
 {
@@ -22,7 +22,7 @@ pub(crate) fn line_behind(lines: &[u32], place: usize) -> u32
 }
 
 /// The least step of these pairs from one line to another, if there is one.
-fn least_between(
+pub(crate) fn least_between(
     touches: &[Touch],
     pairs: &[Edge],
     ranks: &[u32],

@@ -75,7 +75,11 @@ fn cyclic(
 }
 
 /// What a history without faults is, of so many lines, by its touches.
-fn decide_faultless(alloc: Global, nodes: usize, touches: Vec<Touch>) -> Result<Verdict, AllocError>
+pub fn decide_faultless(
+    alloc: Global,
+    nodes: usize,
+    touches: Vec<Touch>,
+) -> Result<Verdict, AllocError>
     requires few { nodes ≤ 2 ^ 32 }
     requires from { (h : List (Transaction ℕ ℕ)) × IsDecidedFrom h nodes touches.items }
     ensures { IfOk result (λ verdict. (h : List (Transaction ℕ ℕ)) → IsDecidedFrom h nodes touches.items → IsVerdict h verdict) }

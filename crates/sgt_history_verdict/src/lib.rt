@@ -3,6 +3,7 @@
 
 mod along;
 mod anomaly;
+mod between;
 mod cyclic;
 mod deciding;
 mod laws;
@@ -12,9 +13,11 @@ mod steps;
 #[cfg(test)]
 mod tests;
 
+pub use along::line_behind;
 pub use anomaly::{Anomaly, anomaly_of};
+pub use between::conflicts_along;
 pub use cyclic::Cyclic;
-pub use deciding::{Decided, Verdict, decide, decide_judged};
+pub use deciding::{Decided, Verdict, decide, decide_faultless, decide_judged};
 pub use laws::steps_exclude_every_order;
 pub use step::Step;
 pub use steps::steps_of;

@@ -13,7 +13,7 @@ use sgt_history_graph::Edge;
 use std::alloc::{AllocError, Global};
 
 /// The line behind each of these lines, by line.
-fn lines_behind(alloc: Global, lines: &[u32]) -> Result<Vec<Option<u32>>, AllocError> {
+pub(crate) fn lines_behind(alloc: Global, lines: &[u32]) -> Result<Vec<Option<u32>>, AllocError> {
     let mut greatest = 0;
     for line in lines {
         if *line > greatest {
@@ -52,7 +52,7 @@ fn keep(best: &mut [Option<Step>], ranks: &[u32], step: Step)
 }
 
 /// The least step of the pairs from each line to that behind it, by line.
-fn best_steps(
+pub(crate) fn best_steps(
     alloc: Global,
     touches: &[Touch],
     pairs: &[Edge],

@@ -1,5 +1,5 @@
 -- What each command answers, by the exit status.
-use Rattle.std.specs.Prelude.{◌≡◌, ◌≢◌, ◌<◌, ◌≤◌, ℕ, List, Option, Some, None, length, IfSome}
+use Rattle.std.specs.Prelude.{◌≡◌, ◌≢◌, ◌⊎◌, ◌<◌, ◌≤◌, ℕ, IsTrue, List, Option, Some, None, length, IfSome}
 use Rattle.std.specs.Io.KnownBytes.{Appends}
 use Rattle.sgt_names.specs.Device.{WritesFront}
 use Rattle.sgt_names.specs.declared.outcome.Outcome.{Outcome}
@@ -12,6 +12,7 @@ use Rattle.sgt_audit.specs.declared.verdict.Verdict.TheVariants.{Yes, No}
 use Rattle.sgt_certify.specs.Answer as certify
 use Rattle.sgt_check.specs.Answer as check
 use Rattle.sgt_check.specs.declared.options.Options.{Options}
+use Rattle.sgt_check_kept.specs.Answer as keeping
 use Rattle.sgt_check_order.specs.Answer as against
 use Rattle.sgt_draw.specs.Drawn as draw
 use Rattle.sgt_explain.specs.Explained as explain
@@ -21,6 +22,7 @@ use Rattle.sgt_core.specs.Replay as replay
 use Rattle.sgt_service.specs.Report as run
 use Rattle.sgt_serial.specs.Answer as serial
 use Rattle.sgt_serial.specs.Answer.{IsAnswer}
+use Rattle.sgt_history_text.specs.declared.wanted.Wanted.{Wanted}
 use Rattle.sgt_words.specs.Words.{AsksFor, AsksHelp, AsksNone}
 use Rattle.sgt_words.specs.declared.check.CheckWanted.{CheckWanted}
 use Rattle.sgt_words.specs.declared.choice.Choice.{Choice}
@@ -104,12 +106,21 @@ AnswersCertify status told written written' =
 abbrev pub options_of : CheckWanted → Options
 options_of wanted = record { order = wanted.order }
 
+-- what its lines tell besides, for an order to keep
+abbrev pub kept_of : CheckWanted → Wanted
+kept_of wanted = record { real_time = wanted.real_time; sessions = wanted.sessions }
+
+-- an order is to keep something
+abbrev pub AsksKept : CheckWanted → Type 0
+AsksKept wanted = IsTrue wanted.real_time ⊎ IsTrue wanted.sessions
+
 -- the verdict on a history: a yes at 0, with an order where it is asked for; at 1 a no with what shows
 -- it; at 2 the line that can't be read
-abbrev pub AnswersCheck : CheckWanted → (status : ℕ) (told written written' : Option (List ℕ)) → Type 0
-AnswersCheck wanted status told written written' =
-    ByStatus (λ outcome. check.WroteAnswer (options_of wanted) told outcome written written')
-    (check.WroteAnswerFront (options_of wanted) told written written') status
+pub record AnswersCheck (wanted : CheckWanted) (status : ℕ) (told written written' : Option (List ℕ)) : Type 0 where
+  pub plain : (AsksKept wanted → ⊥) → ByStatus (λ outcome. check.WroteAnswer (options_of wanted) told outcome written written')
+      (check.WroteAnswerFront (options_of wanted) told written written') status
+  pub kept : AsksKept wanted → ByStatus (λ outcome. keeping.WroteKeptAnswer (kept_of wanted) (options_of wanted) told outcome written written')
+      (keeping.WroteKeptAnswerFront (kept_of wanted) (options_of wanted) told written written') status
 
 -- the verdict on an order that is given: a yes at 0; at 1 the history's first fault, or where the order
 -- breaks; at 2 the line of the history that can't be read

@@ -1,9 +1,9 @@
 //! The engines behind the commands, and the help, each with how it ended.
 
-ghost use Rattle.std.specs.Prelude.{⊤, ◌≡◌, ◌<◌, length, IfOk, IfErr, OnErr, OnOk};
+ghost use Rattle.std.specs.Prelude.{⊤, ◌≡◌, ◌<◌, ◌↔◌, length, IsTrue, IfOk, IfErr, OnErr, OnOk};
 ghost use Rattle.std.specs.Io.KnownBytes.{Appends};
 ghost use Rattle.sgt_names.specs.Device.{WritesFront};
-ghost use Rattle.sgt_program.specs.Commands.{Answers, AnswersAudit, options_of, outcome};
+ghost use Rattle.sgt_program.specs.Commands.{Answers, AnswersAudit, AnswersCheck, AsksKept, kept_of, options_of, outcome};
 ghost use Rattle.sgt_program.specs.Ending.{LeavesDevices, ReadFailed, ReaderIsQuiet, ReadsOn, status_of};
 ghost use Rattle.sgt_words.specs.Words.{CanRun, command_of};
 ghost use Rattle.sgt_line.specs.declared.name.CommandName.TheVariants as command;
@@ -13,9 +13,11 @@ use sgt_audit::{Verdict, audit};
 use sgt_audit_workers::audit_with;
 use sgt_certify::certify;
 use sgt_check::{Options, check};
+use sgt_check_kept::check_kept;
 use sgt_core::replay;
 use sgt_draw::{Wanted, draw};
 use sgt_explain::{explain, explain_topic, explain_transaction};
+use sgt_history_text::Wanted as KeptWanted;
 use sgt_names::{EngineFail, Outcome, Sink, Source, write_all};
 use sgt_serial::serial;
 use sgt_service::run_scripts;
@@ -39,6 +41,46 @@ fn options_of(wanted: CheckWanted) -> Options
 {
     Options {
         order: wanted.order,
+    }
+}
+
+fn kept_of(wanted: CheckWanted) -> KeptWanted
+    ensures { result ≡ kept_of wanted }
+{
+    KeptWanted {
+        real_time: wanted.real_time,
+        sessions: wanted.sessions,
+    }
+}
+
+fn asks_kept(wanted: CheckWanted) -> bool
+    ensures { IsTrue result ↔ AsksKept wanted }
+{
+    wanted.real_time || wanted.sessions
+}
+
+// Checks a history, by orders that keep real time or sessions where that is wanted.
+fn check_by<R: Source, W: Sink>(
+    alloc: Global,
+    wanted: CheckWanted,
+    reader: &mut R,
+    writer: &mut W,
+) -> Result<Outcome, EngineFail>
+    ensures answers { AnswersCheck wanted (status_of (Ran result)) (R.tells reader.old)
+        (W.holds writer.old) (W.holds writer.new) }
+    ensures ends { LeavesDevices (Ran result)
+        (ReaderIsQuiet ⊥ (Ran result) (R.failures reader.old) (R.failures reader.new)
+        × (W.failures writer.new ≡ W.failures writer.old))
+        (ReadFailed ⊥ (R.tells reader.old) (R.failures reader.old)
+        (R.failures reader.new) (R.asked reader.old) (R.asked reader.new))
+        (W.failures writer.old < W.failures writer.new)
+        (writer.new ≡ writer.old) }
+{
+    let options = options_of(wanted);
+    if asks_kept(wanted) {
+        check_kept(alloc, reader, writer, options, kept_of(wanted))
+    } else {
+        check(alloc, reader, writer, options)
     }
 }
 
@@ -94,7 +136,7 @@ pub fn run_choice<H: Threads + Wait + Sync, R: Source, W: Sink>(
         Choice::Serial => serial(alloc, reader, writer),
         Choice::Replay => replay(alloc, reader, writer),
         Choice::Certify => certify(alloc, reader, writer),
-        Choice::Check(wanted) => check(alloc, reader, writer, options_of(wanted)),
+        Choice::Check(wanted) => check_by(alloc, wanted, reader, writer),
         Choice::Explain => explain(alloc, reader, writer),
         Choice::Transaction(tx) => explain_transaction(alloc, tx, reader, writer),
         Choice::Rule(topic) => explain_topic(topic, writer),

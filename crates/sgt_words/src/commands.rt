@@ -46,7 +46,7 @@ const REPLAY_USAGE: &str =
 const SERVE_USAGE: &str = "sgt serve [--bundles DIR] [FILE]\n  e.g. sgt serve --bundles bundles";
 
 const CHECK_USAGE: &str =
-    "sgt check [--order] [--svg FILE] [-q] [--progress] [FILE]\n       sgt check --against ORDER [-q] [FILE]\n  e.g. sgt check history.jsonl";
+    "sgt check [--order] [--real-time] [--sessions] [--svg FILE] [-q] [--progress] [FILE]\n       sgt check --against ORDER [-q] [FILE]\n  e.g. sgt check history.jsonl";
 
 const CERTIFY_USAGE: &str = "sgt certify [FILE]\n  e.g. sgt certify logs.txt > bundle.txt";
 
@@ -147,14 +147,12 @@ fn check_line<'a>(alloc: Global) -> Result<Command<'a>, AllocError> {
         alloc,
         "real-time",
         "Asks for an order in which who was done before another began stands before it",
-    )
-    .hide(true);
+    );
     let sessions = flag(
         alloc,
         "sessions",
         "Asks for an order in which the transactions of a session stand as they do in the history",
-    )
-    .hide(true);
+    );
     plain_line(alloc, "check", CHECK, CHECK_USAGE)
         .arg(order)?
         .arg(real_time)?

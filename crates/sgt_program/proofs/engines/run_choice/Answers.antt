@@ -2,13 +2,10 @@ use Rattle.std.proofs.Common.{◌≡◌, None, Some, ap, inl, subst, sym}
 use Rattle.std.specs.Prelude.{⊤, IfOk, OnErr}
 use Rattle.sgt_audit.specs.declared.verdict.Verdict.{Verdict}
 use Rattle.sgt_certify.specs.Answer as certify
-use Rattle.sgt_check.specs.Answer as check
-use Rattle.sgt_check.specs.declared.options.Options.{Options}
 use Rattle.sgt_draw.specs.Drawn as draw
 use Rattle.sgt_explain.specs.Explained as explain
 use Rattle.sgt_core.specs.Replay as replay
 use Rattle.sgt_service.specs.Report as run
-use Rattle.sgt_program.specs.Commands.{options_of}
 use Rattle.sgt_program.proofs.Answered.{audit-fails, rule-answers, serial-answers, status-answers, verdict-answers}
 use Rattle.sgt_program.specs.Ending.{ReadsOn}
 use Rattle.sgt_program.proofs.Told.{due, failed_more, kept, leaves, leaves_fail, leaves_more, leaves_topic, quiet_more}
@@ -53,14 +50,7 @@ returns-in-Certify-clause-answers g c =
     c.certify.result c.certify.ensures.answer c.certify.ensures.front)
 
 pub returns-in-Check-clause-answers : goal.returns-in-Check-clause-answers
-returns-in-Check-clause-answers g c =
-    let told = g.R.Source.tells c.args.reader.now in
-    let old = g.W.Sink.holds c.args.writer.now in
-    let new = g.W.Sink.holds c.check.new.writer in
-    let options = options_of c.in-Check.wanted in
-    rw c.in-Check.is (status-answers (λ outcome. check.WroteAnswer options told outcome old new) (check.WroteAnswerFront options told old new)
-    c.check.result (subst (λ (o : Options). IfOk c.check.result (λ outcome. check.WroteAnswer o told outcome old new)) c.options_of.ensures c.check.ensures.answer)
-    (subst (λ (o : Options). OnErr c.check.result (check.WroteAnswerFront o told old new)) c.options_of.ensures c.check.ensures.front))
+returns-in-Check-clause-answers g c = rw c.in-Check.is c.check_by.ensures.answers
 
 pub returns-in-Explain-clause-answers : goal.returns-in-Explain-clause-answers
 returns-in-Explain-clause-answers g c =
@@ -120,8 +110,7 @@ returns-in-Certify-clause-ends g c =
 
 pub returns-in-Check-clause-ends : goal.returns-in-Check-clause-ends
 returns-in-Check-clause-ends g c =
-    let said = c.check.ensures in
-    leaves c.check.result _ _ _ _ _ _ (due _ _ _ _ _ _) (λ other. inl (said.quiet_reader other)) said.quiet_writer said.read_fault said.write_fault said.unwritten said.untouched
+    leaves_more c.check_by.result _ _ _ _ _ _ (quiet_more ⊥ (ReadsOn c.args.choice) _ _ _ _ absurd) (failed_more _ _ _ _ _ _ _ absurd) c.check_by.ensures.ends
 
 pub returns-in-Draw-clause-ends : goal.returns-in-Draw-clause-ends
 returns-in-Draw-clause-ends g c =

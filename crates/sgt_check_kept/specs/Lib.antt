@@ -1,0 +1,5 @@
+pub mod Link
+pub mod Text
+pub mod Decision
+pub mod Told
+pub mod Answer

@@ -1,0 +1,15 @@
+//! `check_kept`: whether a history is serializable by an order that keeps real time and sessions too, with what shows that it isn't.
+#![tactic(auto)]
+
+mod answer;
+mod deciding;
+mod engine;
+mod link;
+mod links;
+mod setting;
+#[cfg(test)]
+mod tests;
+mod text;
+
+pub use engine::check_kept;
+pub use link::Link;
