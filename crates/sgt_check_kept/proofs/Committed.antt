@@ -29,11 +29,11 @@ module _ {E : Type 0} (Has : List ℕ → E → Type 0) where
   entries-commit [] (t ∷ ts) es are k e at = absurd are
   entries-commit (line ∷ lines) [] es are k e at = absurd are
   entries-commit (line ∷ lines) (t ∷ ts) [] are k e at = absurd are
-  entries-commit (line ∷ lines) (t ∷ ts) (x ∷ es) are zero e at = (t, refl, entry-commits line t.commits x e are.0 (same_Some x (Some e) at))
+  entries-commit (line ∷ lines) (t ∷ ts) (x ∷ es) are zero e at = (t, (refl, entry-commits line t.commits x e are.0 (same_Some x (Some e) at)))
   entries-commit (line ∷ lines) (t ∷ ts) (x ∷ es) are (suc k) e at = entries-commit lines ts es are.1 k e at
 
   pub told-commit : (wanted : Bool) (lines : List (List ℕ)) (h : List (Transaction Json Json)) (es : List (Option E)) → AreTold Has wanted lines h es → AreOfCommitted h es
-  told-commit true lines h es are = entries-commit lines h es are
+  told-commit true lines h es are k e at = entries-commit lines h es are k e at
   told-commit false lines h es none k e at =
       absurd (omega (arith, slice_get_within [] k (Some e) (ap (λ (xs : List (Option E)). slice_get xs k) (sym none) ∙ at)))
 

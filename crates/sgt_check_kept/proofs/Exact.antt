@@ -25,7 +25,7 @@ use Rattle.sgt_check_kept.proofs.Telling.{same_history, same_sessions, same_time
 
 -- where the history that the bytes spell isn't serializable, none that they spell is with what is wanted
 none-keeping : (w : Wanted) (bytes : List ℕ) (ids : List Json) (h : List (Transaction Json Json)) → Spells bytes ids h → (IsSerializable h → ⊥) → SpellsKeeping w bytes → ⊥
-none-keeping w bytes ids h spells none (ids', h', times', sessions', spells', order, keeps) =
+none-keeping w bytes ids h spells none (ids', h', times', sessions', spells', (order, keeps)) =
     none (subst (λ (k : List (Transaction Json Json)). IsSerializable k) (sym (history-one bytes ids ids' h h' spells spells'.spells).1) (order, keeps.serves))
 
 none-round : (w : Wanted) (bytes text : List ℕ) → IsKeptCycleTold w bytes text → SpellsKeeping w bytes → ⊥

@@ -73,9 +73,9 @@ module _ (w : Wanted) (options : Options) (bytes : List ℕ) (r : Reading) (is :
   -- ---- what is asked
 
   committed-back : (line : ℕ) → ((t : Transaction Json Json) × IsCommitted named line t) → (t : Transaction ℕ ℕ) × IsCommitted m line t
-  committed-back line (t, there, commits) =
+  committed-back line (t, (there, commits)) =
       let at = map_at (renamed (nth is.items) (nth is.values)) m line t there in
-      (at.0, at.1, ap (λ (u : Transaction Json Json). u.commits) at.2 ∙ commits)
+      (at.0, (at.1, ap (λ (u : Transaction Json Json). u.commits) at.2 ∙ commits))
 
   are-asked : AreAsked m setting.asked
   are-asked = record {
