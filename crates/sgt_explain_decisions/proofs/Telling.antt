@@ -8,7 +8,8 @@ use Rattle.sgt_cert.specs.declared.certificate.Step.{Step}
 use Rattle.sgt_cert.specs.declared.certificate.Decision.{Decision}
 use Rattle.sgt_explain_lines.specs.declared.section.Logged.{Logged}
 use Rattle.sgt_explain_decisions.specs.declared.sought.Sought.{Sought}
-use Rattle.sgt_explain_decisions.specs.Cycles.{IsShownStep, Shows, step_text, last_stop, TellsCycle, TellsRefusal, TellsCycles, AreShown}
+use Rattle.sgt_explain_decisions.specs.Cycles.{IsShownStep, Shows, step_text, TellsCycle, TellsRefusal, TellsCycles, AreShown}
+use Rattle.sgt_explain_decisions.specs.Sought.{last_stop}
 
 pub last_stop-next : (from : ℕ) (walk : List Step) (step : Step) → last_stop from (walk ++ step ∷ []) ≡ step.to
 last_stop-next from [] step = refl

@@ -7,7 +7,7 @@ use Rattle.sgt_cert.specs.declared.certificate.Decision.TheVariants.{Refuse}
 use Rattle.sgt_explain_lines.specs.declared.section.Logged.{Logged}
 use Rattle.sgt_explain_lines.specs.Told.{conflict_text}
 use Rattle.sgt_explain_decisions.specs.declared.sought.Sought.{Sought}
-use Rattle.sgt_explain_decisions.specs.Sought.{found_of, begun_by, ended_by}
+use Rattle.sgt_explain_decisions.specs.Sought.{found_of, begun_by, ended_by, last_stop}
 
 -- ---- a step
 
@@ -43,11 +43,6 @@ TellsCycle sought from [] told = told ≡ []
 TellsCycle sought from (step ∷ walk) told = (shown : Option (Logged × Logged)) × (rest : List ℕ)
     × Shows sought from step shown × TellsCycle sought step.to walk rest
     × (told ≡ step_text from step shown ++ rest)
-
--- where it leads
-abbrev pub last_stop : ℕ → List Step → ℕ
-last_stop from [] = from
-last_stop from (step ∷ walk) = last_stop step.to walk
 
 abbrev pub refusal_head : (number tx : ℕ) → List ℕ
 refusal_head number tx = codes "transaction " ++ (decimal tx ++ (codes " was refused (decision " ++ (decimal number

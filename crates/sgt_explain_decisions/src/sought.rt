@@ -1,9 +1,17 @@
 //! The entries that the steps of walks are about, found in one pass over the logs.
 
-ghost use Rattle.std.specs.Prelude.{◌≡◌, ◌<◌, ℕ, Some, IfOk, IfSome, OnOk, length};
+ghost use Rattle.std.specs.Prelude.{◌≡◌, ◌<◌, ◌≤◌, ◌%◌, ◌⊎◌, ℕ, List, Bool, true, false, Some, IfOk, IfSome, IfNone, IsSome, IsTrue, OnOk, get_or, length, slice_get};
 ghost use Rattle.sgt_names.specs.Name.{Name};
-ghost use Rattle.sgt_names.specs.Entry.{tx_of, item_of};
-ghost use Rattle.sgt_explain_decisions.specs.Sought.{IsFound, AreFound, found_of, begun_by, ended_by, nothing};
+ghost use Rattle.sgt_names.specs.Entry.{tx_of, item_of, Reads, Writes};
+ghost use Rattle.sgt_notation.specs.Spelling.{line_text, IsLine};
+ghost use Rattle.sgt_notation.specs.declared.SectionLine.{SectionLine};
+ghost use Rattle.sgt_cert.specs.declared.certificate.Step.{Step};
+ghost use Rattle.sgt_cert.specs.declared.certificate.Decision.TheVariants.{Refuse};
+ghost use Rattle.sgt_explain_lines.specs.Numbered.{site_behind};
+ghost use Rattle.sgt_explain_lines.specs.Sited.{HasBefore};
+ghost use Rattle.sgt_explain_decisions.specs.declared.sought.Found.{Found};
+ghost use Rattle.sgt_explain_decisions.specs.Sought.{Key, found_at, AreFoundIn, AreFound, AreSoughtFor, WalksAreSought, IsSoughtFor, key_of, found_of, begun_by, ended_by, nothing};
+ghost use Rattle.sgt_explain_decisions.specs.Sought.{AreUnfound, IsUnfound, KeepsKeys, Seeks, PutsAt, IsWith, TakesPlace, TakesOne, FindsOne, FindsAny, AreMarked};
 
 use sgt_cert::{Decision, Step};
 use sgt_explain_lines::{Logged, cut_line, entry_of};
@@ -25,6 +33,9 @@ pub struct Sought {
     pub found: BTreeMap<(u8, Item, Tx), Found>,
 }
 
+// Into so many classes transactions are put by their numbers.
+const CLASSES: usize = 65536;
+
 fn nothing() -> Found
     ensures { result ≡ nothing }
 {
@@ -36,8 +47,10 @@ fn nothing() -> Found
 
 /// With an entry of the transaction on the item.
 fn with_entry(found: Found, line: u64, entry: Entry) -> Found
-    ensures { (item : Name) (tx : ℕ) → IsFound item tx found → tx_of entry ≡ tx
-        → item_of entry ≡ Some item → IsFound item tx result }
+    ensures read { (x : Name) → item_of entry ≡ Some x
+        → TakesPlace (Reads x entry) (record { line = line; entry = entry }) found.read result.read }
+    ensures change { (x : Name) → item_of entry ≡ Some x
+        → TakesPlace (Writes x entry) (record { line = line; entry = entry }) found.change result.change }
 {
     let logged = Some(Logged { line, entry });
     match &entry {
@@ -55,16 +68,16 @@ fn with_entry(found: Found, line: u64, entry: Entry) -> Found
     }
 }
 
-/// Puts at the key what was found, and an entry where one is given.
+/// Puts at the key what was found, with an entry where one is given.
 fn put(
     sought: &mut Sought,
     key: (u8, Item, Tx),
     found: Found,
     given: &Option<Logged>,
 ) -> Result<(), AllocError>
-    ensures { AreFound sought.old → IsFound key.1 key.2 found
-        → IfSome given.now (λ l. (tx_of l.entry ≡ key.2) × (item_of l.entry ≡ Some key.1))
-        → OnOk result (AreFound sought.new) }
+    ensures none { IfNone given.now (OnOk result (PutsAt key found sought.old sought.new)) }
+    ensures some { IfSome given.now (λ l. OnOk result ((more : Found) × IsWith l found more
+        × PutsAt key more sought.old sought.new)) }
 {
     match given {
         Some(logged) => {
@@ -78,95 +91,121 @@ fn put(
     Ok(())
 }
 
-/// Seeks both transactions of a step on its item.
-fn seek(sought: &mut Sought, step: &Step, from: Tx) -> Result<(), AllocError>
-    ensures { AreFound sought.old → OnOk result (AreFound sought.new) }
+/// Marks the class of the transaction.
+fn mark(classes: &mut Vec<bool>, tx: Tx)
+    requires { length classes.old.items ≡ 65536 }
+    ensures length { length classes.new.items ≡ 65536 }
+    ensures own { get_or classes.new.items (tx % 65536) false ≡ true }
+    ensures kept { (n : ℕ) → get_or classes.old.items n false ≡ true
+        → get_or classes.new.items n false ≡ true }
+{
+    classes[tx.number() as usize % CLASSES] = true;
+}
+
+/// Whether the class of the transaction is marked.
+fn is_marked(classes: &[bool], tx: Tx) -> bool
+    requires { length classes.now ≡ 65536 }
+    ensures { result ≡ get_or classes.now (tx % 65536) false }
+{
+    classes[tx.number() as usize % CLASSES]
+}
+
+/// Seeks the transaction on the item of a step.
+fn seek_one(
+    sought: &mut Sought,
+    classes: &mut Vec<bool>,
+    step: &Step,
+    tx: Tx,
+) -> Result<(), AllocError>
+    requires { length classes.old.items ≡ 65536 }
+    ensures length { length classes.new.items ≡ 65536 }
+    ensures seeks { OnOk result
+        (Seeks sought.old classes.old.items sought.new classes.new.items) }
+    ensures own { OnOk result (IsSome (found_at sought.new (key_of step.now tx))) }
 {
     let site = step.label.site.number();
     let item = step.label.item;
-    put(sought, (site, item, from), nothing(), &None)?;
-    put(sought, (site, item, step.to), nothing(), &None)
+    mark(classes, tx);
+    put(sought, (site, item, tx), nothing(), &None)
+}
+
+/// Seeks both transactions of a step on its item.
+fn seek(
+    sought: &mut Sought,
+    classes: &mut Vec<bool>,
+    step: &Step,
+    from: Tx,
+) -> Result<(), AllocError>
+    requires { length classes.old.items ≡ 65536 }
+    ensures length { length classes.new.items ≡ 65536 }
+    ensures seeks { OnOk result
+        (Seeks sought.old classes.old.items sought.new classes.new.items) }
+    ensures both { OnOk result (IsSoughtFor sought.new from step.now) }
+{
+    seek_one(sought, classes, step, from)?;
+    seek_one(sought, classes, step, step.to)
 }
 
 /// Seeks what the steps of a walk from this transaction are about.
-fn add_walk(sought: &mut Sought, tx: Tx, walk: &[Step]) -> Result<(), AllocError>
-    ensures { AreFound sought.old → OnOk result (AreFound sought.new) }
+fn add_walk(
+    sought: &mut Sought,
+    classes: &mut Vec<bool>,
+    tx: Tx,
+    walk: &[Step],
+) -> Result<(), AllocError>
+    requires { length classes.old.items ≡ 65536 }
+    ensures length { length classes.new.items ≡ 65536 }
+    ensures seeks { OnOk result
+        (Seeks sought.old classes.old.items sought.new classes.new.items) }
+    ensures walk { OnOk result (AreSoughtFor sought.new tx walk.now (length walk.now)) }
 {
     let mut from = tx;
     for step in walk {
-        seek(sought, step, from)?;
+        seek(sought, classes, step, from)?;
         from = step.to;
     }
     Ok(())
 }
 
+/// The same of the walk of a decision, if it is a refusal.
+fn add_walk_of(
+    sought: &mut Sought,
+    classes: &mut Vec<bool>,
+    decision: &Decision,
+) -> Result<(), AllocError>
+    requires { length classes.old.items ≡ 65536 }
+    ensures length { length classes.new.items ≡ 65536 }
+    ensures seeks { OnOk result
+        (Seeks sought.old classes.old.items sought.new classes.new.items) }
+    ensures walk { (tx : ℕ) (walk : List Step) → decision.now ≡ Refuse tx walk
+        → OnOk result (AreSoughtFor sought.new tx walk (length walk)) }
+{
+    match decision {
+        Decision::Refuse { tx, walk } => add_walk(sought, classes, *tx, walk.as_slice()),
+        _ => Ok(()),
+    }
+}
+
 /// Puts an entry where it is sought.
-fn take(sought: &mut Sought, site: u8, logged: Logged) -> Result<(), AllocError>
-    ensures { AreFound sought.old → OnOk result (AreFound sought.new) }
+fn take(sought: &mut Sought, classes: &[bool], site: u8, logged: Logged) -> Result<(), AllocError>
+    requires { length classes.now ≡ 65536 }
+    ensures { AreMarked sought.old classes.now
+        → OnOk result (TakesOne site logged sought.old sought.new) }
 {
     let Some(item) = logged.entry.item() else {
         return Ok(());
     };
-    let key = (site, item, logged.entry.tx());
-    match sought.found.get(&key).copied() {
-        Some(found) => put(sought, key, found, &Some(logged)),
+    let tx = logged.entry.tx();
+    if !is_marked(classes, tx) {
+        return Ok(());
+    }
+    match sought.found.get(&(site, item, tx)).copied() {
+        Some(found) => put(sought, (site, item, tx), found, &Some(logged)),
         None => Ok(()),
     }
 }
 
-// Into so many classes transactions are put by their numbers.
-const CLASSES: usize = 65536;
-
-/// Marks the class of the transaction.
-fn mark(classes: &mut Vec<bool>, tx: Tx)
-    requires { length classes.old.items ≡ 65536 }
-    ensures { length classes.new.items ≡ 65536 }
-{
-    classes[tx.number() as usize % CLASSES] = true;
-}
-
-/// Of each class of transactions whether one of it is sought.
-fn classes_of(alloc: Global, sought: &Sought) -> Result<Vec<bool>, AllocError>
-    ensures { IfOk result (λ classes. length classes.items ≡ 65536) }
-{
-    let mut classes = vec![in alloc; false; CLASSES]?;
-    for key in sought.found.keys() {
-        mark(&mut classes, key.2);
-    }
-    Ok(classes)
-}
-
-/// The class of the transaction whose number stands behind the first byte.
-fn class_of(text: &[u8]) -> usize
-    ensures { result < 65536 }
-{
-    let mut number = 0u32;
-    for byte in text.get(1..).unwrap_or(b"") {
-        match *byte {
-            b'0'..=b'9' => {
-                number = number
-                    .wrapping_mul(10)
-                    .wrapping_add(u32::from(byte.wrapping_sub(b'0')));
-            }
-            _ => break,
-        }
-    }
-    number as usize % CLASSES
-}
-
-/// Whether the line begins a section, or may be an operation of a transaction that is sought. Few
-/// others are read whole.
-fn may_matter(classes: &[bool], text: &[u8]) -> bool
-    requires { length classes.now ≡ 65536 }
-{
-    match text.first() {
-        Some(b's') => true,
-        Some(b'r' | b'w' | b'd' | b'p' | b'q') => classes[class_of(text)],
-        _ => false,
-    }
-}
-
-/// Finds in a line what is sought.
+/// Finds in a line what is sought. Lines 1 and 2 have none.
 fn find_in(
     sought: &mut Sought,
     classes: &[bool],
@@ -174,22 +213,32 @@ fn find_in(
     line: u64,
     text: &[u8],
 ) -> Result<(), AllocError>
-    requires { length classes.now ≡ 65536 }
-    ensures { AreFound sought.old → OnOk result (AreFound sought.new) }
+    requires length { length classes.now ≡ 65536 }
+    requires marked { AreMarked sought.old classes.now }
+    ensures head { line ≤ 2 → (sought.new ≡ sought.old) × (site.new ≡ site.old) }
+    ensures spelled { 2 < line → (read : SectionLine) → IsLine read → text.now ≡ line_text read
+        → OnOk result ((site.new ≡ site_behind site.old read)
+        × FindsOne site.new line read sought.old sought.new) }
+    ensures any { OnOk result (FindsAny sought.old sought.new) }
 {
-    if line <= 2 || !may_matter(classes, text) {
+    if line <= 2 {
         return Ok(());
     }
     match entry_of(site, text) {
-        Some(entry) => take(sought, *site, Logged { line, entry }),
+        Some(entry) => take(sought, classes, *site, Logged { line, entry }),
         None => Ok(()),
     }
 }
 
 /// Finds what is sought in the logs of the text.
 fn find_all(sought: &mut Sought, classes: &[bool], bytes: &[u8]) -> Result<(), AllocError>
-    requires { length classes.now ≡ 65536 }
-    ensures { AreFound sought.old → OnOk result (AreFound sought.new) }
+    requires length { length classes.now ≡ 65536 }
+    requires marked { AreMarked sought.old classes.now }
+    requires unfound { AreUnfound sought.old }
+    ensures found { OnOk result (AreFound sought.new) }
+    ensures keys { OnOk result (KeepsKeys sought.old sought.new) }
+    ensures lines { (lines : List SectionLine) → HasBefore bytes.now 18446744073709551615 lines
+        → OnOk result (AreFoundIn lines (length lines) sought.new) }
 {
     let mut rest = bytes;
     let mut site = 0u8;
@@ -198,38 +247,38 @@ fn find_all(sought: &mut Sought, classes: &[bool], bytes: &[u8]) -> Result<(), A
         find_in(sought, classes, &mut site, line, text)?;
         rest = behind;
         if rest.is_empty() {
-            break;
+            return Ok(());
         }
     }
     Ok(())
 }
 
-/// What the walks of all refusals are about, with nothing found.
-fn unfound_in(alloc: Global, decisions: &[Decision]) -> Result<Sought, AllocError>
-    ensures { IfOk result AreFound }
+/// What the walks of all refusals are about, with nothing found, and the classes of the transactions.
+fn unfound_in(alloc: Global, decisions: &[Decision]) -> Result<(Sought, Vec<bool>), AllocError>
+    ensures { IfOk result (λ s. IsUnfound decisions.now s.0 s.1.items) }
 {
     let mut sought = Sought {
         found: BTreeMap::new(alloc),
     };
+    let mut classes = vec![in alloc; false; CLASSES]?;
     for decision in decisions {
-        if let Some(walk) = decision.walk() {
-            add_walk(&mut sought, decision.tx(), walk)?;
-        }
+        add_walk_of(&mut sought, &mut classes, decision)?;
     }
-    Ok(sought)
+    Ok((sought, classes))
 }
 
-/// What the walks of all refusals are about, each with its entries in the logs of the text, of
-/// which a transaction has two at most on an item. Where there is no refusal, the text isn't gone
-/// over.
+/// What the walks of all refusals are about, each with its entries in the logs of the text. Where
+/// there is no refusal, the text isn't gone over.
 pub fn sought_in(alloc: Global, decisions: &[Decision], bytes: &[u8]) -> Result<Sought, AllocError>
-    ensures { IfOk result AreFound }
+    ensures found { IfOk result AreFound }
+    ensures walks { IfOk result (λ s. WalksAreSought s decisions.now (length decisions.now)) }
+    ensures lines { (lines : List SectionLine) → HasBefore bytes.now 18446744073709551615 lines
+        → IfOk result (AreFoundIn lines (length lines)) }
 {
-    let mut sought = unfound_in(alloc, decisions)?;
+    let (mut sought, classes) = unfound_in(alloc, decisions)?;
     if sought.found.is_empty() {
         return Ok(sought);
     }
-    let classes = classes_of(alloc, &sought)?;
     find_all(&mut sought, classes.as_slice(), bytes)?;
     Ok(sought)
 }

@@ -1,7 +1,7 @@
 use Rattle.std.proofs.Common.{arith, sym, ap, ◌∙◌, take}
 use Rattle.std.specs.Prelude.{not}
 use Rattle.sgt_names.proofs.Lists.{element_at, take_next}
-use Rattle.sgt_explain_decisions.specs.Cycles.{last_stop}
+use Rattle.sgt_explain_decisions.specs.Sought.{last_stop}
 use Rattle.sgt_explain_decisions.proofs.Telling.{last_stop-next, shown-next, shown-pair}
 use Rattle.sgt_explain_decisions.proofs.cycles.first_unmet.Goals as goal
 

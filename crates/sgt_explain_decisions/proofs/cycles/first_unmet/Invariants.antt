@@ -1,5 +1,6 @@
 use Rattle.std.proofs.Common.{◌≡◌, take}
-use Rattle.sgt_explain_decisions.specs.Cycles.{last_stop, AreShown}
+use Rattle.sgt_explain_decisions.specs.Cycles.{AreShown}
+use Rattle.sgt_explain_decisions.specs.Sought.{last_stop}
 use Rattle.sgt_explain_decisions.proofs.cycles.first_unmet.Given as goal
 
 abbrev pub invariant-loop-place : goal.invariant-loop-place

@@ -1,6 +1,7 @@
 use Rattle.std.proofs.Common.{◌≡◌, ℕ, List, ◌++◌, take}
 use Rattle.std.specs.Prelude.{string_bytes}
-use Rattle.sgt_explain_decisions.specs.Cycles.{last_stop, TellsCycle}
+use Rattle.sgt_explain_decisions.specs.Cycles.{TellsCycle}
+use Rattle.sgt_explain_decisions.specs.Sought.{last_stop}
 use Rattle.sgt_explain_decisions.proofs.cycles.push_cycle.Given as goal
 
 abbrev pub invariant-loop-step : goal.invariant-loop-step
