@@ -204,12 +204,17 @@ fn growth_service(rt: HostRuntime) -> Result<(), Fail> {
         let Some(run) = run else {
             continue;
         };
-        assert_eq!(rt; run.wrong, None);
-        match run.settled {
+        let Run {
+            wrong,
+            wanted,
+            settled,
+        } = run;
+        assert_eq!(rt; wrong, None);
+        match settled {
             Ok(settled) => {
                 let verdict = verdict_on(alloc, &settled);
                 assert!(rt; verdict.is_none() || verdict == Some(expected));
-                at_once = at_once || (!run.wanted && verdict.is_some());
+                at_once = at_once || (!wanted && verdict.is_some());
             }
             Err(fault) => assert_eq!(rt; fault, ServiceFault::Memory),
         }
