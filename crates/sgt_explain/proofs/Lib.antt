@@ -1,5 +1,7 @@
+pub mod EntryPlaces
 pub mod FaultyLine
 pub mod FaultyText
+pub mod FoundSteps
 pub mod KeptDecisions
 pub mod ListedItems
 pub mod SeenLines
@@ -7,6 +9,8 @@ pub mod ShownDecisions
 pub mod ShownEntries
 pub mod ShownSteps
 pub mod ShownValues
+pub mod SiteEnds
 pub mod Taken
 pub mod Telling
+pub mod UnmetSteps
 pub mod Writing

@@ -1,13 +1,14 @@
 -- What is shown of a step of a walk, by the section of its site.
-use Rattle.std.proofs.Common.{◌≡◌, ◌≢◌, ℕ, zero, suc, ◌+◌, ◌-◌, ◌<◌, ◌≤◌, List, [], ◌∷◌, ◌++◌, length, map, take, drop, Option, Some, None, refl, sym, ap, ap₂, ◌∙◌, subst, arith, append_assoc, length-append, All}
-use Rattle.std.specs.Prelude.{fold, slice_get, IfSome}
+use Rattle.std.proofs.Common.{◌≡◌, ◌≢◌, ℕ, zero, suc, ◌+◌, ◌-◌, ◌<◌, ◌≤◌, List, [], ◌∷◌, ◌++◌, length, map, take, drop, Option, Some, None, inl, inr, refl, sym, ap, ap₂, ◌∙◌, subst, arith, append_assoc, length-append, All}
+use Rattle.std.specs.Prelude.{fold, slice_get, IfSome, IsSome, IsSomeAnd}
 use Rattle.std.specs.List.{AllByRecursion}
 use Rattle.std.proofs.lemmas.Grind.{flat_map-append}
-use Rattle.std.proofs.lemmas.List.{length-take-le, map-append}
+use Rattle.std.proofs.lemmas.Bool.{cases_order, false≢true}
+use Rattle.std.proofs.lemmas.List.{length-take-le, map-append, take-append-le, take_all}
 use Rattle.std.proofs.lemmas.List.Elements.{All-push}
 use Rattle.std.proofs.lemmas.List.Sums.{fold-append}
-use Rattle.std.proofs.lemmas.Option.{same_Some, none-some}
-use Rattle.sgt_names.proofs.Lists.{AllByRecursion-append}
+use Rattle.std.proofs.lemmas.Option.{same_Some, none-some, slice_get_within}
+use Rattle.sgt_names.proofs.Lists.{AllByRecursion-append, front_at, middle_at}
 use Rattle.sgt_names.proofs.Places.{All_at, All-from_at, slice_get-take, split_at}
 use Rattle.sgt_names.specs.Log.{Conflicts}
 use Rattle.sgt_names.specs.declared.entry.Entry.{Entry}
@@ -35,7 +36,7 @@ use Rattle.sgt_explain_steps.specs.Unmet.{ShowsOwn, AreMisfit, ShowsOther, IsSte
 use Rattle.sgt_explain_steps.specs.declared.unmet.Unmet.{Unmet}
 use Rattle.sgt_explain_steps.proofs.Meetings.{are-misfit, leads-on}
 use Rattle.sgt_explain.specs.Shown.{lines_before, decisions_before}
-use Rattle.sgt_explain.specs.Steps.{EndsSite, ShowsStep, IsWhole, IsStepThere}
+use Rattle.sgt_explain.specs.Steps.{EndsSite, EndsAt, NoneEnds, EndsNowhere, ShowsStep, IsWhole, IsUnmetStep, IsStepThere}
 use Rattle.sgt_explain.proofs.FaultyLine.{FaultyLine, entries-same, step-line}
 
 -- ---- an earlier line of a text
@@ -48,6 +49,11 @@ text-cut xs ys l rest =
     ∙ ap (λ t. t ++ rest) (flat_map-append (λ m. m ++ 10 ∷ []) (map line_text xs) (map line_text (l ∷ ys)))
     ∙ append_assoc tx (text_of_lines (map line_text (l ∷ ys))) rest
     ∙ ap (λ t. tx ++ t) (line_front (line_text l) (map line_text ys) rest)
+
+front-line : (xs : List SectionLine) (l : SectionLine) (p : ℕ) → p < length xs → (a : SectionLine) → slice_get (xs ++ l ∷ []) p ≡ Some a → slice_get xs p ≡ Some a
+front-line [] l p inside a at = absurd (omega (arith, inside))
+front-line (x ∷ xs) l zero inside a at = at
+front-line (x ∷ xs) l (suc p) inside a at = front-line xs l p (omega (arith, inside)) a at
 
 module _ (bytes : List ℕ) (n : ℕ) (before : List SectionLine) (line : SectionLine) (h : HasLine bytes n before line) (m : ℕ) (low : 3 ≤ m) (high : m ≤ n) where
   abbrev ls : List SectionLine
@@ -100,6 +106,46 @@ module _ (bytes : List ℕ) (n : ℕ) (before : List SectionLine) (line : Sectio
       slice_get-within (x ∷ xs) zero less = (x, refl)
       slice_get-within (x ∷ xs) (suc i) less = slice_get-within xs i (omega (arith, less))
 
+  -- no line ends the section of the site where the one found doesn't
+  in-before : (site p : ℕ) → p < length before → EndsAt ls site p → EndsAt before site p
+  in-before site p inside at = (
+    front-line before line p inside End at.0,
+    ap open_site (sym (take-append-le p before (line ∷ []) (omega (arith, inside)))) ∙ at.1,
+  )
+
+  in-all : (site p : ℕ) → EndsAt before site p → EndsAt ls site p
+  in-all site p at =
+      let inside = slice_get_within before p End at.0 in (
+        front_at before (line ∷ []) p End at.0,
+        ap open_site (take-append-le p before (line ∷ []) (omega (arith, inside))) ∙ at.1,
+      )
+
+  cut-ends : (site : ℕ) (upto : List SectionLine) → EndsSite ls site upto → EndsAt ls site (length upto)
+  cut-ends site upto e = (
+    ap (λ (xs : List SectionLine). slice_get xs (length upto)) e.cut ∙ middle_at upto End e.later,
+    ap open_site (ap (take (length upto)) e.cut ∙ take-append-le (length upto) upto (End ∷ e.later) (omega arith) ∙ take_all (length upto) upto (omega arith)) ∙ e.begun,
+  )
+
+  pub ends-nowhere : (site : ℕ) (section : Section) (found : Option SectionLine) → ((upto : List SectionLine) (l : SectionLine) → HasLine bytes m upto l → found ≡ Some l)
+      → ((upto : List SectionLine) (l : SectionLine) → HasLine bytes m upto l → IsSectionOf upto section) → (m < n → EndsAt before site (m - 3)) → NoneEnds before site (m - 3)
+      → ((l : SectionLine) → found ≡ Some l → l ≡ End → section.site ≡ Some site → ⊥) → EndsNowhere ls site
+  ends-nowhere site section found reads are ends none other upto e =
+      let p = length upto in
+      let at = cut-ends site upto e in
+      let counted = h.counted in
+      elim (cases_order p k) [
+        | inl same ↦ ends-here (subst (EndsAt ls site) same at)
+        | inr (inl earlier) ↦ none p earlier (in-before site p (omega (arith, earlier, low, high, counted)) at)
+        | inr (inr later) ↦ (let all = slice_get_within ls p End at.0 in
+            let long : length ls ≡ length before + 1 = length-append before (line ∷ []) in
+            ends-here (in-all site k (ends (omega (arith, later, all, long, counted, low, high)))))
+      ]
+    where
+      ends-here : EndsAt ls site k → ⊥
+      ends-here at =
+          let has = earlier End at.0 in
+          other End (reads (take k ls) End has) refl ((are (take k ls) End has).site ∙ at.1)
+
 -- ---- the log of the site whose section ends
 
 site-kept : (o : Option ℕ) (ys : List SectionLine) → AllByRecursion NotSite ys → fold with_site o ys ≡ o
@@ -110,7 +156,7 @@ site-kept o (Logged e ∷ ys) h = site-kept o ys h.1
 site-kept o (Final x ∷ ys) h = site-kept o ys h.1
 site-kept o (End ∷ ys) h = site-kept o ys h.1
 
-open-up_to : (front : List SectionLine) (k : ℕ) (items : List Holding) (entries : List Entry) (finals : List Holding) → open_site (up_to front k items entries finals) ≡ Some k
+pub open-up_to : (front : List SectionLine) (k : ℕ) (items : List Holding) (entries : List Entry) (finals : List Holding) → open_site (up_to front k items entries finals) ≡ Some k
 open-up_to front k items entries finals =
     fold-append with_site None front (Site k ∷ inner items entries finals)
     ∙ site-kept (Some k) (inner items entries finals)
@@ -136,14 +182,14 @@ ends-each logs s j log front at j-is = record {
       );
 }
 
-ends-log : (logs : List SiteLog) (upto later : List SectionLine) → sections_from 0 logs ≡ upto ++ End ∷ later → EndsLog logs upto End
+pub ends-log : (logs : List SiteLog) (upto later : List SectionLine) → sections_from 0 logs ≡ upto ++ End ∷ later → EndsLog logs upto End
 ends-log logs upto later e =
     in_sections (EndsLog logs) 0 logs [] (λ f last. absurd (none-some (Logged f) last))
     (λ s j log front at j-is closed. ends-each logs s j log front at (omega (arith, j-is))) upto later End e
 
 -- ---- F17
 
-end-line : (c : Certificate) (before : List SectionLine) (line : SectionLine) → (Keeps c before line fault.WalkStep → ⊥) → line ≡ End
+pub end-line : (c : Certificate) (before : List SectionLine) (line : SectionLine) → (Keeps c before line fault.WalkStep → ⊥) → line ≡ End
 end-line c before End broken = refl
 end-line c before (Site k) broken = absurd (broken tt)
 end-line c before (Initial h) broken = absurd (broken tt)
@@ -151,10 +197,10 @@ end-line c before (Logged e) broken = absurd (broken tt)
 end-line c before (Final h) broken = absurd (broken tt)
 
 module _ (bytes : List ℕ) (n : ℕ) (first : FirstFault bytes n fault.WalkStep) where
-  faulty : FaultyLine bytes n fault.WalkStep first.stage first.next
+  pub faulty : FaultyLine bytes n fault.WalkStep first.stage first.next
   faulty = step-line bytes n first
 
-  shows-step : (at shown : Unmet) (section : Section) → IsStepAt faulty.c.decisions at
+  shows-step : (at shown : Unmet) (section : Section) → IsUnmetStep faulty.c.decisions faulty.before at
       → IsWhole (faulty.before ++ faulty.line ∷ []) at.step.label.site section
       → SameStep at shown
       → (Conflicts (entries_of section.entries.items) shown.step.label.kind shown.step.label.item shown.from shown.step.to → ⊥)
@@ -162,7 +208,8 @@ module _ (bytes : List ℕ) (n : ℕ) (first : FirstFault bytes n fault.WalkStep
       → ShowsOwn section.entries.items shown.step.to (ends_with_read shown.step.label.kind) shown.step.label.item shown.second
       → ShowsOther section.entries.items shown.from shown.step shown.other
       → ShowsStep (decisions_before first.stage) (lines_before first.stage) (bytes_of first.next) shown
-  shows-step at shown section is whole same broken own its met =
+  shows-step at shown section one whole same broken own its met =
+      let is = one.at in
       let end : faulty.line ≡ End = end-line faulty.c faulty.before faulty.line faulty.broken in
       let w = subst (λ (l : SectionLine). IsWhole (faulty.before ++ l ∷ []) at.step.label.site section) end whole in
       let ends = subst (λ (s : Step). EndsSite (faulty.before ++ End ∷ []) s.label.site w.upto) (sym same.step) w.ends in
@@ -183,6 +230,10 @@ module _ (bytes : List ℕ) (n : ℕ) (first : FirstFault bytes n fault.WalkStep
             let entries : logged.0.entries ≡ entries_of section.entries.items =
             ap (λ (g : SiteLog). g.entries) (same_Some logged.0 log.0 (sym logged.1 ∙ log.1)) ∙ sym log.2 ∙ sym (entries-same w.upto) ∙ ap entries_of (sym w.is.entries) in
             broken (subst (λ es. Conflicts es shown.step.label.kind shown.step.label.item shown.from shown.step.to) entries logged.2);
+        earlier = λ logs e number tx walk place from step refused there start less.
+            let n = same.number in
+            let p = same.place in
+            one.earlier logs e number tx walk place from step refused there start (elim less [ inl before ↦ inl (omega (arith, before, n)) | inr here ↦ inr (here.0 ∙ n, let q = here.1 in omega (arith, q, p)) ]);
         upto = w.upto;
         section = ends;
         first = subst (λ es. ShowsOwn es shown.from (begins_with_read shown.step.label.kind) shown.step.label.item shown.first) w.is.entries own;
@@ -192,15 +243,14 @@ module _ (bytes : List ℕ) (n : ℕ) (first : FirstFault bytes n fault.WalkStep
         other = subst (λ es. ShowsOther es shown.from shown.step shown.other) w.is.entries met;
       })
 
-  pub shows-step-found : (at : Unmet) (found : Option Unmet)
-      → ((front : List ℕ) (c : Certificate) (rest : List ℕ) → HasNoLf front → IsCertificate c → bytes ≡ front ++ 10 ∷ (certificate_text c ++ 10 ∷ rest) → IsStepAt c.decisions at)
-      → ((before : List SectionLine) (line : SectionLine) → HasLine bytes n before line → IfSome found (IsStepThere (before ++ line ∷ []) at))
-      → IfSome found (ShowsStep (decisions_before first.stage) (lines_before first.stage) (bytes_of first.next))
-  shows-step-found at None is there = tt
-  shows-step-found at (Some shown) is there =
-      let cert = faulty.certified in
+  pub shows-found : (at : Unmet) (found : Option Unmet) → IsUnmetStep (decisions_before first.stage) (lines_before first.stage) at
+      → ((before : List SectionLine) (line : SectionLine) → HasLine bytes n before line → IfSome found (IsStepThere (before ++ line ∷ []) at)) → IsSome found
+      → IsSomeAnd found (ShowsStep (decisions_before first.stage) (lines_before first.stage) (bytes_of first.next))
+  shows-found at None is there some = absurd (false≢true some)
+  shows-found at (Some shown) is there some =
       let t = there faulty.before faulty.line faulty.has in
-      shows-step at shown t.section (is cert.0 faulty.c cert.1 cert.2 faulty.kept.spelled cert.3) t.whole t.same t.broken t.first t.second t.other
+      let one = subst (λ s. IsUnmetStep (decisions_before s) (lines_before s) at) faulty.at is in
+      shows-step at shown t.section one t.whole t.same t.broken t.first t.second t.other
 
 pub step-there : (lines : List SectionLine) (at : Unmet) (section : Section) (found : Option Unmet) → IsWhole lines at.step.label.site section
     → IfSome found (SameStep at)

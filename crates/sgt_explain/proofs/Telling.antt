@@ -40,6 +40,16 @@ ends-shown (Err e) line n old new begins shown = tt
 pub some-if : {A : Type 0} (P : A → Type 0) (o : Option A) (a : A) → o ≡ Some a → IfSome o P → P a
 some-if P o a e h = subst (λ q. IfSome q P) e h
 
+pub some-and : {A : Type 0} (P : A → Type 0) (o : Option A) (a : A) → o ≡ Some a → IsSomeAnd o P → P a
+some-and P o a e h = subst (λ q. IsSomeAnd q P) e h
+
+pub none-and : {A Q : Type 0} (P : A → Type 0) (o : Option A) → o ≡ None → IsSomeAnd o P → Q
+none-and {A} {Q} P o e h = absurd (subst (λ q. IsSomeAnd q P) e h)
+
+pub if-both : {T E : Type 0} {P Q R : T → Type 0} (r : Result T E) → ((t : T) → P t → Q t → R t) → IfOk r P → IfOk r Q → IfOk r R
+if-both (Ok t) f p q = f t p q
+if-both (Err e) f p q = tt
+
 -- ---- what is told of what was found
 
 pub tells-read : (bytes : List ℕ) (n : ℕ) (found : Option (ℕ × Misvalued)) (old new : List ℕ)
@@ -61,10 +71,10 @@ tells-ranks bytes n (Some m) old new shows text = λ first. (m, shows first, tex
 tells-ranks bytes n None old new shows text = λ first. absurd (shows first)
 
 pub tells-step : (bytes : List ℕ) (n : ℕ) (found : Option Unmet) (old new : List ℕ)
-    → ((first : FirstFault bytes n fault.WalkStep) → IfSome found (ShowsStep (decisions_before first.stage) (lines_before first.stage) (bytes_of first.next)))
-    → IfSome found (λ u. new ≡ old ++ walk_step_text u) × IfNone found (new ≡ old) → Tells bytes (No n fault.WalkStep) old new
-tells-step bytes n (Some u) old new shows text = λ first. inr (u, shows first, text.0)
-tells-step bytes n None old new shows text = λ first. inl text.1
+    → ((first : FirstFault bytes n fault.WalkStep) → IsSomeAnd found (ShowsStep (decisions_before first.stage) (lines_before first.stage) (bytes_of first.next)))
+    → IfSome found (λ u. new ≡ old ++ walk_step_text u) → Tells bytes (No n fault.WalkStep) old new
+tells-step bytes n (Some u) old new shows text = λ first. (u, shows first, text)
+tells-step bytes n None old new shows text = λ first. absurd (shows first)
 
 -- ---- a text that was told, and more behind it
 

@@ -31,8 +31,8 @@ outcome_of (Yes committed refused withdrawn) = outcome.Yes
 outcome_of (No line f) = outcome.No
 
 -- what a first fault adds to a text: its name, and the line that has it, with what the lines before
--- it have of that; of a read and of a final what is shown of its value, in words; of ranks likewise;
--- of a step likewise, or nothing
+-- it have of that; of a read and of a final what is shown of its value, in words; of ranks and of a
+-- step likewise
 abbrev pub Tells : List ℕ → Verdict → (old new : List ℕ) → Type 0
 Tells bytes (No line fault.Format) old new =
     ShowsFaulty (codes "Format: ") bytes line fault.Format old new
@@ -83,9 +83,9 @@ Tells bytes (No line fault.RankOrder) old new = (first : FirstFault bytes line f
     × ShowsRanks (decisions_before first.stage) (lines_before first.stage)
     (bytes_of first.next) line shown × (new ≡ old ++ rank_order_text shown)
 Tells bytes (No line fault.WalkStep) old new = (first : FirstFault bytes line fault.WalkStep)
-    → (new ≡ old) ⊎ ((shown : Unmet)
+    → (shown : Unmet)
     × ShowsStep (decisions_before first.stage) (lines_before first.stage)
-    (bytes_of first.next) shown × (new ≡ old ++ walk_step_text shown))
+    (bytes_of first.next) shown × (new ≡ old ++ walk_step_text shown)
 Tells _ _ _ _ = Unit {0}
 
 -- what a verdict on the bytes means is that, and behind it what is told of the transaction, if one

@@ -1,11 +1,14 @@
 -- What is shown of a step of a walk that is no conflict of the logs.
-use Rattle.std.specs.Prelude.{◌≡◌, ℕ, List, [], ◌∷◌, ◌++◌, Some}
+use Rattle.std.specs.Prelude.{◌≡◌, ◌↔◌, ◌⊎◌, ℕ, ◌<◌, Bool, IsTrue, List, [], ◌∷◌, ◌++◌, Option, Some, take, slice_get}
 use Rattle.sgt_notation.specs.Spelling.{line_text}
 use Rattle.sgt_notation.specs.declared.SectionLine.{SectionLine}
 use Rattle.sgt_notation.specs.declared.SectionLine.TheVariants.{End}
 use Rattle.sgt_cert.specs.Valid.{IsLogged}
 use Rattle.sgt_cert.specs.Text.{sections_from}
+use Rattle.sgt_cert.specs.Certificate.{stops}
+use Rattle.sgt_cert.specs.declared.certificate.Step.{Step}
 use Rattle.sgt_cert.specs.declared.certificate.Decision.{Decision}
+use Rattle.sgt_cert.specs.declared.certificate.Decision.TheVariants.{Refuse}
 use Rattle.sgt_cert.specs.declared.bundle.SiteLog.{SiteLog}
 use Rattle.sgt_names.specs.Log.{Conflicts}
 use Rattle.sgt_explain_lines.specs.Values.{entries_of}
@@ -22,15 +25,23 @@ pub record EndsSite (lines : List SectionLine) (site : ℕ) (upto : List Section
   pub cut : lines ≡ upto ++ End ∷ later
   pub begun : open_site upto ≡ Some site
 
--- of the end of the last section: a step of a refusal's walk that is no conflict of the logs, and
--- of the entries of its site the two that
--- the step is about, as far as they are there, and a conflict of another kind, if there is one, of the same
--- transactions on the item
+-- each step of an earlier walk, and each earlier step of the same, is a conflict of the logs
+abbrev pub AllMetBefore : List Decision → List SiteLog → Unmet → Type 0
+AllMetBefore decisions logs u = (number tx : ℕ) (walk : List Step) (place from : ℕ) (step : Step)
+    → slice_get decisions number ≡ Some (Refuse tx walk) → slice_get walk place ≡ Some step
+    → slice_get (tx ∷ stops walk) place ≡ Some from
+    → (number < u.number) ⊎ ((number ≡ u.number) × (place < u.place)) → IsLogged logs from step
+
+-- of the end of the last section: the first step of the refusals' walks that is no conflict of the
+-- logs, and of the entries of its site the two that the step is about, as far as they are there, and
+-- a conflict of another kind, if there is one, of the same transactions on the item
 pub record ShowsStep (decisions : List Decision) (before : List SectionLine) (line : List ℕ) (shown : Unmet) : Type 0 where
   pub last : line ≡ line_text End
   pub at : IsStepAt decisions shown
   pub unmet : (logs : List SiteLog) → sections_from 0 logs ≡ before ++ End ∷ []
       → IsLogged logs shown.from shown.step → ⊥
+  pub earlier : (logs : List SiteLog) → sections_from 0 logs ≡ before ++ End ∷ []
+      → AllMetBefore decisions logs shown
   pub upto : List SectionLine
   pub section : EndsSite (before ++ End ∷ []) shown.step.label.site upto
   pub first : ShowsOwn (numbered_entries upto) shown.from
@@ -42,6 +53,31 @@ pub record ShowsStep (decisions : List Decision) (before : List SectionLine) (li
   pub other : ShowsOther (numbered_entries upto) shown.from shown.step shown.other
 
 -- ---- for private clauses
+
+-- whether the section of the site is open
+abbrev pub IsOpenAt : Bool → Option ℕ → (site : ℕ) → Type 0
+IsOpenAt is_open opened site = IsTrue is_open ↔ (opened ≡ Some site)
+
+-- the line at this place ends the section of the site
+abbrev pub EndsAt : List SectionLine → (site place : ℕ) → Type 0
+EndsAt lines site place =
+    (slice_get lines place ≡ Some End) × (open_site (take place lines) ≡ Some site)
+
+-- none of the first so many lines does
+abbrev pub NoneEnds : List SectionLine → (site count : ℕ) → Type 0
+NoneEnds lines site count = (place : ℕ) → place < count → EndsAt lines site place → ⊥
+
+-- and none of all
+abbrev pub EndsNowhere : List SectionLine → (site : ℕ) → Type 0
+EndsNowhere lines site = (upto : List SectionLine) → EndsSite lines site upto → ⊥
+
+-- of the steps of all walks the first that is no conflict of the logs
+pub record IsUnmetStep (decisions : List Decision) (before : List SectionLine) (u : Unmet) : Type 0 where
+  pub at : IsStepAt decisions u
+  pub unmet : (logs : List SiteLog) → sections_from 0 logs ≡ before ++ End ∷ []
+      → IsLogged logs u.from u.step → ⊥
+  pub earlier : (logs : List SiteLog) → sections_from 0 logs ≡ before ++ End ∷ []
+      → AllMetBefore decisions logs u
 
 -- what is kept is the section of this site, whole
 pub record IsWhole (lines : List SectionLine) (site : ℕ) (section : Section) : Type 0 where

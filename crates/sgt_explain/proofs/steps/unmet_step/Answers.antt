@@ -1,11 +1,31 @@
-use Rattle.std.proofs.Common.{sym, ◌∙◌, subst}
-use Rattle.std.specs.Prelude.{IfSome}
-use Rattle.std.proofs.lemmas.Option.{same_Some}
+use Rattle.std.proofs.Common.{◌≡◌, sym, ap, ◌∙◌, subst, arith}
+use Rattle.std.proofs.lemmas.Option.{same_Some, none-some}
 use Rattle.sgt_cert.specs.declared.certificate.Certificate.{Certificate}
-use Rattle.sgt_explain_steps.specs.Unmet.{IsStepAt}
+use Rattle.sgt_explain.proofs.ShownSteps.{faulty}
+use Rattle.sgt_explain.proofs.FoundSteps.{has-before, some-unshown, step-found}
 use Rattle.sgt_explain.proofs.steps.unmet_step.Goals as goal
 
+pub returns-in_default : goal.returns-in_default
+returns-in_default c = λ first.
+    let f = faulty c.args.bytes.now c.args.number first in
+    let cert = f.certified in
+    absurd (none-some f.c (sym c.in_default.is ∙ c.in_ok-certificate.ensures cert.0 f.c cert.1 cert.2 f.kept.spelled cert.3))
+
+pub returns-in_default-unmet_in : goal.returns-in_default-unmet_in
+returns-in_default-unmet_in c = λ first.
+    let f = faulty c.args.bytes.now c.args.number first in
+    let cert = f.certified in
+    let same = same_Some c.in-Some.certificate f.c (sym c.in-Some.is ∙ c.in_ok-certificate.ensures cert.0 f.c cert.1 cert.2 f.kept.spelled cert.3) in
+    let decisions = c.decisions-decisions.ensures ∙ ap (λ (d : Certificate). d.decisions) same in
+    let before = has-before c.args.bytes.now c.text_before.result.now c.args.number f.before f.line f.has (omega (arith, c.ranges.number)) c.text_before.ensures in
+    absurd (some-unshown c.args.bytes.now c.args.number first c.decisions-decisions.result.now c.in_ok-sought.sought decisions (c.in_ok-sought.ensures.lines f.before before) c.in_default-unmet_in.ensures.none)
+
 pub returns : goal.returns
-returns c = λ front d rest none is e.
-    let same = same_Some c.in-Some.certificate d (sym c.in-Some.is ∙ c.in_ok-certificate.ensures front d rest none is e) in
-    subst (λ (k : Certificate). IfSome c.step_at.result (IsStepAt k.decisions)) same (subst (λ ds. IfSome c.step_at.result (IsStepAt ds)) c.decisions-decisions.ensures c.step_at.ensures.there)
+returns c = λ first.
+    let f = faulty c.args.bytes.now c.args.number first in
+    let cert = f.certified in
+    let same = same_Some c.in-Some.certificate f.c (sym c.in-Some.is ∙ c.in_ok-certificate.ensures cert.0 f.c cert.1 cert.2 f.kept.spelled cert.3) in
+    let decisions = c.decisions-decisions.ensures ∙ ap (λ (d : Certificate). d.decisions) same in
+    let before = has-before c.args.bytes.now c.text_before.result.now c.args.number f.before f.line f.has (omega (arith, c.ranges.number)) c.text_before.ensures in
+    step-found c.args.bytes.now c.args.number first c.decisions-decisions.result.now c.in_ok-sought.sought c.in-Some-unmet_in.decision c.in-Some-unmet_in.place c.step_at.result decisions
+    (c.in_ok-sought.ensures.lines f.before before) c.in_ok-sought.ensures.walks c.in-Some-unmet_in.ensures.some c.step_at.ensures.there c.step_at.ensures.asked c.step_at.ensures.none
