@@ -30,7 +30,7 @@ pub record TellsTransaction (bytes : List ℕ) (v : Verdict) (tx : ℕ) (old new
   pub told : (c : Certificate) → HoldsCertificate bytes c → TellsFate c.decisions tx old fate
   pub dealings : TellsDealings tx fate new
   pub own : (lines : List SectionLine) → AreSeen bytes v lines
-      → TellsOwn tx (own_of tx lines) fate new
+      → TellsOwn lines tx (own_of tx lines) fate new
 
 -- nothing is told where none is asked for
 abbrev pub TellsAsked : List ℕ → Verdict → Option ℕ → (old new : List ℕ) → Type 0

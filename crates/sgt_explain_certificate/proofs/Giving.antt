@@ -1,6 +1,6 @@
 -- The ranks that decisions give, each with the number of its decision.
-use Rattle.std.proofs.Common.{◌≡◌, ◌≢◌, ℕ, zero, suc, ◌+◌, ◌<◌, ◌≤◌, List, [], ◌∷◌, ◌++◌, length, map, take, Some, None, inl, inr, refl, sym, ap, ◌∙◌, subst, arith, All, Contains}
-use Rattle.std.specs.Prelude.{slice_get, IsPermutation, Option, IfSome, IfNone, option_map}
+use Rattle.std.proofs.Common.{◌≡◌, ◌≢◌, ℕ, zero, suc, ◌+◌, ◌<◌, ◌≤◌, List, [], ◌∷◌, ◌++◌, length, map, take, Some, None, inl, inr, refl, sym, ap, ◌∙◌, subst, arith, All, Contains, take_all}
+use Rattle.std.specs.Prelude.{slice_get, IsPermutation, Option, IfSome, IfNone, option_map, is_some, true, false, ◌⊎◌, ◌-◌}
 use Rattle.std.specs.List.{filter_map, enumerate_from, cons_option}
 use Rattle.std.specs.List.Sorted.{IsNonDecreasingBy}
 use Rattle.std.proofs.lemmas.List.{length-take-le, length-map, append-nil}
@@ -9,12 +9,12 @@ use Rattle.std.proofs.lemmas.List.Sorted.{Contains-permutation, IsPermutation-sy
 use Rattle.std.proofs.lemmas.Option.{same_Some, slice_get_within, get_or_from_slice_get, slice_get-map}
 use Rattle.std.proofs.lemmas.Bool.{cases_order}
 use Rattle.sgt_names.proofs.Lists.{take_next, map_at, All_in, All-next}
-use Rattle.sgt_names.proofs.Places.{All-from_at, Contains_at, Contains-from_at, slice_get-take}
+use Rattle.sgt_names.proofs.Places.{All-from_at, Contains_at, Contains-from_at, slice_get-none, slice_get-take, slice_get-take_at}
 use Rattle.sgt_cert.specs.Certificate.{IsCommitted, ranks}
 use Rattle.sgt_cert.specs.declared.certificate.Decision.{Decision}
 use Rattle.sgt_cert.specs.declared.certificate.Decision.TheVariants.{Commit, Refuse, Withdraw}
 use Rattle.sgt_explain_certificate.specs.declared.ranks.Given.{Given}
-use Rattle.sgt_explain_certificate.specs.Ranks.{given_by, given_of, all_given, IsGiven, HasRank, AreDoubled}
+use Rattle.sgt_explain_certificate.specs.Ranks.{given_by, given_of, all_given, IsGiven, HasRank, AreDoubled, AreSingle}
 
 -- what stands at a place among the ranks is given by a decision
 given-at : (k : ℕ) (ds : List Decision) (n : ℕ) (g : Given) → slice_get (filter_map given_of (enumerate_from k ds)) n ≡ Some g
@@ -111,6 +111,49 @@ missing-is ds gs given (Some rank) moved same h = (
 )
 missing-is ds gs given None moved same h = h
 
+-- each decision that commits is among the ranks
+abbrev tx_in : Decision → ℕ
+tx_in (Commit tx rank) = tx
+tx_in _ = 0
+
+abbrev rank_in : Decision → ℕ
+rank_in (Commit tx rank) = rank
+rank_in _ = 0
+
+given-has : (k : ℕ) (ds : List Decision) (m : ℕ) (g : Given) → IsCommitted ds m g.tx g.rank → g.number ≡ k + m → (n : ℕ) × (slice_get (filter_map given_of (enumerate_from k ds)) n ≡ Some g)
+given-has k [] m g at e = absurd cc
+given-has k (Commit tx rank ∷ ds) zero g at e =
+    let same = same_Some (Commit tx rank) (Commit g.tx g.rank) at in
+    let number : k ≡ g.number = omega (arith, e) in (
+      0,
+      ap (λ n. Some (record { rank = rank; tx = tx; number = n })) number ∙ ap (λ t. Some (record { rank = rank; tx = t; number = g.number })) (ap tx_in same)
+          ∙ ap (λ r. Some (record { rank = r; tx = g.tx; number = g.number })) (ap rank_in same),
+    )
+given-has k (Commit tx rank ∷ ds) (suc m) g at e = let found = given-has (k + 1) ds m g at (omega (arith, e)) in (suc found.0, found.1)
+given-has k (Refuse tx walk ∷ ds) zero g at e = absurd cc
+given-has k (Refuse tx walk ∷ ds) (suc m) g at e = given-has (k + 1) ds m g at (omega (arith, e))
+given-has k (Withdraw tx ∷ ds) zero g at e = absurd cc
+given-has k (Withdraw tx ∷ ds) (suc m) g at e = given-has (k + 1) ds m g at (omega (arith, e))
+
+given-among : (ds : List Decision) (gs given : List Given) (g : Given) → IsPermutation (all_given ds) gs → given ≡ gs → IsGiven ds g → Contains given g
+given-among ds gs given g moved same is =
+    let at = given-has 0 ds g.number g is (omega arith) in
+    subst (λ xs. Contains xs g) (sym same) (Contains-permutation (all_given ds) gs g moved (Contains-from_at (all_given ds) at.0 g at.1))
+
+pub single-is : (ds : List Decision) (gs given : List Given) (found : Option (Given × Given)) → IsPermutation (all_given ds) gs → given ≡ gs → IfNone found (AreSingle given)
+    → IfNone found ((one other : Given) → IsGiven ds one → IsGiven ds other → AreDoubled one other → ⊥)
+single-is ds gs given (Some two) moved same h = h
+single-is ds gs given None moved same h = λ one other is is' two.
+    let number = h one other (given-among ds gs given one moved same is) (given-among ds gs given other moved same is') two.same in
+    let apart = two.apart in
+    omega (arith, number, apart)
+
+pub below-is : (ds : List Decision) (gs given : List Given) (found : Option Given) → IsPermutation (all_given ds) gs → given ≡ gs
+    → IfNone found (All (λ (g : Given). g.rank < length given) given) → IfNone found ((g : Given) → IsGiven ds g → g.rank < length (ranks ds))
+below-is ds gs given (Some g) moved same h = h
+below-is ds gs given None moved same h = λ g is.
+    subst (λ k. g.rank < k) (ap length same ∙ given-count ds gs moved) (All_in (λ (x : Given). x.rank < length given) given g h (given-among ds gs given g moved same is))
+
 has-given : (ds : List Decision) (gs : List Given) (rank : ℕ) → IsPermutation (all_given ds) gs → HasRank gs rank → Contains (ranks ds) rank
 has-given ds gs rank moved has =
     let at = Contains_at (all_given ds) has.0 (Contains-permutation gs (all_given ds) has.0 (IsPermutation-sym (all_given ds) gs moved) has.1) in
@@ -146,3 +189,92 @@ met-next gs i wanted g at is met rank less =
       | inr (inl below) ↦ met rank below
       | inr (inr above) ↦ absurd (omega (arith, less, above))
     ]
+
+-- ---- of one rank one decision alone, up to one more of the ranks, which rise
+
+rising-at : (gs : List Given) (p q : ℕ) (a b : Given) → IsNonDecreasingBy (λ (h : Given). h.rank) gs → p ≤ q → slice_get gs p ≡ Some a → slice_get gs q ≡ Some b → a.rank ≤ b.rank
+rising-at gs p q a b rising le at at' =
+    let le' = rising p q b le (slice_get_within gs q b at') in
+    let one = ap (λ (x : Given). x.rank) (get_or_from_slice_get gs p a b at) in
+    let own = ap (λ (x : Given). x.rank) (get_or_from_slice_get gs q b b at') in
+    omega (arith, le', one, own)
+
+-- the last of those before
+abbrev pub IsLast : List Given → ℕ → Option Given → Type 0
+IsLast gs i before = 0 < i → (b : Given) × (before ≡ Some b) × (slice_get gs (i - 1) ≡ Some b)
+
+same-number : (gs : List Given) (i : ℕ) (g : Given) (before : Option Given) → IsNonDecreasingBy (λ (h : Given). h.rank) gs → slice_get gs i ≡ Some g → IsLast gs i before
+    → ((other : Given) → before ≡ Some other → other.rank ≡ g.rank → other.number ≡ g.number) → AreSingle (take i gs)
+    → (h : Given) → Contains (take i gs) h → h.rank ≡ g.rank → h.number ≡ g.number
+same-number gs i g before rising at last apart single h has rank =
+    let place = Contains_at (take i gs) h has in
+    let front = slice_get-take gs i place.0 h place.1 in
+    let less = front.0 in
+    let b = last (omega (arith, less)) in
+    let up = rising-at gs place.0 (i - 1) h b.0 rising (omega (arith, less)) front.1 b.2 in
+    let down = rising-at gs (i - 1) i b.0 g rising (omega arith) b.2 at in
+    let same : b.0.rank ≡ g.rank = omega (arith, up, down, rank) in
+    let number = apart b.0 b.1 same in
+    let among = Contains-from_at (take i gs) (i - 1) b.0 (slice_get-take_at gs i (i - 1) b.0 (omega (arith, less)) b.2) in
+    single h b.0 has among (rank ∙ sym same) ∙ number
+
+pub single-next : (gs : List Given) (i : ℕ) (g : Given) (before : Option Given) → IsNonDecreasingBy (λ (h : Given). h.rank) gs → slice_get gs i ≡ Some g → IsLast gs i before
+    → ((other : Given) → before ≡ Some other → other.rank ≡ g.rank → other.number ≡ g.number) → AreSingle (take i gs) → AreSingle (take (i + 1) gs)
+single-next gs i g before rising at last apart single = λ a b has has' rank.
+    elim (among a has) [
+      | inl early ↦ elim (among b has') [
+        | inl early' ↦ single a b early early' rank
+        | inr e ↦ same-number gs i g before rising at last apart single a early (rank ∙ ap (λ (x : Given). x.rank) e) ∙ ap (λ (x : Given). x.number) (sym e)
+      ]
+      | inr e ↦ elim (among b has') [
+        | inl early' ↦ ap (λ (x : Given). x.number) e
+            ∙ sym (same-number gs i g before rising at last apart single b early' (sym rank ∙ ap (λ (x : Given). x.rank) e))
+        | inr e' ↦ ap (λ (x : Given). x.number) (e ∙ sym e')
+      ]
+    ]
+  where
+    among : (h : Given) → Contains (take (i + 1) gs) h → Contains (take i gs) h ⊎ (h ≡ g)
+    among h has =
+        let place = Contains_at (take (i + 1) gs) h has in
+        let front = slice_get-take gs (i + 1) place.0 h place.1 in
+        let less = front.0 in
+        elim (cases_order place.0 i) [
+          | inl here ↦ inr (same_Some h g (sym front.1 ∙ ap (slice_get gs) here ∙ at))
+          | inr (inl below) ↦ inl (Contains-from_at (take i gs) place.0 h (slice_get-take_at gs i place.0 h below front.1))
+          | inr (inr above) ↦ absurd (omega (arith, less, above))
+        ]
+
+pub single-none : (gs : List Given) → AreSingle (take 0 gs)
+single-none gs = λ a b has has' rank. absurd (let place = Contains_at (take 0 gs) a has in let front = slice_get-take gs 0 place.0 a place.1 in let less = front.0 in omega (arith, less))
+
+pub single-all : (gs : List Given) (i : ℕ) → length gs ≤ i → AreSingle (take i gs) → AreSingle gs
+single-all gs i most single = subst AreSingle (take_all i gs most) single
+
+-- where the last is below their count, all are
+pub below-last : (gs : List Given) (last : Given) → IsNonDecreasingBy (λ (h : Given). h.rank) gs → slice_get gs (length gs - 1) ≡ Some last → last.rank < length gs
+    → All (λ (g : Given). g.rank < length gs) gs
+below-last gs last rising at less = All-from_at (λ (g : Given). g.rank < length gs) gs (λ n g at'.
+    let within = slice_get_within gs n g at' in
+    let le = rising-at gs n (length gs - 1) g last rising (omega (arith, within)) at' at in
+    omega (arith, le, less))
+
+-- where there is none
+pub below-none : (gs : List Given) → slice_get gs (length gs - 1) ≡ None → All (λ (g : Given). g.rank < length gs) gs
+below-none gs none = All-from_at (λ (g : Given). g.rank < length gs) gs (λ n g at.
+    let within = slice_get_within gs n g at in
+    let most = slice_get-none gs (length gs - 1) none in
+    absurd (omega (arith, within, most)))
+
+-- what was found, or not
+pub none-found : (found : Option (Given × Given)) (P : Type 0) → is_some found ≡ false → IfNone found P → P
+none-found (Some two) P e h = absurd cc
+none-found None P e h = h
+
+pub not-found : (found : Option (Given × Given)) (P : Type 0) → is_some found ≡ true → IfNone found P
+not-found (Some two) P e = tt
+not-found None P e = absurd cc
+
+pub found-both : (gs : List Given) (found : Option (Given × Given)) → IfSome found (λ two. Contains gs two.0 × Contains gs two.1) → IfSome found (λ two. AreDoubled two.0 two.1)
+    → IfSome found (λ two. Contains gs two.0 × Contains gs two.1 × AreDoubled two.0 two.1)
+found-both gs (Some two) both h = (both.0, both.1, h)
+found-both gs None both h = tt

@@ -1,8 +1,9 @@
 //! What is said of ranks that aren't 0 to n-1, each once.
 
-ghost use Rattle.std.specs.Prelude.{◌≡◌, ◌≢◌, ◌+◌, ◌<◌, ◌≤◌, ◌++◌, ℕ, All, IfOk, IfSome, IfNone, OnOk, Contains, IsPermutation, length, string_bytes};
+ghost use Rattle.std.specs.Prelude.{◌≡◌, ◌≢◌, ◌+◌, ◌<◌, ◌≤◌, ◌++◌, ℕ, All, List, Some, IfOk, IfSome, IfNone, OnOk, Contains, IsPermutation, length, string_bytes};
 ghost use Rattle.std.specs.List.Sorted.{IsNonDecreasingBy};
-ghost use Rattle.sgt_explain_certificate.specs.Ranks.{given_by, all_given, HasRank, AreDoubled, AreRanksFound, ranks_head, doubled_text, if_doubled, if_above, if_missing, TellsRanks};
+ghost use Rattle.sgt_explain_certificate.specs.Ranks.{given_by, all_given, HasRank, AreDoubled, AreSingle, AreRanksFound, ranks_head, doubled_text, if_doubled, if_above, if_missing, TellsRanks};
+ghost use Rattle.sgt_explain_certificate.specs.declared.ranks.Given.{Given as AGiven};
 
 use sgt_cert::Decision;
 use sgt_names::Tx;
@@ -56,19 +57,35 @@ fn given_in(alloc: Global, decisions: &[Decision]) -> Result<Vec<Given>, AllocEr
     Ok(given)
 }
 
+/// The two, if they are of one rank and of two decisions: the one of the smaller number first.
+fn doubled_with(before: &Option<Given>, one: &Given) -> Option<(Given, Given)>
+    ensures both { (given : List AGiven) → IfSome before.now (Contains given) → Contains given one.now
+        → IfSome result (λ two. Contains given two.0 × Contains given two.1) }
+    ensures doubled { IfSome result (λ two. AreDoubled two.0 two.1) }
+    ensures none { IfNone result ((other : AGiven) → before.now ≡ Some other
+        → other.rank ≡ one.now.rank → other.number ≡ one.now.number) }
+{
+    match before {
+        Some(other) if other.rank == one.rank && other.number < one.number => Some((*other, *one)),
+        Some(other) if other.rank == one.rank && one.number < other.number => Some((*one, *other)),
+        _ => None,
+    }
+}
+
 /// The first two of one rank.
 fn doubled(given: &[Given]) -> Option<(Given, Given)>
-    ensures { IfSome result (λ two. Contains given.now two.0 × Contains given.now two.1
+    requires { IsNonDecreasingBy (λ g. g.rank) given.now }
+    ensures some { IfSome result (λ two. Contains given.now two.0 × Contains given.now two.1
         × AreDoubled two.0 two.1) }
+    ensures none { IfNone result (AreSingle given.now) }
 {
     let mut before: Option<Given> = None;
     for one in given {
-        match before {
-            Some(other) if other.rank == one.rank && other.number < one.number => {
-                return Some((other, *one));
-            }
-            _ => before = Some(*one),
+        let found = doubled_with(&before, one);
+        if found.is_some() {
+            return found;
         }
+        before = Some(*one);
     }
     None
 }
@@ -105,12 +122,17 @@ fn missing(given: &[Given]) -> Option<usize>
 
 /// The greatest rank, where there are not more commits.
 fn above(given: &[Given]) -> Option<Given>
-    ensures { IfSome result (λ g. Contains given.now g × (length given.now ≤ g.rank)) }
+    requires { IsNonDecreasingBy (λ g. g.rank) given.now }
+    ensures some { IfSome result (λ g. Contains given.now g × (length given.now ≤ g.rank)) }
+    ensures none { IfNone result (All (λ g. g.rank < length given.now) given.now) }
 {
-    match given.last() {
-        Some(last) if last.rank as usize >= given.len() => Some(*last),
-        _ => None,
+    let Some(last) = given.last() else {
+        return None;
+    };
+    if (last.rank as usize) < given.len() {
+        return None;
     }
+    Some(*last)
 }
 
 /// What is wrong with the ranks of all commits.

@@ -1,3 +1,4 @@
 pub mod Behind
 pub mod Owning
 pub mod Pairing
+pub mod Standing

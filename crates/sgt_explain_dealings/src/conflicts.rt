@@ -1,9 +1,11 @@
 //! The conflicts of one transaction, each in its direction.
 
-ghost use Rattle.std.specs.Prelude.{◌≡◌, ◌++◌, ℕ, All, IfSome, OnOk, string_bytes};
+ghost use Rattle.std.specs.Prelude.{◌≡◌, ◌++◌, ℕ, All, IfSome, IsTrue, List, OnOk, Option, string_bytes};
+ghost use Rattle.sgt_notation.specs.declared.SectionLine.{SectionLine};
+ghost use Rattle.sgt_explain_lines.specs.Sited.{HasBefore, StandsAt};
 ghost use Rattle.sgt_explain_lines.specs.Told.{Adds};
 ghost use Rattle.sgt_explain_dealings.specs.Conflicts.{IsClash, IsOwnConflict, pair_text, AddsConflicts};
-ghost use Rattle.sgt_explain_dealings.specs.Dealings.{IsOwn};
+ghost use Rattle.sgt_explain_dealings.specs.Dealings.{IsOwnIn};
 
 use crate::dealings::{Own, entry_at};
 use sgt_explain_lines::{Logged, clash, cut_line, push_conflict};
@@ -37,7 +39,8 @@ fn first_on(sorted: &[Own], site: u8, item: &Item) -> usize {
 
 /// The conflict that the second entry is in with the first, which stands before it.
 fn clashing(site: u8, first: &Logged, second: &Logged) -> Option<Pair>
-    ensures { IfSome result (IsClash first.now second.now) }
+    ensures clash { IfSome result (IsClash first.now second.now) }
+    ensures site { IfSome result (λ p. p.site ≡ site) }
 {
     match clash(&first.entry, &second.entry) {
         Some((item, _)) => Some(Pair {
@@ -50,9 +53,11 @@ fn clashing(site: u8, first: &Logged, second: &Logged) -> Option<Pair>
     }
 }
 
-/// The conflict of an entry with one of the transaction's, in the order of the log.
+/// The conflict of an entry of the same site with one of the transaction's, in the order of the log.
 fn pair_of(own: &Own, other: &Logged) -> Option<Pair>
-    ensures { (tx : ℕ) → IsOwn tx own.now → IfSome result (IsOwnConflict tx) }
+    ensures { (known : Option (List SectionLine)) (tx : ℕ) → IsOwnIn known tx own.now
+        → IfSome known (λ lines. StandsAt lines own.now.site other.now)
+        → IfSome result (IsOwnConflict known tx) }
 {
     if own.logged.line < other.line {
         clashing(own.site, &own.logged, other)
@@ -72,8 +77,8 @@ fn push_pair(out: &mut String, pair: &Pair) -> Result<(), AllocError>
 
 /// The same, and counts it. What is too many is counted alone.
 fn show_pair(out: &mut String, pair: &Pair, count: &mut u64) -> Result<(), AllocError>
-    ensures { (tx : ℕ) → IsOwnConflict tx pair.now
-        → OnOk result (AddsConflicts tx (string_bytes out.old) (string_bytes out.new)) }
+    ensures { (known : Option (List SectionLine)) (tx : ℕ) → IsOwnConflict known tx pair.now
+        → OnOk result (AddsConflicts known tx (string_bytes out.old) (string_bytes out.new)) }
 {
     let shown = *count;
     *count = shown.saturating_add(1);
@@ -84,20 +89,28 @@ fn show_pair(out: &mut String, pair: &Pair, count: &mut u64) -> Result<(), Alloc
     }
 }
 
-/// The conflict of an entry with one of the transaction's, if there is one.
+/// The conflict of an entry of the same site with one of the transaction's, if there is one.
 fn push_if_pair(
     out: &mut String,
     own: &Own,
     other: &Logged,
     count: &mut u64,
 ) -> Result<(), AllocError>
-    ensures { (tx : ℕ) → IsOwn tx own.now
-        → OnOk result (AddsConflicts tx (string_bytes out.old) (string_bytes out.new)) }
+    ensures { (known : Option (List SectionLine)) (tx : ℕ) → IsOwnIn known tx own.now
+        → IfSome known (λ lines. StandsAt lines own.now.site other.now)
+        → OnOk result (AddsConflicts known tx (string_bytes out.old) (string_bytes out.new)) }
 {
     match pair_of(own, other) {
         Some(pair) => show_pair(out, &pair, count),
         None => Ok(()),
     }
+}
+
+/// Whether the entry is on the item of the site.
+fn is_on(own: &Own, site: u8, item: &Item) -> bool
+    ensures { IsTrue result → own.now.site ≡ site }
+{
+    own.site == site && own.logged.entry.item() == Some(*item)
 }
 
 /// The conflicts of an entry with those of the transaction on its item, of which there are two at
@@ -109,8 +122,9 @@ fn push_pairs(
     other: &Logged,
     count: &mut u64,
 ) -> Result<(), AllocError>
-    ensures { (tx : ℕ) → All (IsOwn tx) sorted.now
-        → OnOk result (AddsConflicts tx (string_bytes out.old) (string_bytes out.new)) }
+    ensures { (known : Option (List SectionLine)) (tx : ℕ) → All (IsOwnIn known tx) sorted.now
+        → IfSome known (λ lines. StandsAt lines site other.now)
+        → OnOk result (AddsConflicts known tx (string_bytes out.old) (string_bytes out.new)) }
 {
     let Some(item) = other.entry.item() else {
         return Ok(());
@@ -118,7 +132,7 @@ fn push_pairs(
     let from = first_on(sorted, site, &item);
     for at in from..from.saturating_add(2) {
         match sorted.get(at) {
-            Some(own) if order(own, site, &item) == Ordering::Equal => {
+            Some(own) if is_on(own, site, &item) => {
                 push_if_pair(out, own, other, count)?;
             }
             _ => return Ok(()),
@@ -134,8 +148,9 @@ pub(crate) fn push_conflicts(
     bytes: &[u8],
     end: u64,
 ) -> Result<u64, AllocError>
-    ensures { (tx : ℕ) → All (IsOwn tx) sorted.now
-        → OnOk result (AddsConflicts tx (string_bytes out.old) (string_bytes out.new)) }
+    ensures { (known : Option (List SectionLine)) (tx : ℕ) → IfSome known (HasBefore bytes.now end)
+        → All (IsOwnIn known tx) sorted.now
+        → OnOk result (AddsConflicts known tx (string_bytes out.old) (string_bytes out.new)) }
 {
     let mut count = 0u64;
     let mut site = 0u8;

@@ -1,12 +1,12 @@
 //! What one transaction did: its entries at each site.
 
-ghost use Rattle.std.specs.Prelude.{◌≡◌, ◌↔◌, IsTrue, ◌≤◌, ◌<◌, ◌++◌, [], ℕ, List, None, All, IfOk, OnOk, string_bytes};
+ghost use Rattle.std.specs.Prelude.{◌≡◌, ◌↔◌, IsTrue, ◌≤◌, ◌<◌, ◌++◌, [], ℕ, List, None, Option, All, IfOk, OnOk, string_bytes};
 ghost use Rattle.std.specs.List.{cons_option};
 ghost use Rattle.sgt_notation.specs.Spelling.{line_text, IsLine};
 ghost use Rattle.sgt_notation.specs.declared.SectionLine.{SectionLine};
 ghost use Rattle.sgt_explain_lines.specs.Numbered.{entry_in, site_behind};
 ghost use Rattle.sgt_explain_lines.specs.Sited.{HasBefore};
-ghost use Rattle.sgt_explain_dealings.specs.Dealings.{IsOwn, own_from, own_of, site_if_new, one_text, own_text, own_head, TellsDealings, TellsAllOwn};
+ghost use Rattle.sgt_explain_dealings.specs.Dealings.{IsOwn, IsOwnIn, own_from, own_of, site_if_new, one_text, own_text, own_head, TellsDealings, TellsAllOwn};
 
 use crate::conflicts::{push_conflicts, push_count};
 use sgt_explain_lines::{Logged, cut_line, entry_of, push_logged};
@@ -108,7 +108,8 @@ fn push_own(out: &mut String, own: &[Own]) -> Result<(), AllocError>
 
 /// The entries on items, by site and item.
 fn by_item(alloc: Global, own: &[Own]) -> Result<Vec<Own>, AllocError>
-    ensures { (tx : ℕ) → All (IsOwn tx) own.now → IfOk result (λ sorted. All (IsOwn tx) sorted.items) }
+    ensures { (known : Option (List SectionLine)) (tx : ℕ) → All (IsOwnIn known tx) own.now
+        → IfOk result (λ sorted. All (IsOwnIn known tx) sorted.items) }
 {
     let mut sorted = Vec::new(alloc);
     for one in own {
