@@ -2,6 +2,7 @@
 """make_history.py KIND N: a history on standard output, to time `sgt check`.
 
   even      N transactions of five operations over 100,000 items, which ran one after another; of each 16 lines the order is mixed
+  timed     the same, with begin, done and session
   readers   one writes an item, N read it
   long      one transaction of N operations
   ring      N transactions on one cycle of wr
@@ -11,11 +12,15 @@ import random
 import sys
 
 
-def line(name, operations):
-    sys.stdout.write('{"tx":"t%d","end":"commit","ops":[%s]}\n' % (name, ",".join(operations)))
+def line(name, operations, more=""):
+    sys.stdout.write('{"tx":"t%d","end":"commit","ops":[%s]%s}\n' % (name, ",".join(operations), more))
 
 
-def even(count):
+def times(name):
+    return ',"begin":%d,"done":%d,"session":%d' % (10 * name, 10 * name + 15, name % 16)
+
+
+def even(count, timed=False):
     draw = random.Random(1)
     version = [0] * 100_000
     block = []
@@ -30,12 +35,16 @@ def even(count):
                 operations.append('["w","k%d",%d]' % (item, now + 1))
         for item, written in mine.items():
             version[item] = written
-        block.append((name, operations))
+        block.append((name, operations, times(name) if timed else ""))
         if len(block) == 16 or name == count - 1:
             draw.shuffle(block)
             for one in block:
                 line(*one)
             block.clear()
+
+
+def timed(count):
+    even(count, True)
 
 
 def readers(count):
@@ -59,7 +68,7 @@ def twos(count):
         line(2 * pair + 1, ['["r","k%d",0]' % pair, '["w","k%d",2]' % pair])
 
 
-KINDS = {"even": even, "readers": readers, "long": long, "ring": ring, "twos": twos}
+KINDS = {"even": even, "timed": timed, "readers": readers, "long": long, "ring": ring, "twos": twos}
 
 if __name__ == "__main__":
     if len(sys.argv) != 3 or sys.argv[1] not in KINDS:
