@@ -56,11 +56,6 @@ none-met ds w steps met = record {
 
 -- ---- one more line
 
--- no log more is whole
-pub met-left : (ds : List Decision) (b : Begun) (o : Option SiteLog) (line : SectionLine) (w : Walks) → (line ≡ End → ⊥) → MeansMet ds b.whole w → MeansMet ds (with_next b o line).whole w
-met-left ds b None line w goes is = is
-met-left ds b (Some log) line w goes is = subst (λ ls. MeansMet ds ls w) (sym (same_whole b.whole log line goes)) is
-
 -- the open log is whole with the end of its section
 module _ (ds : List Decision) (b : Begun) (s : SiteState) (old new : Walks) (here : List Edge) (are : (site : ℕ) → s.section - 1 ≡ site → AreStepsAt ds site here) (same : new.steps ≡ old.steps) (is : MeansMet ds b.whole old) where
   section-at : (log : SiteLog) → TracksCurrent ds (length b.whole) (Some log) s → AreStepsAt ds (length b.whole) here

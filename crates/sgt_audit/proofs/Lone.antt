@@ -51,10 +51,6 @@ kept-7 c before (Logged e) = logged-7 c before e
 kept-7 c before (Final h) = final-7 c before h
 kept-7 c before End = end-7 c before
 
-pub not-section : (second : Bool) (c : Certificate) (before : List SectionLine) (line : SectionLine) → IsLineIn second line → (Begins c.sites (before ++ line ∷ []) → ⊥)
-    → Breaks (Rule (within second c before) (whole (line_text line))) fault.Section
-not-section second c before line is miss = within-breaks second c before line is fault.Section (record { broken = miss; least = kept-7 c before line })
-
 -- what is kept stands behind one more line
 pub next-stands : (c : Certificate) (b : Begun) (line : SectionLine) (old new : Alone) → StandsAlone c b old → Begins b.sites (lines_read b ++ line ∷ []) → KeptBelow (Keeps c (lines_read b) line) 17
     → ((a : Begun) → IsBegun a → MayFollow a a.current line → IsPlace a old.place → IsPlace (with_next a a.current line) new.place)
@@ -73,14 +69,6 @@ next-stands c b line old new s begins kept place state = record {
 pub last-meets : (edges : List Edge) (o : Option SiteLog) (met : Bool) → ((log : SiteLog) → o ≡ Some log → IsTrue met ↔ All (IsMet log.entries) edges) → MeetsSteps edges o End met
 last-meets edges (Some log) met h = h log refl
 last-meets edges None met h = tt
-
-pub other-meets : (edges : List Edge) (o : Option SiteLog) (line : SectionLine) (met : Bool) → (line ≡ End → ⊥) → MeetsSteps edges o line met
-other-meets edges None line met not = tt
-other-meets edges (Some log) (Site k) met not = tt
-other-meets edges (Some log) (Initial h) met not = tt
-other-meets edges (Some log) (Logged e) met not = tt
-other-meets edges (Some log) (Final h) met not = tt
-other-meets edges (Some log) End met not = absurd (not refl)
 
 -- ---- a line is not judged by the walks: its section might be the first of two
 

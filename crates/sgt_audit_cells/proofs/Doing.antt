@@ -132,9 +132,6 @@ place-one ns i j x y apart at_i at_j same =
       | inr (inr more) ↦ absurd (AllPairs_at Apart ns j i y x apart more at_j at_i (sym same))
     ]
 
-place-name : (ns : List Name) (i j : ℕ) (x y : Name) → slice_get ns i ≡ Some x → slice_get ns j ≡ Some y → i ≡ j → x ≡ y
-place-name ns i j x y at_i at_j same = same_Some x y (sym at_i ∙ ap (slice_get ns) same ∙ at_j)
-
 module _ (entries : List Entry) (tx : ℕ) (e : Entry) (Does : Entry → Type 0) where
   pub did-more : Did entries tx Does → Did (entries ++ e ∷ []) tx Does
   did-more (f, here, of, does) = (f, Contains-append_left entries (e ∷ []) f here, of, does)

@@ -45,10 +45,6 @@ module _ (ds : List Decision) (items : List Holding) (entries : List Entry) (cel
   cells-ended None not on = cells-left on
   cells-ended (Some i) not on = absurd (not i refl)
 
-pub ok-both : {A E P : Type 0} {Q R : A → Type 0} (r : Result A E) → ((a : A) → P → Q a → R a) → OnOk r P → IfOk r Q → IfOk r R
-ok-both (Ok a) f p q = f a p q
-ok-both (Err e) f p q = p
-
 pub ok-any : {A E P : Type 0} (r : Result A E) → P → OnOk r P
 ok-any (Ok a) p = p
 ok-any (Err e) p = tt

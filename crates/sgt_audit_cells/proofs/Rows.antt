@@ -207,6 +207,3 @@ module _ (nodes : List Node) (rows : List Row) (are : AreRows nodes rows) where
         omega (arith, early, long),
         λ place change. subst (λ (acts : List Act). Any (IsOf place change) acts ↔ HasMark row change place) (sym (others row.upto early)) (is.1 place change),
       )
-
-pub no-rows : (nodes : List Node) (rows : List Row) → rows ≡ [] → AreRows nodes rows
-no-rows nodes rows none i row at = absurd (none-some row (ap (λ rs. slice_get rs i) (sym none) ∙ at))

@@ -62,10 +62,6 @@ pub missing-at : (items left : Option (List Holding)) (ys : List Holding) (here 
 missing-at items left ys here are was =
     subst (λ o. BreaksHere o left here here) (sym are) (subst (λ o. BreaksHere None o here here) (sym was) refl)
 
-pub added-at : (items left : Option (List Holding)) (xs : List Holding) (here : ℕ) → items ≡ Some xs → left ≡ None → BreaksHere items left here here
-added-at items left xs here are was =
-    subst (λ o. BreaksHere o left here here) (sym are) (subst (λ o. BreaksHere (Some xs) o here here) (sym was) refl)
-
 -- the items of a site
 pub items-at : (logs : List SiteLog) (n : ℕ) (log : SiteLog) → slice_get logs n ≡ Some log → slice_get (map initial_of logs) n ≡ Some log.items
 items-at logs n log at = slice_get-map initial_of logs n ∙ ap (option_map initial_of) at

@@ -189,13 +189,3 @@ certificate-within c is = All-from_at (λ e. e.step.label.site < c.sites) (edges
 
 pub steps-at : (ds : List Decision) (s : Steps) (site : ℕ) (g : Group) → AreStepsOf ds s → slice_get s.groups.items site ≡ Some g → AreStepsAt ds site g.edges.items
 steps-at ds s site g is at = is.grouped site g at
-
-pub no-steps-at : (ds : List Decision) (s : Steps) (site : ℕ) → AreStepsOf ds s → length s.groups.items ≤ site → AreStepsAt ds site []
-no-steps-at ds s site is past e = (
-  λ has. absurd (omega (arith, has.1)),
-  λ both.
-      let place = Contains_at (edges_in ds) e both.0 in
-      let within = All_at (λ e. e.step.label.site < length s.groups.items) (edges_in ds) place.0 e is.sites place.1 in
-      let same = both.1 in
-      absurd (omega (arith, within, same, past)),
-)

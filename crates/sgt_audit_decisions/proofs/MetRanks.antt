@@ -73,9 +73,3 @@ module _ (rs : List ℕ) (n r : ℕ) (met : List Bool) (so_far : AreMet rs n met
           | inr ne ↦ let had = so_far.listed a (sym (get_or-set_other met r a true false ne) ∙ hit) in (had.0, omega (arith, had.1), had.2)
         ];
   }
-
-pub whole-met : (rs : List ℕ) (n : ℕ) (met : List Bool) → AreMet rs n met → length rs ≤ n → AreRanks rs
-whole-met rs n met so_far all = record {
-  below = All-from_at (λ r. r < length rs) rs (λ k r at. let lt = slice_get_within rs k r at in so_far.below k r (omega arith) at);
-  apart = AllPairs-from_at (λ r s. r ≢ s) rs (λ p q a b lt at_p at_q. let within = slice_get_within rs q b at_q in so_far.apart p q a b lt (omega arith) at_p at_q);
-}

@@ -20,13 +20,6 @@ pub record LeadApart (walk : List Step) (n : ℕ) (met : BTreeSet ℕ) : Type 0 
   pub listed : (tx : ℕ) → contains nat_cmp met tx ≡ true → LeadsTo walk n tx
   pub has : (tx : ℕ) → LeadsTo walk n tx → contains nat_cmp met tx ≡ true
 
-pub none-lead : (walk : List Step) (met : BTreeSet ℕ) → met.keys ≡ [] → LeadApart walk 0 met
-none-lead walk met none = record {
-  apart = λ p q a b lt within at_p at_q e. omega arith;
-  listed = λ tx hit. absurd (false≢true (sym (ap (λ ks. list_any (λ k. is_eq (nat_cmp tx k)) ks) none) ∙ hit));
-  has = λ tx (k, s, lt, at, to). absurd (omega arith);
-}
-
 module _ (walk : List Step) (n : ℕ) (s : Step) (met : BTreeSet ℕ) (so_far : LeadApart walk n met) (at : slice_get walk n ≡ Some s) where
   pub leads-twice : contains nat_cmp met s.to ≡ true → AllPairs (λ a b. a.to ≢ b.to) walk → ⊥
   leads-twice hit apart =

@@ -154,10 +154,6 @@ same_place s t x y = elim (cases_Bool (s == t)) [
   | inr site ↦ inr (λ e. eqb-false s t site e.0)
 ]
 
-pub ok-holds : {A E : Type 0} (r : Result A E) (X : Type 0) → is_err r ≡ false → OnOk r X → X
-ok-holds (Ok a) X e x = x
-ok-holds (Err e) X f x = absurd cc
-
 pub on-err : {A E : Type 0} (r : Result A E) (X : Type 0) → X → OnErr r X
 on-err (Ok a) X x = tt
 on-err (Err e) X x = x
@@ -171,23 +167,12 @@ fresh-at xs n x once at c =
     let where_at = slice_get-take xs n early.0 x early.1 in
     AllPairs_at (λ a b. a ≢ b) xs early.0 n x x once where_at.0 where_at.1 at refl
 
-pub widens-none : (counts : Counts) → Widens counts counts
-widens-none counts = record { same = λ s x. refl; kept = λ s x has. has }
-
 pub widens-more : (old mid new : Counts) → Widens old mid → Widens mid new → Widens old new
 widens-more old mid new a b = record { same = λ s x. b.same s x ∙ a.same s x; kept = λ s x has. b.kept s x (a.kept s x has) }
 
 pub places-kept : (old new : Counts) (lists : List Prepared) → Widens old new → All (HavePlaces old) lists → All (HavePlaces new) lists
 places-kept old new lists w = All-weaken (HavePlaces old) (HavePlaces new) lists
     (λ p all. All-weaken (HasPlace old p.site) (HasPlace new p.site) p.items (λ x has. w.kept p.site x has) all)
-
-pub counts-none : (s : ℕ) (counts : Counts) → CountsEach s [] counts counts
-counts-none s counts = record {
-  hit = λ x c. absurd (nil_none x c);
-  miss = λ x none. refl;
-  other = λ t x apart. refl;
-  kept = λ t x has. has;
-}
 
 pub counts-next : (site : ℕ) (xs : List Name) (x : Name) (old mid new : Counts) → CountsEach site xs old mid → (Contains xs x → ⊥)
     → stands_at new site x ≡ Some (suc (count_at mid site x))
@@ -292,11 +277,6 @@ counted-installed old new history longer expected tx site items is each h = reco
       (λ p all. All-weaken (HasPlace old p.site) (HasPlace new p.site) p.items (λ x has. each.kept p.site x has) all) h.placed;
 }
 
--- the items of a list that was made in advance have their places
-pub expected-placed : (counts : Counts) (history : List Call) (expected : List Prepared) (p : Prepared) → AreCounted counts history expected
-    → Contains expected p → All (HasPlace counts p.site) p.items
-expected-placed counts history expected p h c = let at = Contains_at expected p c in All_at (HavePlaces counts) expected at.0 p h.placed at.1
-
 -- no list was made for items of which one has no place
 pub not-placed : (counts : Counts) (expected : List Prepared) (touched : List Touch) (site : ℕ) → All (HavePlaces counts) expected
     → (All (HasPlace counts site) (changed_at touched site) → ⊥) → IsExpected expected touched site → ⊥
@@ -377,24 +357,3 @@ counted-few (call.Decide h edges reply ∷ cs) site item = let rest = counted-fe
 counted-few (call.Finish tx ∷ cs) site item = let rest = counted-few cs site item in omega (arith, rest)
 counted-few (call.Withdraw h number ∷ cs) site item = let rest = counted-few cs site item in omega (arith, rest)
 counted-few (call.Close ranks ∷ cs) site item = let rest = counted-few cs site item in omega (arith, rest)
-
--- ---- a place that can't be made
-
--- where no place can be made for the items, no list of them was made in advance
-pub none-expected : (counts : Counts) (history : List Call) (expected : List Prepared) (touched : List Touch) (site : ℕ)
-    → AreCounted counts history expected → (All (HasPlace counts site) (changed_at touched site) → ⊥)
-    → Contains expected (record { site = site; items = changed_at touched site }) → ⊥
-none-expected counts history expected touched site h none c =
-    none (expected-placed counts history expected (record { site = site; items = changed_at touched site }) h c)
-
-pub not-expected : (counts : Counts) (history : List Call) (expected : List Prepared) (touched : List Touch) (site : ℕ)
-    → AreCounted counts history expected → (All (HasPlace counts site) (changed_at touched site) → ⊥) → IsExpected expected touched site → ⊥
-not-expected counts history expected touched site h none (inl empty) =
-    none (subst (All (HasPlace counts site)) (sym empty) (λ k d within. absurd (omega (arith, within))))
-not-expected counts history expected touched site h none (inr c) = none-expected counts history expected touched site h none c
-
-pub wants-memory : {A : Type 0} (r : Result A CertifierFault) (old new : Kept) (request : Request) → IsErrAnd r (λ e. e ≡ fault.Memory)
-    → IsAllowed old.state request → new ≡ old → IfErr r (λ f. Declines old request f new)
-wants-memory (Ok a) old new request told allowed same = tt
-wants-memory (Err e) old new request told allowed same =
-    subst (λ f. Declines old request f new) (sym told) (record { told = allowed; same = same })

@@ -108,9 +108,6 @@ without-line bytes line made first behind second rest w one cut two cut_behind =
     let inner = cut_at_byte 10 second line rest w.rest (no_lf second two) (no_lf line w.one) (sym cut_behind ∙ outer.1) in
     ap₂ (λ (f r : List ℕ). f ++ 10 ∷ r) outer.0 inner.1 ∙ sym w.given
 
-pub no-first : (bytes line made : List ℕ) → IsWithLine bytes line made → HasNoLf made → ⊥
-no-first bytes line made w none = has_lf w.front (line ++ 10 ∷ w.rest) (subst HasNoLf w.made none)
-
 pub no-second : (bytes line made first behind : List ℕ) → IsWithLine bytes line made → HasNoLf first → made ≡ first ++ 10 ∷ behind → HasNoLf behind → ⊥
 no-second bytes line made first behind w one cut none =
     let outer = cut_at_byte 10 first w.front behind (line ++ 10 ∷ w.rest) (no_lf first one) (no_lf w.front w.first) (sym cut ∙ w.made) in

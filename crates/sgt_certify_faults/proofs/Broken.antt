@@ -38,11 +38,6 @@ follows-some b line all (count, begins) = follow-count b b.current line count (b
 pub all-read : (b : Begun) → IsBegun b → b.sites ≡ max_sites → b.current ≡ None → length b.whole ≡ max_sites → AreAll (lines_read b)
 all-read b begun all none full = subst (λ n. AreSections n (lines_read b)) all (whole-sections b begun none (full ∙ sym all))
 
-pub all-only : (b : Begun) → b.sites ≡ max_sites → AreAll (lines_read b) → (b.current ≡ None) × (length b.whole ≡ max_sites)
-all-only b all whole_lines =
-    let are = are-sections b (subst (λ n. AreSections n (lines_read b)) (sym all) whole_lines) in
-    (are.0, are.1 ∙ all)
-
 -- sections that are whole are one at least
 pub some-sections : (b : Begun) (count : ℕ) → AreSections count (lines_read b) → (b.current ≡ None) × (1 ≤ length b.whole)
 some-sections b count (logs, shaped, all) =
@@ -139,9 +134,6 @@ trailing-broken second before next all more = record { broken = λ rule. more (r
 
 pub line-last : (l : List ℕ) → whole l ≡ last [] → ⊥
 line-last l e = cc
-
-pub last-empty : (l : List ℕ) → last l ≡ last [] → l ≡ []
-last-empty l e = ap bytes_of e
 
 pub long-last : (next : Piece) → max_line < length (bytes_of next) → next ≡ last [] → ⊥
 long-last next long e = absurd (omega (arith, long, ap (λ p. length (bytes_of p)) e))

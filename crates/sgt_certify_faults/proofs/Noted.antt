@@ -38,14 +38,6 @@ at-push xs x n y at =
       | inr (inr more) ↦ absurd (omega (arith, more, slice_get_within (xs ++ x ∷ []) n y at, length-append xs (x ∷ [])))
     ]
 
-pub no-askings : (a : Askings) → ((tx : ℕ) → get nat_cmp a.numbers tx ≡ None) → a.list.items ≡ [] → AreAskings [] a
-no-askings a none empty = record {
-  placed = λ n k at. absurd (none-some k (ap (λ (ks : List Asking). slice_get ks n) (sym empty) ∙ at));
-  found = λ tx n at. absurd (none-some n (sym (none tx) ∙ at));
-  ends = λ n k at. absurd (none-some k (ap (λ (ks : List Asking). slice_get ks n) (sym empty) ∙ at));
-  all = λ n e at. absurd (none-some e at);
-}
-
 -- one more entry of a transaction that stands there
 pub asked-again : (es : List Entry) (e : Entry) (a new : Askings) (number : ℕ) (k : Asking) → AreAskings es a → get nat_cmp a.numbers (tx_of e) ≡ Some number → slice_get a.list.items number ≡ Some k
     → new.numbers ≡ a.numbers → new.list.items ≡ set a.list.items number (asking_with k e) → AreAskings (es ++ e ∷ []) new

@@ -241,11 +241,6 @@ first-long text more one next comes long = at-first (text ++ more) next fault.Fo
 pub nothing-decided_yet : (ds : List Decision) → All (λ e. (number : ℕ) × IsDecided ds e number) (filter_map logged_in (lines_read (record { sites = max_sites; whole = []; current = None })))
 nothing-decided_yet ds = All-nil (λ e. (number : ℕ) × IsDecided ds e number)
 
--- a text whose first line says the format
-pub format-text : (second : Bool) (text line after more : List ℕ) → text ≡ line ++ 10 ∷ after → line ≡ format_line second → text ++ more ≡ format_line second ++ 10 ∷ (after ++ more)
-format-text second text line after more cut says =
-    ap (λ (t : List ℕ). t ++ more) (cut ∙ ap (λ (l : List ℕ). l ++ 10 ∷ after) says) ∙ append_assoc (format_line second) (10 ∷ after) more
-
 pub none-weaker : {A : Type 0} (o : Option A) (P Q : Type 0) → (P → Q) → IfNone o P → IfNone o Q
 none-weaker None P Q f h = f h
 none-weaker (Some x) P Q f h = tt

@@ -17,12 +17,6 @@ bool_cases : (b : Bool) → (b ≡ true) ⊎ (b ≡ false)
 bool_cases true = inl refl
 bool_cases false = inr refl
 
--- whoever does something to an item is an operation on it
-pub does-item : (k : Class) (x : Name) (e : Entry) → Does k x e → item_of e ≡ Some x
-does-item class.Read x e h = reads-item x e h
-does-item class.Change x e h = writes-item x e h
-does-item class.Put x e h = writes-item x e h.0
-
 -- one of the first n entries is of a source and does this to the item
 abbrev pub IsSeen : List Entry → ℕ → BTreeSet ℕ → Class → Name → Type 0
 IsSeen entries n sources first x = (p : ℕ) × (e : Entry) × (p < n) × (slice_get entries p ≡ Some e) × HasTx sources (tx_of e) × Does first x e
@@ -33,14 +27,6 @@ pub record HasSeen (entries : List Entry) (n : ℕ) (sources barred : BTreeSet �
   pub clear : (p q : ℕ) (e f : Entry) (x : Name) → p < q → q < n → slice_get entries p ≡ Some e → slice_get entries q ≡ Some f
       → HasTx sources (tx_of e) → HasTx barred (tx_of f) → Does first x e → Does second x f → ⊥
   pub only : (x : Name) → HasItem seen x → IsSeen entries n sources first x
-
-pub none-seen : (entries : List Entry) (sources barred : BTreeSet ℕ) (first second : Class) (seen : BTreeSet (List ℕ))
-    → ((x : Name) → HasItem seen x → ⊥) → HasSeen entries 0 sources barred first second seen
-none-seen entries sources barred first second seen none = record {
-  kept = λ p e x lt. absurd (omega arith);
-  clear = λ p q e f x lt within. absurd (omega arith);
-  only = λ x has. absurd (none x has);
-}
 
 seen-later : (entries : List Entry) (n : ℕ) (sources : BTreeSet ℕ) (first : Class) (x : Name) → IsSeen entries n sources first x
     → IsSeen entries (n + 1) sources first x

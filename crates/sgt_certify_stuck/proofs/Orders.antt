@@ -59,27 +59,8 @@ pub record RiseTo (entries : List Entry) (places : BTreeMap ℕ ℕ) (n : ℕ) (
       → IsEnd e → IsEnd f → StandsBefore places (tx_of e) (tx_of f)
   pub met : (top : ℕ) → last ≡ Some top → HasMet entries places n top
 
-pub rise-none : (entries : List Entry) (places : BTreeMap ℕ ℕ) (last : Option ℕ) → last ≡ None → RiseTo entries places 0 last
-rise-none entries places last none = record {
-  placed = λ p e lt. absurd (omega arith);
-  rising = λ p q e f lt within. absurd (omega arith);
-  met = λ top is. let same : None ≡ Some top = sym none ∙ is in cc;
-}
-
 met-later : (entries : List Entry) (places : BTreeMap ℕ ℕ) (n top : ℕ) → HasMet entries places n top → HasMet entries places (n + 1) top
 met-later entries places n top (p, e, lt, at, ends, stands) = (p, e, omega (arith, lt), at, ends, stands)
-
--- where the ends lead onward, one at n stands behind the last
-pub rise-must : (entries : List Entry) (places : BTreeMap ℕ ℕ) (n : ℕ) (last : Option ℕ) (a : Entry) (place : ℕ) → RiseTo entries places n last
-    → slice_get entries n ≡ Some a → IsEnd a → StandsAt places (tx_of a) place → EndsLeadOnward entries places
-    → (before : ℕ) → last ≡ Some before → before < place
-rise-must entries places n last a place had at ends stands onward before is =
-    let m = had.met before is in
-    let s = onward m.0 n m.1 a m.2 m.3 at m.4 ends in
-    let i = one-place places (tx_of m.1) before s.0 m.5 s.2 in
-    let j = one-place places (tx_of a) place s.1 stands s.3 in
-    let lt = s.4 in
-    omega (arith, i, j, lt)
 
 -- the entry at n is no end
 pub rise-past : (entries : List Entry) (places : BTreeMap ℕ ℕ) (n : ℕ) (last : Option ℕ) (a : Entry) → RiseTo entries places n last
@@ -148,22 +129,6 @@ pub record HasTops (entries : List Entry) (places : BTreeMap ℕ ℕ) (n : ℕ) 
   pub rising : (p q : ℕ) (e f : Entry) (x : Name) (i j : ℕ) → p < q → q < n → slice_get entries p ≡ Some e → slice_get entries q ≡ Some f
       → StandsAt places (tx_of e) i → StandsAt places (tx_of f) j → Does first x e → Does second x f → i ≤ j
   pub only : (x : Name) (top : ℕ) → IsTop tops x top → HasRaised entries places n first x top
-
-pub tops-none : (entries : List Entry) (places : BTreeMap ℕ ℕ) (first second : Class) (tops : BTreeMap (List ℕ) ℕ)
-    → ((x : Name) (top : ℕ) → IsTop tops x top → ⊥) → HasTops entries places 0 first second tops
-tops-none entries places first second tops none = record {
-  met = λ p e x i lt. absurd (omega arith);
-  rising = λ p q e f x i j lt within. absurd (omega arith);
-  only = λ x top is. absurd (none x top is);
-}
-
--- where the pairs lead onward, an entry falls behind nothing that stands at its item
-pub tops-must : (entries : List Entry) (places : BTreeMap ℕ ℕ) (n : ℕ) (first second : Class) (tops : BTreeMap (List ℕ) ℕ) (a : Entry) (place : ℕ)
-    (x : Name) (top : ℕ) → HasTops entries places n first second tops → slice_get entries n ≡ Some a → StandsAt places (tx_of a) place
-    → Does second x a → IsTop tops x top → PairLeadsOnward entries places first second → top ≤ place
-tops-must entries places n first second tops a place x top had at stands does is onward =
-    let m = had.only x top is in
-    onward m.0 n m.1 a x top place m.2 m.3 at m.4 stands m.5 does
 
 -- the transaction of the entry at n has no place
 pub tops-past : (entries : List Entry) (places : BTreeMap ℕ ℕ) (n : ℕ) (first second : Class) (tops : BTreeMap (List ℕ) ℕ) (a : Entry)

@@ -29,11 +29,6 @@ pub stray-if : (told : Option (List ℕ)) (h : List (Transaction ℕ ℕ)) (js :
 stray-if None h js roll n number read missing = tt
 stray-if (Some bytes) h js roll n number read missing = named-stray h js bytes roll n number read missing
 
-pub faulty-if : (told : Option (List ℕ)) (js : List Json) (n : Naming) (h : List (Transaction ℕ ℕ)) (outcome : Outcome) (text : List ℕ) → outcome ≡ No
-    → IsFaultyTold n h text → IfSome told (λ lines. IsTold lines js n h outcome text)
-faulty-if None js n h outcome text is fault = tt
-faulty-if (Some lines) js n h outcome text is fault = subst (λ (o : Outcome). IsTold lines js n h o text) (sym is) (inl fault)
-
 judged-told : (lines : List ℕ) (js : List Json) (n : Naming) (h : List (Transaction ℕ ℕ)) (outcome : Outcome) (text : List ℕ)
     → IsJudged lines js (spelled n) h outcome text → IsTold lines js n h outcome text
 judged-told lines js n h Yes text a = a
@@ -46,7 +41,3 @@ pub judged-if : (told : Option (List ℕ)) (js : List Json) (n : Naming) (h : Li
     → IfSome told (λ lines. IsTold lines js n h outcome text)
 judged-if None js n h named outcome text is judged = tt
 judged-if (Some lines) js n h named outcome text is judged = judged-told lines js n h outcome text (judged js lines is)
-
-pub unread-if : (told : Option (List ℕ)) (bytes text : List ℕ) → IsUnreadable neither bytes text → IfSome told (λ lines. IsAnswer lines bytes Unreadable text)
-unread-if None bytes text is = tt
-unread-if (Some lines) bytes text is = is

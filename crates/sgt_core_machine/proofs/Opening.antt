@@ -101,9 +101,6 @@ new_stands sites places certifier h is some few = record {
 
 -- ---- runs
 
-pub run_nothing : (m : Parts) → GoesOn (λ c d. Run c [] [] d) m m
-run_nothing m c s = (c, refl, s)
-
 pub run_on : (first mid last : Parts) (events : List Event) (replies : List Reply) (event : Event) (reply : Reply) → GoesOn (λ c d. Run c events replies d) first mid
     → GoesOn (λ c d. MayStep c event reply d) mid last → GoesOn (λ c d. Run c (events ++ event ∷ []) (replies ++ reply ∷ []) d) first last
 run_on first mid last events replies event reply run go c s =

@@ -191,14 +191,6 @@ may_begin m c s none room numbers told.NumbersSpent f =
     omega (arith, f, begun, all, numbers)
 may_begin m c s none room numbers _ f = f
 
--- a window that isn't closed
-pub of_close : (m : Parts) (c : CoreState) → StandsFor m c → m.step ≡ None → (f : CertifierFault) → IsTold m.certifier close f → IsOfClose f
-of_close m c s none (told.ActiveLeft n) t = tt
-of_close m c s none told.GenerationsSpent t = tt
-of_close m c s none told.Memory t = tt
-of_close m c s none (told.StepOpen tx) t = no_step m c s (certifier_closed m c s none) tx t.0
-of_close m c s none _ t = t.0
-
 pub may_withdraw_at : (m : Parts) (c : CoreState) → StandsFor m c → m.step ≡ None → (slot : ℕ) → MayWithdrawAt m.certifier m.table slot
 may_withdraw_at m c s none slot r runs told.Unknown f = f (is_active m c s slot r runs)
 may_withdraw_at m c s none slot r runs (told.StepOpen t) f = no_step m c s (certifier_closed m c s none) t f

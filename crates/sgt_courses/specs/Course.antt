@@ -86,9 +86,5 @@ AreRuns items [] c = IsRunTo items c
 AreRuns items (ended ∷ more) c = IsRunTo items ended × (ended.certifier.active ≡ [])
     × AreRuns (last_values ended) more c
 
--- the bundles of these states
-abbrev pub are_bundles_of : List CoreState → List Parts
-are_bundles_of states = map bundle_of states
-
 abbrev pub bundles_in : List Numbered → List Parts
 bundles_in handed = map (λ (n : Numbered). n.bundle) handed

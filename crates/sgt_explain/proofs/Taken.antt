@@ -7,18 +7,6 @@ pub nothing-taken : (told : Option (List ℕ)) → Consumes told told []
 nothing-taken None = tt
 nothing-taken (Some xs) = refl
 
-pub taken-on : (told mid new : Option (List ℕ)) (a b : List ℕ) → Consumes told mid a → Consumes mid new b → Consumes told new (a ++ b)
-taken-on None mid new a b first later = tt
-taken-on (Some xs) None new a b first later = absurd first
-taken-on (Some xs) (Some ys) None a b first later = absurd later
-taken-on (Some xs) (Some ys) (Some zs) a b first later = first ∙ ap (λ r. a ++ r) later ∙ sym (append_assoc a b zs)
-
--- all was taken where nothing is left
-pub taken-all : (told new : Option (List ℕ)) (a : List ℕ) → Consumes told new a → IsAtEnd new → IfSome told (λ bytes. a ≡ bytes)
-taken-all None new a taken ended = tt
-taken-all (Some xs) None a taken ended = absurd taken
-taken-all (Some xs) (Some ys) a taken ended = sym (append-nil a) ∙ ap (λ r. a ++ r) (sym ended) ∙ sym taken
-
 -- what was taken is no longer than all
 pub taken-long : (told new : Option (List ℕ)) (a : List ℕ) (n : ℕ) → Consumes told new a → n ≤ length a → IfSome told (λ bytes. n ≤ length bytes)
 taken-long None new a n taken most = tt

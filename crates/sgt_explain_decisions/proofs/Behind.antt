@@ -28,9 +28,6 @@ four-parts old a b c one two three four new e f g h = two-parts old a one (two +
 pub adds-behind : (old head a new : List ℕ) → a ≡ old ++ head → Adds a new → Adds (old ++ head) new
 adds-behind old head a new e adds = subst (λ t. Adds t new) e adds
 
-pub adds-last : (old head a b last new : List ℕ) → a ≡ old ++ head → Adds a b → new ≡ b ++ last → Adds (old ++ head) new
-adds-last old head a b last new e adds f = adds-more (old ++ head) b new (adds-behind old head a b e adds) (last, f)
-
 -- the end of the transaction of an entry, and why this may not stand there
 pub tells-end : (ds : List Decision) (ps : List Placed) (entries given : List Logged) (tx : ℕ) (l : Logged) (ended : Option Logged) (has_ended : Bool) (reason old a new : List ℕ)
     → given ≡ entries → tx ≡ tx_of l.entry → IfSome ended (λ e. Contains given e × EndsTx tx e.entry) → IfNone ended (HasNoEnd given tx) → has_ended ≡ is_some ended

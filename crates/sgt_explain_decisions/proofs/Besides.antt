@@ -38,20 +38,11 @@ pub read-number : (ds : List Decision) (l : Logged) (end : Option Decided) (n : 
 read-number ds l (Some d) n read is = first-unique ds (tx_of l.entry) d.number n (subst (λ (k : Logged). IsFirstOn ds (tx_of k.entry) d.number) read.same read.is.1) is.1
 read-number ds l None n read is = first-decided ds (tx_of l.entry) n is.1 (read.none is.0)
 
-pub not-later : (ds : List Decision) (l : Logged) (d : Decided) (own : ℕ) → IsRead ds l (Some d) → d.number ≤ own → IsNotLater ds own l
-not-later ds l d own read le n is = let same = read-number ds l (Some d) n read is in omega (arith, same, le)
-
-pub not-later-none : (ds : List Decision) (l : Logged) (own : ℕ) → IsRead ds l None → IsNotLater ds own l
-not-later-none ds l own read n is = absurd (read-number ds l None n read is)
-
 -- ---- the nearest of so many first entries
 
 pub record IsBesideSoFar (Q : ℕ → Type 0) (R : ℕ → ℕ → Type 0) (ds : List Decision) (entries : List Logged) (k : ℕ) (found : Option Decided) : Type 0 where
   pub there : IfSome found (λ d. Contains entries d.logged × IsDecidedEnd ds d × Q d.number)
   pub nearest : All (λ l. (number : ℕ) → IsDecidedEnd ds (record { logged = l; number = number }) → Q number → IsSomeAnd found (λ d. R number d.number)) (take k entries)
-
-pub beside-none : (Q : ℕ → Type 0) (R : ℕ → ℕ → Type 0) (ds : List Decision) (entries : List Logged) → IsBesideSoFar Q R ds entries 0 None
-beside-none Q R ds entries = record { there = tt; nearest = λ k d less. absurd (omega (arith, less)) }
 
 some-far : (R : ℕ → ℕ → Type 0) → ((a b c : ℕ) → R a b → R b c → R a c) → (n : ℕ) (found result : Option Decided) → IfSome found (λ d. IsSomeAnd result (λ g. R d.number g.number))
     → IsSomeAnd found (λ d. R n d.number) → IsSomeAnd result (λ g. R n g.number)

@@ -124,20 +124,8 @@ on-two (Err e) f a b = tt
 pub empty-none : (sought : Sought) → sought.found.entries ≡ [] → (k : Key) → found_at sought k ≡ None
 empty-none sought empty k = ap (lookup (is_at (key_cmp k))) empty
 
-pub empty-unfound : (sought : Sought) → sought.found.entries ≡ [] → AreUnfound sought
-empty-unfound sought empty k = subst (λ o. IfSome o (λ f. f ≡ nothing)) (sym (empty-none sought empty k)) tt
-
-pub empty-marked : (sought : Sought) (classes : List Bool) → sought.found.entries ≡ [] → AreMarked sought classes
-empty-marked sought classes empty k some = absurd (false≢true (subst IsSome (empty-none sought empty k) some))
-
-pub empty-in : (lines : List SectionLine) (sought : Sought) → sought.found.entries ≡ [] → AreFoundIn lines (length lines) sought
-empty-in lines sought empty k = subst (λ o. IfSome o (IsFoundIn lines (length lines) k)) (sym (empty-none sought empty k)) tt
-
 pub sought-none : (sought : Sought) (tx : ℕ) (walk : List Step) → AreSoughtFor sought tx walk 0
 sought-none sought tx walk place step less = absurd (omega (arith, less))
-
-pub walks-none : (sought : Sought) (ds : List Decision) → WalksAreSought sought ds 0
-walks-none sought ds number tx walk less = absurd (omega (arith, less))
 
 pub seeks-both : (old mid new : Sought) (a b c : List Bool) → Seeks old a mid b → Seeks mid b new c → Seeks old a new c
 seeks-both old mid new a b c first second = record {

@@ -21,19 +21,6 @@ commit-of (Commit tx rank) e = (rank, refl)
 commit-of (Refuse tx walk) e = absurd (false≢true e)
 commit-of (Withdraw tx) e = absurd (false≢true e)
 
--- a commit that stands before
-pub committed-before : (ds : List Decision) (own number stop : ℕ) (d : Decision) → slice_get ds number ≡ Some d → is_commit d ≡ true → number < own → IsFirstOn ds stop number
-    → IsCommittedBefore ds own stop
-committed-before ds own number stop d at is less first =
-    let same = same_Some d first.decision (sym at ∙ first.on.there) in
-    let tx : decided_tx d ≡ stop = ap decided_tx same ∙ first.on.on in
-    let c = commit-of d is in
-    (number, c.0, less, at ∙ ap Some (c.1 ∙ ap (λ t. Commit t c.0) tx))
-
--- a decision that is no commit commits nobody
-pub no-commit : (ds : List Decision) (number stop rank : ℕ) (d : Decision) → slice_get ds number ≡ Some d → is_commit d ≡ false → IsCommitted ds number stop rank → ⊥
-no-commit ds number stop rank d at none is = false≢true (sym none ∙ ap is_commit (same_Some d (Commit stop rank) (sym at ∙ is)))
-
 -- ---- steps that lead to one transaction
 
 -- what is known of the places of so many first steps
@@ -41,13 +28,6 @@ pub record ArePassed (between : List Step) (count : ℕ) (passed : ℕ → Optio
   pub seen : (a : ℕ) → IfSome (passed a) (λ m. (s : Step) × (m < count) × (slice_get between m ≡ Some s) × (s.to ≡ a))
   pub unseen : (a : ℕ) → IfNone (passed a) (All (λ s. s.to ≢ a) (take count between))
   pub apart : AreApart (take count between)
-
-pub none-passed : (between : List Step) (passed : ℕ → Option ℕ) → ((a : ℕ) → passed a ≡ None) → ArePassed between 0 passed
-none-passed between passed empty = record {
-  seen = λ a. subst (λ o. IfSome o (λ m. (s : Step) × (m < 0) × (slice_get between m ≡ Some s) × (s.to ≡ a))) (sym (empty a)) tt;
-  unseen = λ a. subst (λ o. IfNone o (All (λ (s : Step). s.to ≢ a) (take 0 between))) (sym (empty a)) (λ k d less. absurd (omega (arith, less)));
-  apart = AllPairs-from_at (λ (a b : Step). a.to ≢ b.to) (take 0 between) (λ p q a b less at at'. let w = slice_get_within (take 0 between) p a at in absurd (omega (arith, w)));
-}
 
 pub passed-next : (between : List Step) (n : ℕ) (step : Step) (old new : ℕ → Option ℕ) → slice_get between n ≡ Some step → old step.to ≡ None
     → ((q : ℕ) → new q ≡ cond (is_eq (nat_cmp step.to q)) (Some n) (old q)) → ArePassed between n old → ArePassed between (n + 1) new
@@ -123,9 +103,6 @@ is-cycle ds number tx walk leads all apart =
       earlier = All-from_map (λ a. (m : ℕ) × (rank : ℕ) × (m < number) × IsCommitted ds m a rank) (λ (s : Step). s.to) between
           (All-weaken (λ (s : Step). MayBePassed ds number tx s.to) (λ (s : Step). IsCommittedBefore ds number s.to) between (λ s h. h.1) all);
     }
-
-pub cycles-none : (ds : List Decision) → HaveCycles ds 0
-cycles-none ds n tx walk less is = absurd (omega (arith, less))
 
 pub cycles-next : (ds : List Decision) (count : ℕ) → ((tx : ℕ) (walk : List Step) → IsRefusal ds count tx walk → IsCycle ds count tx walk) → HaveCycles ds count → HaveCycles ds (count + 1)
 cycles-next ds count one before n tx walk less is =

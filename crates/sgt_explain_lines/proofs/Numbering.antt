@@ -26,11 +26,6 @@ line_front l ls rest = simp append_assoc
 pub line-cut : (l m r s bytes : List ℕ) → HasNoLf l → HasNoLf m → bytes ≡ l ++ 10 ∷ r → bytes ≡ m ++ 10 ∷ s → (l ≡ m) × (r ≡ s)
 line-cut l m r s bytes h g e f = cut_at_byte 10 l m r s (recursion_from_All (λ b. b ≢ 10) l h) (recursion_from_All (λ b. b ≢ 10) m g) (sym e ∙ f)
 
--- what is read of the text of a line is that line
-pub reads-one : (text : List ℕ) (line : SectionLine) (r : Result SectionLine NotationFault) → IsLine line → text ≡ line_text line → Reads IsLine line_text text r → r ≡ Ok line
-reads-one text line (Ok a) is e reads = ap Ok (line-one a line reads.0 is (sym reads.1 ∙ e))
-reads-one text line (Err fault) is e reads = absurd (reads.1 line is e)
-
 -- a loop's line of a text of lines: what it cuts off, and what stands behind it
 pub record IsCut (lines : List (List ℕ)) (rest : List ℕ) (n : ℕ) (text behind : List ℕ) : Type 0 where
   pub line : List ℕ
@@ -101,25 +96,6 @@ line-at bytes after text behind number k before line h is passes cuts =
     ∙ ap (λ t. t ++ rest) (sym (flat_map-append (λ l. l ++ 10 ∷ []) h.head (map line_text before))) in
     let after-is = passes lines rest plain (omega (arith, is, long, same, two, counted)) whole in
     (cuts (line_text line) h.rest (line-plain line h.one) after-is).0
-
--- a line by its number, also the last one without LF
-pub there-line : (bytes after text behind line : List ℕ) (number k : ℕ) → IsLineAt bytes number line → k ≡ number - 1
-    → ((lines : List (List ℕ)) (rest : List ℕ) → All HasNoLf lines → k ≡ length lines → bytes ≡ text_of_lines lines ++ rest → after ≡ rest)
-    → ((l more : List ℕ) → HasNoLf l → after ≡ l ++ 10 ∷ more → (text ≡ l) × (behind ≡ more))
-    → (HasNoLf after → (text ≡ after) × (behind ≡ [])) → (after ≢ []) × (text ≡ line)
-there-line bytes after text behind line number k h is passes cuts last =
-    let counted = h.counted in
-    let long : k ≡ length h.before = omega (arith, is, counted) in
-    elim h.text [
-      | inl e ↦ (let at = passes h.before (line ++ 10 ∷ h.rest) h.whole long e in
-          ((λ none. no-lf line h.rest (sym at ∙ none)), (cuts line h.rest h.one at).0))
-      | inr e ↦ (let at = passes h.before line h.whole long e.0 in
-          ((λ none. e.1 (sym at ∙ none)), (last (subst HasNoLf (sym at) h.one)).0 ∙ at))
-    ]
-  where
-    no-lf : (l more : List ℕ) → l ++ 10 ∷ more ≡ [] → ⊥
-    no-lf [] more e = cc
-    no-lf (x ∷ l) more e = cc
 
 -- what holds by a read line holds by the line that is spelled
 pub on-ok : {T E : Type 0} (r : Result T E) (P Q : Type 0) → (P → Q) → OnOk r P → OnOk r Q

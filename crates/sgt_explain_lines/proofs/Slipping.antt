@@ -54,9 +54,6 @@ pub spells-holding : (text name value : List ℕ) → IsCutAt 61 text name value
 spells-holding text name value cut is v =
     (record { item = name; value = v.0 }, (is, v.1), cut.0 ∙ ap (λ t. name ++ 61 ∷ t) v.2 ∙ sym (append_assoc name (61 ∷ []) (decimal v.0)))
 
-pub spells-access : (text name value : List ℕ) → IsCutAt 93 text name (61 ∷ value) → IsName name → Spells IsValue decimal value → SpellsAccess text
-spells-access text name value cut is v = (name, v.0, is, v.1, cut.0 ∙ ap (λ t. name ++ 93 ∷ (61 ∷ t)) v.2)
-
 pub spells-operation : (text tx behind : List ℕ) → IsCutAt 91 text tx behind → Spells IsTx decimal tx → SpellsAccess behind → Spells IsOperation operation_text text
 spells-operation text tx behind cut t a =
     ((t.0, a.0, a.1), (t.1, a.2, a.3), cut.0 ∙ ap₂ (λ s u. s ++ 91 ∷ u) t.2 a.4 ∙ sym (operation-is t.0 a.0 a.1))

@@ -25,11 +25,6 @@ HasBefore bytes number lines = ((lines ≡ []) × (number ≤ 3)) ⊎ HasLines b
 abbrev pub site_at : List SectionLine → ℕ → ℕ
 site_at lines place = unwrap_or (open_site (take place lines)) 0
 
--- the entry of the line at a place, with its site and the number of its line
-abbrev pub sited_at : List SectionLine → ℕ × SectionLine → Option (ℕ × Logged)
-sited_at lines (place, Line.Logged e) = Some (site_at lines place, record { line = place + 3; entry = e })
-sited_at lines _ = None
-
 -- the entry stands in the line of its number, in the section of the site
 pub record StandsAt (lines : List SectionLine) (site : ℕ) (l : Logged) : Type 0 where
   pub place : ℕ

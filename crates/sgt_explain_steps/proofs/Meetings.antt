@@ -181,10 +181,3 @@ start_later tx walk zero s later at = absurd (omega (arith, later))
 start_later tx walk (suc n) s later at =
     let e : suc n - 1 ≡ n = omega arith in
     slice_get-map (λ (t : Step). t.to) walk n ∙ ap (option_map (λ (t : Step). t.to)) (ap (slice_get walk) (sym e) ∙ at)
-
--- behind the steps of a walk no step starts
-pub start_beyond : (tx : ℕ) (walk : List Step) (place : ℕ) → 0 < place → length walk ≤ place - 1 → None ≡ slice_get (tx ∷ stops walk) place
-start_beyond tx walk zero later short = absurd (omega (arith, later))
-start_beyond tx walk (suc n) later short =
-    let long : length (stops walk) ≡ length walk = length-map walk (λ (t : Step). t.to) in
-    sym (slice_get_past (stops walk) n (omega (arith, long, short)))

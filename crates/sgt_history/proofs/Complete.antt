@@ -21,7 +21,7 @@ use Rattle.sgt_history.proofs.Runs.{one_at}
 use Rattle.sgt_history.proofs.Placed.{start_of, IsPlaced, IsFound, in_run, earlier-before}
 use Rattle.sgt_history.proofs.Standing.{Stands, stands, own_at, own-last}
 use Rattle.sgt_history.proofs.Excluded.{IsRun, in_order}
-use Rattle.sgt_history.proofs.Search.{kind_cases, read≢write, has_some, decidable-written, decidable-aborted, HasNext, next_of}
+use Rattle.sgt_history.proofs.Search.{has_some, decidable-written, decidable-aborted, HasNext, next_of}
 
 module _ (h : List (Transaction ℕ ℕ)) (positive : ArePositive h) (faultless : IsFaultless h)
     (order : List ℕ) (ordered : IsOrder h order)

@@ -13,13 +13,6 @@ use Rattle.sgt_history.specs.Serial.{IsCommitted, IsWriteOf, NoneWrites, IsLastW
 use Rattle.sgt_history.specs.Conflicts.{IsOperation, Writes, IsNext}
 use Rattle.sgt_history.specs.Flaws.{AbortedWrites}
 
-pub kind_cases : (k : Kind) → (k ≡ Read) ⊎ (k ≡ Write)
-kind_cases Read = inl refl
-kind_cases Write = inr refl
-
-pub read≢write : {I V : Type 0} (o : Operation I V) (x : I) → o.kind ≡ Read → IsWriteOf o x → ⊥
-read≢write o x e w = let f = sym e ∙ w.write in cc
-
 decidable-kind : (k : Kind) → Decidable (k ≡ Write)
 decidable-kind Read = inr (λ e. cc)
 decidable-kind Write = inl refl

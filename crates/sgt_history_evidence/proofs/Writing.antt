@@ -59,23 +59,6 @@ writes-in h line x v t at w =
       version_is = w.version_is;
     }
 
--- of the line's own transaction
-pub own-wrote : (h : List (Transaction ℕ ℕ)) (line place : ℕ) (t : Transaction ℕ ℕ) (o : Operation ℕ ℕ) (v : ℕ) → IsLastWritten t.operations place o.item v
-    → HasFlaw h line place t o Internal → IsAgainstOwn t place o v
-own-wrote h line place t o v own (inl a) =
-    let same : a.version ≡ v = one_version t.operations place o.item a.version v (inl a.own) (inl own) in
-    record { own = own; read = λ e is. a.other (is ∙ sym same); write = λ e. absurd (cc (e, a.read)) }
-own-wrote h line place t o v own (inr (inl b)) =
-    let same : b.version ≡ v = one_version t.operations place o.item b.version v (inl b.own) (inl own) in
-    record { own = own; read = λ e is. cc (e, b.write); write = λ e. omega (arith, same, b.most) }
-own-wrote h line place t o v own (inr (inr l)) = absurd (l.foreign own.last own.o (omega arith) own.before own.there own.writes)
-
-pub own-writes_later : (h : List (Transaction ℕ ℕ)) (line place : ℕ) (t : Transaction ℕ ℕ) (o : Operation ℕ ℕ) → NoneWrites t.operations 0 place o.item
-    → HasFlaw h line place t o Internal → IsEvidence h line place t o Internal WritesLater
-own-writes_later h line place t o none (inl a) = absurd (none a.own.last a.own.o (omega arith) a.own.before a.own.there a.own.writes)
-own-writes_later h line place t o none (inr (inl b)) = absurd (none b.own.last b.own.o (omega arith) b.own.before b.own.there b.own.writes)
-own-writes_later h line place t o none (inr (inr l)) = l
-
 -- the operation that has the fault is the one that stands there
 pub flaw_there : (h : List (Transaction ℕ ℕ)) (line : ℕ) (flaw : Flaw) (place : ℕ) (t : Transaction ℕ ℕ) (o : Operation ℕ ℕ) → IsFaulty h line flaw place
     → IsOperation h line place t o → HasFlaw h line place t o flaw

@@ -31,22 +31,6 @@ kinds : (k : Kind) → (k ≡ Read) ⊎ (k ≡ Write)
 kinds Read = inl refl
 kinds Write = inr refl
 
-pub internal-of : (h : List (Transaction ℕ ℕ)) (line place : ℕ) (t : Transaction ℕ ℕ) (o : Operation ℕ ℕ) → ContradictsOwn t.operations place o
-    → HasFlaw h line place t o Internal
-internal-of h line place t o c = elim (kinds o.kind) [
-  | inl read ↦ inl (record { read = read; version = c.version; own = c.own; other = c.read read })
-  | inr write ↦ inr (inl (record { write = write; version = c.version; own = c.own; most = c.write write }))
-]
-
-pub contradiction-real : (h : List (Transaction ℕ ℕ)) (line place : ℕ) (t : Transaction ℕ ℕ) → slice_get h line ≡ Some t → t.commits ≡ true
-    → IsContradicted t.operations place → IsFaulty h line Internal place
-contradiction-real h line place t at ends (o, there, c) = record {
-  t = t;
-  o = o;
-  is = record { committed = (at, ends); there = there };
-  has = internal-of h line place t o c;
-}
-
 pub contradiction-noted : (next : Option Fault) (line first place : ℕ) (done : List (Operation ℕ ℕ)) → TellsContradiction done (length done) (Some first)
     → IsContradicted done place → Covers next line 0 first → Covers next line 0 place
 contradiction-noted next line first place done tells is c =

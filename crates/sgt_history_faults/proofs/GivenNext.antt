@@ -14,28 +14,6 @@ use Rattle.sgt_history_faults.specs.declared.giving.Given.{Given}
 use Rattle.sgt_history_faults.specs.Given.{IsGivenOf, IsGivenAt, TakesGiven, IsGiven, AreGivenTo, MayStandBefore, AreGivenInOrder}
 use Rattle.sgt_history_faults.proofs.Sorted.{lex4}
 
-pub nothing_given : (line : ℕ) (done : List (Operation ℕ ℕ)) (before : List Given) → TakesGiven line done 0 before before
-nothing_given line done before = record {
-  more = [];
-  is = sym (append-nil before);
-  each = All-from_at (IsGivenOf line done) [] (λ k u at. absurd (cc (at)));
-  all = λ place o v lt there is. absurd (omega arith);
-}
-
-pub given-skip : (line : ℕ) (done : List (Operation ℕ ℕ)) (n : ℕ) (before now : List Given) (o : Operation ℕ ℕ) → slice_get done n ≡ Some o
-    → o.value ≡ None → TakesGiven line done n before now → TakesGiven line done (n + 1) before now
-given-skip line done n before now o at none t = record {
-  more = t.more;
-  is = t.is;
-  each = t.each;
-  all = λ place u v lt there is. elim (cases_eq place n) [
-    | inl same ↦
-        let o_is : u ≡ o = same_Some u o (sym there ∙ ap (slice_get done) same ∙ at) in
-        let f = sym is ∙ ap (λ (k : Operation ℕ ℕ). k.value) o_is ∙ none in cc
-    | inr apart ↦ t.all place u v (omega arith) there is
-  ];
-}
-
 pub given-more : (line : ℕ) (done : List (Operation ℕ ℕ)) (n : ℕ) (before now : List Given) (g : Given)
     → IsGivenOf line done g → g.place ≡ n → TakesGiven line done n before now → TakesGiven line done (n + 1) before (now ++ g ∷ [])
 given-more line done n before now g is place_is t = record {

@@ -68,12 +68,6 @@ rise-of a b (inr (e, inl x)) i v k = absurd (omega (arith, x, v))
 rise-of a b (inr (e, inr (f, inl x))) i v k = absurd (omega (arith, x, ap reads_of k))
 rise-of a b (inr (e, inr (f, inr (g, x)))) i v k = x
 
-write-first : (a b : Touch) → reads_of a.kind ≤ reads_of b.kind → b.kind ≡ Write → a.kind ≡ Write
-write-first a b le is = elim (kinds a.kind) [
-  | inl read ↦ absurd (omega (arith, le, ap reads_of read, ap reads_of is))
-  | inr write ↦ write
-]
-
 module _ (touches : List Touch) (ordered : AreInOrder touches) (like : Touch) (kind : Kind) (from to : ℕ) (are : AreLike touches like kind from to) where
   pub lines-rise : LinesRise (take (to - from) (drop from touches))
   lines-rise i j a b le at at' =

@@ -55,17 +55,6 @@ still-none done n o w e at is none place lt (u, there, c) =
       | inr apart ↦ none place (omega arith) (u, there, c)
     ]
 
-pub now-first : (done : List (Operation ℕ ℕ)) (n : ℕ) (o : Operation ℕ ℕ) → slice_get done n ≡ Some o → ContradictsOwn done n o
-    → TellsContradiction done n None → TellsContradiction done (n + 1) (Some n)
-now-first done n o at c none = (omega arith, (o, at, c), none)
-
-pub still-first : (done : List (Operation ℕ ℕ)) (n first : ℕ) → TellsContradiction done n (Some first) → TellsContradiction done (n + 1) (Some first)
-still-first done n first (lt, is, none) = (omega (arith, lt), is, none)
-
--- a read that follows or contradicts is own
-pub own-not : (done : List (Operation ℕ ℕ)) (n x v : ℕ) → IsLastWritten done n x v → NoneWrites done 0 n x → ⊥
-own-not done n x v own none = none own.last own.o (omega arith) own.before own.there own.writes
-
 -- ---- touches
 
 pub to-touch-read : (commits : Bool) (done : List (Operation ℕ ℕ)) (n : ℕ) (o : Operation ℕ ℕ) → o.kind ≡ Read → IsToTouch commits done n o

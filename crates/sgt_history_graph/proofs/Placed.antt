@@ -143,32 +143,6 @@ looked-free nodes edges limit waits free more order so lt none counts = record {
   least = so.least;
 }
 
-pub looked-waits : (nodes : ℕ) (edges : List Edge) (limit : ℕ) (waits free order : List ℕ) → IsUnderWay nodes edges limit waits free order → limit < nodes
-    → slice_index waits limit ≢ 0 → IsUnderWay nodes edges (limit + 1) waits free order
-looked-waits nodes edges limit waits free order so lt some = record {
-  few = omega (arith, lt);
-  len = so.len;
-  counts = so.counts;
-  tally = λ v. elim (cases_eq v limit) [
-    | inl same ↦
-        let past : expected limit waits v ≡ 0 = expected-past limit waits v (omega (arith, same)) in
-        let waited : expected (limit + 1) waits v ≡ 0 = expected-waits (limit + 1) waits v (λ e. some (sym (ap (slice_index waits) same) ∙ e)) in
-        omega (arith, so.tally v, past, waited)
-    | inr other ↦ so.tally v ∙ sym (expected-other limit waits v other)
-  ];
-  least = so.least;
-}
-
-pub under_way-none : (nodes : ℕ) (edges : List Edge) (waits : List ℕ) → length waits ≡ nodes → ((v : ℕ) → slice_index waits v ≡ waiting [] edges v)
-    → IsUnderWay nodes edges 0 waits [] []
-under_way-none nodes edges waits long counts = record {
-  few = omega arith;
-  len = long;
-  counts = counts;
-  tally = λ v. sym (expected-past 0 waits v (omega arith));
-  least = λ i v at. absurd (omega (arith, slice_get_within [] i v at));
-}
-
 -- ---- all are looked at
 
 -- each that waits does so for one that waits

@@ -18,10 +18,6 @@ pub record IsReleasing (limit : ℕ) (targets : List ℕ) (k : ℕ) (before wait
   pub tally : IsTallied limit waits free order
   pub fewer : sum waits + length free ≤ most
 
-pub releasing-none : (limit : ℕ) (targets before free order : List ℕ) → IsTallied limit before free order
-    → IsReleasing limit targets 0 before before free order (sum before + length free)
-releasing-none limit targets before free order tally = record { len = refl; waits_are = λ v. omega arith; tally = tally; fewer = omega arith }
-
 told-more : (targets : List ℕ) (k v b : ℕ) → k < length targets → b ≡ get_or targets k 0 → count_of v (take (k + 1) targets) ≡ count_of v (take k targets) + is_at v b
 told-more targets k v b lt is = sum_by_more (is_at v) targets k 0 lt ∙ ap (λ x. count_of v (take k targets) + is_at v x) (sym is)
 

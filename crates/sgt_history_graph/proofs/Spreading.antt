@@ -11,56 +11,6 @@ use Rattle.sgt_history_graph.specs.declared.edge.Edge.{Edge}
 use Rattle.sgt_history_graph.specs.Graph.{Goes, JoinsNodes}
 use Rattle.sgt_history_graph.specs.Nearest.{AreMeasured, AreSpread, Reaches, far_of}
 
-pub spread-none : (edges : List Edge) (far : ℕ) (v : ℕ) (distances : List ℕ) (nodes : ℕ) → 0 < far → v < nodes → distances ≡ set (replicate nodes far) v 0
-    → AreSpread edges far v 0 0 0 distances
-spread-none edges far v distances nodes some lt is =
-    subst (AreSpread edges far v 0 0 0) (sym is) (record {
-      home = here;
-      small = λ a. elim (at a) [ inl zero_is ↦ omega (arith, zero_is.1) | inr far_is ↦ omega (arith, far_is) ];
-      near = λ a below. elim (at a) [ inl zero_is ↦ omega (arith, zero_is.1) | inr far_is ↦ absurd (omega (arith, far_is, below)) ];
-      closed = λ a b goes below. absurd (omega (arith, below));
-      done = λ i e below there same. absurd (omega (arith, below));
-      walked = λ a within below. elim (cases_eq a v) [
-        | inl same ↦ subst (λ (n : ℕ). Reaches edges n a v) (sym (ap (λ x. slice_index new x) same ∙ here)) same
-        | inr other ↦ absurd (omega (
-          arith,
-          below,
-          get_or-set_other (replicate nodes far) v a 0 0 other,
-          get_or-replicate nodes a far 0 (omega (arith, within, length-set (replicate nodes far) v 0, length-replicate nodes far)),
-        ))
-      ];
-    })
-  where
-    new : List ℕ
-    new = set (replicate nodes far) v 0
-
-    here : slice_index new v ≡ 0
-    here = get_or-set_same (replicate nodes far) v 0 0 (omega (arith, lt, length-replicate nodes far))
-
-    at : (a : ℕ) → ((a ≡ a) × (slice_index new a ≡ 0)) ⊎ (slice_index new a ≡ far)
-    at a = elim (cases_eq a v) [
-      | inl same ↦ inl (refl, ap (λ x. slice_index new x) same ∙ here)
-      | inr other ↦ elim (cases_lt a nodes) [
-        | inl within ↦ inr (get_or-set_other (replicate nodes far) v a 0 0 other ∙ get_or-replicate nodes a far 0 within)
-        | inr past ↦ inl (
-          refl,
-          get_or-set_other (replicate nodes far) v a 0 0 other
-              ∙ get_or_past (replicate nodes far) a 0 (omega (arith, past, length-replicate nodes far)),
-        )
-      ]
-    ]
-
--- before a round
-pub spread-begins : (edges : List Edge) (far v round : ℕ) (distances : List ℕ) → AreSpread edges far v round 0 round distances → AreSpread edges far v round 0 (round + 1) distances
-spread-begins edges far v round distances so = record {
-  home = so.home;
-  small = so.small;
-  near = λ a below. omega (arith, so.near a below);
-  closed = so.closed;
-  done = so.done;
-  walked = so.walked;
-}
-
 module _ (edges : List Edge) (far v round k : ℕ) (distances : List ℕ) (d : Edge) (so : AreSpread edges far v round k (round + 1) distances)
     (lt : k < length edges) where
   abbrev e : Edge

@@ -77,9 +77,6 @@ pub record AreSources (waits : List ℕ) (edges : List Edge) (k : ℕ) (sources 
   pub len : length sources ≡ length waits
   pub led : (a v : ℕ) → Goes (take k edges) a v → 0 < slice_index waits a → IsLed waits edges sources v
 
-pub sources-none : (waits : List ℕ) (edges : List Edge) (sources : List ℕ) → length sources ≡ length waits → AreSources waits edges 0 sources
-sources-none waits edges sources long = record { len = long; led = λ a v goes. absurd (omega (arith, goes.1)) }
-
 -- an edge among the first ones and the next one
 goes-cases : (edges : List Edge) (k a v : ℕ) (d : Edge) → k < length edges → Goes (take (k + 1) edges) a v
     → Goes (take k edges) a v ⊎ (get_or edges k d ≡ record { from = a; to = v })

@@ -3,15 +3,8 @@ use Rattle.std.proofs.Common.{◌≡◌, ℕ, zero, suc, ◌+◌, ◌<◌, ◌�
 use Rattle.std.specs.Prelude.{slice_get}
 use Rattle.std.proofs.lemmas.Bool.{cases_eq, cases_lt}
 use Rattle.std.proofs.lemmas.Option.{same_Some, slice_get_within}
-use Rattle.sgt_history_time.proofs.Replicated.{none-replicated}
 use Rattle.sgt_history_kept.proofs.Setting.{set-here, set-elsewhere}
 use Rattle.sgt_history_kept.specs.Placed.{AllPlaced, ArePlaces, ArePlacesTo}
-
-pub places-none : (order : List ℕ) (places : List (Option ℕ)) (n : ℕ) → places ≡ replicate n None → ArePlacesTo order 0 places
-places-none order places n is = record {
-  there = λ line place at. absurd (none-replicated n None line place refl (ap (λ l. slice_get l line) (sym is) ∙ at));
-  back = λ line place lt at. absurd (omega (arith, lt));
-}
 
 pub places-next : (order : List ℕ) (places : List (Option ℕ)) (line at : ℕ) → line < length places → ((p : ℕ) → slice_get places line ≡ Some (Some p) → ⊥)
     → slice_get order at ≡ Some line → ArePlacesTo order at places → ArePlacesTo order (at + 1) (set places line (Some at))

@@ -70,12 +70,3 @@ texts_push begin end (e ∷ es) bytes text r f =
     let first = take_more e begin bytes text (rise-le _ e es r.1) (omega (arith, rise-le _ e es r.1, r.0)) in
     let rest = texts_push e end es bytes text r.1 f in
     λ i. first i ∷ rest i
-
--- bytes behind them change none
-pub texts-append_bytes : (begin : ℕ) (ends bytes more : List ℕ) → RiseTo (length bytes) begin ends
-    → texts_from begin ends (bytes ++ more) ≡ texts_from begin ends bytes
-texts-append_bytes begin [] bytes more r = refl
-texts-append_bytes begin (e ∷ es) bytes more r =
-    let first = take_more e begin bytes more (rise-le _ e es r.1) (omega (arith, rise-le _ e es r.1, r.0)) in
-    let rest = texts-append_bytes e es bytes more r.1 in
-    λ i. first i ∷ rest i

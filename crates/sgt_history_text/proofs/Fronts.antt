@@ -112,9 +112,6 @@ array_end (bad ∷ ts) new e = absurd cc
 
 -- ---- what is closed there
 
-other_heads : (t u : Token) (ts us : List Token) → IsOther t → (IsOther u → ⊥) → t ∷ ts ≡ u ∷ us → ⊥
-other_heads t u ts us h k e = k (subst IsOther (head_is t u ts us e) h)
-
 key_no_end : (k : List ℕ) (ts us : List Token) → key k ∷ ts ≡ end_object ∷ us → ⊥
 key_no_end k ts us e = absurd cc
 
@@ -251,19 +248,3 @@ module _ {A : Type 0} (old mid new : List Token) where
       → MatchOption found (NoValue old) (λ v. ReadsAs (arrays f) old (value_view v) new)
   found_items f e None none = λ rest front. none rest ((front_array mid rest).0 (subst (λ l. IsFront l rest) e front))
   found_items f e (Some v) (js, text, is) = (array js, e ∙ ap (λ l. begin_array ∷ l) text, is)
-
-pub scalar_leaf : (old new : List Token) (j : Json) → (old ≡ json_tokens j ++ new) × IsScalar j → ReadsAs leaf old j new
-scalar_leaf old new null h = (null, h.0, refl)
-scalar_leaf old new (boolean b) h = (boolean b, h.0, refl)
-scalar_leaf old new (number s) h = (number s, h.0, refl)
-scalar_leaf old new (string s) h = (string s, h.0, refl)
-scalar_leaf old new (array js) h = absurd h.1
-scalar_leaf old new (object ms) h = absurd h.1
-
-pub scalar_arrays : (f : Json → Json) (old new : List Token) (j : Json) → (old ≡ json_tokens j ++ new) × IsScalar j → ReadsAs (arrays f) old j new
-scalar_arrays f old new null h = (null, h.0, refl)
-scalar_arrays f old new (boolean b) h = (boolean b, h.0, refl)
-scalar_arrays f old new (number s) h = (number s, h.0, refl)
-scalar_arrays f old new (string s) h = (string s, h.0, refl)
-scalar_arrays f old new (array js) h = absurd h.1
-scalar_arrays f old new (object ms) h = absurd h.1

@@ -256,10 +256,6 @@ pub number-insert_other : (text : List ℕ) (key : Vec ℕ) (value : ℕ) (old n
 number-insert_other text key value old new e apart =
     ap (lookup (is_of text)) e ∙ lookup-insert_other text key value (is_of-false text key apart) old.entries
 
-pub number-insert_same : (text : List ℕ) (key : Vec ℕ) (new : More) (value : ℕ) → key.items ≡ text
-    → get_by (compared key) new ≡ Some value → number_in new text ≡ Some value
-number-insert_same text key new value is e = subst (λ l. number_in new l ≡ Some value) is e
-
 besides-keep : (slots : List ℕ) (old new : More) (fresh text : List ℕ) (number : ℕ) → KeepsOthers old new fresh
     → (text ≡ fresh → ⊥) → IsBesides slots old text number → IsBesides slots new text number
 besides-keep slots old new fresh text number keeps apart b = record { crowded = b.crowded; there = keeps text apart ∙ b.there }

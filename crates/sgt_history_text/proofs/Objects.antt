@@ -25,9 +25,6 @@ alone ts j e = e ∙ sym (append-nil (json_tokens j))
 pub none_first : (ts : List Token) (ms : Members) → NoValue ts → ts ≡ json_tokens (object ms) → ⊥
 none_first ts ms none e = none [] (object ms, alone ts (object ms) e)
 
-pub array_first : (ts new : List Token) (ms : Members) → ts ≡ begin_array ∷ new → ts ≡ json_tokens (object ms) → ⊥
-array_first ts new ms is e = brackets new (members_tokens ms) (sym is ∙ e)
-
 pub scalar_first : (ts new : List Token) (j : Json) (ms : Members) → (ts ≡ json_tokens j ++ new) × IsScalar j → ts ≡ json_tokens (object ms) → ⊥
 scalar_first ts new j ms (is, s) e =
     subst IsScalar (same_front j (object ms) new [] (sym is ∙ alone ts (object ms) e)).0 s
@@ -57,6 +54,3 @@ module _ (ts mid : List Token) (first : ts ≡ begin_object ∷ mid) where
 -- what stands first is a bracket, and an object's
 pub opens_object : (ts mid : List Token) (b : Bool) → ts ≡ bracket b ∷ mid → b ≡ true → ts ≡ begin_object ∷ mid
 opens_object ts mid b e is = e ∙ ap (λ k. bracket k ∷ mid) is
-
-pub not_object : (ts mid : List Token) (b : Bool) (ms : Members) → ts ≡ bracket b ∷ mid → b ≡ false → ts ≡ json_tokens (object ms) → ⊥
-not_object ts mid b ms e is f = array_first ts mid ms (e ∙ ap (λ k. bracket k ∷ mid) is) f

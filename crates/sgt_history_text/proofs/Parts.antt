@@ -36,9 +36,6 @@ operation_is (array (item x (item y (item z (item w no_items))))) i k n None a b
 operation_is (array (item x (item y (item z (item w no_items))))) i k n (Some g) a b c d e = cc
 operation_is (array (item x (item y (item z (item w (item u us)))))) i k n v a b c d e = absurd cc
 
-at_kind : (o : Operation Json Json) → at 0 (operation_json o) ≡ Some (string (kind_word o.kind))
-at_kind o = refl
-
 at_given : (j i : Json) (k : Kind) (n : ℕ) (v : Option Json) → at 3 (operation_json (record { version = n; item = i; kind = k; value = v })) ≡ v
 at_given j i k n None = refl
 at_given j i k n (Some g) = refl

@@ -5,7 +5,6 @@ use Rattle.std.proofs.lemmas.Bool.{cases_eq, cases_lt}
 use Rattle.std.proofs.lemmas.Option.{same_Some, slice_get_within}
 use Rattle.sgt_history_time.specs.Kept.{IsEarlier, KeepsSessions}
 use Rattle.sgt_history_time.specs.Checks.{AreBelow, IsAhead, IsBehind, IsNoted}
-use Rattle.sgt_history_time.proofs.Replicated.{none-replicated}
 
 -- the line stands at the place and is of the session
 pub record IsAt (order : List ℕ) (sessions : List (Option ℕ)) (place line session : ℕ) : Type 0 where
@@ -25,15 +24,6 @@ pub record InSessions (order : List ℕ) (sessions : List (Option ℕ)) (n : ℕ
   pub met : (session line : ℕ) → slice_get last session ≡ Some (Some line) → (i : ℕ) × (i < n) × IsAt order sessions i line session
   pub none : (i j first second : ℕ) → i < n → j ≤ i → slice_get order i ≡ Some first → slice_get order j ≡ Some second
       → IsEarlier sessions first second → ⊥
-
-pub in_sessions-none : (order : List ℕ) (sessions last : List (Option ℕ)) (n : ℕ) → AreBelow n sessions → last ≡ replicate n None → length last ≡ n
-    → InSessions order sessions 0 last
-in_sessions-none order sessions last n below is size = record {
-  below = subst (λ m. AreBelow m sessions) (sym size) below;
-  most = λ i line session lt at. absurd (omega (arith, lt));
-  met = λ session line at. absurd (none-replicated n None session line refl (ap (λ l. slice_get l session) (sym is) ∙ at));
-  none = λ i j first second lt le at at' before. absurd (omega (arith, lt));
-}
 
 same-session : (o : Option (Option ℕ)) (s : ℕ) → (o ≡ Some (Some s)) ⊎ (o ≡ Some (Some s) → ⊥)
 same-session None s = inr (λ e. cc)

@@ -28,13 +28,6 @@ pub record InTime (order : List ℕ) (times : List (Option Times)) (n latest : �
   pub none : (i j first second : ℕ) → i < n → j ≤ i → slice_get order i ≡ Some first → slice_get order j ≡ Some second
       → IsBefore times first second → ⊥
 
-pub in_time-none : (order : List ℕ) (times : List (Option Times)) → InTime order times 0 0
-in_time-none order times = record {
-  most = λ i line x lt ran. absurd (omega (arith, lt));
-  met = λ some. absurd (omega (arith, some));
-  none = λ i j first second lt le at at' before. absurd (omega (arith, lt));
-}
-
 pub in_time-next : (order : List ℕ) (times : List (Option Times)) (n latest line next : ℕ) → InTime order times n latest → slice_get order n ≡ Some line
     → Passes times latest line next → InTime order times (n + 1) next
 in_time-next order times n latest line next so there p = record {

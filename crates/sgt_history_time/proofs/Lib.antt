@@ -1,4 +1,3 @@
-pub mod Replicated
 pub mod InTime
 pub mod InSessions
 pub mod Forward

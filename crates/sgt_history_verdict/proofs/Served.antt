@@ -70,9 +70,6 @@ order-serves h positive faultless edges are order o =
 
 -- ---- the least line first
 
-kept-conflict : (h : List (Transaction ℕ ℕ)) (from to : ℕ) → ConflictIn h graph.Whole from to → (t : Transaction ℕ ℕ) × IsCommitted h from t
-kept-conflict h from to c = (committed-both h c.kind from to c.x c.v c.w c.conflict).0
-
 pub order-least : (h : List (Transaction ℕ ℕ)) (edges : List Edge) → AreEdgesOf h graph.Whole edges → (order : List ℕ)
     → nodes.IsOrder (length h) edges order → IsLeastFirst h (committed_in h order)
 order-least h edges are order o place line other at may =

@@ -167,18 +167,6 @@ pub record AreAlongTo (touches : List Touch) (pairs : List Edge) (ranks lines : 
   pub ends : (place : ℕ) (s : Step) → slice_get steps place ≡ Some s → slice_get lines (place_behind place (length lines)) ≡ Some s.to
   pub first : (place : ℕ) (s t : Step) → slice_get steps place ≡ Some s → IsOfPairs touches pairs t → Leads t s.from s.to → IsToldBefore ranks s t
 
-pub along-none : (touches : List Touch) (pairs : List Edge) (ranks lines : List ℕ) (steps : List Step) → steps ≡ [] → AreAlongTo touches pairs ranks lines 0 steps
-along-none touches pairs ranks lines steps none = record {
-  size = ap length none;
-  each = λ place s at. absurd (nothing place s at);
-  starts = λ place s at. absurd (nothing place s at);
-  ends = λ place s at. absurd (nothing place s at);
-  first = λ place s t at. absurd (nothing place s at);
-}
-  where
-    nothing : (place : ℕ) (s : Step) → slice_get steps place ≡ Some s → ⊥
-    nothing place s at = omega (arith, slice_get_within steps place s at, ap length none)
-
 pub along-next : (touches : List Touch) (pairs : List Edge) (ranks lines : List ℕ) (n : ℕ) (steps more : List Step) (s : Step) (a b : ℕ) → AreAlongTo touches pairs ranks lines n steps
     → more ≡ steps ++ s ∷ [] → slice_get lines n ≡ Some a → slice_get lines (place_behind n (length lines)) ≡ Some b → IsOfPairs touches pairs s → Leads s a b
     → ((t : Step) → IsOfPairs touches pairs t → Leads t s.from s.to → IsToldBefore ranks s t) → AreAlongTo touches pairs ranks lines (n + 1) more

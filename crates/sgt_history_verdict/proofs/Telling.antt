@@ -12,12 +12,6 @@ use Rattle.sgt_history_verdict.specs.Steps.{AreBest, IsAlong, IsBest, IsOf, IsOf
 
 -- ---- the order of steps
 
-pub told-same : (ranks : List ℕ) (s : Step) → IsToldBefore ranks s s
-told-same ranks s = inr (refl, inr (refl, omega arith))
-
-pub told-either : (ranks : List ℕ) (s t : Step) → (IsToldBefore ranks s t → ⊥) → IsToldBefore ranks t s
-told-either ranks s t not = grind arith
-
 pub told-on : (ranks : List ℕ) (s t u : Step) → IsToldBefore ranks s t → IsToldBefore ranks t u → IsToldBefore ranks s u
 told-on ranks s t u (inl a) (inl b) = inl (omega (arith, a, b))
 told-on ranks s t u (inl a) (inr (b, more)) = inl (omega (arith, a, b))

@@ -55,19 +55,3 @@ mask_step true m = elim (cases_eq m 0) [
   | inr some ↦ ne_eqb (0 + 2 * m) 0 (λ e. some (omega (arith, e))) ∙ sym (ne_eqb m 0 some)
 ]
 mask_step false m = ne_eqb (1 + 2 * m) 0 (λ e. absurd (omega (arith, e)))
-
-mask_same : (xs ys : List ℕ) → length xs ≡ length ys → eqb (mask_l (zip2 (λ a b. not (eqb a b)) xs ys)) 0 ≡ bytes_eq xs ys
-mask_same [] [] e = refl
-mask_same [] (y ∷ ys) e = absurd (omega (arith, e))
-mask_same (x ∷ xs) [] e = absurd (omega (arith, e))
-mask_same (x ∷ xs) (y ∷ ys) e =
-    mask_step (eqb x y) (mask_l (zip2 (λ a b. not (eqb a b)) xs ys))
-    ∙ ap (λ (t : Bool). eqb x y && t) (mask_same xs ys (omega (arith, e)))
-
--- no lane differs just where the bytes are the same
-pub same_of : (xs ys : List ℕ) → length xs ≡ 16 → length ys ≡ 16
-    → eqb (mask_l (map (top 7) (zip2 (λ a b. cond (not (eqb a b)) 255 0) xs ys)) % 2 ^ 64) 0 ≡ bytes_eq xs ys
-same_of xs ys long other =
-    ap (λ l. eqb (mask_l l % 2 ^ 64) 0) (tops_compared w8 (λ a b. not (eqb a b)) xs ys)
-    ∙ ap (λ (n : ℕ). eqb n 0) (mask_l-mod (zip2 (λ a b. not (eqb a b)) xs ys) 64 (omega (arith, length-zip2 (λ a b. not (eqb a b)) xs ys (omega (arith, long, other)), long)))
-    ∙ mask_same xs ys (omega (arith, long, other))

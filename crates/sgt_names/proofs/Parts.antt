@@ -221,10 +221,6 @@ inserts_part ps qs n touch inserts =
       place = tt;
     }
 
--- an edit of one part keeps the order of the parts, and that each is one
-pub set_parts : (ps : List PartView) (n : ℕ) (r : PartView) → IsAt (λ p. p.site) ps r.site n → IsPart r → PartsRise ps × All IsPart ps → PartsRise (set ps n r) × All IsPart (set ps n r)
-set_parts ps n r found part right = (rising-set (λ (p : PartView). p.site) nat_cmp ps n r found right.0, All-set IsPart ps n r part right.1)
-
 one_alone : (p : PartView) (touch : Touch) → p.site ≡ touch.site → p.touched ≡ touch ∷ [] → IsUsed touch → IsPart p
 one_alone p touch site alone used = record {
   rising = subst AreRising (sym alone) (λ i j d lt within. absurd (omega arith));

@@ -76,8 +76,5 @@ site-here n ts = All-from_at (λ (t : Touch). t.site ≡ n) (at_site n ts) (λ k
 pub site-rising : (n : ℕ) (ts : List Touch) → AreRising ts → AreRising (at_site n ts)
 site-rising n ts rising = AllPairs-filter (λ a b. place_cmp (place_of a) (place_of b) ≡ Less) (λ (t : Touch). t.site == n) ts rising
 
-pub kept-by_item : (n : ℕ) (ts : List Touch) → AreRising ts → IsRisingBy (λ k. k.0) (slice_cmp nat_cmp) (kept_in (at_site n ts))
-kept-by_item n ts rising = keeps-rise n (at_site n ts) (site-here n ts) (site-rising n ts rising)
-
 pub writing-by_item : (n : ℕ) (ts : List Touch) → AreRising ts → IsRisingBy (λ w. w.0) (slice_cmp nat_cmp) (writing_in (at_site n ts))
 writing-by_item n ts rising = writings-rise n (at_site n ts) (site-here n ts) (site-rising n ts rising)

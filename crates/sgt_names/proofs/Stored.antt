@@ -52,28 +52,6 @@ padded-order (suc x ∷ xs) [] i (suc j) ax ay same =
 padded-order (x ∷ xs) (y ∷ ys) i j ax ay same =
     ap (ordering_then (nat_cmp x y)) (padded-order xs ys i j (All-tail IsByte x xs ax) (All-tail IsByte y ys ay) (omega (arith, same)))
 
--- where the first zero is
-pub prefix-here : (xs : List ℕ) (at : ℕ) → at ≤ prefix_len is_positive xs → at < length xs → get_or xs at 0 ≡ 0 → at ≡ prefix_len is_positive xs
-prefix-here [] at upto within is = absurd (omega (arith, within))
-prefix-here (zero ∷ xs) zero upto within is = refl
-prefix-here (zero ∷ xs) (suc at) upto within is = absurd (omega (arith, upto))
-prefix-here (suc x ∷ xs) zero upto within is = absurd (omega (arith, is))
-prefix-here (suc x ∷ xs) (suc at) upto within is =
-    let more : prefix_len is_positive (suc x ∷ xs) ≡ 1 + prefix_len is_positive xs = refl in
-    let rest = prefix-here xs at (omega (arith, upto, more)) (omega (arith, within)) is in
-    omega (arith, rest, more)
-
-pub prefix-further : (xs : List ℕ) (at : ℕ) → at ≤ prefix_len is_positive xs → at < length xs → (get_or xs at 0 ≡ 0 → ⊥) → at + 1 ≤ prefix_len is_positive xs
-prefix-further [] at upto within is = absurd (omega (arith, within))
-prefix-further (zero ∷ xs) zero upto within is = absurd (is refl)
-prefix-further (zero ∷ xs) (suc at) upto within is = absurd (omega (arith, upto))
-prefix-further (suc x ∷ xs) zero upto within is =
-    let more : prefix_len is_positive (suc x ∷ xs) ≡ 1 + prefix_len is_positive xs = refl in omega (arith, more)
-prefix-further (suc x ∷ xs) (suc at) upto within is =
-    let more : prefix_len is_positive (suc x ∷ xs) ≡ 1 + prefix_len is_positive xs = refl in
-    let rest = prefix-further xs at (omega (arith, upto, more)) (omega (arith, within)) is in
-    omega (arith, rest, more)
-
 -- ---- names are such bytes
 
 pub name_byte-positive : (c : ℕ) → is_name_byte c ≡ true → 0 < c

@@ -27,12 +27,6 @@ spans_front bytes n text within e = record { within = within; reads = sym (take-
 pub spans_whole : (bytes text : List ℕ) (n : ℕ) → length bytes ≤ n → Spans bytes 0 text n → bytes ≡ text
 spans_whole bytes text n all s = s.reads ∙ (ap (λ t. text ++ t) (drop_all n bytes all) ∙ append-nil text)
 
-pub spans_later : (bytes : List ℕ) (from : ℕ) (text : List ℕ) (n : ℕ) → from ≤ length bytes → Spans (drop from bytes) 0 text n → Spans bytes from text (from + n)
-spans_later bytes from text n within s = record {
-  within = let left = length-drop from bytes in let short = s.within in omega arith;
-  reads = s.reads ∙ ap (λ r. text ++ r) (drop-drop n from bytes);
-}
-
 -- what stands at the front of the first bytes stands at the front of all
 pub take-front : (bytes : List ℕ) (n m : ℕ) → n ≤ m → take n (take m bytes) ≡ take n bytes
 take-front bytes zero m few = refl

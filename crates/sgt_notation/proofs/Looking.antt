@@ -16,22 +16,6 @@ longer-append : (size : ℕ) (front back : List ℕ) → IsLongerThan size front
 longer-append size front back h =
     (simp length-append (omega (arith, h.0)), subst HasNoLf (sym (take-append-le (size + 1) front back (omega (arith, h.0)))) h.1)
 
--- where a line would not grow, it is longer than the buffer that was passed
-pub outgrown : (before room limit : ℕ) (line held : List ℕ) → before ≤ room → HasNoLf line → Outgrows room limit line held → (before < limit) × IsLongerThan before (line ++ held)
-outgrown before room limit line held less plain (n, within, none, more, few) =
-    let part = take n held in
-    let size : length part ≡ n = simp length-take (omega arith) in
-    let all : line ++ held ≡ (line ++ part) ++ drop n held = ap (λ h. line ++ h) (sym (take-append-drop n held)) ∙ sym (append_assoc line part (drop n held)) in
-    let long : before < length (line ++ part) = simp length-append (omega (arith, size, more)) in
-    (omega arith, subst (IsLongerThan before) (sym all) (longer-append before (line ++ part) (drop n held) (long, All-take (λ b. b ≢ 10) (before + 1) (line ++ part) (All-append (λ b. b ≢ 10) line part plain none))))
-
--- and so by what comes
-pub wanted-coming : (before : ℕ) (s0 s1 : Ahead) (t0 t1 : Option (List ℕ)) (line : List ℕ) → Consumes (coming s0 t0) (coming s1 t1) line → IsLongerThan before (line ++ s1.held) → IfSome (coming s0 t0) (IsLongerThan before)
-wanted-coming before s0 s1 None t1 line takes long = tt
-wanted-coming before s0 s1 (Some xs) None line takes long = absurd takes
-wanted-coming before s0 s1 (Some xs) (Some ys) line takes long =
-    subst (IsLongerThan before) (append_assoc line s1.held ys ∙ sym takes) (longer-append before (line ++ s1.held) ys long)
-
 pub gives_found : (limit : ℕ) (s0 s1 s2 : Ahead) (t0 t1 : Option (List ℕ)) (line line' : List ℕ) (next : Next) (n : ℕ)
     → HasNoLf line → Consumes (coming s0 t0) (coming s1 t1) line → Looks limit s1.held line (Some next) n line' → IsLeft s1.held (Some next) n s2.held
     → Gives limit (coming s0 t0) next line' (coming s2 t1)

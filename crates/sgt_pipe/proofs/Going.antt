@@ -37,12 +37,6 @@ appends_then (Some us) None c xs ys p q = absurd p
 appends_then (Some us) (Some bs) None xs ys p q = absurd q
 appends_then (Some us) (Some bs) (Some cs) xs ys p q = q ∙ (ap (λ (ts : List ℕ). ts ++ ys) p ∙ append_assoc us xs ys)
 
-forgets_then : (a b c : Option (List ℕ)) (xs ys : List ℕ) → Appends a b xs → AppendsOrForgets b c ys → AppendsOrForgets a c (xs ++ ys)
-forgets_then None b c xs ys p q = tt
-forgets_then (Some us) None c xs ys p q = absurd p
-forgets_then (Some us) (Some bs) None xs ys p q = tt
-forgets_then (Some us) (Some bs) (Some cs) xs ys p q = q ∙ (ap (λ (ts : List ℕ). ts ++ ys) p ∙ append_assoc us xs ys)
-
 -- nothing was given, nothing was written
 pub hears_none : (told : Option (List ℕ)) (given : List ℕ) (n : ℕ) → Hears told told given given n n
 hears_none told given n = record { bytes = []; gave = sym (append-nil given); took = consumes_none told; quiet = refl }
@@ -73,14 +67,6 @@ speaks_then a b c f g h k m n p q = record {
   wrote = q.wrote ∙ (ap (λ (ts : List ℕ). ts ++ q.bytes) p.wrote ∙ append_assoc f p.bytes q.bytes);
   put = appends_then a b c p.bytes q.bytes p.put q.put;
   quiet = q.quiet ∙ p.quiet;
-}
-
-pub mutes_then : (a b c : Option (List ℕ)) (f g h : List ℕ) (k m n : ℕ) → Speaks a b f g k m → LosesWriter b c g h m n → LosesWriter a c f h k n
-mutes_then a b c f g h k m n p q = record {
-  bytes = p.bytes ++ q.bytes;
-  wrote = q.wrote ∙ (ap (λ (ts : List ℕ). ts ++ q.bytes) p.wrote ∙ append_assoc f p.bytes q.bytes);
-  put = forgets_then a b c p.bytes q.bytes p.put q.put;
-  fault = subst (λ x. x < n) p.quiet q.fault;
 }
 
 -- a read that failed

@@ -24,12 +24,6 @@ answered-front Memory told old new outcome text answer memory read write = inl (
 answered-front ReadFault told old new outcome text answer memory read write = absurd (read refl)
 answered-front WriteFault told old new outcome text answer memory read write = inr (outcome, text, answer, write refl)
 
--- the run of a bundle that was handed out, and the line of a fault that was found, answer the input
-pub yes-answer : (told : Option (List ℕ)) (a : Audited) (b : Parts) → a ≡ audited.Valid b → HandsOutValid a → IfSome told (λ bytes. IsAudited bytes a)
-    → IsAnswer told Yes (report_text (report_of b))
-yes-answer None a b is valid h = (b, subst HandsOutValid is valid, tt, refl)
-yes-answer (Some bytes) a b is valid h = (b, subst HandsOutValid is valid, (subst (IsAudited bytes) is h).0, refl)
-
 pub no-answer : (told : Option (List ℕ)) (a : Audited) (line : ℕ) (fault : Fault) → a ≡ audited.No line fault → IfSome told (λ bytes. IsAudited bytes a)
     → IsAnswer told No (text_of (verdict.No line fault))
 no-answer None a line fault is h = (line, fault, tt, refl)

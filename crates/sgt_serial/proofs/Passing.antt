@@ -49,14 +49,6 @@ nothing a held = ([], appends_none a, append-nil held)
 pub flushed : (a b : Option (List ℕ)) (held : List ℕ) → Appends a b held → PassesOn a b held [] []
 flushed a b held wrote = (held, wrote, refl)
 
--- bytes that are held back behind the others
-pub held-on : (a b : Option (List ℕ)) (held bytes left more : List ℕ) → PassesOn a b held bytes left → PassesOn a b held (bytes ++ more) (left ++ more)
-held-on a b held bytes left more passed = (
-  passed.0,
-  passed.1,
-  sym (append_assoc held bytes more) ∙ ap (λ xs. xs ++ more) passed.2 ∙ append_assoc passed.0 left more,
-)
-
 pub joined : (a b c : Option (List ℕ)) (held first mid second left : List ℕ) → PassesOn a b held first mid → PassesOn b c mid second left
     → PassesOn a c held (first ++ second) left
 joined a b c held first mid second left one two = (

@@ -74,15 +74,3 @@ pub handed_out : (m : Parts) (b : Logs) (text : List ℕ) (number : ℕ) (kept k
     → (c : CoreState) → StandsFor m c → HandsOut Done c kept kept'
 handed_out m b text number kept kept' same idle spelled more says c stands =
     (idle c stands, number, more ∙ ap (λ (t : List ℕ). kept.items ++ (number, t) ∷ []) (spelled ∙ ap text_of (same c stands)), says)
-
-pub lost_out : (f : KeepFault) (last : Last) (c : CoreState) (kept kept' : Handed) → last ≡ lost_by f → kept'.items ≡ kept.items → kept'.answers ≡ kept.answers ++ Err f ∷ []
-    → HandsOut last c kept kept'
-lost_out f last c kept kept' is same says = subst (λ (l : Last). HandsOut l c kept kept') (sym is) (by f says)
-  where
-    by : (f : KeepFault) → kept'.answers ≡ kept.answers ++ Err f ∷ [] → HandsOut (lost_by f) c kept kept'
-    by keep.Memory says = (same, inr says)
-    by keep.Refused says = (same, says)
-
--- the place was asked nothing
-pub unasked : (c : CoreState) (kept : Handed) → HandsOut Memory c kept kept
-unasked c kept = (refl, inl refl)

@@ -48,15 +48,6 @@ front_answered sites history held part h = record {
 
 -- ---- a line
 
-pub next_site : (n : ℕ) (sites sites' : List SiteLine) (held held' line : List ℕ) → line ≡ take n held → TakesSite sites line sites' true → held' ≡ drop (n + 1) held
-    → TakesNext n sites sites' held held' None
-next_site n sites sites' held held' line same (l, is, number, text, more) left = (l, is, number, sym same ∙ text, more, left)
-
-pub next_begins : (n : ℕ) (sites sites' : List SiteLine) (held line : List ℕ) → line ≡ take n held → TakesSite sites line sites' false → sites' ≢ [] → Asks line
-    → TakesNext n sites sites' held held (Some (Begun n))
-next_begins n sites sites' held line same (none, kept) some asks =
-    (refl, (λ e. some (kept ∙ e)), subst Asks same asks, kept, refl)
-
 pub next_misplaced : (n : ℕ) (sites sites' : List SiteLine) (held line : List ℕ) → line ≡ take n held → TakesSite sites line sites' false
     → (sites' ≡ []) ⊎ ((line ≢ cut_line) × SpellsNone IsEventLine event_text line) → TakesNext n sites sites' held held (Some (Unreadable NotALine))
 next_misplaced n sites sites' held line same (none, kept) (inl empty) = (

@@ -217,23 +217,3 @@ served_err (fail.ReadFault l) left sites history held kept (done, h, part) = (se
 served_err fail.Memory left sites history held kept (some, h) = (served_memory left some history held kept h, h.answered)
 served_err (fail.WriteFault l) left sites history held kept opens = absurd opens
 served_err fail.BundleFault left sites history held kept opens = absurd opens
-
-pub unwritten_err : (e : ServeFail) (left : Option (List ℕ)) (sites : List SiteLine) (history : History) (held : List ℕ) → OpensSo (Err e) left sites history held → history.written ≡ []
-unwritten_err (fail.ReadFault l) left sites history held (done, h, part) = h.written
-unwritten_err fail.Memory left sites history held (some, h) = h.written
-unwritten_err (fail.WriteFault l) left sites history held opens = absurd opens
-unwritten_err fail.BundleFault left sites history held opens = absurd opens
-
-pub writer_err : (e : ServeFail) (left : Option (List ℕ)) (sites : List SiteLine) (history : History) (held : List ℕ) (a b : Option (List ℕ)) (f g : List ℕ) (k m : ℕ)
-    → OpensSo (Err e) left sites history held → b ≡ a → g ≡ f → m ≡ k → LeavesWriter {A = Outcome} (Err e) a b f g k m
-writer_err (fail.ReadFault l) left sites history held a b f g k m opens told written count = silent_as a b f g k m told written count
-writer_err fail.Memory left sites history held a b f g k m opens told written count = silent_as a b f g k m told written count
-writer_err (fail.WriteFault l) left sites history held a b f g k m opens told written count = absurd opens
-writer_err fail.BundleFault left sites history held a b f g k m opens told written count = absurd opens
-
--- the writer was left as it was, and then this was done
-pub writer_as : (r : Result Outcome ServeFail) (a a' b : Option (List ℕ)) (f f' g : List ℕ) (k k' m : ℕ) → a' ≡ a → f' ≡ f → k' ≡ k → LeavesWriter r a' b f' g k' m
-    → LeavesWriter r a b f g k m
-writer_as r a a' b f f' g k k' m told written count p =
-    subst (λ (x : Option (List ℕ)). LeavesWriter r x b f g k m) told (subst (λ (x : List ℕ). LeavesWriter r a' b x g k m) written
-    (subst (λ (x : ℕ). LeavesWriter r a' b f' g x m) count p))

@@ -61,20 +61,6 @@ comes_at (Some s) a b not p = absurd (not s refl)
 
 -- ---- one call
 
-pub flushed_all : (E : Type 0) (old new : History) (bytes g g' : List ℕ) → bytes ≡ g → g' ≡ [] → new.written ≡ old.written ++ bytes → new.given ≡ old.given → new.waits ≡ old.waits
-    → Flushes {E = E} (Ok tt) old g new g'
-flushed_all E old new bytes g g' same none wrote given waits =
-    (ap (λ (xs : List ℕ). new.written ++ xs) none ∙ (append-nil new.written ∙ (wrote ∙ ap (λ (xs : List ℕ). old.written ++ xs) same)), given, waits)
-
-pub flushed_part : {E : Type 0} (e : E) (old new : History) (bytes g g' : List ℕ) (a b : Option (List ℕ)) → bytes ≡ g → WritesPart bytes a b old.written new.written
-    → new.given ≡ old.given → new.waits ≡ old.waits → Flushes {E = E} (Err e) old g new g'
-flushed_part {E} e old new bytes g g' a b same (n, lt, put, wrote) given waits =
-    ((n, subst (λ (xs : List ℕ). n < length xs) same lt, wrote ∙ ap (λ (xs : List ℕ). old.written ++ take n xs) same), given, waits)
-
-pub unflushed_none : (E : Type 0) (old new : History) (g g' : List ℕ) → new ≡ old → g' ≡ g → Flushes {E = E} (Ok tt) old g new g'
-unflushed_none E old new g g' same left =
-    (ap (λ (h : History). h.written ++ g') same ∙ ap (λ (xs : List ℕ). old.written ++ xs) left, ap (λ (h : History). h.given) same, ap (λ (h : History). h.waits) same)
-
 pub took_front : (E : Type 0) (n : ℕ) (answer : Answer) (kept kept' : Handed) (core core' : Parts) (gathered gathered' held held' line : List ℕ) → line ≡ take n held
     → Takes core line answer kept kept' core' → gathered' ≡ gathered ++ (answer_line line answer ++ 10 ∷ []) → held' ≡ drop (n + 1) held
     → TakesFront {E = E} (Ok tt) n kept kept' core core' gathered gathered' held held'

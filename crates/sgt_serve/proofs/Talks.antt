@@ -290,17 +290,6 @@ said_last result stop' tail kept core old new held (inr (same, m, lt, wrote), gi
       );
     })
 
--- nothing is held: that is the end
-pub ended_here : (kept : Handed) (core : Parts) (history : History) (held : List ℕ) → held ≡ [] → (sites : List SiteLine) (before : Handed)
-    → HasCome sites before (desk kept core history [] held) → HasStopped stop.Ended sites before (desk kept core history [] held)
-ended_here kept core history held none sites before h = record {
-  talk = h.talk;
-  has = h.has;
-  rest = held;
-  asked = h.asked;
-  says = ([], inl (none, refl), sym (append-nil history.written) ∙ (sym h.told ∙ sym (append-nil (told_text h.talk))));
-}
-
 -- ---- more is read
 
 -- all that was given is answered

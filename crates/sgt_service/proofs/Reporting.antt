@@ -40,35 +40,10 @@ use Rattle.sgt_service.specs.Input.{IsInput, Spells}
 use Rattle.sgt_service.specs.Report.{EndsRun, IsAnswer, EndsUnsettled, IsOfRun, IsOutcome, IsRunAnswer, IsRunOf, IsTextOf, IsWant, site_items}
 use Rattle.sgt_service.specs.declared.input.Input.{Input}
 
--- sites with good items are refused for want of memory alone
-pub sites_want : (sites : List (List Holding)) (f : ServiceFault) → RefusesSites sites f → All AreItems sites → f ≡ fault.Memory
-sites_want sites (fault.Site site.BadItems) r all = absurd (r all)
-sites_want sites fault.Memory r all = refl
-sites_want sites _ r all = absurd r
-
 -- the lines of an input's sites have good items
 pub items_good : (input : Input) → IsInput input → All AreItems (map (λ (l : SiteLine). l.items) input.sites)
 items_good input is = All-from_map AreItems (λ (l : SiteLine). l.items) input.sites
     (All-weaken IsSiteLine (λ (l : SiteLine). AreItems l.items) input.sites (λ l line. record { room = line.room; rising = line.rising }) is.0.each)
-
-call_ends : (f : ServiceFault) → IsOfCall f → (f ≡ fault.Memory) ⊎ IsOfRun f
-call_ends fault.Memory is = inl refl
-call_ends (fault.StrayTicket number) is = inr (is, λ e. absurd cc)
-call_ends (fault.TwoTickets number) is = inr (is, λ e. absurd cc)
-call_ends (fault.Site f) is = inr (is, λ e. absurd cc)
-call_ends (fault.Certifier f) is = inr (is, λ e. absurd cc)
-call_ends fault.SumTooLarge is = inr (is, λ e. absurd cc)
-call_ends (fault.MissingTicket number) is = inr (is, λ e. absurd cc)
-call_ends (fault.NotPledged site) is = inr (is, λ e. absurd cc)
-call_ends (fault.TicketOrder job) is = inr (is, λ e. absurd cc)
-call_ends (fault.LogDiffers site) is = inr (is, λ e. absurd cc)
-call_ends (fault.VersionsDiffer site) is = inr (is, λ e. absurd cc)
-
--- what a pool of the service's calls ends with ends the run, or is want of memory
-pub ends_run : (scripts : List Script) (items : List (List Holding)) (tries : ℕ) (f : PoolFail ServiceFault) → IsFault IsOfCall f
-    → IsWant f ⊎ EndsRun scripts items tries f
-ends_run scripts items tries (Work f) is = elim (call_ends f is) [ inl want ↦ inl want | inr ends ↦ inr (inl ends) ]
-ends_run scripts items tries (Pool f) is = inl is
 
 -- the text of a run is its answer
 pub run_answers : (input : Input) (tries : ℕ) (run : Run) (o : Outcome) (text : List ℕ) → IsSettled run

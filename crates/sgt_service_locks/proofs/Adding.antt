@@ -15,10 +15,6 @@ whole [] (suc n) = refl
 whole (c ∷ cs) zero = refl
 whole (c ∷ cs) (suc n) = ap (λ xs. c ∷ xs) (whole cs n)
 
-pub added_start : (cs ts : List EntryCounts) → AddedTo cs ts 0 ≡ cs
-added_start [] ts = refl
-added_start (c ∷ cs) ts = refl
-
 pub added_at : (cs ts : List EntryCounts) (n : ℕ) → slice_get (AddedTo cs ts n) n ≡ slice_get cs n
 added_at [] ts zero = refl
 added_at [] ts (suc n) = refl
@@ -42,10 +38,3 @@ added_over (c ∷ cs) [] zero past = refl
 added_over (c ∷ cs) [] (suc n) past = ap (λ xs. c ∷ xs) (whole cs n)
 added_over (c ∷ cs) (t ∷ ts) zero past = absurd (omega (arith, past))
 added_over (c ∷ cs) (t ∷ ts) (suc n) past = ap (λ xs. both c t ∷ xs) (added_over cs ts n (omega (arith, past)))
-
-pub added_all : (cs ts : List EntryCounts) (n : ℕ) → length cs ≤ n → AddedTo cs ts n ≡ added cs ts
-added_all [] ts zero past = refl
-added_all [] ts (suc n) past = refl
-added_all (c ∷ cs) ts zero past = absurd (omega (arith, past))
-added_all (c ∷ cs) [] (suc n) past = ap (λ xs. c ∷ xs) (whole cs n)
-added_all (c ∷ cs) (t ∷ ts) (suc n) past = ap (λ xs. both c t ∷ xs) (added_all cs ts n (omega (arith, past)))

@@ -57,9 +57,6 @@ gains_zero cs n k zero_k = (
   ],
 )
 
-pub gains_none : (lengths : ℕ → ℕ) (cs : List EntryCounts) → Gains (below 0 lengths) cs cs
-gains_none lengths cs = (refl, λ site d there. let past : nat_lt site 0 ≡ false = le-ltb site 0 (omega arith) in rw past there)
-
 pub gains_next : (lengths : ℕ → ℕ) (n : ℕ) (old mid new : List EntryCounts) → Gains (below n lengths) old mid
     → AreCounted (only_at n (with_others (lengths n))) mid new → Gains (below (n + 1) lengths) old new
 gains_next lengths n old mid new before here = (

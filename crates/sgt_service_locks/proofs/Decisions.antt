@@ -21,32 +21,6 @@ use Rattle.sgt_certifier.proofs.Installs.{none_noted}
 use Rattle.sgt_workers.specs.declared.ticket.Ending.TheVariants as ending
 use Rattle.sgt_service_locks.specs.Guarded.{decision_count, ticket_of, AwaitsInstalls, IsDecided}
 
-pub decided_count : (old new : Kept) (h : Handle) (edges : List Edge) (reply : Decided) → Adds old (call.Decide h edges reply) new
-    → decision_count new ≡ decision_count old + 1
-decided_count old new h edges (Committed number) a =
-    ap (λ (s : State). length s.rulings) a.serves.1.1.after ∙ length-append old.state.rulings (committed (tx_under old.state h) ∷ [])
-decided_count old new h edges (Refused number walk) a =
-    ap (λ (s : State). length s.rulings) a.serves.1.1.after ∙ length-append old.state.rulings (refused (tx_under old.state h) walk ∷ [])
-
-pub withdrawn_count : (old new : Kept) (h : Handle) (number : ℕ) → Adds old (call.Withdraw h number) new → decision_count new ≡ decision_count old + 1
-withdrawn_count old new h number a =
-    ap (λ (s : State). length s.rulings) a.serves.1.1 ∙ length-append old.state.rulings (withdrawn (tx_under old.state h) ∷ [])
-
--- the transaction that is decided
-pub decided_ruled : (old new : Kept) (h : Handle) (edges : List Edge) (reply : Decided) (tx : ℕ) → Adds old (call.Decide h edges reply) new
-    → tx_under old.state h ≡ tx → IsDecided new.state tx
-decided_ruled old new h edges (Committed number) tx a named =
-    subst (λ (s : State). IsDecided s tx) (sym a.serves.1.1.after)
-    (Any-push (λ r. ruled r ≡ tx) old.state.rulings (committed (tx_under old.state h)) named)
-decided_ruled old new h edges (Refused number walk) tx a named =
-    subst (λ (s : State). IsDecided s tx) (sym a.serves.1.1.after)
-    (Any-push (λ r. ruled r ≡ tx) old.state.rulings (refused (tx_under old.state h) walk) named)
-
-pub withdrawn_ruled : (old new : Kept) (h : Handle) (number : ℕ) → Adds old (call.Withdraw h number) new → IsDecided new.state (tx_under old.state h)
-withdrawn_ruled old new h number a =
-    subst (λ (s : State). IsDecided s (tx_under old.state h)) (sym a.serves.1.1)
-    (Any-push (λ r. ruled r ≡ tx_under old.state h) old.state.rulings (withdrawn (tx_under old.state h)) refl)
-
 pub decided_step : (old new : Kept) (h : Handle) (edges : List Edge) (reply : Decided) → Adds old (call.Decide h edges reply) new
     → new.state.step ≡ Some (tx_under old.state h)
 decided_step old new h edges (Committed number) a = ap (λ (s : State). s.step) a.serves.1.1.after
@@ -96,15 +70,3 @@ noted_awaits old new tx site items touched a w =
           ];
       expected = λ s above. a.expected touched s (λ e. absurd (omega (arith, e, above))) (w.expected s (omega (arith, above)));
     }
-
--- an install that is awaited isn't refused, nor the end of the open step
-pub install_served : (old new : Kept) (tx site : ℕ) (touched : List Touch) (f : CertifierFault) → AwaitsInstalls old tx touched site
-    → Declines old (installed tx site) f new → f ≡ fault.Unknown → ⊥
-install_served old new tx site touched f w d is =
-    let t : Declines old (installed tx site) fault.Unknown new = subst (λ g. Declines old (installed tx site) g new) is d in
-    elim t.told.0 [ inl n ↦ n w.installing | inr n ↦ w.unnoted site (omega arith) n ]
-
-pub finish_served : (old new : Kept) (tx : ℕ) (f : CertifierFault) → old.state.step ≡ Some tx → Declines old (finish tx) f new → f ≡ fault.Unknown → ⊥
-finish_served old new tx f step d is =
-    let t : Declines old (finish tx) fault.Unknown new = subst (λ g. Declines old (finish tx) g new) is d in
-    t.told.0 step

@@ -53,10 +53,6 @@ opened_next sites n d within before items k there below at = elim (below_or k n 
 pub all_opened : (sites : List (List Holding)) → AreOpened sites (length sites) → All AreItems sites
 all_opened sites opened k d within = opened k (get_or sites k d) within (slice_get-get_or sites k d within)
 
-pub bad_items : (sites : List (List Holding)) (n : ℕ) (d : List Holding) (f : ServiceFault) → n < length sites → f ≡ Site BadItems
-    → (AreItems (get_or sites n d) → ⊥) → RefusesSites sites f
-bad_items sites n d f within is bad = subst (RefusesSites sites) (sym is) (λ (all : All AreItems sites). bad (all n d within))
-
 -- one site more
 pub sites_next : (first : ℕ) (front : List (List Holding)) (items : List Holding)
     → sites_from first (front ++ items ∷ []) ≡ sites_from first front ++ opened (first + length front) items ∷ []

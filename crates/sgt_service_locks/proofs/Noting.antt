@@ -19,9 +19,6 @@ notes_next verdict active n a b c before here =
     here ∙ ap (λ h. h ++ notes_at verdict active n) before ∙ append_assoc a (notes_below verdict active n) (notes_at verdict active n)
     ∙ ap (λ k. a ++ notes_below verdict active k) (sym (add-one n))
 
-pub notes_none : (verdict : Ending) (active : Active) (h : List Call) → h ≡ h ++ notes_below verdict active 0
-notes_none verdict active h = sym (append-nil h)
-
 -- a site that isn't touched
 pub notes_untouched : (verdict : Ending) (active : Active) (site : ℕ) (h : List Call)
     → block_length verdict (at_site site active.draft.touched) ≡ 0 → h ≡ h ++ notes_at verdict active site

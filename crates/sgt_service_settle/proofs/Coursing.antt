@@ -144,25 +144,3 @@ change_added done old d new is change version a =
         | inr r ↦ inr (r.0, push_old done d r.0 r.1, r.2, r.3 ∙ sym a.last)
       ];
     }
-
-bare_row : (none : Vec Deed Global) (v : ℕ) (row : Vec Deed Global) → none.items ≡ [] → slice_get (none ∷ []) v ≡ Some row → row.items ≡ []
-bare_row none v row bare at =
-    elim (get_push_cases [] none row v at) [
-      | inl before ↦ absurd cc
-      | inr last ↦ ap (λ (r : Vec Deed Global). r.items) (sym last.1) ∙ bare
-    ]
-
--- nothing was done
-pub no_deeds : (c : Course) (none : Vec Deed Global) → c.changes.items ≡ [] → c.reads.items ≡ none ∷ [] → none.items ≡ [] → c.written ≡ 0 → c.last_read ≡ 0 → IsCourse [] c
-no_deeds c none changes reads bare written last = record {
-  shaped = record { long = ap length reads ∙ ap (λ xs. suc (length xs)) (sym changes) };
-  changes = λ v d at. absurd (let low = slice_get_within c.changes.items v d at in let long = ap length changes in omega (arith, low, long));
-  changed = λ d has change. absurd (nil_none d has);
-  reads = λ v row d at has. absurd (nil_none d (subst (λ xs. Contains xs d) (bare_row none v row bare (ap (λ rs. slice_get rs v) (sym reads) ∙ at)) has));
-  read = λ d has read. absurd (nil_none d has);
-  added = λ v d le at. absurd (let low = slice_get_within c.changes.items v d at in let long = ap length changes in omega (arith, low, long));
-  wrote = λ v d next at. absurd (omega (arith, next, written));
-  written = omega (arith, written);
-  last = λ d has read. absurd (nil_none d has);
-  last_read = inl last;
-}

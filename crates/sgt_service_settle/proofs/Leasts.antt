@@ -9,9 +9,6 @@ use Rattle.sgt_service_settle.proofs.Lists.{push_contains, push_old, push_new}
 min_cases : (j k : ℕ) → (min j k ≡ j) ⊎ (min j k ≡ k)
 min_cases j k = elim (cases_lt j k) [ inl lt ↦ inl (omega arith) | inr le ↦ inr (omega arith) ]
 
-pub least_none : {A : Type 0} (key : A → ℕ) (Q : A → Type 0) → IsLeastOf key Q [] None
-least_none key Q a c q = nil_none a c
-
 pub least_hit : {A : Type 0} (key : A → ℕ) (Q : A → Type 0) (xs : List A) (a : A) (r : Option ℕ) → Q a → IsLeastOf key Q xs r → IsLeastOf key Q (xs ++ a ∷ []) (Some (lesser r (key a)))
 least_hit key Q xs a None q old = (
   (a, push_new xs a, refl, q),

@@ -39,17 +39,6 @@ push_old xs a b c = Contains-append_left xs (a ∷ []) b c
 pub push_new : {A : Type 0} (xs : List A) (a : A) → Contains (xs ++ a ∷ []) a
 push_new xs a = Contains-append_right xs (a ∷ []) a (cons_here a [])
 
--- what holds at each place
-pub each_next : {A : Type 0} (P : A → Type 0) (xs : List A) (n : ℕ) (a : A) → slice_get xs n ≡ Some a → P a → ((k : ℕ) (b : A) → slice_get (take n xs) k ≡ Some b → P b) → (k : ℕ) (b : A) → slice_get (take (n + 1) xs) k ≡ Some b → P b
-each_next P xs n a here holds first k b at =
-    elim (get_take_next xs n k a b here at) [
-      | inl early ↦ first k b early.1
-      | inr last ↦ subst P last.1 holds
-    ]
-
-pub each_all : {A : Type 0} (P : A → Type 0) (xs : List A) (n : ℕ) → length xs ≤ n → ((k : ℕ) (b : A) → slice_get (take n xs) k ≡ Some b → P b) → (k : ℕ) (b : A) → slice_get xs k ≡ Some b → P b
-each_all P xs n whole front k b at = front k b (ap (λ ys. slice_get ys k) (take_all n xs whole) ∙ at)
-
 -- a place that was gone over is an earlier one, or the last
 pub before_or_here : {A : Type 0} (xs : List A) (n q : ℕ) (a b : A) → slice_get xs n ≡ Some a → slice_get xs q ≡ Some b → q < n + 1 → (q < n) ⊎ ((n ≡ q) × (a ≡ b))
 before_or_here xs n q a b here at low =

@@ -93,18 +93,6 @@ marked_on P Q R a b d x y z first then p q r = record {
   long = then.long ∙ first.long;
 }
 
--- no edges yet
-pub row_none : (row : List Arc) (cut : Cut) (a : List Bool) (x : List ℕ) → Marked (IsTarget (take 0 row) cut) a x a x
-row_none row cut a x = record {
-  kept = λ k h. h;
-  fresh = λ k h. inl h;
-  grew = λ k o. o;
-  known = λ k o. inl o;
-  done = λ k t. absurd (none-some t.1 t.2);
-  size = refl;
-  long = refl;
-}
-
 -- one more edge: handed by then, or not
 pub row_next : (row : List Arc) (cut : Cut) (n : ℕ) (arc : Arc) (a b d : List Bool) (x y z : List ℕ) → slice_get row n ≡ Some arc → Passes cut arc.label arc.number → Marked (IsTarget (take n row) cut) a x b y → Marked (λ k. k ≡ arc.to) b y d z → Marked (IsTarget (take (n + 1) row) cut) a x d z
 row_next row cut n arc a b d x y z at early first then =

@@ -88,9 +88,6 @@ bare_push rows new bare none k row at =
       | inr last ↦ subst (λ v. v.items ≡ []) last.1 none
     ]
 
-pub bare_end : {T : Type 0} (rows : List (Vec T Global)) → AreBare rows → (k n : ℕ) (x : T) → At rows k n x → ⊥
-bare_end rows bare k n x e = none-some x (subst (λ xs. slice_get xs n ≡ Some x) (bare k e.0 e.1) e.2)
-
 links_next : (links : List Link) (n : ℕ) (l : Link) (cut : Cut) (a b : ℕ) → slice_get links n ≡ Some l → LinksBy (take (n + 1) links) cut a b → LinksBy (take n links) cut a b ⊎ ((l.from ≡ a) × (l.to ≡ b) × Passes cut l.label l.number)
 links_next links n l cut a b at h =
     elim (get_take_next links n h.0 l h.1 at h.2) [

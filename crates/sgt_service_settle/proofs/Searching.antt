@@ -23,20 +23,6 @@ no_marks zero k h = none-some true h
 no_marks (suc n) zero h = true≢false (sym (same_Some false true h))
 no_marks (suc n) (suc k) h = no_marks n k h
 
-pub search_start : (rows : List (Vec Arc Global)) (cut : Cut) (start n : ℕ) (marks : List Bool) (stack : List ℕ) → marks ≡ replicate n false → stack ≡ start ∷ [] → Searching rows cut start marks stack
-search_start rows cut start n marks stack bare is =
-    rw bare (rw is (
-    record {
-      sound = λ k h. absurd (no_marks n k h);
-      known = λ k o. elim (on_push [] start k o) [ inl none ↦ absurd (none-some k none.1) | inr same ↦ inl (sym same) ];
-      closed = λ a b from edge.
-          elim from [
-            | inl home ↦ inl (0, ap Some (sym home))
-            | inr marked ↦ absurd (no_marks n a marked)
-          ];
-    }
-    ))
-
 pub search_next : (rows : List (Vec Arc Global)) (cut : Cut) (start at : ℕ) (row : Vec Arc Global) (marks new : List Bool) (stack rest now : List ℕ) → stack ≡ rest ++ at ∷ [] → slice_get rows at ≡ Some row → Marked (IsTarget row.items cut) marks rest new now → Searching rows cut start marks stack → Searching rows cut start new now
 search_next rows cut start at row marks new stack rest now is here m s =
     let top : On stack at = subst (λ xs. On xs at) (sym is) (length rest, get_push_last rest at) in

@@ -34,9 +34,6 @@ pub record IsTabled (history : List Call) (n begun before : ℕ) (verdicts : Lis
   pub ruled : AreRuled met verdicts
   pub few : begun ≤ n
 
-pub tabled_opens : (history : List Call) → IsTabled history 0 0 0 []
-tabled_opens history = record { met = []; whole = refl; many = refl; ruled = λ n v at. absurd (none-some v at); few = omega arith }
-
 -- the decision that a call makes
 record IsVerdict (before : ℕ) (c : Call) (v : Verdict) : Type 0 where
   ruling : Ruling

@@ -25,9 +25,6 @@ pub record IsWalked (history : List Call) (n begun before number sought : ℕ) :
   pub early : number ≤ sought
   pub few : begun ≤ n
 
-pub walk_opens : (history : List Call) (sought : ℕ) → IsWalked history 0 0 0 0 sought
-walk_opens history sought = record { met = []; whole = refl; many = refl; early = omega arith; few = omega arith }
-
 -- a call that decides nothing, and one that decides
 pub not_decision : (begun before : ℕ) (c : Call) → is_decision c ≡ false → rulings_from 0 before (c ∷ []) ≡ []
 not_decision begun before (call.Begin tx h) other = refl

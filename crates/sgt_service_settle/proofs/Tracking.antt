@@ -116,29 +116,6 @@ longer_track n number e old t more read change is =
       ];
     }
 
-pub tracks_push : (tracks : List Track) (t : Track) → AreBare tracks → t.deeds.items ≡ [] → t.version ≡ 0 → AreBare (tracks ++ t ∷ [])
-tracks_push tracks t bare none zero k u at =
-    elim (get_push_cases tracks t u k at) [
-      | inl early ↦ bare k u early
-      | inr last ↦ subst (λ (x : Track). (x.deeds.items ≡ []) × (x.version ≡ 0)) last.1 (none, zero)
-    ]
-
--- the deeds of bare tracks
-pub tracks_none : (commits : List (Option ℕ)) (items : List Holding) (log : List Entry) (tracks : List Track) → AreBare tracks → AreTracks commits items log 0 tracks
-tracks_none commits items log tracks bare = record {
-  each = λ at t here.
-      let is = bare at t here in
-      let none : (d : Deed) → Contains t.deeds.items d → ⊥ = λ d has. nil_none d (subst (λ xs. Contains xs d) is.0 has) in
-      record {
-        few = let zero = is.1 in omega (arith, zero);
-        sound = λ d has. absurd (none d has);
-        placed = λ d has. absurd (none d has);
-        before = λ d has. absurd (none d has);
-        ordered = λ d e has other lt. absurd (none d has);
-      };
-  all = λ q number at e x low here item commit there. absurd (omega (arith, low));
-}
-
 -- the next operation of a committed transaction
 pub tracks_next : (commits : List (Option ℕ)) (items : List Holding) (log : List Entry) (n at number : ℕ) (e : Entry) (y : Name) (tracks new : List Track) (old t : Track)
     → IsRisingBy (λ (h : Holding). h.item) (slice_cmp nat_cmp) items → slice_get log n ≡ Some e → item_of e ≡ Some y → IsIn commits (tx_of e) number → IsItemAt items y at → slice_get tracks at ≡ Some old → new ≡ slice_set tracks at t

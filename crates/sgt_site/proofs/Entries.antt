@@ -23,12 +23,6 @@ change_or_want x (Commit t) w changes want = absurd w
 change_or_want x (Refuse t) w changes want = absurd w
 change_or_want x (Withdraw t) w changes want = absurd w
 
--- what changes an item is its change, logged
-pub change_is : (x : Name) (e : Entry) (c : Change) → change_of x e ≡ Some c → e ≡ change_entry (tx_of e) x c
-change_is x (Write t y v) c h = let is = cond_some (bytes_eq y x) (change.Put v) c h in subst (λ d. Write t y v ≡ change_entry t x d) is.1 (ap (λ (z : Name). Write t z v) ((bytes_eq-Decides y x).0 is.0))
-change_is x (Add t y v) c h = let is = cond_some (bytes_eq y x) (change.Add v) c h in subst (λ d. Add t y v ≡ change_entry t x d) is.1 (ap (λ (z : Name). Add t z v) ((bytes_eq-Decides y x).0 is.0))
-change_is x _ c h = absurd cc
-
 -- and has its item
 pub change-item : (x : Name) (e : Entry) (c : Change) → change_of x e ≡ Some c → item_of e ≡ Some x
 change-item x (Write t y v) c h = ap Some ((bytes_eq-Decides y x).0 (cond_some (bytes_eq y x) (change.Put v) c h).0)

@@ -64,24 +64,7 @@ free-slot s tx none = elim (cases_Bool (s.tx == tx)) [
   | inr miss ↦ rw miss refl
 ]
 
--- who may have the slot, and who hasn't it
-pub held-others : (s : Slot) (tx t : ℕ) → MayHold s tx → t ≢ tx → in_slot (Some s) t ≡ []
-held-others s tx t (inl none) other = free-slot s t none
-held-others s tx t (inr own) other = other-slot s t (λ same. other (sym same ∙ own))
-
-pub held-own : (s : Slot) (tx : ℕ) → MayHold s tx → in_slot (Some s) tx ≡ s.items.items
-held-own s tx (inl none) = free-slot s tx none ∙ sym none
-held-own s tx (inr own) = own-slot s tx own
-
 -- ---- both parts
-
-pub or_else-some : (own others : List Name) → (own ≡ [] → ⊥) → or_else own others ≡ own
-or_else-some [] others some = absurd (some refl)
-or_else-some (x ∷ xs) others some = refl
-
-pub or_else-nothing : (own : List Name) → or_else own [] ≡ own
-or_else-nothing [] = refl
-or_else-nothing (x ∷ xs) = refl
 
 pub or_else-push : (own others : List Name) (x : Name) → (own ≡ [] → others ≡ []) → or_else (own ++ x ∷ []) others ≡ or_else own others ++ x ∷ []
 or_else-push [] others x none = rw (none refl) refl
@@ -106,10 +89,6 @@ module _ (old new : Pending) (tx : ℕ)
 pub ok-then : {T E P Q : Type 0} (r : Result T E) → OnOk r P → (P → Q) → OnOk r Q
 ok-then (Ok x) p f = f p
 ok-then (Err e) p f = tt
-
-pub err-then : {T E P Q : Type 0} (r : Result T E) → OnErr r P → (P → Q) → OnErr r Q
-err-then (Ok x) p f = tt
-err-then (Err e) p f = f p
 
 -- ---- reads in a longer log
 

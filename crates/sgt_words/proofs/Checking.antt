@@ -41,15 +41,6 @@ module _ (w word : List ℕ) (options : List (List ℕ)) where
 apart : (v w word : List ℕ) → word ≡ v → (length v ≡ length w → ⊥) → word ≡ w → ⊥
 apart v w word is other too = other (ap length (sym is ∙ too))
 
--- no word says nothing
-pub says_nothing : SaysCheck [] (record { order = false; real_time = false; sessions = false })
-says_nothing = record {
-  known = All-nil IsCheckOption;
-  order = (λ yes. absurd cc, λ has. absurd (omega (arith, has.2)));
-  real_time = (λ yes. absurd cc, λ has. absurd (omega (arith, has.2)));
-  sessions = (λ yes. absurd cc, λ has. absurd (omega (arith, has.2)));
-}
-
 module _ (options : List (List ℕ)) (told : CheckWanted) (word : List ℕ) (says : SaysCheck options told) where
   pub with_order : word ≡ codes "--order" → SaysCheck (options ++ (word ∷ [])) (record told { order = true })
   with_order is = record {
@@ -97,12 +88,6 @@ neither word a b c (inr is) = c is
 pub on_none : {A : Type 0} (o : Option A) (P : Type 0) → P → IfNone o P
 on_none None P p = p
 on_none (Some a) P p = tt
-
--- a word that is no option of a check
-pub no_check : (options : List (List ℕ)) → (All IsCheckOption options → ⊥) → (choice : Choice) → command_of choice ≡ command.Check
-    → Says options choice → ⊥
-no_check options none (Check wanted) is says = none says.known
-no_check options none choice is says = absurd cc
 
 -- a thing is wanted or not, as its word stands there or not
 same : (a b : Bool) (S : Type 0) → IsTrue a ↔ S → IsTrue b ↔ S → a ≡ b

@@ -29,9 +29,6 @@ pub on_found : {A E : Type 0} (r : Result (Option A) E) (P Q : A → Type 0) →
 on_found (Ok o) P Q so holds = on_some o P Q so holds
 on_found (Err e) P Q so holds = tt
 
-same_word : {A : Type 0} (a b : A) (xs ys : List A) → a ∷ xs ≡ b ∷ ys → (a ≡ b) × (xs ≡ ys)
-same_word a b xs ys e = (cc, ap (drop 1) e)
-
 -- `--workers` with a word that is no number of workers
 pub no_workers : (options : List (List ℕ)) (w : List ℕ) → options ≡ codes "--workers" ∷ w ∷ [] → ((n : ℕ) → SaysWorkers w n → ⊥)
     → (choice : Choice) → command_of choice ≡ command.Audit → Says options choice → ⊥
@@ -78,12 +75,6 @@ no_explained options some no_rule no_tx Explain is says = some says
 no_explained options some no_rule no_tx (Rule topic) is says = no_rule topic says
 no_explained options some no_rule no_tx (Transaction tx) is says = no_tx tx says
 no_explained options some no_rule no_tx choice is says = absurd cc
-
--- a rule is no transaction
-pub rule_alone : (options : List (List ℕ)) (topic : Topic) (tx : ℕ) → options ≡ topic_name topic ∷ [] → TellsTx options tx → ⊥
-rule_alone options topic tx e (text, says, inl apart) = absurd (omega (arith, ap length apart, ap length e))
-rule_alone options topic tx e (text, says, inr joined) =
-    letter_of topic text (ap (λ l. get_or l 0 []) (sym e ∙ joined))
 
 pub empty : {A : Type 0} (xs : List A) (b : Bool) → b ≡ (length xs == 0) → b ≡ true → xs ≡ []
 empty [] b e is_true = refl

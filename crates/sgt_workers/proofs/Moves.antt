@@ -47,9 +47,6 @@ all_set : (F : ℕ → Hold → Type 0) (views : List Hold) (by : ℕ) (w : Hold
 all_set F views by w mine others j u e = ⊎_elim (λ (x : (j ≡ by) × (w ≡ u)). subst (λ (y : ℕ × Hold). F y.0 y.1) (λ i. (sym x.0 i, x.1 i)) mine)
     (λ (x : (j ≢ by) × (get_elem? views j ≡ some u)). others j u x.0 x.1) (at_set views by j w u e)
 
-weight_of : (ℕ → ℕ) → Hold → ℕ
-weight_of weight v = sum_by weight v.taken
-
 -- the pass changes to one that has taken the same
 same_weight : (low : ℕ) (views : List Hold) (by : ℕ) (v w : Hold) → get_elem? views by ≡ some v → w.taken ≡ v.taken → Accounts low views → Accounts low (set views by w)
 same_weight low views by v w at same sums weight =

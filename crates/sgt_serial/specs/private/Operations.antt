@@ -26,11 +26,3 @@ owner e = tx_of e.entry
 
 abbrev pub is_by : ℕ → SiteEntry → Bool
 is_by tx e = owner e == tx
-
--- the transaction with its reads and changes among these entries
-abbrev pub run_in : List SiteEntry → ℕ → SerialTx
-run_in entries tx = record {
-  tx = tx;
-  reads = filter_map (λ (e : SiteEntry). read_at e.site e.entry) (filter (is_by tx) entries);
-  writes = filter_map (λ (e : SiteEntry). write_at e.site e.entry) (filter (is_by tx) entries);
-}

@@ -1,6 +1,6 @@
 use Rattle.std.proofs.Common.{arith}
 use Rattle.sgt_names.proofs.Lists.{element_at}
-use Rattle.sgt_explain_decisions.proofs.Seeking.{empty-unfound, empty-marked, walks-none, walks-next}
+use Rattle.sgt_explain_decisions.proofs.Seeking.{walks-next}
 use Rattle.sgt_explain_decisions.proofs.sought.unfound_in.Goals as goal
 
 pub loop-decision-preserved : goal.loop-decision-preserved

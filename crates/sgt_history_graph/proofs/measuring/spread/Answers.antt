@@ -5,7 +5,7 @@ use Rattle.sgt_history_graph.specs.declared.edge.Edge.{Edge}
 use Rattle.sgt_history_graph.specs.declared.homeward.TheConstants.{FAR}
 use Rattle.sgt_history_graph.specs.Graph.{JoinsNodes}
 use Rattle.sgt_history_graph.specs.Nearest.{AreSpread, far_of}
-use Rattle.sgt_history_graph.proofs.Spreading.{far-fewer, spread-begins, spread-hits, spread-misses, spread-told}
+use Rattle.sgt_history_graph.proofs.Spreading.{far-fewer, spread-hits, spread-misses, spread-told}
 use Rattle.sgt_history_graph.proofs.measuring.spread.Goals as goal
 use Rattle.sgt_history_graph.proofs.measuring.spread.Goals.{then-distances-edge+then-distances-edge-2, else-distances-edge, else-distances-edge-via-then-distances-edge+else-distances-edge-2, else-distances-edge-via-else-distances-edge}
 

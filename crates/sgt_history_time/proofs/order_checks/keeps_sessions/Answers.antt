@@ -1,6 +1,6 @@
 use Rattle.std.proofs.Common.{◌∙◌, sym, refl, get_or}
 use Rattle.std.proofs.lemmas.Option.{slice_get-get_or}
-use Rattle.sgt_history_time.proofs.InSessions.{in_sessions-ahead, in_sessions-next, in_sessions-none, in_sessions-whole}
+use Rattle.sgt_history_time.proofs.InSessions.{in_sessions-ahead, in_sessions-next, in_sessions-whole}
 use Rattle.sgt_history_time.proofs.order_checks.keeps_sessions.Goals as goal
 
 pub returns-then-not-note : goal.returns-then-not-note

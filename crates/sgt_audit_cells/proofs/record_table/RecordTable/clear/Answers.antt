@@ -8,7 +8,6 @@ use Rattle.sgt_audit_cells.specs.Records.{Record, no_record}
 use Rattle.sgt_audit_cells.specs.private.Linked.{record_of}
 use Rattle.sgt_audit_cells.specs.declared.record.Slot.{Slot}
 use Rattle.sgt_audit_cells.proofs.Linked.{record-fresh}
-use Rattle.sgt_audit_cells.proofs.Rows.{no-rows}
 use Rattle.sgt_audit_cells.proofs.record_table.RecordTable.clear.Goals as goal
 
 pub returns-clause-length : goal.returns-clause-length
