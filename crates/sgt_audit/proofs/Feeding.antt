@@ -17,7 +17,8 @@ use Rattle.sgt_audit.specs.private.NextLine.{Follows}
 use Rattle.sgt_audit.specs.Fed.{HasRead, HaveNoFault, bundle_lines}
 use Rattle.sgt_audit.specs.private.Ending.{EndsWith}
 use Rattle.sgt_audit.specs.private.Stops.{IsJudged}
-use Rattle.sgt_audit.proofs.ReaderAtStage.{faultless, one-line, text-judged}
+use Rattle.sgt_audit.proofs.ReaderAtStage.{faultless, text-judged}
+use Rattle.sgt_notation.proofs.Texts.{text-one_line}
 
 -- a fault in the next line, whatever follows
 pub fault-read : (m : Machine) (n : ℕ) (lines : List (List ℕ)) (l : List ℕ) (f : Fault) → HasNoLf l → HasRead (Going m n) lines → ((s : Stage) → Stands m.progress s → Breaks (Rule s (whole l)) f) → HasRead (Found (record { line = n; fault = f })) (lines ++ l ∷ [])
@@ -27,7 +28,7 @@ fault-read m n lines l f none (s, stands, same, counts) breaks = (
     stage = s;
     rest = l ++ 10 ∷ rest;
     next = whole l;
-    text = one-line lines l rest ∙ ap (λ ls. text_of_lines ls ++ (l ++ 10 ∷ rest)) (sym same);
+    text = text-one_line lines l rest ∙ ap (λ ls. text_of_lines ls ++ (l ++ 10 ∷ rest)) (sym same);
     faultless = faultless m.progress s stands;
     number = ap (λ ls. length ls + 1) (sym same);
     comes = (rest, refl, none);
@@ -39,7 +40,7 @@ fault-read m n lines l f none (s, stands, same, counts) breaks = (
 
 -- it stays the first one
 pub found-read : (f : found.FirstFault) (lines : List (List ℕ)) (l : List ℕ) → HasRead (Found f) lines → HasRead (Found f) (lines ++ l ∷ [])
-found-read f lines l (m, first, le, counts) = (m, λ rest. subst (λ t. FirstFault t m f.fault) (sym (one-line lines l rest)) (first (l ++ 10 ∷ rest)), omega (arith, length-append lines (l ∷ [])), counts)
+found-read f lines l (m, first, le, counts) = (m, λ rest. subst (λ t. FirstFault t m f.fault) (sym (text-one_line lines l rest)) (first (l ++ 10 ∷ rest)), omega (arith, length-append lines (l ∷ [])), counts)
 
 -- ---- the verdict
 

@@ -16,6 +16,7 @@ use Rattle.sgt_cert.specs.Text.{format_line, has_increments, section_lines, sect
 use Rattle.sgt_cert.specs.declared.bundle.SiteLog.{SiteLog}
 use Rattle.sgt_audit.specs.Faults.{Allows, IsLineIn}
 use Rattle.sgt_audit.proofs.SectionLines.{AllByRecursion-map}
+use Rattle.sgt_cert.proofs.OneText.{front-all}
 
 -- the two formats have two lines, which end in two digits
 other_digit : format_line false ≡ format_line true → ⊥
@@ -61,10 +62,6 @@ lines-in : (second : Bool) (lines : List SectionLine) → AllByRecursion IsLine 
 lines-in second [] is allowed = tt
 lines-in second (l ∷ lines) is allowed = ((is.0, allowed.0), lines-in second lines is.1 allowed.1)
 
-both : {A : Type 0} (P : A → Type 0) (xs ys : List A) → AllByRecursion P (xs ++ ys) → AllByRecursion P xs × AllByRecursion P ys
-both P [] ys h = (tt, h)
-both P (x ∷ xs) ys h = let more = both P xs ys h.1 in ((h.0, more.0), more.1)
-
 module _ (second : Bool) where
   logged-allowed : (entries : List Entry) → AllByRecursion (AllowsEntry second) entries → AllByRecursion (Allows second) (map Logged entries)
   logged-allowed [] h = tt
@@ -92,9 +89,9 @@ module _ (second : Bool) where
 
     allowed-section : AllByRecursion (Allows second) (section_lines k log) → All (AllowsEntry second) log.entries
     allowed-section h =
-        let body = (both (Allows second) (items ++ entries ++ finals) (End ∷ []) h.1).0 in
-        let front = (both (Allows second) (items ++ entries) finals body).0 in
-        All-from_recursion (AllowsEntry second) log.entries (entries-allowed log.entries (both (Allows second) items entries front).1)
+        let body = (front-all (Allows second) (items ++ entries ++ finals) (End ∷ []) h.1).0 in
+        let front = (front-all (Allows second) (items ++ entries) finals body).0 in
+        All-from_recursion (AllowsEntry second) log.entries (entries-allowed log.entries (front-all (Allows second) items entries front).1)
 
   sections-allowed : (k : ℕ) (logs : List SiteLog) → ((s : ℕ) (log : SiteLog) → slice_get logs s ≡ Some log → All (AllowsEntry second) log.entries) → AllByRecursion (Allows second) (sections_from k logs)
   sections-allowed k [] h = tt
@@ -104,8 +101,8 @@ module _ (second : Bool) where
   allowed-sections : (k : ℕ) (logs : List SiteLog) → AllByRecursion (Allows second) (sections_from k logs) → (s : ℕ) (log : SiteLog) → slice_get logs s ≡ Some log → All (AllowsEntry second) log.entries
   allowed-sections k [] h s log at = absurd cc
   allowed-sections k (l ∷ logs) h zero log at =
-      subst (λ (l : SiteLog). All (AllowsEntry second) l.entries) (same_Some l log at) (allowed-section k l (both (Allows second) (section_lines k l) (sections_from (suc k) logs) h).0)
-  allowed-sections k (l ∷ logs) h (suc s) log at = allowed-sections (suc k) logs (both (Allows second) (section_lines k l) (sections_from (suc k) logs) h).1 s log at
+      subst (λ (l : SiteLog). All (AllowsEntry second) l.entries) (same_Some l log at) (allowed-section k l (front-all (Allows second) (section_lines k l) (sections_from (suc k) logs) h).0)
+  allowed-sections k (l ∷ logs) h (suc s) log at = allowed-sections (suc k) logs (front-all (Allows second) (section_lines k l) (sections_from (suc k) logs) h).1 s log at
 
   -- the lines of these logs are lines of the format exactly where it allows their increments
   pub lines-allowed : (k : ℕ) (logs : List SiteLog) → AllByRecursion IsLine (sections_from k logs) → (IsTrue (has_increments logs) → IsTrue second) → All (IsLineIn second) (sections_from k logs)

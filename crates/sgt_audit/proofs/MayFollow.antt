@@ -15,7 +15,7 @@ use Rattle.sgt_notation.specs.declared.SectionLine.TheVariants.{Site, Initial, L
 use Rattle.sgt_cert.specs.Parts.{ComesBefore, IsShapedLog, IsShaped}
 use Rattle.sgt_cert.specs.Text.{section_lines, sections_from, Begins, AreSections}
 use Rattle.sgt_cert.specs.declared.bundle.SiteLog.{SiteLog}
-use Rattle.sgt_cert.proofs.OneText.{section-one}
+use Rattle.sgt_cert.proofs.OneText.{section-one, initial-one, logged-one, final-one, section_spread}
 use Rattle.sgt_audit.specs.Reading.{Begun, open_lines, lines_read, IsOpenLog, HasRoomFor, IsBegun}
 use Rattle.sgt_audit.specs.private.Following.{Fits, FitsBetween, MayFollow, with_line, no_log, with_next}
 use Rattle.sgt_audit.proofs.LinePlaces.{no_cons}
@@ -58,15 +58,6 @@ all-map : {A B : Type 0} (f : A → B) (zs : List A) (us vs : List B) → NotFro
 all-map f [] us vs h e = (refl, e)
 all-map f (z ∷ zs) us vs h e = absurd (h z (map f zs ++ us) (sym e))
 
-initial-one : (a b : Holding) → Initial a ≡ Initial b → a ≡ b
-initial-one a b e = cc
-
-logged-one : (a b : Entry) → Logged a ≡ Logged b → a ≡ b
-logged-one a b e = cc
-
-final-one : (a b : Holding) → Final a ≡ Final b → a ≡ b
-final-one a b e = cc
-
 -- lines behind the items, behind the entries
 after_items : (entries : List Entry) (finals : List Holding) (rest : List SectionLine) → NotFrom Initial rest → NotFrom Initial (map Logged entries ++ (map Final finals ++ rest))
 after_items [] [] rest h a more e = h a more e
@@ -83,7 +74,7 @@ end-not f apart rest a more e = apart a (heads End (f a) rest more e)
 end-initial : (a : Holding) → End ≡ Initial a → ⊥
 end-initial a e = cc
 
-end-logged : (a : Entry) → End ≡ Logged a → ⊥
+pub end-logged : (a : Entry) → End ≡ Logged a → ⊥
 end-logged a e = cc
 
 end-final : (a : Holding) → End ≡ Final a → ⊥
@@ -283,19 +274,16 @@ regroup front opened more line = simp append_assoc
 spread : (k : ℕ) (log : SiteLog) (behind : List SectionLine) → open_lines k (Some log) ++ behind ≡ Site k ∷ (map Initial log.items ++ (map Logged log.entries ++ (map Final log.finals ++ behind)))
 spread k log behind = simp append_assoc
 
-spread-whole : (k : ℕ) (l : SiteLog) (rest : List SectionLine) → section_lines k l ++ rest ≡ Site k ∷ (map Initial l.items ++ (map Logged l.entries ++ (map Final l.finals ++ (End ∷ rest))))
-spread-whole k l rest = simp append_assoc
-
 module _ (sites : ℕ) (whole : List SiteLog) (line : SectionLine) (logs : List SiteLog) (more : List SectionLine) (shaped : IsShaped sites logs) where
   -- the section that goes on
   follow-open : (log l : SiteLog) (ls : List SiteLog) → IsShapedLog l → sections_from (0 + length whole) (l ∷ ls) ≡ open_lines (length whole) (Some log) ++ line ∷ more → Fits log line
   follow-open log l ls shape e =
       let rest = sections_from (suc (0 + length whole)) ls in
-      follows l log rest more shape line (tails (Site (0 + length whole)) (Site (length whole)) (map Initial l.items ++ (map Logged l.entries ++ (map Final l.finals ++ (End ∷ rest)))) (map Initial log.items ++ (map Logged log.entries ++ (map Final log.finals ++ (line ∷ more)))) (sym (spread-whole (0 + length whole) l rest) ∙ e ∙ spread (length whole) log (line ∷ more)))
+      follows l log rest more shape line (tails (Site (0 + length whole)) (Site (length whole)) (map Initial l.items ++ (map Logged l.entries ++ (map Final l.finals ++ (End ∷ rest)))) (map Initial log.items ++ (map Logged log.entries ++ (map Final log.finals ++ (line ∷ more)))) (sym (section_spread (0 + length whole) l rest) ∙ e ∙ spread (length whole) log (line ∷ more)))
 
   follow-between : (line : SectionLine) (l : SiteLog) (ls : List SiteLog) (current : Option SiteLog) → logs ≡ whole ++ l ∷ ls → sections_from (0 + length whole) (l ∷ ls) ≡ line ∷ more → FitsBetween (record { sites = sites; whole = whole; current = current }) line
   follow-between (Site k) l ls current all e =
-      let same = site-one (0 + length whole) k (heads (Site (0 + length whole)) (Site k) _ more (sym (spread-whole (0 + length whole) l (sections_from (suc (0 + length whole)) ls)) ∙ e)) in
+      let same = site-one (0 + length whole) k (heads (Site (0 + length whole)) (Site k) _ more (sym (section_spread (0 + length whole) l (sections_from (suc (0 + length whole)) ls)) ∙ e)) in
       (omega arith, omega (arith, shaped.each, ap length all, length-append whole (l ∷ ls)))
     where
       site-one : (j k : ℕ) → Site j ≡ Site k → k ≡ j
@@ -500,7 +488,7 @@ no_line l k rest e = cc
 -- an open section is not all of one
 not-ended : (k j : ℕ) (l log : SiteLog) (rest : List SectionLine) → section_lines j l ++ rest ≡ open_lines k (Some log) → ⊥
 not-ended k j l log rest e =
-    let e1 = sym (spread-whole j l rest) ∙ e ∙ sym (append-nil (open_lines k (Some log))) ∙ spread k log [] in
+    let e1 = sym (section_spread j l rest) ∙ e ∙ sym (append-nil (open_lines k (Some log))) ∙ spread k log [] in
     let e2 = tails (Site j) (Site k) (map Initial l.items ++ (map Logged l.entries ++ (map Final l.finals ++ (End ∷ rest)))) (map Initial log.items ++ (map Logged log.entries ++ (map Final log.finals ++ []))) e1 in
     let finals = finals-begin l log rest [] e2 (after_items log.entries log.finals [] (λ a rs same. nothing (Initial a) rs same)) (after_entries log.finals [] (λ a rs same. nothing (Logged a) rs same)) in
     no_cons (map Final finals.0) rest End (sym finals.2)

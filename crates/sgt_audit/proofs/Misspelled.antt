@@ -12,7 +12,7 @@ use Rattle.sgt_cert.specs.Text.{certificate_text, format_line, sections_from, Be
 use Rattle.sgt_cert.specs.declared.certificate.Certificate.{Certificate}
 use Rattle.sgt_cert.proofs.Reading.{certificate-one}
 use Rattle.sgt_cert.proofs.OneLine.{certificate-one_line}
-use Rattle.sgt_cert.proofs.OneText.{first_line, format-one_line, line_front, lines_front, logs-from_lines, sections-lines, sections-one}
+use Rattle.sgt_cert.proofs.OneText.{format-one_line, lines_front, logs-from_lines, sections-lines, sections-one}
 use Rattle.sgt_audit.specs.declared.faults.Fault.{Fault}
 use Rattle.sgt_audit.specs.declared.faults.Fault.TheVariants as fault
 use Rattle.sgt_audit.specs.Faults.{IsLineIn, Keeps, Stage, start, headed, within, complete, lines_so_far, Piece, whole, last, ComesNext, Rule}
@@ -20,9 +20,10 @@ use Rattle.sgt_audit.specs.Misspelled.{AreLinesOf, IsOfSpelling, IsSpelled, Miss
 use Rattle.sgt_audit.proofs.Formats.{format-one, lines-of, lines-allowed, logs-allowed}
 use Rattle.sgt_audit.proofs.MayFollow.{begun-begins}
 use Rattle.sgt_audit.proofs.OneFault.{comes_line, one_piece}
-use Rattle.sgt_audit.proofs.ReaderAtStage.{one-line, piece}
+use Rattle.sgt_audit.proofs.ReaderAtStage.{piece}
 use Rattle.sgt_audit.proofs.decidable.Sections.{HasBegun, none-begun, more-begun, decidable-sections}
 use Rattle.sgt_audit.proofs.decidable.Pieces.{HoldsBegun, decidable-within, decidable-certified, decidable-first, decidable-trailing, decidable-last}
+use Rattle.sgt_notation.proofs.Texts.{first_line, line_front, text-one_line}
 
 -- ---- bytes that spell a bundle break no rule of spelling
 
@@ -282,7 +283,7 @@ module _ (bytes : List ℕ) (s : Stage) (rest : List ℕ) (good : Reached s) (te
   at-piece (whole l) (more, is, one) rules =
       let t = next-stage s l good rules in
       further t.0 more (omega (arith, ap length is, length-append l (10 ∷ more))) t.1
-      (text ∙ ap (λ (x : List ℕ). text_of_lines (lines_so_far s) ++ x) is ∙ sym (one-line (lines_so_far s) l more) ∙ ap (λ ls. text_of_lines ls ++ more) (sym t.2))
+      (text ∙ ap (λ (x : List ℕ). text_of_lines (lines_so_far s) ++ x) is ∙ sym (text-one_line (lines_so_far s) l more) ∙ ap (λ ls. text_of_lines ls ++ more) (sym t.2))
 
   at-rest : Judged bytes
   at-rest =

@@ -11,12 +11,13 @@ use Rattle.sgt_cert.specs.Text.{certificate_text, format_line, sections_from, Is
 use Rattle.sgt_cert.specs.declared.certificate.Certificate.{Certificate}
 use Rattle.sgt_cert.proofs.Reading.{certificate-one}
 use Rattle.sgt_cert.proofs.OneLine.{certificate-one_line}
-use Rattle.sgt_cert.proofs.OneText.{format-one_line, line_front, sections-one}
+use Rattle.sgt_cert.proofs.OneText.{format-one_line, sections-one}
 use Rattle.sgt_audit.specs.declared.faults.Fault.{Fault}
 use Rattle.sgt_audit.specs.declared.faults.Fault.TheVariants as fault
 use Rattle.sgt_audit.specs.Faults.{fault_number, IsLineIn, Keeps, KeepsItself, AllKept, Stage, start, headed, within, complete, lines_so_far, IsFaultless, Piece, whole, last, ComesNext, Rule, Breaks, FirstFault, HasNoFault, bytes_of, reach}
 use Rattle.sgt_audit.proofs.FaultNumbers.{number-one}
 use Rattle.sgt_audit.proofs.Formats.{format-one}
+use Rattle.sgt_notation.proofs.Texts.{has_no_lf, line_front}
 
 -- ---- the next piece
 
@@ -28,17 +29,14 @@ has_lf xs ys h = go xs ys (recursion_from_All (λ b. b ≢ 10) (xs ++ 10 ∷ ys)
     go [] ys h = h.0 refl
     go (x ∷ xs) ys h = go xs ys h.1
 
-pub no_lf : (l : List ℕ) → HasNoLf l → HasNot 10 l
-no_lf l h = recursion_from_All (λ b. b ≢ 10) l h
-
 -- where a line stands, that line comes next
 pub comes_line : (l more rest : List ℕ) (p : Piece) → HasNot 10 l → rest ≡ l ++ 10 ∷ more → ComesNext rest p → p ≡ whole l
-comes_line l more rest (whole m) h e (after, is, one) = ap whole (cut_at_byte 10 m l after more (no_lf m one) h (sym is ∙ e)).0
+comes_line l more rest (whole m) h e (after, is, one) = ap whole (cut_at_byte 10 m l after more (has_no_lf m one) h (sym is ∙ e)).0
 comes_line l more rest (last m) h e (is, one) = absurd (has_lf l more (subst HasNoLf (sym is ∙ e) one))
 
 pub one_piece : (rest : List ℕ) (p q : Piece) → ComesNext rest p → ComesNext rest q → p ≡ q
-one_piece rest p (whole m) comes (more, is, one) = comes_line m more rest p (no_lf m one) is comes
-one_piece rest (whole l) (last m) (more, is, one) comes = sym (comes_line l more rest (last m) (no_lf l one) is comes)
+one_piece rest p (whole m) comes (more, is, one) = comes_line m more rest p (has_no_lf m one) is comes
+one_piece rest (whole l) (last m) (more, is, one) comes = sym (comes_line l more rest (last m) (has_no_lf l one) is comes)
 one_piece rest (last l) (last m) (is, one) (as_is, none) = ap last (sym is ∙ as_is)
 
 -- ---- lines of one text
@@ -71,7 +69,7 @@ compare (x ∷ xs) (y ∷ ys) r s h g e =
       | inr (inr b) ↦ inr (inr (beyond-more y x ys xs s (sym same) b))
     ]
 
-each_line : (P : SectionLine → Type 0) (xs : List SectionLine) → ((earlier later : List SectionLine) (l : SectionLine) → xs ≡ earlier ++ l ∷ later → P l) → AllByRecursion P xs
+pub each_line : (P : SectionLine → Type 0) (xs : List SectionLine) → ((earlier later : List SectionLine) (l : SectionLine) → xs ≡ earlier ++ l ∷ later → P l) → AllByRecursion P xs
 each_line P [] h = tt
 each_line P (x ∷ xs) h = (h [] xs x refl, each_line P xs (λ earlier later l e. h (x ∷ earlier) later l (ap (λ ys. x ∷ ys) e)))
 
@@ -121,7 +119,7 @@ within-on second c earlier line is keeps p e = record { line = line_text line; i
     holds fault.Notation = (line, is, refl)
     holds f = λ m is_line same. subst (λ k. Keeps c earlier k f) (line-one line m is.0 is_line.0 same) (keeps f)
 
-no_more : (l : SectionLine) (ls : List SectionLine) → l ∷ ls ≡ [] → ⊥
+pub no_more : (l : SectionLine) (ls : List SectionLine) → l ∷ ls ≡ [] → ⊥
 no_more l ls e = cc
 
 -- no line of the sections follows all of them
@@ -186,7 +184,7 @@ headed_text second rest = line_front (format_line second) [] rest
 within_text : (second : Bool) (c : Certificate) (xs : List SectionLine) (rest : List ℕ) → text_of_lines (lines_so_far (within second c xs)) ++ rest ≡ format_line second ++ 10 ∷ (certificate_text c ++ 10 ∷ (text_of_lines (map line_text xs) ++ rest))
 within_text second c xs rest = line_front (format_line second) (certificate_text c ∷ map line_text xs) rest ∙ ap (λ (ys : List ℕ). format_line second ++ 10 ∷ ys) (line_front (certificate_text c) (map line_text xs) rest)
 
-behind : (f g : Bool) (xs ys : List ℕ) → format_line f ++ 10 ∷ xs ≡ format_line g ++ 10 ∷ ys → (f ≡ g) × (xs ≡ ys)
+pub behind : (f g : Bool) (xs ys : List ℕ) → format_line f ++ 10 ∷ xs ≡ format_line g ++ 10 ∷ ys → (f ≡ g) × (xs ≡ ys)
 behind f g xs ys e =
     let cut = cut_at_byte 10 (format_line f) (format_line g) xs ys (format-one_line f) (format-one_line g) e in
     (format-one f g cut.0, cut.1)

@@ -29,10 +29,7 @@ use Rattle.sgt_audit.specs.Reading.{Begun, HasRoomFor, IsBegun, IsOpenLog, lines
 use Rattle.sgt_audit.specs.private.Following.{Fits, FitsAt, FitsBetween, MayFollow, no_log, with_line, with_next, next_current, next_whole}
 use Rattle.sgt_audit.specs.private.Judging.{ContinuesBlock, ContinuesLog, FollowsLast}
 use Rattle.sgt_audit.proofs.MayFollow.{are-sections, follow-decides, whole-sections}
-
-pub nil : {A : Type 0} (xs : List A) → length xs ≡ 0 → xs ≡ []
-nil [] e = refl
-nil (x ∷ xs) e = absurd (omega arith)
+use Rattle.sgt_names.proofs.Elements.{empty-length}
 
 -- ---- the last entry
 
@@ -98,7 +95,7 @@ module _ (log : SiteLog) (p : OpenPlace) (o : IsOpenPlace log p) where
   item-count = ap length o.items ∙ length-map log.items (λ (h : Holding). h.item)
 
   no-finals : p.finals ≡ 0 → log.finals ≡ []
-  no-finals e = nil log.finals (sym o.finals ∙ e)
+  no-finals e = empty-length log.finals (sym o.finals ∙ e)
 
   some-finals : log.finals ≡ [] → p.finals ≡ 0
   some-finals e = o.finals ∙ ap length e

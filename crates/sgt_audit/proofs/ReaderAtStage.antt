@@ -25,6 +25,7 @@ use Rattle.sgt_audit.specs.private.NextLine.{Follows}
 use Rattle.sgt_audit.specs.private.Ending.{EndsWith, IsComplete, limit_of}
 use Rattle.sgt_audit.specs.private.Stops.{FedFront, Goes, IsJudged, IsRest, IsStop, IsWhole, MeetsFault}
 use Rattle.sgt_audit.proofs.OneFault.{first_fault-excluded, reach-one}
+use Rattle.sgt_notation.proofs.Texts.{text-append, all-spent, text-one_line, fault-met}
 
 -- what the machine has kept has no fault
 stage-faultless : (k : Kept) (b : Begun) (before : List SectionLine) (s : Stage) → Means k.second k.certificate b before → IsStageOf k.second k.certificate before s → IsFaultless s
@@ -36,15 +37,6 @@ faultless at.Start s stands = subst IsFaultless (sym stands) tt
 faultless (at.Headed second) s stands = subst IsFaultless (sym stands) tt
 faultless (at.Reading k) s (b, before, holds, stage) = stage-faultless k b before s holds.means stage
 
-pub text-append : (xs ys : List (List ℕ)) → text_of_lines (xs ++ ys) ≡ text_of_lines xs ++ text_of_lines ys
-text-append [] ys = refl
-text-append (x ∷ xs) ys = ap (λ (t : List ℕ). (x ++ 10 ∷ []) ++ t) (text-append xs ys) ∙ sym (append_assoc (x ++ 10 ∷ []) (text_of_lines xs) (text_of_lines ys))
-
-pub one-line : (xs : List (List ℕ)) (l rest : List ℕ) → text_of_lines (xs ++ l ∷ []) ++ rest ≡ text_of_lines xs ++ (l ++ 10 ∷ rest)
-one-line xs l rest =
-    ap (λ (t : List ℕ). t ++ rest) (text-append xs (l ∷ [])) ∙ append_assoc (text_of_lines xs) (text_of_lines (l ∷ [])) rest
-    ∙ ap (λ (t : List ℕ). text_of_lines xs ++ t) (ap (λ (t : List ℕ). t ++ rest) (append-nil (l ++ 10 ∷ [])) ∙ append_assoc l (10 ∷ []) rest)
-
 -- ---- after a line
 
 rest-line : (s t : Stage) (limit : ℕ) (told old new : Option (List ℕ)) (l : List ℕ) → lines_so_far t ≡ lines_so_far s ++ l ∷ [] → IsRest s told old → Gives limit old Line l new → IsRest t told new
@@ -52,12 +44,12 @@ rest-line s t limit None old new l e rest gives = tt
 rest-line s t limit (Some bytes) None new l e rest gives = absurd rest
 rest-line s t limit (Some bytes) (Some xs) None l e rest gives = absurd gives
 rest-line s t limit (Some bytes) (Some xs) (Some ys) l e rest gives =
-    rest ∙ ap (λ (t : List ℕ). text_of_lines (lines_so_far s) ++ t) gives.2 ∙ sym (one-line (lines_so_far s) l ys) ∙ ap (λ ls. text_of_lines ls ++ ys) (sym e)
+    rest ∙ ap (λ (t : List ℕ). text_of_lines (lines_so_far s) ++ t) gives.2 ∙ sym (text-one_line (lines_so_far s) l ys) ∙ ap (λ ls. text_of_lines ls ++ ys) (sym e)
 
 -- a line more, with its LF
 text-grows : (xs ys : List (List ℕ)) (l : List ℕ) → ys ≡ xs ++ l ∷ [] → length (text_of_lines ys) ≡ length (text_of_lines xs) + length l + 1
 text-grows xs ys l same =
-    let grown = ap length (sym (append-nil (text_of_lines ys)) ∙ ap (λ zs. text_of_lines zs ++ []) same ∙ one-line xs l []) in
+    let grown = ap length (sym (append-nil (text_of_lines ys)) ∙ ap (λ zs. text_of_lines zs ++ []) same ∙ text-one_line xs l []) in
     let cut = length-append (text_of_lines xs) (l ++ 10 ∷ []) in
     let line = length-append l (10 ∷ []) in
     let plain = ap length (append-nil (text_of_lines ys)) in
@@ -190,12 +182,12 @@ piece (b ∷ bytes) = elim (cases_eq b 10) [
     longer b bytes other (last l, (is, none)) = (last (b ∷ l), (ap (λ (t : List ℕ). b ∷ t) is, All-cons (λ x. x ≢ 10) b l other none))
 
 -- an LF within the front
-lf-within : (l more : List ℕ) (n : ℕ) → length l < n → AllByRecursion (λ b. b ≢ 10) (take n (l ++ 10 ∷ more)) → ⊥
+pub lf-within : (l more : List ℕ) (n : ℕ) → length l < n → AllByRecursion (λ b. b ≢ 10) (take n (l ++ 10 ∷ more)) → ⊥
 lf-within l more zero lt h = absurd (omega arith)
 lf-within [] more (suc n) lt h = h.0 refl
 lf-within (x ∷ l) more (suc n) lt h = lf-within l more n (omega arith) h.1
 
-piece-long : (limit : ℕ) (bytes : List ℕ) (next : Piece) → ComesNext bytes next → limit < length bytes → HasNoLf (take (limit + 1) bytes) → limit < length (bytes_of next)
+pub piece-long : (limit : ℕ) (bytes : List ℕ) (next : Piece) → ComesNext bytes next → limit < length bytes → HasNoLf (take (limit + 1) bytes) → limit < length (bytes_of next)
 piece-long limit bytes (whole l) (more, is, none) lt front =
     elim (cases_order limit (length l)) [
       | inl same ↦ absurd (lf-within l more (limit + 1) (omega arith) (recursion_from_All (λ b. b ≢ 10) (take (limit + 1) (l ++ 10 ∷ more)) (subst (λ t. HasNoLf (take (limit + 1) t)) is front)))
@@ -225,21 +217,6 @@ spends_on None mid new a b b' c first same later = tt
 spends_on (Some xs) None new a b b' c first same later = absurd first
 spends_on (Some xs) (Some ys) None a b b' c first same later = absurd later
 spends_on (Some xs) (Some ys) (Some zs) a b b' c first same later = omega (arith, first, same, later)
-
--- no read was left, so each of them took a byte
-all-spent : (told new : Option (List ℕ)) → Spends 4294967295 told 0 new → IfSome told (λ bytes. most_reads ≤ length bytes)
-all-spent None new spends = tt
-all-spent (Some xs) None spends = absurd spends
-all-spent (Some xs) (Some ys) spends = let all : 4294967295 ≤ length xs = omega arith in all
-
--- a read fault is one of the source, or all reads were made
-pub fault-met : (told : Option (List ℕ)) (failures asked asked' reads : ℕ) (old new : Stream) (line : List ℕ) → old.failures ≡ failures → Spends 4294967295 told reads old.told → old.ahead.reads ≡ reads
-    → asked' + new.ahead.reads ≡ asked + 4294967295 → MetReadFault old line new → ReadFaultIsDue told failures new.failures asked asked'
-fault-met told failures asked asked' reads old new line quiet spends same counts met =
-    elim met.cause [
-      | inl failed ↦ inl (omega (arith, failed.0, quiet))
-      | inr spent ↦ inr (omega (arith, spent.0, counts), all-spent told new.told (spends_on told old.told new.told 4294967295 reads old.ahead.reads 0 spends same spent.2))
-    ]
 
 -- a line that was fed at the front is what comes next
 pub front-gave : (old new : Kept) (held : List ℕ) (n : ℕ) (fault : Option Fault) (lines after : Ahead) (told : Option (List ℕ)) → (f : FedFront old new held n fault) → held ≡ lines.held → after ≡ passed n lines

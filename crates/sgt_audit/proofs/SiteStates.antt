@@ -145,7 +145,7 @@ known-missing ds s line o e is none known = subst (IsKnownLine ds s (Logged e)) 
 
 -- ---- names that rise are apart
 
-less-equal : Less ≡ Equal → ⊥
+pub less-equal : Less ≡ Equal → ⊥
 less-equal e = cc
 
 pub before-apart : (x y : Name) → ComesBefore x y → x ≢ y

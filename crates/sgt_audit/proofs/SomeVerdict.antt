@@ -16,10 +16,11 @@ use Rattle.sgt_audit.specs.private.Judging.{KeptBelow}
 use Rattle.sgt_audit.proofs.Least.{kept-next}
 use Rattle.sgt_audit.proofs.LinePlaces.{no_cons}
 use Rattle.sgt_audit.proofs.NoFault.{no_fault-valid}
-use Rattle.sgt_audit.proofs.ReaderAtStage.{one-line, piece}
+use Rattle.sgt_audit.proofs.ReaderAtStage.{piece}
 use Rattle.sgt_audit.proofs.NextLine.{no_notation, kept-more}
 use Rattle.sgt_audit.proofs.decidable.Sections.{HasBegun, none-begun, more-begun, decidable-sections}
 use Rattle.sgt_audit.proofs.decidable.Pieces.{HoldsBegun, decidable-rule}
+use Rattle.sgt_notation.proofs.Texts.{text-one_line}
 
 -- ---- the rules of one place: all are kept, or one is the least that is broken
 
@@ -134,7 +135,7 @@ module _ (bytes : List ℕ) (s : Stage) (rest : List ℕ) (good : Reached s) (te
   at-piece (whole l) (more, is, one) rules =
       let t = next-stage s l good rules in
       further t.0 more (omega (arith, ap length is, length-append l (10 ∷ more))) t.1
-      (text ∙ ap (λ (x : List ℕ). text_of_lines (lines_so_far s) ++ x) is ∙ sym (one-line (lines_so_far s) l more) ∙ ap (λ ls. text_of_lines ls ++ more) (sym t.2))
+      (text ∙ ap (λ (x : List ℕ). text_of_lines (lines_so_far s) ++ x) is ∙ sym (text-one_line (lines_so_far s) l more) ∙ ap (λ ls. text_of_lines ls ++ more) (sym t.2))
 
   at-rest : HasVerdict bytes
   at-rest =

@@ -12,7 +12,7 @@ use Rattle.sgt_notation.proofs.OneSpelling.{cut_at_byte, line-one, line-one_line
 use Rattle.sgt_cert.specs.Parts.{FitTogether, Parts}
 use Rattle.sgt_cert.specs.Text.{certificate_text, format_line, text_in, sections_from, Begins, AreSections, IsCertificate, Spells}
 use Rattle.sgt_cert.specs.declared.certificate.Certificate.{Certificate}
-use Rattle.sgt_cert.proofs.OneText.{first_line, format-one_line, no_line, lines_front, lines-one, logs-from_lines, sections-lines}
+use Rattle.sgt_cert.proofs.OneText.{format-one_line, lines_front, lines-one, logs-from_lines, sections-lines}
 use Rattle.sgt_cert.proofs.OneLine.{certificate-one_line}
 use Rattle.sgt_audit.specs.Faults.{IsLineIn}
 use Rattle.sgt_audit.specs.Reading.{Begun, open_lines, lines_read}
@@ -21,9 +21,10 @@ use Rattle.sgt_audit.specs.private.SpelledSections.{AreSpelled, SpellsSections}
 use Rattle.sgt_cert.specs.declared.bundle.SiteLog.{SiteLog}
 use Rattle.sgt_audit.proofs.Fitting.{fit-together}
 use Rattle.sgt_audit.proofs.Formats.{format-one, lines-of, lines-allowed, logs-allowed}
-use Rattle.sgt_audit.proofs.ReaderAtStage.{one-line}
-use Rattle.sgt_audit.proofs.OneFault.{has_lf, no_lf}
+use Rattle.sgt_audit.proofs.OneFault.{has_lf}
 use Rattle.sgt_audit.proofs.MayFollow.{are-sections, sections-whole}
+use Rattle.sgt_notation.proofs.Texts.{first_line, has_no_lf, text-one_line}
+use Rattle.sgt_names.proofs.Elements.{no_line}
 
 -- the lines that were read, and then what is left
 pub record IsAhead (second : Bool) (sites : ℕ) (bytes : List ℕ) (b : Begun) (rest : List ℕ) : Type 0 where
@@ -58,7 +59,7 @@ module _ (second : Bool) (sites : ℕ) (bytes : List ℕ) (b : Begun) (rest : Li
     next-of [] same text = absurd (no_line line after (sym cut ∙ text))
     next-of (l ∷ later) same text =
         let is = one-spelled l later (subst (AllByRecursion (IsLineIn second)) same (recursion_from_All (IsLineIn second) lines s.each)) in
-        (l, later, (cut_at_byte 10 line (line_text l) after (text_of_lines (map line_text later)) (no_lf line none) (line-one_line l is.0) (sym cut ∙ text ∙ first_line (line_text l) (map line_text later))).0, is, same)
+        (l, later, (cut_at_byte 10 line (line_text l) after (text_of_lines (map line_text later)) (has_no_lf line none) (line-one_line l is.0) (sym cut ∙ text ∙ first_line (line_text l) (map line_text later))).0, is, same)
       where
         behind : (xs ys : List SectionLine) → AllByRecursion (IsLineIn second) (xs ++ ys) → AllByRecursion (IsLineIn second) ys
         behind [] ys h = h
@@ -103,7 +104,7 @@ ahead-next second sites bytes b new rest line after read a cut is same sites_sam
   sites_are = sites_same ∙ a.sites_are;
   each = subst (All (IsLineIn second)) (sym lines) (All-push (IsLineIn second) (lines_read b) read a.each is);
   text = a.text ∙ ap (λ (t : List ℕ). text_of_lines (map line_text (lines_read b)) ++ t) (cut ∙ ap (λ (l : List ℕ). l ++ 10 ∷ after) same)
-      ∙ sym (one-line (map line_text (lines_read b)) (line_text read) after)
+      ∙ sym (text-one_line (map line_text (lines_read b)) (line_text read) after)
       ∙ ap (λ ls. text_of_lines ls ++ after) (sym (ap (map line_text) lines ∙ map-append line_text (lines_read b) (read ∷ [])));
 }
 
@@ -127,7 +128,7 @@ module _ (bytes : List ℕ) (b : Parts) (s : Spells bytes b) where
 
   module _ (line rest : List ℕ) (none : HasNoLf line) (cut : bytes ≡ line ++ 10 ∷ rest) where
     first-cut : (line ≡ format) × (rest ≡ certificate_text b.certificate ++ 10 ∷ body)
-    first-cut = cut_at_byte 10 line format rest (certificate_text b.certificate ++ 10 ∷ body) (no_lf line none) (format-one_line s.second) (sym cut ∙ first-text)
+    first-cut = cut_at_byte 10 line format rest (certificate_text b.certificate ++ 10 ∷ body) (has_no_lf line none) (format-one_line s.second) (sym cut ∙ first-text)
 
     pub first-is : line ≡ format
     first-is = first-cut.0
@@ -137,7 +138,7 @@ module _ (bytes : List ℕ) (b : Parts) (s : Spells bytes b) where
 
     module _ (second behind : List ℕ) (one : HasNoLf second) (next : rest ≡ second ++ 10 ∷ behind) where
       second-cut : (second ≡ certificate_text b.certificate) × (behind ≡ body)
-      second-cut = cut_at_byte 10 second (certificate_text b.certificate) behind body (no_lf second one) (certificate-one_line b.certificate s.certificate) (sym next ∙ first-cut.1)
+      second-cut = cut_at_byte 10 second (certificate_text b.certificate) behind body (has_no_lf second one) (certificate-one_line b.certificate s.certificate) (sym next ∙ first-cut.1)
 
       pub second-is : second ≡ certificate_text b.certificate
       second-is = second-cut.0

@@ -18,6 +18,7 @@ use Rattle.sgt_audit_cells.specs.Tracks.{IsNumberOf, TracksOpen}
 use Rattle.sgt_audit_cells.specs.declared.act.Act.{Act}
 use Rattle.sgt_audit_cells.specs.declared.state.SiteState.{SiteState}
 use Rattle.sgt_audit_cells.proofs.Doing.{change-written, read-read, deed-written, deed-read, adds-is}
+use Rattle.sgt_notation.proofs.Texts.{clash_items}
 
 and-decides : (a b : Bool) (P Q : Type 0) → IsTrue a ↔ P → IsTrue b ↔ Q → IsTrue (a && b) ↔ (P × Q)
 and-decides true b P Q p q = (λ h. (p.0 refl, q.0 h), λ h. q.1 h.1)
@@ -50,11 +51,6 @@ clash-deeds Ww x e f on_e on_f =
       λ c. all.1 ((c.0, c.1), λ p q. c.2 (sym (adds-is e) ∙ p) (sym (adds-is f) ∙ q)),
     )
 
-pub clash-items : (kind : Kind) (x : Name) (e f : Entry) → Clash kind x e f → (item_of e ≡ Some x) × (item_of f ≡ Some x)
-clash-items Wr x e f c = ((change-written e x c.0).0, (read-read f x c.1).0)
-clash-items Rw x e f c = ((read-read e x c.0).0, (change-written f x c.1).0)
-clash-items Ww x e f c = ((change-written e x c.0).0, (change-written f x c.1).0)
-
 module _ (ns : List Name) (entries : List Entry) (a b : ℕ) (acts others : List Act) (is : AreActs ns entries a acts) (are : AreActs ns entries b others) (i : ℕ) (x : Name) (at : slice_get ns i ≡ Some x) (kind : Kind) (apart : a ≢ b) where
   abbrev IsMet : Act → Type 0
   IsMet c = (c.place ≡ i) × Any (ClashesWith kind c) others
@@ -85,7 +81,7 @@ module _ (ns : List Name) (entries : List Entry) (a b : ℕ) (acts others : List
 
   conflict-met : Conflicts entries kind x a b → Any IsMet acts
   conflict-met k =
-      let on = clash-items kind x k.e k.f k.clash in
+      let on = clash_items kind x k.e k.f k.clash in
       let c : Act = act k.p i k.e in
       let d : Act = act k.q i k.f in
       let first = Contains_at acts c ((is c).1 (record { entry = k.e; name = x; here = k.first; of = k.from; item = at; on = on.0; deed = refl })) in
@@ -98,7 +94,7 @@ module _ (ns : List Name) (entries : List Entry) (a b : ℕ) (acts others : List
 -- an item of a conflict is listed, and who is not decided did nothing
 module _ (ds : List Decision) (items : List Holding) (entries : List Entry) (s : SiteState) (t : TracksOpen ds items entries s) where
   pub conflict-listed : (kind : Kind) (x : Name) (a b : ℕ) → Conflicts entries kind x a b → Contains (names items) x
-  conflict-listed kind x a b c = t.listed c.e (Contains-from_at entries c.p c.e c.first) x (clash-items kind x c.e c.f c.clash).0
+  conflict-listed kind x a b c = t.listed c.e (Contains-from_at entries c.p c.e c.first) x (clash_items kind x c.e c.f c.clash).0
 
   -- and is in no conflict
   undecided-entry : (tx p : ℕ) (e : Entry) → IsNumberOf ds tx None → slice_get entries p ≡ Some e → tx_of e ≡ tx → ⊥

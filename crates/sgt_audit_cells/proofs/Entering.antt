@@ -17,10 +17,8 @@ use Rattle.sgt_audit_cells.specs.declared.cell.Cell.{Cell}
 use Rattle.sgt_audit_cells.specs.Tracks.{TracksOpen, IsPlaceAmong}
 use Rattle.sgt_audit_cells.specs.declared.state.SiteState.{SiteState}
 use Rattle.sgt_audit_cells.proofs.Noted.{other-cell}
-
-pub not-some : {A : Type 0} (o : Option A) → ((a : A) → o ≡ Some a → ⊥) → o ≡ None
-not-some None h = refl
-not-some (Some a) h = absurd (h a refl)
+use Rattle.sgt_names.proofs.Elements.{none-unless_some}
+use Rattle.sgt_cert.proofs.InRange.{on_ok-anyway}
 
 module _ (ds : List Decision) (items : List Holding) (entries : List Entry) (cells : List Cell) (are : AreCells ds items entries cells) (e : Entry) where
   pub cell-there : (i : ℕ) → IsPlaceOf (names items) e (Some i) → (c : Cell) × (slice_get cells i ≡ Some c) × (item_of e ≡ Some c.name)
@@ -44,10 +42,6 @@ module _ (ds : List Decision) (items : List Holding) (entries : List Entry) (cel
   pub cells-ended : (place : Option ℕ) → ((i : ℕ) → place ≡ Some i → ⊥) → IsPlaceOf (names items) e place → AreCells ds items (entries ++ e ∷ []) cells
   cells-ended None not on = cells-left on
   cells-ended (Some i) not on = absurd (not i refl)
-
-pub ok-any : {A E P : Type 0} (r : Result A E) → P → OnOk r P
-ok-any (Ok a) p = p
-ok-any (Err e) p = tt
 
 pub placed-item : (ds : List Decision) (items : List Holding) (entries : List Entry) (s : SiteState) (e : Entry) (x : Name) (o : Option ℕ) → TracksOpen ds items entries s → item_of e ≡ Some x
     → IfSome o (λ place. (ds : List Decision) (items : List Holding) (entries : List Entry) → TracksOpen ds items entries s → slice_get (names items) place ≡ Some x)

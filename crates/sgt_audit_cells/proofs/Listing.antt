@@ -20,6 +20,7 @@ use Rattle.sgt_audit_cells.specs.Tracks.{EndsBy, TracksOpen}
 use Rattle.sgt_audit_cells.specs.declared.cell.Cell.{Cell}
 use Rattle.sgt_audit_cells.specs.declared.state.SiteState.{SiteState}
 use Rattle.sgt_audit_cells.proofs.Doing.{record-renamed}
+use Rattle.sgt_names.proofs.Elements.{map-push}
 
 -- ---- values
 
@@ -39,11 +40,7 @@ value_in-new (i ∷ items) h new =
       | inr miss ↦ ap (λ b. cond b (Some i.value) (value_in (items ++ h ∷ []) h.item)) miss ∙ value_in-new items h new.1
     ]
 
-map-push : {A B : Type 0} (f : A → B) (xs : List A) (a : A) → map f (xs ++ a ∷ []) ≡ map f xs ++ f a ∷ []
-map-push f [] a = refl
-map-push f (x ∷ xs) a = ap (λ ys. f x ∷ ys) (map-push f xs a)
-
-no-entry : (f : Entry) → Contains [] f → ⊥
+pub no-entry : (f : Entry) → Contains [] f → ⊥
 no-entry f here = absurd (omega (arith, here.1))
 
 abbrev pub fresh : Holding → Cell

@@ -24,14 +24,8 @@ use Rattle.sgt_cert.specs.declared.certificate.Decision.{Decision}
 use Rattle.sgt_audit_cells.specs.declared.cell.Cell.{Cell}
 use Rattle.sgt_audit_cells.specs.Cells.{IsGreatest, IsRankedWith, Puts, Increments, IsCell, AreCells, IsRankOf}
 use Rattle.sgt_audit_cells.specs.private.Noted.{raised, noted}
-use Rattle.sgt_audit_cells.proofs.Ranked.{greatest-left, greatest-raised, ranked-only}
-
-same-name : (x y : Name) → Some x ≡ Some y → x ≡ y
-same-name x y e = same_Some x y e
-
-no : (b : Bool) → (b ≡ true → ⊥) → b ≡ false
-no true h = absurd (h refl)
-no false h = refl
+use Rattle.sgt_audit_cells.proofs.Ranked.{greatest-left, greatest-raised, ranked-only, same-name}
+use Rattle.sgt_names.proofs.Elements.{false-unless_true, bytes_eq-other}
 
 -- what the entry does to the value of an item
 value-push : (items : List Holding) (entries : List Entry) (e : Entry) (x : Name) (u : ℕ) → value_at items entries x ≡ Some u → value_at items (entries ++ e ∷ []) x ≡ value_after (Some u) (e ∷ []) x
@@ -45,13 +39,10 @@ value-changed x e u o is = ap (λ p. fold value_with (Some u) (cons_option p [])
 same_bytes : (x y : Name) → x ≡ y → bytes_eq x y ≡ true
 same_bytes x y e = (bytes_eq-Decides x y).1 e
 
-other_bytes : (x y : Name) → (x ≡ y → ⊥) → bytes_eq x y ≡ false
-other_bytes x y other = no (bytes_eq x y) (λ yes. other ((bytes_eq-Decides x y).0 yes))
-
 -- an entry on another item, or an end
 change-none : (x : Name) (e : Entry) → (item_of e ≡ Some x → ⊥) → change_of x e ≡ None
-change-none x (Write tx y v) other = ap (λ b. cond b (Some (change.Put v)) None) (other_bytes y x (λ eq. other (ap Some eq)))
-change-none x (Add tx y v) other = ap (λ b. cond b (Some (change.Add v)) None) (other_bytes y x (λ eq. other (ap Some eq)))
+change-none x (Write tx y v) other = ap (λ b. cond b (Some (change.Put v)) None) (bytes_eq-other y x (λ eq. other (ap Some eq)))
+change-none x (Add tx y v) other = ap (λ b. cond b (Some (change.Add v)) None) (bytes_eq-other y x (λ eq. other (ap Some eq)))
 change-none x (Read tx y v) other = refl
 change-none x (Want tx y v) other = refl
 change-none x (WantAdd tx y v) other = refl

@@ -132,7 +132,7 @@ each-is ds entries e f all here = let at = Contains_at entries f here in All_at 
 pub all-are : (ds : List Decision) (entries : List Entry) (e : Entry) → ((f : Entry) → Contains entries f → RiseInRank ds f e) → All (Rises ds e) entries
 all-are ds entries e h = All-from_at (Rises ds e) entries (λ n f at. h f (Contains-from_at entries n f at))
 
-same-name : (x y : Name) → Some x ≡ Some y → x ≡ y
+pub same-name : (x y : Name) → Some x ≡ Some y → x ≡ y
 same-name x y e = same_Some x y e
 
 -- ---- writes and increments

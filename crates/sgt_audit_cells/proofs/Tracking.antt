@@ -28,6 +28,7 @@ use Rattle.sgt_audit_cells.proofs.Ranked.{IsOnly, up_to-all, greatest-left, grea
 use Rattle.sgt_audit_cells.proofs.Doing.{Apart, all-new, record-left, record-entered, record-none}
 use Rattle.sgt_audit_cells.proofs.Lists.{set-at, set-other, some-at}
 use Rattle.sgt_audit_cells.proofs.Live.{one_if, live-set, live-few, live-fewer, live-none, none-live, turned}
+use Rattle.sgt_names.proofs.Parts.{and_left}
 
 -- ---- lists
 
@@ -64,10 +65,6 @@ ended-by : (a b : Bool) → (a && not b) ≡ false → a ≡ true → b ≡ true
 ended-by true true h same = refl
 ended-by true false h same = absurd (true≢false h)
 ended-by false b h same = absurd (false≢true same)
-
-first-true : (a b : Bool) → (a && b) ≡ true → a ≡ true
-first-true true b h = refl
-first-true false b h = absurd (false≢true h)
 
 not-both : (a b : Bool) → (a && not b) ≡ true → b ≡ true → ⊥
 not-both true true h g = false≢true h
@@ -155,7 +152,7 @@ module _ (ds : List Decision) (items : List Holding) (entries : List Entry) (s :
       let is = t.records k d.0 r d.1 at in
       elim (cases_Bool (is_live r)) [
         | inl live ↦
-            let f = is.touched.0 (first-true r.touched (not r.ended) live) in
+            let f = is.touched.0 (and_left r.touched (not r.ended) live) in
             let place = Contains_at entries f.0 f.1 in
             let ended = All_at (λ e. Any (λ f. IsEnd f × (tx_of f ≡ tx_of e)) entries) entries place.0 f.0 all place.1 in
             absurd (not-both r.touched r.ended live (is.ended.1 (any-ended (decided_tx d.0) (subst (λ tx. Any (λ f. IsEnd f × (tx_of f ≡ tx)) entries) f.2 ended))))

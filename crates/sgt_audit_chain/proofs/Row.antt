@@ -24,6 +24,7 @@ use Rattle.sgt_cert.specs.declared.bundle.SiteLog.{SiteLog}
 use Rattle.sgt_cert.proofs.Headline.{valid-agrees}
 use Rattle.sgt_audit_chain.specs.Chain.{IsChain, final_of, final_values, initial_of}
 use Rattle.sgt_audit_chain.specs.Serial.{ChainAgrees, RunInARow, committed_of, store_behind}
+use Rattle.sgt_names.proofs.Elements.{All-tail}
 
 -- ---- stores that are the same
 
@@ -171,9 +172,6 @@ module _ (b : Parts) (valid : IsValid b) (fit : FitTogether b) (s : ℕ) (x : Na
     | inl none ↦ end-missing none ∙ sym (value-at final_of sites s x ∙ ap (option_and_then (λ log. value_in (final_of log) x)) none)
     | inr found ↦ end-here found.0 found.1 ∙ sym (value-at final_of sites s x ∙ ap (option_and_then (λ log. value_in (final_of log) x)) found.1)
   ]
-
-All-tail : {A : Type 0} (P : A → Type 0) (x : A) (xs : List A) → All P (x ∷ xs) → All P xs
-All-tail P x xs all k d within = all (suc k) d (omega arith)
 
 chain-tail : (b : Parts) (bundles : List Parts) → IsChain (b ∷ bundles) → IsChain bundles
 chain-tail b bundles chain = record {

@@ -4,14 +4,4 @@ use Rattle.std.specs.Ordering.{nat_cmp, is_eq}
 use Rattle.std.specs.Cmp.{nat_cmp_is}
 use Rattle.std.specs.declared.cmp.Ordering.TheVariants.{Less, Equal, Greater}
 use Rattle.std.proofs.lemmas.Bool.{cases_order}
-
-pub same-key : (k q : ℕ) → k ≡ q → is_eq (nat_cmp k q) ≡ true
-same-key k q same = ap is_eq (sym (nat_cmp_is k q Equal same))
-
-pub other-key : (k q : ℕ) → k ≢ q → is_eq (nat_cmp k q) ≡ false
-other-key k q apart =
-    elim (cases_order k q) [
-      | inl same ↦ absurd (apart same)
-      | inr (inl less) ↦ ap is_eq (sym (nat_cmp_is k q Less less))
-      | inr (inr more) ↦ ap is_eq (sym (nat_cmp_is k q Greater more))
-    ]
+use Rattle.sgt_names.proofs.Elements.{nat_cmp-same, nat_cmp-other}

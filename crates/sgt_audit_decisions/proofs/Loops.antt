@@ -3,6 +3,7 @@ use Rattle.std.proofs.Common.{◌≡◌, ◌≢◌, inl, inr, ℕ, ◌≤◌, Bo
 use Rattle.std.specs.Prelude.{◌↔◌, ◌==◌, not, is_some}
 use Rattle.std.proofs.lemmas.Bool.{false≢true, true≢false, cases_eq, eq-eqb, eqb-true, ne_eqb}
 use Rattle.sgt_names.proofs.Lists.{All-whole}
+use Rattle.sgt_names.proofs.Elements.{ne-same, is_some-some, is_some-none}
 
 -- a test that answered false, or true
 pub refuted : {P : Type 0} (r : Bool) → IsTrue r ↔ P → r ≡ false → P → ⊥
@@ -19,9 +20,6 @@ all-through P xs i le all = answered-yes (All-whole P xs i le all)
 
 -- ---- what tests of numbers tell
 
-pub ne-false : (a b : ℕ) (r : Bool) → r ≡ not (a == b) → r ≡ false → a ≡ b
-ne-false a b r is miss = elim (cases_eq a b) [ inl same ↦ same | inr apart ↦ absurd (true≢false (sym (ap not (ne_eqb a b apart)) ∙ sym is ∙ miss)) ]
-
 pub ne-true : (a b : ℕ) (r : Bool) → r ≡ not (a == b) → r ≡ true → a ≢ b
 ne-true a b r is hit same = true≢false (sym hit ∙ is ∙ ap not (eq-eqb a b same))
 
@@ -32,14 +30,6 @@ pub empty : (n : ℕ) (r : Bool) → r ≡ (n == 0) → r ≡ true → n ≡ 0
 empty n r is hit = eqb-true n 0 (sym is ∙ hit)
 
 -- ---- what is in an option
-
-pub is_some-value : {A : Type 0} (o : Option A) → is_some o ≡ true → (x : A) × (o ≡ Some x)
-is_some-value None e = absurd (false≢true e)
-is_some-value (Some x) e = (x, refl)
-
-pub is_some-none : {A : Type 0} (o : Option A) → is_some o ≡ false → o ≡ None
-is_some-none None e = refl
-is_some-none (Some x) e = absurd (true≢false e)
 
 pub not-false : (b : Bool) → not b ≡ false → b ≡ true
 not-false true e = refl

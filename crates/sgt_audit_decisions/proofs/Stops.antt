@@ -8,7 +8,7 @@ use Rattle.std.proofs.lemmas.Bool.{cases_eq, true≢false, false≢true}
 use Rattle.std.proofs.lemmas.Option.{same_Some, slice_get_within}
 use Rattle.sgt_names.proofs.Places.{AllPairs_at, AllPairs-from_at}
 use Rattle.sgt_cert.specs.declared.certificate.Step.{Step}
-use Rattle.sgt_audit_decisions.proofs.Keys.{same-key, other-key}
+use Rattle.sgt_names.proofs.Elements.{nat_cmp-same, nat_cmp-other}
 
 -- one of the first n steps leads to the transaction
 abbrev pub LeadsTo : List Step → ℕ → ℕ → Type 0
@@ -41,19 +41,19 @@ module _ (walk : List Step) (n : ℕ) (s : Step) (met : BTreeSet ℕ) (so_far : 
         elim (cases_eq s.to tx) [
           | inl same ↦ (n, s, omega arith, at, same)
           | inr ne ↦
-              let kept = updated tx ∙ ap (λ b. cond b true (contains nat_cmp met tx)) (other-key s.to tx ne) in
+              let kept = updated tx ∙ ap (λ b. cond b true (contains nat_cmp met tx)) (nat_cmp-other s.to tx ne) in
               let had = so_far.listed tx (sym kept ∙ hit) in
               (had.0, had.1, omega (arith, had.2), had.3, had.4)
         ];
     has = λ tx (k, a, lt, at_k, to).
         elim (cases_eq s.to tx) [
-          | inl same ↦ updated tx ∙ ap (λ b. cond b true (contains nat_cmp met tx)) (same-key s.to tx same)
+          | inl same ↦ updated tx ∙ ap (λ b. cond b true (contains nat_cmp met tx)) (nat_cmp-same s.to tx same)
           | inr ne ↦
               elim (cases_eq k n) [
                 | inl last ↦
                     let one : a ≡ s = same_Some a s (sym at_k ∙ ap (slice_get walk) last ∙ at) in
                     absurd (ne (ap (λ (x : Step). x.to) (sym one) ∙ to))
-                | inr before ↦ updated tx ∙ ap (λ b. cond b true (contains nat_cmp met tx)) (other-key s.to tx ne) ∙ so_far.has tx (k, a, omega arith, at_k, to)
+                | inr before ↦ updated tx ∙ ap (λ b. cond b true (contains nat_cmp met tx)) (nat_cmp-other s.to tx ne) ∙ so_far.has tx (k, a, omega arith, at_k, to)
               ]
         ];
   }

@@ -16,7 +16,7 @@ use Rattle.sgt_audit_decisions.specs.private.Table.{IsPlacedOf, ArePlacedOf}
 use Rattle.sgt_audit_decisions.specs.private.Outcome.{outcome_of}
 use Rattle.sgt_audit_decisions.specs.declared.outcome.Outcome.{Outcome}
 use Rattle.sgt_audit_decisions.specs.declared.table.Placed.{Placed}
-use Rattle.sgt_audit_decisions.proofs.Keys.{same-key, other-key}
+use Rattle.sgt_names.proofs.Elements.{nat_cmp-same, nat_cmp-other}
 
 -- what stands there is told of the first n decisions
 abbrev pub HasFirst : List Decision → ℕ → (ℕ → Option (Placed ℕ)) → Type 0
@@ -104,10 +104,10 @@ module _ {A : Type 0} where
 
   module _ (m n : BTreeMap ℕ A) (k : ℕ) (v : A) (updated : (q : ℕ) → get nat_cmp n q ≡ cond (is_eq (nat_cmp k q)) (Some v) (get nat_cmp m q)) where
     pub map-here : get nat_cmp n k ≡ Some v
-    map-here = updated k ∙ ap (λ b. cond b (Some v) (get nat_cmp m k)) (same-key k k refl)
+    map-here = updated k ∙ ap (λ b. cond b (Some v) (get nat_cmp m k)) (nat_cmp-same k k refl)
 
     pub map-others : (q : ℕ) → k ≢ q → get nat_cmp n q ≡ get nat_cmp m q
-    map-others q apart = updated q ∙ ap (λ b. cond b (Some v) (get nat_cmp m q)) (other-key k q apart)
+    map-others q apart = updated q ∙ ap (λ b. cond b (Some v) (get nat_cmp m q)) (nat_cmp-other k q apart)
 
   pub empty-places : (xs : List (Option A)) → All (λ x. x ≡ None) xs → (tx : ℕ) → get_or xs tx None ≡ None
   empty-places xs none tx =

@@ -31,11 +31,12 @@ use Rattle.sgt_audit.specs.private.Following.{MayFollow, with_next}
 use Rattle.sgt_audit.proofs.LinePlaces.{cut_append, last_cut, no_cons}
 use Rattle.sgt_audit.proofs.MayFollow.{added-lines, are-sections, begins-follow, sections-append}
 use Rattle.sgt_audit.proofs.NextStage.{notation-breaks}
-use Rattle.sgt_audit.proofs.ReaderAtStage.{one-line, piece}
+use Rattle.sgt_audit.proofs.ReaderAtStage.{piece, lf-within, piece-long}
 use Rattle.sgt_audit_sections.specs.Sections.{empty_log, alone, KeepsAlone, AreKeptAlone, OwnFault, IsFaultlessCertificate, StepsAreFound}
 use Rattle.sgt_audit_sections.specs.Judged.{IsUnderway, IsWholeSection}
 use Rattle.sgt_audit_sections.specs.private.Feeding.{FedAlone}
 use Rattle.sgt_audit_sections.proofs.SectionFaults.{empties}
+use Rattle.sgt_notation.proofs.Texts.{text-one_line}
 
 abbrev pub empty : ℕ → List SiteLog
 empty k = replicate k empty_log
@@ -66,23 +67,8 @@ cut-rest rest l n front = sym (take-append-drop n rest) ∙ ap (λ (t : List ℕ
 
 -- ---- a line that is too long
 
--- an LF within the front
-lf-within : (l more : List ℕ) (n : ℕ) → length l < n → AllByRecursion (λ b. b ≢ 10) (take n (l ++ 10 ∷ more)) → ⊥
-lf-within l more zero lt h = absurd (omega arith)
-lf-within [] more (suc n) lt h = h.0 refl
-lf-within (x ∷ l) more (suc n) lt h = lf-within l more n (omega arith) h.1
-
 within-front : (l more bytes : List ℕ) (limit : ℕ) → bytes ≡ l ++ 10 ∷ more → HasNoLf (take (limit + 1) bytes) → length l < limit + 1 → ⊥
 within-front l more bytes limit is front lt = lf-within l more (limit + 1) lt (recursion_from_All (λ b. b ≢ 10) (take (limit + 1) (l ++ 10 ∷ more)) (subst (λ (t : List ℕ). HasNoLf (take (limit + 1) t)) is front))
-
-piece-long : (limit : ℕ) (bytes : List ℕ) (next : Piece) → ComesNext bytes next → limit < length bytes → HasNoLf (take (limit + 1) bytes) → limit < length (bytes_of next)
-piece-long limit bytes (whole l) (more, is, none) lt front =
-    elim (cases_order limit (length l)) [
-      | inl same ↦ absurd (within-front l more bytes limit is front (omega (arith, same)))
-      | inr (inl less) ↦ less
-      | inr (inr more_left) ↦ absurd (within-front l more bytes limit is front (omega (arith, more_left)))
-    ]
-piece-long limit bytes (last l) (is, none) lt front = omega (arith, ap length is)
 
 -- what stands before it has no LF
 pub longer-front : (rest left : List ℕ) → HasNoLf rest → IsLongerThan max_line left → IsLongerThan max_line (rest ++ left)
@@ -261,7 +247,7 @@ module _ (second : Bool) (c : Certificate) (k : ℕ) (few : k < c.sites) (bytes 
       own-text : bytes ≡ text_of_lines (map line_text more_own) ++ drop n rest
       own-text =
           g.text ∙ ap (λ (t : List ℕ). text_of_lines (map line_text g.own) ++ t) (fed.cut ∙ ap (λ (t : List ℕ). t ++ 10 ∷ drop n rest) is-text)
-          ∙ sym (one-line (map line_text g.own) (line_text read) (drop n rest)) ∙ ap (λ ls. text_of_lines ls ++ drop n rest) (sym (map-append line_text g.own (read ∷ [])))
+          ∙ sym (text-one_line (map line_text g.own) (line_text read) (drop n rest)) ∙ ap (λ ls. text_of_lines ls ++ drop n rest) (sym (map-append line_text g.own (read ∷ [])))
 
       own-number : line ≡ length more_own
       own-number = omega (arith, g.number, length-append g.own (read ∷ []))

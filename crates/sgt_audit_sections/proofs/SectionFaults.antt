@@ -19,7 +19,7 @@ use Rattle.sgt_cert.specs.declared.bundle.SiteLog.{SiteLog}
 use Rattle.sgt_cert.specs.declared.certificate.Certificate.{Certificate}
 use Rattle.sgt_cert.specs.declared.certificate.Decision.TheVariants.{Refuse}
 use Rattle.sgt_cert.specs.declared.certificate.Step.{Step}
-use Rattle.sgt_cert.proofs.OneText.{line_front, sections-one}
+use Rattle.sgt_cert.proofs.OneText.{sections-one}
 use Rattle.sgt_audit_decisions.specs.Steps.{edges_in}
 use Rattle.sgt_audit_decisions.specs.declared.steps.Edge.{Edge}
 use Rattle.sgt_audit.specs.declared.faults.Fault.{Fault}
@@ -30,13 +30,14 @@ use Rattle.sgt_audit.proofs.FaultNumbers.{number-one}
 use Rattle.sgt_audit.proofs.LinePlaces.{cut_append, no_cons}
 use Rattle.sgt_audit.proofs.LoggedConflicts.{met-walks, walks-met}
 use Rattle.sgt_audit.proofs.MayFollow.{split-whole, sections-append}
-use Rattle.sgt_audit.proofs.OneFault.{first_fault-excluded, reach-one}
+use Rattle.sgt_audit.proofs.OneFault.{first_fault-excluded, reach-one, no_more}
 use Rattle.sgt_audit.proofs.decidable.Entries.{decidable-walks}
 use Rattle.sgt_audit.proofs.NextStage.{line-trails, ends-behind}
-use Rattle.sgt_audit.proofs.ReaderAtStage.{text-append, one-line, piece}
+use Rattle.sgt_audit.proofs.ReaderAtStage.{piece}
 use Rattle.sgt_audit.proofs.SectionLines.{last_end}
 use Rattle.sgt_audit_sections.specs.Sections.{empty_log, alone, AreKeptAlone, OwnFault, AreFaultlessSections, AllStepsAreFound, IsFaultlessCertificate, front_lines, front_text, lines_in_front}
 use Rattle.sgt_audit_sections.proofs.Fronts.{all-tail, begins-moved, line-moved, rule-last, rule-whole}
+use Rattle.sgt_notation.proofs.Texts.{line_front, text-append, text-one_line}
 
 -- every rule below that of the walks
 abbrev pub Below : Certificate → List SectionLine → SectionLine → Type 0
@@ -128,10 +129,6 @@ cut-sections k (g ∷ gs) earlier later l e =
 
 abbrev pub AreBelow : Bool → Certificate → List SectionLine → Type 0
 AreBelow second c lines = (earlier later : List SectionLine) (l : SectionLine) → lines ≡ earlier ++ l ∷ later → IsLineIn second l × Below c earlier l
-
--- an end with another line behind it is not the last of all sections
-no_more : (l : SectionLine) (ls : List SectionLine) → l ∷ ls ≡ [] → ⊥
-no_more l ls e = cc
 
 not-last : (c : Certificate) (earlier : List SectionLine) (m : SectionLine) → Begins c.sites ((earlier ++ End ∷ []) ++ m ∷ []) → Keeps c earlier End fault.WalkStep
 not-last c earlier m (ms, more, shape, e) logs len same =
@@ -401,7 +398,7 @@ module _ (second : Bool) (c : Certificate) (logs : List SiteLog) (good : IsFault
     stage = within second c front;
     rest = line_text End ++ 10 ∷ bytes;
     next = whole (line_text End);
-    text = ap (λ (ls : List (List ℕ)). text_of_lines (format_line second ∷ certificate_text c ∷ ls) ++ bytes) (ap (map line_text) last-line.1 ∙ map-append line_text front (End ∷ [])) ∙ one-line (lines_so_far (within second c front)) (line_text End) bytes;
+    text = ap (λ (ls : List (List ℕ)). text_of_lines (format_line second ∷ certificate_text c ∷ ls) ++ bytes) (ap (map line_text) last-line.1 ∙ map-append line_text front (End ∷ [])) ∙ text-one_line (lines_so_far (within second c front)) (line_text End) bytes;
     faultless = (front-kept, front-open);
     number = omega (arith, ap length last-line.1, length-append front (End ∷ []), length-map front line_text);
     comes = (bytes, refl, line-no_lf End tt);
@@ -415,7 +412,7 @@ module _ (second : Bool) (c : Certificate) (logs : List SiteLog) (good : IsFault
   unfolding missed-first
   missed-reach bytes m g miss any =
       let same = ap (λ (ls : List (List ℕ)). text_of_lines (format_line second ∷ certificate_text c ∷ ls)) (ap (map line_text) last-line.1 ∙ map-append line_text front (End ∷ [])) in
-      let last = one-line (lines_so_far (within second c front)) (line_text End) [] in
+      let last = text-one_line (lines_so_far (within second c front)) (line_text End) [] in
       omega (
         arith,
         ap length same,

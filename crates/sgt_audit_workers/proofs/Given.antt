@@ -13,6 +13,7 @@ use Rattle.sgt_audit_workers.specs.private.Jobs.{HasRun, IsGiven, IsIdle, MayJud
 use Rattle.sgt_audit_workers.specs.private.Running.{AreRunning, Will}
 use Rattle.sgt_audit_workers.specs.private.Texts.{IsNextSection}
 use Rattle.sgt_audit_workers.proofs.Left.{Bytes, bytes-one}
+use Rattle.sgt_names.proofs.Elements.{if_ok_both}
 
 -- ---- who may judge the section of a site may judge those behind it
 pub may-later : (h : Head) (k n : ℕ) (a : Alone) → k ≤ n → MayJudge h k a → MayJudge h n a
@@ -61,10 +62,6 @@ given-run h most old new k job done ran given =
     record { site = ran.site ∙ given.site; section = subst (λ (s : Section). IsNextSection most old s new) (sym ran.section) given.section }
 
 -- ---- lists and results
-
-pub if_ok_both : {X E : Type 0} (r : Result X E) (P Q R : X → Type 0) → IfOk r P → IfOk r Q → ((x : X) → P x → Q x → R x) → IfOk r R
-if_ok_both (Ok x) P Q R p q f = f x p q
-if_ok_both (Err e) P Q R p q f = tt
 
 pub if_ok_map : {X E : Type 0} (r : Result X E) (P Q : X → Type 0) → IfOk r P → ((x : X) → P x → Q x) → IfOk r Q
 if_ok_map (Ok x) P Q p f = f x p

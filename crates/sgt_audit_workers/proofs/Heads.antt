@@ -30,6 +30,7 @@ use Rattle.sgt_audit_workers.specs.private.Begun.{IsFaultBefore, IsMost}
 use Rattle.sgt_audit_workers.specs.private.Tallied.{IsFound}
 use Rattle.sgt_audit_workers.specs.private.Texts.{HasAsked}
 use Rattle.sgt_audit_workers.proofs.Reading.{line-more}
+use Rattle.sgt_notation.proofs.Fronts.{spends_none}
 
 -- ---- what comes next has the first fault
 
@@ -180,10 +181,6 @@ front-told told mid new second c first later =
 pub all-comes : (ahead : Ahead) (told : Option (List ℕ)) → ahead ≡ record { held = []; reads = most_reads } → coming ahead told ≡ told
 all-comes ahead None fresh = refl
 all-comes ahead (Some bytes) fresh = ap (λ (a : Ahead). Some (a.held ++ bytes)) fresh
-
-pub spends-none : (reads : ℕ) (told : Option (List ℕ)) → Spends reads told reads told
-spends-none reads None = tt
-spends-none reads (Some bytes) = omega arith
 
 -- ---- how often the reader was asked
 

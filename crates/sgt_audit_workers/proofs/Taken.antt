@@ -11,7 +11,6 @@ use Rattle.sgt_cert.specs.Text.{certificate_text, format_line, section_lines, se
 use Rattle.sgt_cert.specs.declared.bundle.SiteLog.{SiteLog}
 use Rattle.sgt_cert.specs.declared.certificate.Certificate.{Certificate}
 use Rattle.sgt_cert.specs.declared.certificate.Decision.{Decision}
-use Rattle.sgt_cert.proofs.OneText.{line_front}
 use Rattle.sgt_audit.specs.Faults.{FirstFault, lines_so_far, reach, within}
 use Rattle.sgt_audit.specs.Verdict.{IsVerdict, yes_of}
 use Rattle.sgt_audit.specs.declared.faults.Fault.{Fault}
@@ -34,6 +33,7 @@ use Rattle.sgt_audit_workers.specs.private.Jobs.{HasJudged, IsGiven, IsIdle}
 use Rattle.sgt_audit_workers.specs.private.Tallied.{IsAnswer, IsFound, IsTallied, second_size}
 use Rattle.sgt_audit_workers.specs.private.Texts.{AreAhead, HasAsked}
 use Rattle.sgt_audit_workers.proofs.Whole.{yes}
+use Rattle.sgt_notation.proofs.Texts.{line_front}
 
 -- ---- one more section
 

@@ -19,6 +19,8 @@ use Rattle.sgt_cert.specs.declared.bundle.SiteLog.{SiteLog}
 use Rattle.sgt_cert.proofs.InRange.{written-bundle}
 use Rattle.sgt_cert.proofs.OneLine.{certificate-one_line}
 use Rattle.sgt_cert.proofs.Reading.{certificate-one}
+use Rattle.sgt_notation.proofs.Texts.{line_front, first_line}
+use Rattle.sgt_names.proofs.Elements.{no_line}
 
 -- ---- sections have one reading
 
@@ -34,13 +36,13 @@ split_map f one (x ∷ xs) (y ∷ ys) us vs h g e =
     let more = split_map f one xs ys us vs h g (tails (f x) (f y) (map f xs ++ us) (map f ys ++ vs) e) in
     (ap₂ (λ z zs. z ∷ zs) (one x y (heads (f x) (f y) (map f xs ++ us) (map f ys ++ vs) e)) more.0, more.1)
 
-initial-one : (a b : Holding) → Initial a ≡ Initial b → a ≡ b
+pub initial-one : (a b : Holding) → Initial a ≡ Initial b → a ≡ b
 initial-one a b e = cc
 
-logged-one : (a b : Entry) → Logged a ≡ Logged b → a ≡ b
+pub logged-one : (a b : Entry) → Logged a ≡ Logged b → a ≡ b
 logged-one a b e = cc
 
-final-one : (a b : Holding) → Final a ≡ Final b → a ≡ b
+pub final-one : (a b : Holding) → Final a ≡ Final b → a ≡ b
 final-one a b e = cc
 
 after-items : (entries : List Entry) (finals : List Holding) (rest : List SectionLine) → NotFrom Initial (map Logged entries ++ (map Final finals ++ (End ∷ rest)))
@@ -79,16 +81,6 @@ sections-one k (l ∷ ls) (m ∷ ms) us vs len e =
     (ap₂ (λ z zs. z ∷ zs) first.0 more.0, more.1)
 
 -- ---- and so have lines
-
-pub line_front : (l : List ℕ) (ls : List (List ℕ)) (rest : List ℕ) → text_of_lines (l ∷ ls) ++ rest ≡ l ++ 10 ∷ (text_of_lines ls ++ rest)
-line_front l ls rest = simp append_assoc
-
-pub first_line : (l : List ℕ) (ls : List (List ℕ)) → text_of_lines (l ∷ ls) ≡ l ++ 10 ∷ text_of_lines ls
-first_line l ls = sym (append-nil (text_of_lines (l ∷ ls))) ∙ line_front l ls [] ∙ ap (λ (ys : List ℕ). l ++ 10 ∷ ys) (append-nil (text_of_lines ls))
-
-pub no_line : (l more : List ℕ) → l ++ 10 ∷ more ≡ [] → ⊥
-no_line [] more e = cc
-no_line (x ∷ l) more e = cc
 
 -- lines that are a beginning of others
 pub lines_front : (xs ys : List SectionLine) (rest : List ℕ) → AllByRecursion IsLine xs → AllByRecursion IsLine ys → text_of_lines (map line_text xs) ++ rest ≡ text_of_lines (map line_text ys)
@@ -189,7 +181,7 @@ bundle-one bytes b c s t =
 
 -- ---- and lines with a spelling are of logs in their ranges
 
-front-all : {A : Type 0} (P : A → Type 0) (xs ys : List A) → AllByRecursion P (xs ++ ys) → AllByRecursion P xs × AllByRecursion P ys
+pub front-all : {A : Type 0} (P : A → Type 0) (xs ys : List A) → AllByRecursion P (xs ++ ys) → AllByRecursion P xs × AllByRecursion P ys
 front-all P [] ys h = (tt, h)
 front-all P (x ∷ xs) ys h = let more = front-all P xs ys h.1 in ((h.0, more.0), more.1)
 

@@ -12,15 +12,7 @@ use Rattle.sgt_cert.specs.declared.certificate.Decision.TheVariants.{Commit, Ref
 use Rattle.sgt_cert.proofs.Ranks.{Apart, at-lt-fold, rank-lt-limit, ranks_at}
 use Rattle.sgt_cert.proofs.Ranks as apart
 use Rattle.sgt_cert.proofs.Runs.{of_rank, of_ranks}
-
-behind : {A : Type 0} (xs ys : List A) (n : ℕ) → slice_get (xs ++ ys) (length xs + n) ≡ slice_get ys n
-behind [] ys n = let e : 0 + n ≡ n = omega arith in ap (slice_get ys) e
-behind (x ∷ xs) ys n = let e : length (x ∷ xs) + n ≡ suc (length xs + n) = omega arith in ap (slice_get ((x ∷ xs) ++ ys)) e ∙ behind xs ys n
-
-in_front : {A : Type 0} (xs ys : List A) (n : ℕ) (a : A) → slice_get xs n ≡ Some a → slice_get (xs ++ ys) n ≡ Some a
-in_front [] ys n a at = absurd cc
-in_front (x ∷ xs) ys zero a at = at
-in_front (x ∷ xs) ys (suc n) a at = in_front xs ys n a at
+use Rattle.sgt_names.proofs.Lists.{back_at, front_at}
 
 -- how many ranks are below a number, and how many are that number
 abbrev below : ℕ → List ℕ → ℕ
@@ -114,7 +106,7 @@ range-split (suc m) n a =
     let f : a + 1 + m ≡ a + suc m = omega arith in
     ap (range_with_len a) e ∙ ap (λ xs. a ∷ xs) (range-split m n (a + 1) ∙ ap (λ i. range_with_len (a + 1) m ++ range_with_len i n) f)
 
--- what stands under a rank stands behind those of smaller rank
+-- what stands under a rank stands back_at those of smaller rank
 at-place : (ds : List Decision) (k i tx : ℕ) → k < rank_limit ds → slice_get (of_rank ds k) i ≡ Some tx → slice_get (by_rank ds) (below k (ranks ds) + i) ≡ Some tx
 at-place ds k i tx lt at =
     let more = rank_limit ds - (k + 1) in
@@ -126,9 +118,9 @@ at-place ds k i tx lt at =
     let split : by_rank ds ≡ front ++ back =
     ap (of_ranks ds 0) size ∙ ap (flat_map f) (range-split k (suc more) 0) ∙ flat_map-append f (range_with_len 0 k) (range_with_len (0 + k) (suc more)) ∙ ap (λ j. front ++ of_ranks ds j (suc more)) from
     in
-    ap₂ slice_get split (ap (λ m. m + i) (sym (front-length ds k))) ∙ behind front back i ∙ in_front (of_rank ds k) (of_ranks ds (k + 1) more) i tx at
+    ap₂ slice_get split (ap (λ m. m + i) (sym (front-length ds k))) ∙ back_at front back i ∙ front_at (of_rank ds k) (of_ranks ds (k + 1) more) i tx at
 
--- who is committed stands under his rank behind those of that rank that were decided before
+-- who is committed stands under his rank back_at those of that rank that were decided before
 in_rank : (ds : List Decision) (n tx k : ℕ) → IsCommitted ds n tx k → slice_get (of_rank ds k) (equal k (ranks (take n ds))) ≡ Some tx
 in_rank [] n tx k at = absurd cc
 in_rank (d ∷ ds) zero tx k at =

@@ -23,9 +23,10 @@ use Rattle.sgt_certifier.specs.Kept.{Declines, IsKept, IsTold, Kept, state_with}
 use Rattle.sgt_certifier.specs.Judged.{Ends, Notes, note_at}
 use Rattle.sgt_certifier.proofs.Extending.{runs_on}
 use Rattle.sgt_certifier.proofs.Installs.{none_noted}
-use Rattle.sgt_certifier.proofs.Members.{cons_cases, cons_here, nil_none}
+use Rattle.sgt_certifier.proofs.Members.{cons_here}
 use Rattle.sgt_certifier.proofs.Replaying.{active_under, no_step, replays-good}
 use Rattle.sgt_certifier.proofs.Judging.{installed_allowed, may_note}
+use Rattle.sgt_names.proofs.Elements.{contains-cases, contains-none}
 
 -- no install is asked for
 abbrev pub IsPlain : Request → Type 0
@@ -128,7 +129,7 @@ decided_kept j j2 calls longer h edges reply room room2 kept serves none is spar
     record {
       replays = replays_on s (state_with j2 longer) calls longer (call.Decide h edges reply) kept.replays (plain_serves j j2 calls longer (call.Decide h edges reply) tt serves is) is;
       noted = λ t open_t site. (
-        λ noted. absurd (nil_none noted.1 (subst (λ xs. Contains xs noted.1) none (noted.0, noted.2, noted.3))),
+        λ noted. absurd (contains-none noted.1 (subst (λ xs. Contains xs noted.1) none (noted.0, noted.2, noted.3))),
         λ noted.
             let same : t ≡ tx_under j h = same_Some t (tx_under j h) (sym open_t ∙ step) in
             let was : IsNoted s (tx_under j h) site = subst (λ u. IsNoted s u site) same (subst (Any (λ (x : Install). (x.tx ≡ t) × (x.site ≡ site))) (sym installs) noted) in
@@ -174,9 +175,9 @@ noted_split : (xs : List Install) (one : Install) (t site : ℕ) → Any (IsOf t
 noted_split xs one t site m =
     elim (Contains-append_cases xs (one ∷ []) m.1 (m.0, m.2, m.3)) [
       | inl was ↦ inl (was.0, m.1, was.1, was.2, m.4)
-      | inr last ↦ elim (cons_cases one [] m.1 last) [
+      | inr last ↦ elim (contains-cases one [] m.1 last) [
         | inl e ↦ inr (subst (IsOf t site) (sym e) m.4)
-        | inr out ↦ absurd (nil_none m.1 out)
+        | inr out ↦ absurd (contains-none m.1 out)
       ]
     ]
 

@@ -13,10 +13,11 @@ use Rattle.sgt_certifier.specs.Sound.{IsSoundCertifier, IsRuled}
 use Rattle.sgt_certifier.specs.declared.ranking.Ruled.{Ruled}
 use Rattle.sgt_certifier.specs.Judged.{ruling_from}
 use Rattle.sgt_certifier.specs.Kept.{rulings_from, windows_after, with_rank_in}
-use Rattle.sgt_certifier.proofs.Members.{cons_here, cons_later}
+use Rattle.sgt_certifier.proofs.Members.{cons_here}
 use Rattle.sgt_certifier.proofs.Keeping.{distinct-append}
 use Rattle.sgt_certifier.proofs.Installs.{distinct_few}
-use Rattle.sgt_certifier.proofs.Ruling.{place_in_at, place_map}
+use Rattle.sgt_certifier.proofs.Ruling.{place_in_at}
+use Rattle.sgt_names.proofs.Elements.{contains-later, get-mapped}
 
 -- the decisions of a call and of those after it
 pub rulings_split : (begun before : ℕ) (c : Call) (cs : List Call) → rulings_from begun before (c ∷ cs) ≡ rulings_from 0 before (c ∷ []) ++ rulings_from (windows_after begun before c).0 (windows_after begun before c).1 cs
@@ -45,7 +46,7 @@ map_from f [] = refl
 map_from f (x ∷ xs) = ap (λ ys. f (ruling_from x) ∷ ys) (map_from f xs)
 
 pub below_from : (n : ℕ) (xs : List Ruled) → All (λ r. ruled r < n) (map ruling_from xs) → All (λ r. ruled (ruling_from r) < n) xs
-below_from n xs all = All-from_at (λ r. ruled (ruling_from r) < n) xs (λ k r at. All_at (λ r. ruled r < n) (map ruling_from xs) k (ruling_from r) all (place_map ruling_from xs k r at))
+below_from n xs all = All-from_at (λ r. ruled (ruling_from r) < n) xs (λ k r at. All_at (λ r. ruled r < n) (map ruling_from xs) k (ruling_from r) all (get-mapped ruling_from xs k r at))
 
 -- ---- the table of the ranks
 
@@ -57,7 +58,7 @@ table_rank order table tx is member = get_or_from_slice_get table tx (place_in o
 
 map_agree : {A B : Type 0} (f g : A → B) (xs : List A) → ((x : A) → Contains xs x → f x ≡ g x) → map f xs ≡ map g xs
 map_agree f g [] h = refl
-map_agree f g (x ∷ xs) h = ap (λ y. y ∷ map f xs) (h x (cons_here x xs)) ∙ ap (λ ys. g x ∷ ys) (map_agree f g xs (λ y c. h y (cons_later x xs y c)))
+map_agree f g (x ∷ xs) h = ap (λ y. y ∷ map f xs) (h x (cons_here x xs)) ∙ ap (λ ys. g x ∷ ys) (map_agree f g xs (λ y c. h y (contains-later x xs y c)))
 
 one_agrees : (s : State) (table : List ℕ) → IsRuled s → IsTable (serial s) table → (r : Ruling) → Contains s.rulings r → with_rank_in table r ≡ ranked (serial s) r
 one_agrees s table ruled_ is (committed tx) c = let at = Contains_at s.rulings (committed tx) c in ap (decision.Commit tx) (table_rank (serial s) table tx is (ruled_.to_serial at.0 tx at.1))

@@ -13,6 +13,7 @@ use Rattle.sgt_names.proofs.Parts.{touched-next}
 use Rattle.sgt_order.proofs.Lists.{filter_hit, filter_miss}
 use Rattle.sgt_certifier.specs.declared.install.Prepared.{Prepared}
 use Rattle.sgt_certifier.specs.Kept.{changed_at, IsExpected}
+use Rattle.sgt_edges.proofs.Touching.{few-all}
 
 abbrev pub is_changed : ℕ → Touch → Bool
 is_changed site t = (t.site == site) && is_some t.change
@@ -109,11 +110,6 @@ listed_all whole few ps n lists next most grows here before is s = elim (before 
 ]
 
 -- ---- at one site
-
--- a draft that has no parts touches what is in its list
-pub few_all : (few : List Touch) (ps : List PartView) (ts : List Touch) → few ++ touched_in ps ≡ ts → length ps ≡ 0 → few ≡ ts
-few_all few [] ts is none = sym (append-nil few) ∙ is
-few_all few (p ∷ ps) ts is none = absurd cc
 
 pub changed_here : (s : ℕ) (ts here : List Touch) → here ≡ at_site s ts → changed_at here s ≡ changed_at ts s
 changed_here s ts here is = ap (λ (us : List Touch). changed_at us s) is ∙ ap (map item_of) (within s ts)

@@ -17,6 +17,7 @@ use Rattle.sgt_names.proofs.Places.{AllPairs_at, AllPairs-tail}
 use Rattle.sgt_names.proofs.Ranged.{rising-insert, rising-set}
 use Rattle.sgt_certifier.specs.Row.{AreRising, count_in, found_in, or_zero}
 use Rattle.sgt_certifier.specs.declared.row.ItemCount.{ItemCount}
+use Rattle.sgt_names.proofs.Elements.{bytes_eq-other, get-set_here, get_set_elsewhere}
 
 -- a count of the item at a place is where the item is
 pub at_place : (cs : List ItemCount) (x : Name) (n : ℕ) → (c : ItemCount) × (slice_get cs n ≡ Some c) × (c.item ≡ x) → IsAt (λ c. c.item) cs x n
@@ -27,12 +28,6 @@ at_place cs x n c = record {
 
 is_itself : (x : Name) → bytes_eq x x ≡ true
 is_itself x = (bytes_eq-Decides x x).1 refl
-
-pub is_other : (x y : Name) → x ≢ y → bytes_eq x y ≡ false
-is_other x y apart = elim (cases_Bool (bytes_eq x y)) [
-  | inl hit ↦ absurd (apart ((bytes_eq-Decides x y).0 hit))
-  | inr miss ↦ miss
-]
 
 -- a name that comes before another, or behind it, is not the same
 pub before-apart : (x y : Name) → slice_cmp nat_cmp x y ≡ Less → x ≢ y
@@ -52,13 +47,13 @@ found_at (d ∷ cs) zero c rising at =
     subst (λ (e : ItemCount). found_in (d ∷ cs) e.item ≡ Some e.count) (same_Some d c at) (rw (is_itself d.item) refl)
 found_at (d ∷ cs) (suc n) c rising at =
     let less = AllPairs_at (λ (a b : ItemCount). slice_cmp nat_cmp a.item b.item ≡ Less) (d ∷ cs) 0 (suc n) d c rising (omega arith) refl at in
-    rw (is_other d.item c.item (before-apart d.item c.item less))
+    rw (bytes_eq-other d.item c.item (before-apart d.item c.item less))
     (found_at cs n c (AllPairs-tail (λ (a b : ItemCount). slice_cmp nat_cmp a.item b.item ≡ Less) d cs rising) at)
 
 -- what stands nowhere isn't
 pub found_nowhere : (cs : List ItemCount) (x : Name) → ((n : ℕ) (c : ItemCount) → slice_get cs n ≡ Some c → c.item ≢ x) → found_in cs x ≡ None
 found_nowhere [] x none = refl
-found_nowhere (c ∷ cs) x none = rw (is_other c.item x (none 0 c refl)) (found_nowhere cs x (λ n d at. none (suc n) d at))
+found_nowhere (c ∷ cs) x none = rw (bytes_eq-other c.item x (none 0 c refl)) (found_nowhere cs x (λ n d at. none (suc n) d at))
 
 module _ (cs : List ItemCount) (x : Name) (n : ℕ) where
   pub found_here : (c : ItemCount) → AreRising cs → IsAt (λ c. c.item) cs x n → slice_get cs n ≡ Some c → found_in cs x ≡ Some c.count
@@ -80,8 +75,8 @@ insert-own (d ∷ cs) (suc n) c none = elim (cases_Bool (bytes_eq d.item c.item)
 ]
 
 insert-other : (cs : List ItemCount) (n : ℕ) (c : ItemCount) (x : Name) → c.item ≢ x → found_in (insert cs n c) x ≡ found_in cs x
-insert-other cs zero c x apart = rw (is_other c.item x apart) refl
-insert-other [] (suc n) c x apart = rw (is_other c.item x apart) refl
+insert-other cs zero c x apart = rw (bytes_eq-other c.item x apart) refl
+insert-other [] (suc n) c x apart = rw (bytes_eq-other c.item x apart) refl
 insert-other (d ∷ cs) (suc n) c x apart = elim (cases_Bool (bytes_eq d.item x)) [
   | inl hit ↦ rw hit refl
   | inr miss ↦ rw miss (insert-other cs n c x apart)
@@ -117,7 +112,7 @@ pub set-other : (cs : List ItemCount) (n : ℕ) (c : ItemCount) (x : Name) → I
 set-other [] n c x at apart = refl
 set-other (d ∷ cs) zero c x at apart =
     let same : d.item ≡ c.item = at.is d refl in
-    rw (is_other c.item x (λ e. apart (sym e)), is_other d.item x (λ e. apart (sym e ∙ same))) refl
+    rw (bytes_eq-other c.item x (λ e. apart (sym e)), bytes_eq-other d.item x (λ e. apart (sym e ∙ same))) refl
 set-other (d ∷ cs) (suc n) c x at apart =
     let below : IsAt (λ c. c.item) cs c.item n = record { within = omega (arith, at.within); is = λ e here. at.is e here } in
     elim (cases_Bool (bytes_eq d.item x)) [
@@ -157,18 +152,6 @@ found_some cs x n rising at =
     let c = within_at cs n at.within in
     subst IsSome (sym (found_here cs x n c.0 rising at c.1)) refl
 
-pub get_set_here : {A : Type 0} (xs : List A) (n : ℕ) (y : A) → n < length xs → slice_get (set xs n y) n ≡ Some y
-get_set_here [] n y lt = absurd (omega arith)
-get_set_here (x ∷ xs) zero y lt = refl
-get_set_here (x ∷ xs) (suc n) y lt = get_set_here xs n y (omega arith)
-
-pub get_set_elsewhere : {A : Type 0} (xs : List A) (n k : ℕ) (y : A) → k ≢ n → slice_get (set xs n y) k ≡ slice_get xs k
-get_set_elsewhere [] n k y apart = refl
-get_set_elsewhere (x ∷ xs) zero zero y apart = absurd (apart refl)
-get_set_elsewhere (x ∷ xs) zero (suc k) y apart = refl
-get_set_elsewhere (x ∷ xs) (suc n) zero y apart = refl
-get_set_elsewhere (x ∷ xs) (suc n) (suc k) y apart = get_set_elsewhere xs n k y (λ same. apart (ap suc same))
-
 -- one more install of the item that stands at a place
 module _ (cs : List ItemCount) (x : Name) (n : ℕ) (c : ItemCount) (rising : AreRising cs) (at : IsAt (λ c. c.item) cs x n)
     (here : slice_get cs n ≡ Some c) where
@@ -187,7 +170,7 @@ module _ (cs : List ItemCount) (x : Name) (n : ℕ) (c : ItemCount) (rising : Ar
   pub more-found : found_in (set cs n more) x ≡ Some (suc (count_in cs x))
   more-found =
       let now : found_in (set cs n more) c.item ≡ Some (c.count + 1) =
-      found_at (set cs n more) n more more-rises (get_set_here cs n more at.within) in
+      found_at (set cs n more) n more more-rises (get-set_here cs n more at.within) in
       let count : c.count + 1 ≡ suc (count_in cs x) = let same = count-here in omega (arith, same) in
       subst (λ y. found_in (set cs n more) y ≡ Some (suc (count_in cs x))) (at.is c here) (now ∙ ap Some count)
 
@@ -207,7 +190,7 @@ found-own (d ∷ cs) c none = elim (cases_Bool (bytes_eq d.item c.item)) [
 ]
 
 pub found-other : (cs : List ItemCount) (c : ItemCount) (x : Name) → c.item ≢ x → found_in (cs ++ c ∷ []) x ≡ found_in cs x
-found-other [] c x apart = rw (is_other c.item x apart) refl
+found-other [] c x apart = rw (bytes_eq-other c.item x apart) refl
 found-other (d ∷ cs) c x apart = elim (cases_Bool (bytes_eq d.item x)) [
   | inl hit ↦ rw hit refl
   | inr miss ↦ rw miss (found-other cs c x apart)

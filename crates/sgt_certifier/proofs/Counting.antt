@@ -16,7 +16,7 @@ use Rattle.sgt_names.proofs.Places.{All_at, All-from_at, AllPairs_at, AllPairs-f
 use Rattle.sgt_names.proofs.Rising.{writing-by_item}
 use Rattle.std.proofs.lemmas.List.Sums.{sum_by-cons}
 use Rattle.sgt_certifier.specs.Certifier.{Install}
-use Rattle.sgt_certifier.proofs.Members.{cons_cases, cons_here, cons_later, nil_none}
+use Rattle.sgt_certifier.proofs.Members.{cons_here}
 use Rattle.sgt_certifier.proofs.Installs.{any_member, counted_hit, counted_miss, counted_other}
 use Rattle.sgt_certifier.specs.History.{changes_item, counted, install_in, installs_in, IsAllowed, Request}
 use Rattle.sgt_certifier.specs.Kept.{changed_at, Declines, IsExpected, Kept}
@@ -34,7 +34,8 @@ use Rattle.sgt_certifier.specs.Row.{count_in, found_in, or_zero}
 use Rattle.sgt_certifier.specs.Counted.{AreCounted, CountsEach, HasPlace, HavePlaces, Widens, count_at, or_nothing, row_at, stands_at}
 use Rattle.sgt_certifier.specs.declared.counts.Counts.{Counts}
 use Rattle.sgt_certifier.specs.declared.row.ItemCount.{ItemCount}
-use Rattle.sgt_certifier.proofs.CountRows.{get_set_elsewhere, get_set_here}
+use Rattle.sgt_certifier.proofs.CountRows.{before-apart}
+use Rattle.sgt_names.proofs.Elements.{contains-cases, contains-later, contains-none, get_set_elsewhere, get-set_here}
 
 even : (o : Ordering) → o ≡ ordering_reverse o → o ≡ Equal
 even Less e = absurd cc
@@ -46,7 +47,7 @@ even Greater e = absurd cc
 -- the counts of a site, after those of one were changed
 module _ (old new : Counts) (s : ℕ) (row : List ItemCount) (is : new.rows.items ≡ set old.rows.items s row) where
   pub row-here : s < length old.rows.items → row_at new s ≡ row
-  row-here lt = ap or_nothing (ap (λ rows. slice_get rows s) is ∙ get_set_here old.rows.items s row lt)
+  row-here lt = ap or_nothing (ap (λ rows. slice_get rows s) is ∙ get-set_here old.rows.items s row lt)
 
   pub row-other : (t : ℕ) → t ≢ s → row_at new t ≡ row_at old t
   row-other t apart = ap or_nothing (ap (λ rows. slice_get rows t) is ∙ get_set_elsewhere old.rows.items s t row apart)
@@ -114,7 +115,7 @@ module _ (rows : List (List ItemCount)) (s n : ℕ) (x : Name) (row made : List 
   was_in = ap or_nothing (ap (slice_get rows) (sym place) ∙ at)
 
   now_in : or_nothing (slice_get (set rows n made) s) ≡ made
-  now_in = ap or_nothing (ap (slice_get (set rows n made)) (sym place) ∙ get_set_here rows n made (slice_get_within rows n row at))
+  now_in = ap or_nothing (ap (slice_get (set rows n made)) (sym place) ∙ get-set_here rows n made (slice_get_within rows n row at))
 
   pub placed-ok : {U E : Type 0} (r : Result U E) → OnOk r (IsSome (found_in made x))
       → OnOk r (IsSome (found_in (or_nothing (slice_get (set rows n made) s)) x))
@@ -182,11 +183,11 @@ counts-next site xs x old mid new each fresh here others = record {
     | inl early ↦
         let differs : (site ≡ site) × (y ≡ x) → ⊥ = λ e. fresh (subst (Contains xs) e.1 early) in
         ap or_zero (others site y differs) ∙ each.hit y early
-    | inr last ↦ elim (cons_cases x [] y last) [
+    | inr last ↦ elim (contains-cases x [] y last) [
       | inl e ↦
           let now : count_at new site x ≡ suc (count_at old site x) = ap or_zero here ∙ ap suc (each.miss x fresh) in
           subst (λ z. count_at new site z ≡ suc (count_at old site z)) e now
-      | inr none ↦ absurd (nil_none y none)
+      | inr none ↦ absurd (contains-none y none)
     ]
   ];
   miss = λ y none.
@@ -243,7 +244,7 @@ any_true : (x : Name) (items : List Name) → list_any (bytes_eq x) items ≡ tr
 any_true x [] e = absurd (true≢false (sym e))
 any_true x (y ∷ ys) e = elim (cases_Bool (bytes_eq x y)) [
   | inl hit ↦ subst (Contains (y ∷ ys)) (sym ((bytes_eq-Decides x y).0 hit)) (cons_here y ys)
-  | inr miss ↦ cons_later y ys x (any_true x ys (rw miss at e))
+  | inr miss ↦ contains-later y ys x (any_true x ys (rw miss at e))
 ]
 
 -- an install is noted
@@ -317,16 +318,10 @@ changed-written n (t ∷ ts) = elim (cases_Bool (t.site == n)) [
   | inr other ↦ rw other (changed-written n ts)
 ]
 
-less-apart : (x y : Name) → slice_cmp nat_cmp x y ≡ Less → x ≢ y
-less-apart x y less same =
-    let own : slice_cmp nat_cmp x x ≡ Equal = even (slice_cmp nat_cmp x x) (nat_list_cmp_total.antisymm x x) in
-    let f : Less ≡ Equal = sym less ∙ sym (ap (slice_cmp nat_cmp x) same) ∙ own in
-    absurd cc
-
 all-apart : (x : Name) (ws : List (Name × Change)) → AllByRecursion (λ w. slice_cmp nat_cmp x w.0 ≡ Less) ws
     → AllByRecursion (λ y. x ≢ y) (map (λ (w : Name × Change). w.0) ws)
 all-apart x [] all = tt
-all-apart x (w ∷ ws) all = (less-apart x w.0 all.0, all-apart x ws all.1)
+all-apart x (w ∷ ws) all = (before-apart x w.0 all.0, all-apart x ws all.1)
 
 pairs-apart : (ws : List (Name × Change)) → PairsByRecursion (λ a b. slice_cmp nat_cmp a.0 b.0 ≡ Less) ws
     → PairsByRecursion (λ a b. a ≢ b) (map (λ (w : Name × Change). w.0) ws)

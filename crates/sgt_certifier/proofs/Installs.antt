@@ -16,8 +16,9 @@ use Rattle.sgt_certifier.specs.History.{IsNoted, install_in, installs_in, change
 use Rattle.sgt_certifier.specs.declared.call.Call.{Call}
 use Rattle.sgt_certifier.specs.declared.call.Call.TheVariants as call
 use Rattle.sgt_certifier.specs.Sound.{IsRuled, IsInstalled, AreTwice}
-use Rattle.sgt_certifier.proofs.Members.{cons_cases, cons_here, cons_later, nil_none, placed_old}
+use Rattle.sgt_certifier.proofs.Members.{cons_here, placed_old}
 use Rattle.sgt_certifier.proofs.Ruling.{AllPairs-push}
+use Rattle.sgt_names.proofs.Elements.{contains-cases, contains-later, contains-none}
 
 -- ---- each step keeps them
 
@@ -25,7 +26,7 @@ abbrev NotTwice : Install → Install → Type 0
 NotTwice a b = AreTwice a b → ⊥
 
 pub opening-installed : IsInstalled opening
-opening-installed = record { committed = λ install c. absurd (nil_none install c); once = λ i j d lt within. absurd (omega arith) }
+opening-installed = record { committed = λ install c. absurd (contains-none install c); once = λ i j d lt within. absurd (omega arith) }
 
 -- no install is new, and who was committed still is
 pub same-installed : (s t : State) → t.installs ≡ s.installs → ((tx : ℕ) → Contains (serial s) tx → Contains (serial t) tx) → IsInstalled s → IsInstalled t
@@ -49,9 +50,9 @@ noted-installed s i site items member new h =
     record {
       committed = λ install c. elim (Contains-append_cases s.installs (one ∷ []) install c) [
         | inl was ↦ h.committed install was
-        | inr last ↦ elim (cons_cases one [] install last) [
+        | inr last ↦ elim (contains-cases one [] install last) [
           | inl e ↦ Contains-append_right s.past s.order install.tx (subst (λ (x : Install). Contains s.order x.tx) e member)
-          | inr none ↦ absurd (nil_none install none)
+          | inr none ↦ absurd (contains-none install none)
         ]
       ];
       once = AllPairs-push NotTwice s.installs one h.once (λ x c twice. new (c.0, x, c.1, c.2, twice));
@@ -112,11 +113,11 @@ counted_other history c site item none =
     omega (arith, counted_push history c site item, zero_more)
 
 pub any_member : (item : Name) (items : List Name) → Contains items item → list_any (bytes_eq item) items ≡ true
-any_member item [] c = absurd (nil_none item c)
+any_member item [] c = absurd (contains-none item c)
 any_member item (x ∷ xs) c =
     elim (cases_Bool (bytes_eq item x)) [
       | inl hit ↦ rw hit refl
-      | inr miss ↦ elim (cons_cases x xs item c) [
+      | inr miss ↦ elim (contains-cases x xs item c) [
         | inl e ↦ absurd (true≢false (sym ((bytes_eq-Decides item x).1 (sym e)) ∙ miss))
         | inr later ↦ rw miss (any_member item xs later)
       ]
@@ -127,5 +128,5 @@ no_member item [] none = refl
 no_member item (x ∷ xs) none =
     elim (cases_Bool (bytes_eq item x)) [
       | inl hit ↦ absurd (none (subst (Contains (x ∷ xs)) (sym ((bytes_eq-Decides item x).0 hit)) (cons_here x xs)))
-      | inr miss ↦ rw miss (no_member item xs (λ c. none (cons_later x xs item c)))
+      | inr miss ↦ rw miss (no_member item xs (λ c. none (contains-later x xs item c)))
     ]

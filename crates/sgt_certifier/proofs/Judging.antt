@@ -18,10 +18,10 @@ use Rattle.sgt_certifier.specs.Sound.{IsGoodState}
 use Rattle.sgt_certifier.proofs.Flags.{flagged_push, flagged_drop, flagged_less, flagged_member, flag_at}
 use Rattle.sgt_certifier.proofs.Installs.{distinct_few}
 use Rattle.sgt_certifier.proofs.Keeping.{renoted-sound}
-use Rattle.sgt_certifier.proofs.Members.{nil_none}
 use Rattle.sgt_certifier.proofs.Replaying.{serves-good, no_step, no_active, installing}
-use Rattle.sgt_certifier.proofs.Ruling.{AllPairs-push, push_cases, renoted-ruled}
+use Rattle.sgt_certifier.proofs.Ruling.{AllPairs-push, renoted-ruled}
 use Rattle.sgt_certifier.proofs.Transfer.{contains_map, map_contains}
+use Rattle.sgt_names.proofs.Elements.{contains-none, get-push_cases}
 
 by_fields : ℕ → ℕ → ℕ → List ℕ → List ℕ → List ℕ → List Arc → Option ℕ → List Ruling → List Install → State
 by_fields a b c d e f g h i j = record { begun = a; before = b; generation = c; active = d; past = e; order = f; arcs = g; step = h; rulings = i; installs = j }
@@ -141,7 +141,7 @@ renoted : (s : State) → IsGoodState s → IsGoodState (record s { installs = [
 renoted s g = record {
   sound = renoted-sound s [] g.sound;
   ruled = renoted-ruled s [] g.ruled;
-  installed = record { committed = λ install c. absurd (nil_none install c); once = λ i j d lt within. absurd (omega (arith, within)) };
+  installed = record { committed = λ install c. absurd (contains-none install c); once = λ i j d lt within. absurd (omega (arith, within)) };
 }
 
 pub ends_good : (s t : State) (tx : ℕ) → IsGoodState s → Ends s tx t → IsGoodState t
@@ -272,7 +272,7 @@ pub noted_next : (p : Parts) (tx site n a room : ℕ) → IsSound p n a room →
 noted_next p tx site n a room kept allowed below =
     let may = may_note (state_of p) tx site allowed in (
       AllPairs-push (λ x y. x ≢ y) p.noted site kept.once (λ k c same. may.1 ((is_noted p.step p.noted tx site may.0.0).0 (subst (Contains p.noted) same c))),
-      All-from_at (λ k. k < max_sites) (p.noted ++ site ∷ []) (λ i k at_i. elim (push_cases p.noted site i k at_i) [
+      All-from_at (λ k. k < max_sites) (p.noted ++ site ∷ []) (λ i k at_i. elim (get-push_cases p.noted site i k at_i) [
         | inl was ↦ All_at (λ k. k < max_sites) p.noted i k kept.below was
         | inr last ↦ omega (arith, below, last.1)
       ]),

@@ -18,10 +18,11 @@ use Rattle.sgt_certifier.specs.declared.call.CertifierFault.TheVariants as fault
 use Rattle.sgt_certifier.specs.Certifier.{State, Arc, Joins, opening, serial, with_begun, with_finished, with_withdrawn, with_install, with_closed, Commits}
 use Rattle.sgt_certifier.specs.History.{tx_under, IsHere, IsOlder, IsActive, IsKnown, Fits, arcs_of, next_handle, decide, IsAllowed, Serves, RunsFrom, Replays}
 use Rattle.sgt_certifier.specs.Handed.{HandsAt, HandsFrom, Hands, HandsCommitted}
-use Rattle.sgt_certifier.proofs.Members.{AllPairs-append, cons_cases, nil_none, filter_member, member_filter, placed_member, topological_is_acyclic}
+use Rattle.sgt_certifier.proofs.Members.{AllPairs-append, filter_member, member_filter, placed_member, topological_is_acyclic}
 use Rattle.sgt_certifier.proofs.Keeping.{uncommitted}
 use Rattle.sgt_certifier.proofs.Transfer.{contains_map}
 use Rattle.sgt_certifier.proofs.Replaying.{contains_cases, no_step, open_step, no_active, active_under, serves-good, replays-good}
+use Rattle.sgt_names.proofs.Elements.{contains-cases, contains-none}
 
 -- ---- what begins under a handle
 
@@ -33,7 +34,7 @@ named_same : (seen : List Call) (c : Call) (s t : State) → t.begun ≡ s.begun
 named_same seen c s t begun before generation other n =
     let was : (m : ℕ) (h : Handle) → Contains (seen ++ c ∷ []) (call.Begin m h) → Contains seen (call.Begin m h) = λ m h k. elim (Contains-append_cases seen (c ∷ []) (call.Begin m h) k) [
       | inl old ↦ old
-      | inr last ↦ elim (cons_cases c [] (call.Begin m h) last) [ inl e ↦ absurd (other m h e) | inr none ↦ absurd (nil_none (call.Begin m h) none) ]
+      | inr last ↦ elim (contains-cases c [] (call.Begin m h) last) [ inl e ↦ absurd (other m h e) | inr none ↦ absurd (contains-none (call.Begin m h) none) ]
     ] in
     record {
       window = λ m h k. elim (n.window m h (was m h k)) [
@@ -47,21 +48,21 @@ named_begun : (seen : List Call) (s : State) (tx : ℕ) (h : Handle) → s.befor
 named_begun seen s tx h window is_tx is_h n = record {
   window = λ m g k. elim (Contains-append_cases seen (call.Begin tx h ∷ []) (call.Begin m g) k) [
     | inl old ↦ n.window m g old
-    | inr last ↦ elim (cons_cases (call.Begin tx h) [] (call.Begin m g) last) [
+    | inr last ↦ elim (contains-cases (call.Begin tx h) [] (call.Begin m g) last) [
       | inl e ↦
           let tx_is : tx ≡ m = cc in
           let h_is : h ≡ g = cc in
           let next : g ≡ next_handle s = sym h_is ∙ is_h in
           let index = ap (λ (x : Handle). x.index) next in
           inl (ap (λ (x : Handle). x.generation) next, omega (arith, tx_is, is_tx, index, window))
-      | inr none ↦ absurd (nil_none (call.Begin m g) none)
+      | inr none ↦ absurd (contains-none (call.Begin m g) none)
     ]
   ];
   begun = λ m g k. elim (Contains-append_cases seen (call.Begin tx h ∷ []) (call.Begin m g) k) [
     | inl old ↦ let le = n.begun m g old in omega (arith, le)
-    | inr last ↦ elim (cons_cases (call.Begin tx h) [] (call.Begin m g) last) [
+    | inr last ↦ elim (contains-cases (call.Begin tx h) [] (call.Begin m g) last) [
       | inl e ↦ let tx_is : tx ≡ m = cc in omega (arith, tx_is, is_tx)
-      | inr none ↦ absurd (nil_none (call.Begin m g) none)
+      | inr none ↦ absurd (contains-none (call.Begin m g) none)
     ]
   ];
 }
@@ -70,7 +71,7 @@ named_closed : (seen : List Call) (s : State) (ranks : ℕ) → IsNamed seen s �
 named_closed seen s ranks n window =
     let was : (m : ℕ) (h : Handle) → Contains (seen ++ call.Close ranks ∷ []) (call.Begin m h) → Contains seen (call.Begin m h) = λ m h k. elim (Contains-append_cases seen (call.Close ranks ∷ []) (call.Begin m h) k) [
       | inl old ↦ old
-      | inr last ↦ elim (cons_cases (call.Close ranks) [] (call.Begin m h) last) [ inl e ↦ absurd cc | inr none ↦ absurd (nil_none (call.Begin m h) none) ]
+      | inr last ↦ elim (contains-cases (call.Close ranks) [] (call.Begin m h) last) [ inl e ↦ absurd cc | inr none ↦ absurd (contains-none (call.Begin m h) none) ]
     ] in
     record {
       window = λ m h k. elim (n.window m h (was m h k)) [
@@ -167,7 +168,7 @@ same_forward edge s t begun past order arcs decided f = record {
 begun_forward : (edge : ℕ → ℕ → Type 0) (s : State) → IsForward edge s → IsForward edge (with_begun s)
 begun_forward edge s f = same_forward edge s (with_begun s) (omega arith) refl refl refl (λ a le was c. elim (Contains-append_cases s.active (suc s.begun ∷ []) a c) [
   | inl old ↦ was old
-  | inr last ↦ elim (cons_cases (suc s.begun) [] a last) [ inl e ↦ absurd (omega (arith, e, le)) | inr none ↦ absurd (nil_none a none) ]
+  | inr last ↦ elim (contains-cases (suc s.begun) [] a last) [ inl e ↦ absurd (omega (arith, e, le)) | inr none ↦ absurd (contains-none a none) ]
 ]) f
 
 finished_forward : (edge : ℕ → ℕ → Type 0) (s : State) (i : ℕ) → s.step ≡ Some i → IsForward edge s → IsForward edge (with_finished s i)
@@ -185,13 +186,13 @@ noted_forward edge s i site items f = same_forward edge s (with_install s i site
 closed_forward : (edge : ℕ → ℕ → Type 0) (s : State) → IsGoodState s → s.active ≡ [] → IsForward edge s → IsForward edge (with_closed s)
 closed_forward edge s g none f = record {
   apart = f.apart;
-  from_decided = λ a b e c. absurd (nil_none a (subst (λ xs. Contains xs a) none c));
-  to_decided = λ a b e c. absurd (nil_none b (subst (λ xs. Contains xs b) none c));
+  from_decided = λ a b e c. absurd (contains-none a (subst (λ xs. Contains xs a) none c));
+  to_decided = λ a b e c. absurd (contains-none b (subst (λ xs. Contains xs b) none c));
   from_begun = f.from_begun;
   to_begun = f.to_begun;
-  here = λ a b e ca cb. absurd (nil_none a ca);
+  here = λ a b e ca cb. absurd (contains-none a ca);
   past = serial_topological edge s g f;
-  back = λ a b e ca cb. nil_none a ca;
+  back = λ a b e ca cb. contains-none a ca;
 }
 
 -- while no step is open an active transaction is no end of an edge
@@ -428,7 +429,7 @@ None_at a b = ⊥
 pub hands_forward : (history : List Call) (s : State) → Replays history s → IsForward (Hands history) s
 unfolding None_at
 hands_forward history s r =
-    let named : IsNamed [] opening = record { window = λ t h c. absurd (nil_none (call.Begin t h) c); begun = λ t h c. absurd (nil_none (call.Begin t h) c) } in
+    let named : IsNamed [] opening = record { window = λ t h c. absurd (contains-none (call.Begin t h) c); begun = λ t h c. absurd (contains-none (call.Begin t h) c) } in
     let start = forward_none None_at opening (λ a b e. e) in
     forward_less (Either None_at (HandsFrom [] history)) (Hands history) s (λ a b e. inr e) (runs_forward None_at [] history opening s (replays-good [] opening refl) named start r)
 

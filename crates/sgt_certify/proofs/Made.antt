@@ -7,10 +7,9 @@ use Rattle.sgt_names.specs.declared.outcome.Outcome.TheVariants.{No}
 use Rattle.sgt_notation.specs.Spelling.{HasNoLf, line_text, text_of_lines}
 use Rattle.sgt_names.specs.Limits.{max_sites}
 use Rattle.sgt_notation.proofs.OneSpelling.{cut_at_byte}
-use Rattle.sgt_audit.proofs.OneFault.{has_lf, no_lf}
+use Rattle.sgt_audit.proofs.OneFault.{has_lf}
 use Rattle.sgt_cert.specs.Parts.{Parts}
 use Rattle.sgt_cert.specs.Text.{IsDecision, Spells, certificate_text, format_line, sections_from}
-use Rattle.sgt_cert.proofs.OneText.{first_line}
 use Rattle.sgt_cert.proofs.Reading.{certificate-one}
 use Rattle.sgt_cert.specs.declared.certificate.Certificate.{Certificate}
 use Rattle.sgt_cert.specs.Valid.{IsValid}
@@ -27,6 +26,7 @@ use Rattle.sgt_certify_faults.proofs.NoCertificate.{fault-none}
 use Rattle.sgt_certify.specs.Answer.{Excludes, IsAnswer, IsCertified, IsTaken, fault_text}
 use Rattle.sgt_certify.specs.declared.refuting.Refusal.{Refusal}
 use Rattle.sgt_certify.specs.declared.refuting.Refusal.TheVariants.{Order, Ranks, Walk}
+use Rattle.sgt_notation.proofs.Texts.{has_no_lf, first_line}
 
 -- two lines with their LFs, and a rest, put behind one another
 pub put-together : (first second rest a b c d e : List ℕ) → a ≡ first → b ≡ a ++ 10 ∷ [] → c ≡ b ++ second → d ≡ c ++ 10 ∷ [] → e ≡ d ++ rest
@@ -104,11 +104,11 @@ faulty-answer bytes written line fault shown told =
 pub without-line : (bytes line made first behind second rest : List ℕ) → IsWithLine bytes line made → HasNoLf first → made ≡ first ++ 10 ∷ behind → HasNoLf second → behind ≡ second ++ 10 ∷ rest
     → first ++ 10 ∷ rest ≡ bytes
 without-line bytes line made first behind second rest w one cut two cut_behind =
-    let outer = cut_at_byte 10 first w.front behind (line ++ 10 ∷ w.rest) (no_lf first one) (no_lf w.front w.first) (sym cut ∙ w.made) in
-    let inner = cut_at_byte 10 second line rest w.rest (no_lf second two) (no_lf line w.one) (sym cut_behind ∙ outer.1) in
+    let outer = cut_at_byte 10 first w.front behind (line ++ 10 ∷ w.rest) (has_no_lf first one) (has_no_lf w.front w.first) (sym cut ∙ w.made) in
+    let inner = cut_at_byte 10 second line rest w.rest (has_no_lf second two) (has_no_lf line w.one) (sym cut_behind ∙ outer.1) in
     ap₂ (λ (f r : List ℕ). f ++ 10 ∷ r) outer.0 inner.1 ∙ sym w.given
 
 pub no-second : (bytes line made first behind : List ℕ) → IsWithLine bytes line made → HasNoLf first → made ≡ first ++ 10 ∷ behind → HasNoLf behind → ⊥
 no-second bytes line made first behind w one cut none =
-    let outer = cut_at_byte 10 first w.front behind (line ++ 10 ∷ w.rest) (no_lf first one) (no_lf w.front w.first) (sym cut ∙ w.made) in
+    let outer = cut_at_byte 10 first w.front behind (line ++ 10 ∷ w.rest) (has_no_lf first one) (has_no_lf w.front w.first) (sym cut ∙ w.made) in
     has_lf line w.rest (subst HasNoLf outer.1 none)

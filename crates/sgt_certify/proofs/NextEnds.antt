@@ -2,6 +2,7 @@
 use Rattle.std.proofs.Common.{◌≡◌, refl, ℕ, List, [], ◌∷◌, Option, Some, None, IfSome, IfNone, suc, inl, inr}
 use Rattle.sgt_cert.specs.declared.bundle.SiteLog.{SiteLog}
 use Rattle.sgt_certify.specs.Lines.{AreLeftLines, IsLeftLine}
+use Rattle.sgt_names.proofs.Elements.{some-weaker, none-weaker}
 
 module _ (sites : List SiteLog) (D E : ℕ → Type 0) (to : (t : ℕ) → D t → E t) (from : (t : ℕ) → E t → D t) where
   line-as : (site : ℕ) (log : SiteLog) (line : List ℕ) → IsLeftLine sites D site log line → IsLeftLine sites E site log line
@@ -23,15 +24,7 @@ module _ (sites : List SiteLog) (D E : ℕ → Type 0) (to : (t : ℕ) → D t �
   lines-as site (log ∷ logs) text (line, rest, one, others, is) =
       (line, rest, line-as site log line one, lines-as (suc site) logs rest others, is)
 
-pub some-weaker : {A : Type 0} (o : Option A) (P Q : A → Type 0) → ((x : A) → P x → Q x) → IfSome o P → IfSome o Q
-some-weaker None P Q f h = tt
-some-weaker (Some x) P Q f h = f x h
-
 -- what holds where there is none
 pub none-of : {A : Type 0} (o : Option A) (P : Type 0) → ((x : A) → o ≡ Some x → ⊥) → IfNone o P → P
 none-of None P never h = h
 none-of (Some x) P never h = absurd (never x refl)
-
-pub none-weaker : {A : Type 0} (o : Option A) (P Q : Type 0) → (P → Q) → IfNone o P → IfNone o Q
-none-weaker None P Q f h = f h
-none-weaker (Some x) P Q f h = tt

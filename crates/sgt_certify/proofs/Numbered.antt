@@ -11,7 +11,6 @@ use Rattle.sgt_notation.specs.Spelling.{line_text, text_of_lines}
 use Rattle.sgt_notation.specs.declared.SectionLine.{SectionLine}
 use Rattle.sgt_notation.specs.declared.SectionLine.TheVariants.{Site, Initial, Logged, Final, End}
 use Rattle.sgt_cert.specs.Text.{format_line, section_lines, sections_from}
-use Rattle.sgt_cert.proofs.OneText.{first_line}
 use Rattle.sgt_cert.specs.declared.bundle.SiteLog.{SiteLog}
 use Rattle.sgt_certify_logs.specs.Certifiable.{SpellsLogs}
 use Rattle.sgt_certify_logs.specs.Steps.{HasConflict, IsConflictStep, IsEndStep, LeadFrom, LeadRound, StandsAt}
@@ -19,6 +18,7 @@ use Rattle.sgt_certify_logs.specs.declared.checks.ConflictStep.{ConflictStep}
 use Rattle.sgt_certify_logs.specs.declared.checks.EndStep.{EndStep}
 use Rattle.sgt_certify.specs.Lines.{IsNextEnd, line_in_sections, line_of, section_length}
 use Rattle.sgt_certify.specs.Reasons.{AreNumbered}
+use Rattle.sgt_notation.proofs.Texts.{lines-long, first_line}
 
 -- ---- how many lines there are
 
@@ -47,14 +47,6 @@ in-sections k (l ∷ sites) (suc site) place log at lt =
     let all = length-append (section_lines k l) (sections_from (suc k) sites) in
     omega (arith, later, here, all)
 
-lines-bytes : (lines : List (List ℕ)) → length lines ≤ length (text_of_lines lines)
-lines-bytes [] = omega arith
-lines-bytes (l ∷ lines) =
-    let later = lines-bytes lines in
-    let first = ap length (first_line l lines) in
-    let all = length-append l (10 ∷ text_of_lines lines) in
-    omega (arith, later, first, all)
-
 pub numbered : (bytes : List ℕ) (sites : List SiteLog) → SpellsLogs bytes sites → length bytes < 2 ^ 64 → AreNumbered sites
 numbered bytes sites logs short = record {
   few = logs.shape.few;
@@ -62,7 +54,7 @@ numbered bytes sites logs short = record {
       let inside = in-sections 0 sites site place log at lt in
       let body = map line_text (sections_from 0 sites) in
       let many = length-map (sections_from 0 sites) line_text in
-      let most = lines-bytes (format_line logs.second ∷ body) in
+      let most = lines-long (format_line logs.second ∷ body) in
       let whole = ap length logs.text in
       omega (arith, inside, many, most, whole, short);
 }

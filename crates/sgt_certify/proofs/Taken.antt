@@ -6,6 +6,7 @@ use Rattle.sgt_names.specs.Limits.{max_line}
 use Rattle.sgt_notation.specs.Lines.{Ahead, Gives, Spends, coming, passed}
 use Rattle.sgt_notation.specs.declared.lines.Next.TheVariants.{Line, Cut, TooLong, End}
 use Rattle.sgt_certify.specs.Answer.{IsTaken}
+use Rattle.sgt_notation.proofs.Texts.{spends-none}
 
 pub nothing-taken : (told : Option (List ℕ)) (ahead : Ahead) (text : List ℕ) → text ≡ [] → ahead.held ≡ [] → Consumes told (coming ahead told) text
 nothing-taken None ahead text none fresh = tt
@@ -60,7 +61,3 @@ spends_on None mid new a b b' c same first later = tt
 spends_on (Some xs) None new a b b' c same first later = absurd first
 spends_on (Some xs) (Some ys) None a b b' c same first later = absurd later
 spends_on (Some xs) (Some ys) (Some zs) a b b' c same first later = omega arith
-
-pub spends-none : (told : Option (List ℕ)) (a b : ℕ) → b ≡ a → Spends a told b told
-spends-none None a b same = tt
-spends-none (Some xs) a b same = omega arith

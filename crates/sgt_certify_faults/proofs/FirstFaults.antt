@@ -12,18 +12,21 @@ use Rattle.sgt_notation.specs.declared.SectionLine.TheVariants.{Site, Initial, L
 use Rattle.sgt_cert.specs.Parts.{IsShaped}
 use Rattle.sgt_cert.specs.Text.{format_line, sections_from, AreSections, Begins}
 use Rattle.sgt_cert.specs.declared.bundle.SiteLog.{SiteLog}
-use Rattle.sgt_cert.proofs.OneText.{format-one_line, first_line, line_front, no_line}
+use Rattle.sgt_cert.proofs.OneText.{format-one_line}
 use Rattle.sgt_audit.specs.declared.faults.Fault.{Fault}
 use Rattle.sgt_audit.specs.declared.faults.Fault.TheVariants as fault
 use Rattle.sgt_audit.specs.Faults.{fault_number, IsLineIn, Piece, whole, last, ComesNext, Rule, start, Breaks}
 use Rattle.sgt_audit.specs.Reading.{Begun}
 use Rattle.sgt_audit.specs.private.Following.{FitsBetween}
-use Rattle.sgt_audit.proofs.Formats.{format-one}
+use Rattle.sgt_audit.proofs.Formats.{format-one, lines-of}
 use Rattle.sgt_audit.proofs.MayFollow.{begins-follow}
-use Rattle.sgt_audit.proofs.OneFault.{comes_line, one_piece}
+use Rattle.sgt_audit.proofs.OneFault.{comes_line, one_piece, each_line}
 use Rattle.sgt_certify_logs.specs.Sound.{SpellsSoundLogs}
 use Rattle.sgt_certify_faults.specs.Faults.{AreAll, AreKept, AreSpelled, Front, none, behind, HasFault, IsFaultless, IsFirstFault, KeepsAlone, lines_of, RuleAlone}
 use Rattle.sgt_certify_faults.proofs.SoundLogs.{logs-allowed, logs-sound, logs-spelled}
+use Rattle.sgt_certify_faults.proofs.NoCertificate.{no-more}
+use Rattle.sgt_notation.proofs.Texts.{first_line, line_front}
+use Rattle.sgt_names.proofs.Elements.{no_line}
 
 -- ---- lines of one text
 
@@ -55,29 +58,10 @@ compare (x ∷ xs) (y ∷ ys) r s h g e =
       | inr (inr b) ↦ inr (inr (beyond-more y x ys xs s (sym same) b))
     ]
 
-each_line : (P : SectionLine → Type 0) (xs : List SectionLine) → ((earlier later : List SectionLine) (l : SectionLine) → xs ≡ earlier ++ l ∷ later → P l) → AllByRecursion P xs
-each_line P [] h = tt
-each_line P (x ∷ xs) h = (h [] xs x refl, each_line P xs (λ earlier later l e. h (x ∷ earlier) later l (ap (λ ys. x ∷ ys) e)))
-
 pub kept-lines : (second : Bool) (before : List SectionLine) → AreKept second before → AllByRecursion IsLine before
 kept-lines second before kept = each_line IsLine before (λ earlier later l e. (kept earlier later l e).0.0)
 
-pub spelled-lines : (second : Bool) (before : List SectionLine) → All (IsLineIn second) before → AllByRecursion IsLine before
-spelled-lines second before each = go before (recursion_from_All (IsLineIn second) before each)
-  where
-    go : (xs : List SectionLine) → AllByRecursion (IsLineIn second) xs → AllByRecursion IsLine xs
-    go [] h = tt
-    go (x ∷ xs) h = (h.0.0, go xs h.1)
-
 -- ---- a line that keeps every rule
-
--- no site follows all that there can be
-no-more : (b : Begun) (line : SectionLine) → FitsBetween b line → length b.whole ≡ max_sites → b.sites ≤ max_sites → ⊥
-no-more b (Site k) f all few = absurd (omega (arith, f.0, f.1, all, few))
-no-more b (Initial h) f all few = f
-no-more b (Logged e) f all few = f
-no-more b (Final h) f all few = f
-no-more b End f all few = f
 
 not-all : (before : List SectionLine) (line : SectionLine) → KeepsAlone before line fault.Section → AreAll before → ⊥
 not-all before line (count, (logs, more, shape, cut)) (ls, shaped, all) =
@@ -111,7 +95,7 @@ module _ (second : Bool) (xs : List SectionLine) (r : List ℕ) (p : Piece) (kep
   beside : (ys : List SectionLine) (s : List ℕ) (q : Piece) (m : ℕ) (g : Fault) → All (IsLineIn second) ys → ComesNext s q → m ≡ length (lines_of (behind second ys)) + 1
       → (RuleAlone (behind second ys) q g → ⊥) → text_of_lines (map line_text xs) ++ r ≡ text_of_lines (map line_text ys) ++ s → IsNextOrLater (behind second xs) r p m g
   beside ys s q m g each goes number broken e =
-      elim (compare xs ys r s (kept-lines second xs kept) (spelled-lines second ys each) e) [
+      elim (compare xs ys r s (kept-lines second xs kept) (lines-of second ys each) e) [
         | inl both ↦
             let next = one_piece s q p goes (subst (λ t. ComesNext t p) both.1 comes) in
             inl (

@@ -12,7 +12,7 @@ use Rattle.sgt_cert.specs.Text.{format_line, sections_from, Begins}
 use Rattle.sgt_cert.specs.Valid.{IsValid}
 use Rattle.sgt_cert.specs.declared.certificate.Certificate.{Certificate}
 use Rattle.sgt_cert.specs.declared.bundle.SiteLog.{SiteLog}
-use Rattle.sgt_cert.proofs.OneText.{first_line, format-one_line, line_front, lines_front, sections-lines}
+use Rattle.sgt_cert.proofs.OneText.{format-one_line, lines_front, sections-lines}
 use Rattle.sgt_audit.specs.declared.faults.Fault.{Fault}
 use Rattle.sgt_audit.specs.declared.faults.Fault.TheVariants as fault
 use Rattle.sgt_audit.specs.Faults.{IsLineIn, Piece, whole, last, ComesNext, Rule, start}
@@ -24,9 +24,10 @@ use Rattle.sgt_audit.proofs.OneFault.{comes_line, one_piece}
 use Rattle.sgt_certify_logs.specs.Certifiable.{HasNoCertificate, SpellsLogs}
 use Rattle.sgt_certify_faults.specs.Faults.{AreAll, AreSpelled, Front, none, behind, HasFault, KeepsAlone, lines_of, RuleAlone}
 use Rattle.sgt_certify_faults.proofs.KeptAlone.{kept-alone}
+use Rattle.sgt_notation.proofs.Texts.{first_line, line_front}
 
 -- no site follows all that there can be
-no-more : (b : Begun) (line : SectionLine) → FitsBetween b line → length b.whole ≡ max_sites → b.sites ≤ max_sites → ⊥
+pub no-more : (b : Begun) (line : SectionLine) → FitsBetween b line → length b.whole ≡ max_sites → b.sites ≤ max_sites → ⊥
 no-more b (Site k) f all few = absurd (omega (arith, f.0, f.1, all, few))
 no-more b (Initial h) f all few = f
 no-more b (Logged e) f all few = f

@@ -30,7 +30,8 @@ use Rattle.sgt_certify_faults.specs.declared.asked.Asking.{Asking}
 use Rattle.sgt_certify_faults.specs.declared.asked.Askings.{Askings}
 use Rattle.sgt_certify_faults.specs.private.Asked.{AreAskings, AreDecidedAsAsked, AsksAsDecided, IsAskedIn, asked_end, asking_with, decision_of, decision_with, end_by, first_end, first_of}
 use Rattle.sgt_certify_faults.specs.private.Judging.{TellsOdds}
-use Rattle.sgt_certify_faults.proofs.FirstFaults.{Beyond, compare, spelled-lines}
+use Rattle.sgt_certify_faults.proofs.FirstFaults.{Beyond, compare}
+use Rattle.sgt_audit.proofs.Formats.{lines-of}
 
 -- ---- entries and decisions of one kind
 
@@ -227,7 +228,7 @@ module _ (second : Bool) (bytes : List ℕ) (ds : List Decision) (are : AreDecid
   -- lines at the front of the bytes are the first of those that were asked
   pub front-lines : (xs : List SectionLine) (rest : List ℕ) → All (IsLineIn second) xs → bytes ≡ text_of_lines (map line_text xs) ++ rest → (later : List SectionLine) × (are.lines ≡ xs ++ later)
   front-lines xs rest each text =
-      elim (compare xs are.lines rest are.front.rest (spelled-lines second xs each) (spelled-lines second are.lines are.front.each) (sym text ∙ are.front.text)) [
+      elim (compare xs are.lines rest are.front.rest (lines-of second xs each) (lines-of second are.lines are.front.each) (sym text ∙ are.front.text)) [
         | inl both ↦ ([], sym both.0 ∙ sym (append-nil xs))
         | inr (inl b) ↦ (b.line ∷ b.more, b.cut)
         | inr (inr b) ↦ absurd (are.front.no_more b.line b.after (in-list xs are.lines b.line b.more b.cut each) b.next)

@@ -21,7 +21,6 @@ use Rattle.sgt_cert.specs.Text.{AreSections, format_line}
 use Rattle.sgt_cert.specs.Valid.{IsDecided}
 use Rattle.sgt_cert.specs.declared.bundle.SiteLog.{SiteLog}
 use Rattle.sgt_cert.specs.declared.certificate.Decision.{Decision}
-use Rattle.sgt_cert.proofs.OneText.{line_front}
 use Rattle.sgt_audit.specs.declared.faults.Fault.{Fault}
 use Rattle.sgt_audit.specs.declared.faults.Fault.TheVariants as fault
 use Rattle.sgt_audit.specs.Faults.{Breaks, IsLineIn, Piece, whole, last, ComesNext, bytes_of, fault_number, logged_in, Rule, start}
@@ -41,6 +40,8 @@ use Rattle.sgt_certify_faults.specs.private.Judging.{TellsLineOdds}
 use Rattle.sgt_certify_faults.specs.private.Reading.{IsReadTo}
 use Rattle.sgt_certify_faults.proofs.FirstFaults.{first-fault, no-fault, sound-text}
 use Rattle.sgt_certify_faults.proofs.Odds.{tells-odds}
+use Rattle.sgt_names.proofs.Elements.{none-weaker}
+use Rattle.sgt_notation.proofs.Texts.{line_front}
 
 -- ---- one more line
 
@@ -240,7 +241,3 @@ first-long text more one next comes long = at-first (text ++ more) next fault.Fo
 
 pub nothing-decided_yet : (ds : List Decision) → All (λ e. (number : ℕ) × IsDecided ds e number) (filter_map logged_in (lines_read (record { sites = max_sites; whole = []; current = None })))
 nothing-decided_yet ds = All-nil (λ e. (number : ℕ) × IsDecided ds e number)
-
-pub none-weaker : {A : Type 0} (o : Option A) (P Q : Type 0) → (P → Q) → IfNone o P → IfNone o Q
-none-weaker None P Q f h = f h
-none-weaker (Some x) P Q f h = tt

@@ -32,15 +32,8 @@ use Rattle.sgt_certify_logs.specs.Sound.{AreSound, EndAlike, IsSoundLog}
 use Rattle.sgt_certify_logs.specs.Witness.{IsIn}
 use Rattle.sgt_certify_faults.specs.Faults.{AreKept, KeepsAlone}
 use Rattle.sgt_certify_faults.proofs.KeptAlone.{section-logged}
-
-logged-same : (e f : Entry) → Logged e ≡ Logged f → f ≡ e
-logged-same e f h = cc
-
-final-logged : (h : Holding) (e : Entry) → Final h ≡ Logged e → ⊥
-final-logged h e same = cc
-
-end-logged : (e : Entry) → End ≡ Logged e → ⊥
-end-logged e same = cc
+use Rattle.sgt_audit.proofs.MayFollow.{end-logged}
+use Rattle.sgt_audit.proofs.NoFault.{logged-same, final-logged}
 
 -- ---- entries that are to end alike
 

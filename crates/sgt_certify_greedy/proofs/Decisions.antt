@@ -17,8 +17,9 @@ use Rattle.sgt_certify_logs.specs.Witness.{EndsBefore, HasEnd, IsFree, IsIn, IsS
 use Rattle.sgt_certify_greedy.specs.Sorted.{without}
 use Rattle.sgt_certify_greedy.specs.Walks.{IsRound}
 use Rattle.sgt_certify_greedy.specs.Decided.{AreCommitsWith, HasCommit, IsDeciding, IsDue, IsFitting, IsHopeless, IsUnpreceded, OnFronts, txs_of}
-use Rattle.sgt_certify_greedy.proofs.Elements.{contains-none, without-has, without-only}
+use Rattle.sgt_certify_greedy.proofs.Elements.{without-has, without-only}
 use Rattle.sgt_certify_greedy.proofs.Placing.{fronts-none, fronts-push, pushed_at}
+use Rattle.sgt_names.proofs.Elements.{contains-none}
 
 pub round-as : (sites : List SiteLog) (P Q : ℕ → Type 0) (turns : (t : ℕ) → P t → Q t) (tx : ℕ) (walk : _) → IsRound sites P tx walk → IsRound sites Q tx walk
 round-as sites P Q turns tx walk r = record {

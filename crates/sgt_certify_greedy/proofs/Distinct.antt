@@ -6,7 +6,8 @@ use Rattle.std.proofs.lemmas.Bool.{cases_eq, cases_order}
 use Rattle.std.proofs.lemmas.List.Elements.{recursion_from_All}
 use Rattle.sgt_names.proofs.Places.{AllPairs_at, PairsByRecursion, recursion_from_AllPairs}
 use Rattle.sgt_certify_greedy.specs.Sorted.{without}
-use Rattle.sgt_certify_greedy.proofs.Elements.{contains-tail, without-fewer, without-has}
+use Rattle.sgt_certify_greedy.proofs.Elements.{without-fewer, without-has}
+use Rattle.sgt_names.proofs.Elements.{contains-later}
 
 abbrev pub Apart : ℕ → ℕ → Type 0
 Apart a b = a ≢ b
@@ -41,7 +42,7 @@ below-has zero t lt = absurd (omega arith)
 below-has (suc n) t lt =
     elim (cases_eq n t) [
       | inl same ↦ (0, omega arith, same)
-      | inr other ↦ contains-tail n (numbers_below n) t (below-has n t (omega arith))
+      | inr other ↦ contains-later n (numbers_below n) t (below-has n t (omega arith))
     ]
 
 -- distinct numbers below n are at most n

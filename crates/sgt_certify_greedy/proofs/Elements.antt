@@ -3,20 +3,7 @@ use Rattle.std.proofs.Common.{◌≡◌, ◌≢◌, ℕ, zero, suc, ◌+◌, ◌
 use Rattle.std.specs.Prelude.{filter, not, slice_get}
 use Rattle.std.proofs.lemmas.Bool.{eq-eqb, eqb-true, false≢true}
 use Rattle.sgt_certify_greedy.specs.Sorted.{without}
-
-pub bool_cases : (b : Bool) → (b ≡ true) ⊎ (b ≡ false)
-bool_cases true = inl refl
-bool_cases false = inr refl
-
-pub contains-tail : {A : Type 0} (x : A) (xs : List A) (t : A) → Contains xs t → Contains (x ∷ xs) t
-contains-tail x xs t (k, lt, is) = (suc k, omega arith, is)
-
-pub contains-cases : {A : Type 0} (x : A) (xs : List A) (t : A) → Contains (x ∷ xs) t → (x ≡ t) ⊎ Contains xs t
-contains-cases x xs t (zero, lt, is) = inl is
-contains-cases x xs t (suc k, lt, is) = inr (k, omega arith, is)
-
-pub contains-none : {A : Type 0} (t : A) → Contains [] t → ⊥
-contains-none t (k, lt, is) = absurd (omega arith)
+use Rattle.sgt_names.proofs.Elements.{empty-length, contains-cases, contains-later, contains-none, bool_cases}
 
 module _ (p : ℕ → Bool) where
   kept : (xs : List ℕ) (t : ℕ) → Contains xs t → p t ≡ true → Contains (filter p xs) t
@@ -27,7 +14,7 @@ module _ (p : ℕ → Bool) where
         | inl here ↦ subst at (sym (ap p here ∙ pass)) (0, omega arith, here)
         | inr there ↦
             let more = kept xs t there pass in
-            elim (p x) as at [ true ↦ contains-tail x (filter p xs) t more | false ↦ more ]
+            elim (p x) as at [ true ↦ contains-later x (filter p xs) t more | false ↦ more ]
       ]
 
   chosen : (xs : List ℕ) (t : ℕ) → Contains (filter p xs) t → Contains xs t × (p t ≡ true)
@@ -37,11 +24,11 @@ module _ (p : ℕ → Bool) where
         | inl passes ↦
             elim (contains-cases x (filter p xs) t (subst (λ (b : Bool). Contains (cond b (x ∷ filter p xs) (filter p xs)) t) passes has)) [
               | inl here ↦ ((0, omega arith, here), ap p (sym here) ∙ passes)
-              | inr there ↦ let more = chosen xs t there in (contains-tail x xs t more.0, more.1)
+              | inr there ↦ let more = chosen xs t there in (contains-later x xs t more.0, more.1)
             ]
         | inr fails ↦
             let more = chosen xs t (subst (λ (b : Bool). Contains (cond b (x ∷ filter p xs) (filter p xs)) t) fails has) in
-            (contains-tail x xs t more.0, more.1)
+            (contains-later x xs t more.0, more.1)
       ]
 
   at_most : (xs : List ℕ) → length (filter p xs) ≤ length xs
@@ -80,7 +67,3 @@ without-only tx xs t has = let by = chosen (λ u. not (eqb u tx)) xs t has in (b
 
 pub without-fewer : (tx : ℕ) (xs : List ℕ) → Contains xs tx → length (without tx xs) < length xs
 without-fewer tx xs has = fewer (λ u. not (eqb u tx)) xs tx has (itself-fails tx)
-
-pub none-long : {A : Type 0} (xs : List A) → length xs ≡ 0 → xs ≡ []
-none-long [] none = refl
-none-long (x ∷ xs) none = absurd (omega arith)

@@ -12,21 +12,15 @@ use Rattle.sgt_names.specs.declared.entry.Kind.{Kind}
 use Rattle.sgt_names.specs.declared.entry.Kind.TheVariants.{Wr, Rw, Ww}
 use Rattle.sgt_cert.specs.declared.bundle.SiteLog.{SiteLog}
 use Rattle.sgt_certify_greedy.specs.declared.pairs.Pair.{Pair}
-use Rattle.sgt_certify_logs.proofs.Operations.{reads-item, writes-item}
 use Rattle.sgt_certify_logs.specs.Witness.{EndsBefore, IsIn, PrecedesCommitted}
 use Rattle.sgt_certify_greedy.specs.declared.pairs.Rule.{Rule}
 use Rattle.sgt_certify_greedy.specs.declared.pairs.Rule.TheVariants.{Conflicts, Ends}
 use Rattle.sgt_certify_greedy.specs.Pairs.{ArePaired, HasPairsTo, IsFollowed, IsPair, Leads}
+use Rattle.sgt_notation.proofs.DecidableEntries.{clash-item, reads-item, writes-item}
 
 -- the second list has what the first has
 abbrev pub Keeps : List Pair → List Pair → Type 0
 Keeps old new = (pair : Pair) → Contains old pair → Contains new pair
-
--- an entry in conflict is an operation on the item
-pub clash-item : (kind : Kind) (x : Name) (e f : Entry) → Clash kind x e f → item_of e ≡ Some x
-clash-item Wr x e f clash = writes-item x e clash.0
-clash-item Rw x e f clash = reads-item x e clash.0
-clash-item Ww x e f clash = writes-item x e clash.0
 
 pub leads-kept : (old new : List Pair) (a b : ℕ) → Keeps old new → Leads old a b → Leads new a b
 leads-kept old new a b keeps (pair, has, from, to) = (pair, keeps pair has, from, to)

@@ -9,7 +9,8 @@ use Rattle.sgt_names.proofs.Places.{AllPairs_at, AllPairs-from_at, Contains-from
 use Rattle.sgt_names.proofs.Lists.{middle_at, front_at}
 use Rattle.sgt_certify_greedy.specs.Sorted.{IsOrdered, without}
 use Rattle.sgt_certify_greedy.specs.Decided.{OnFronts}
-use Rattle.sgt_certify_greedy.proofs.Elements.{contains-none, without-has, without-only}
+use Rattle.sgt_certify_greedy.proofs.Elements.{without-has, without-only}
+use Rattle.sgt_names.proofs.Elements.{contains-none}
 
 -- a place in a list with one more: it is in the list, or it is the last
 pub pushed_at : {A : Type 0} (xs : List A) (x : A) (n : ℕ) (y : A) → slice_get (xs ++ x ∷ []) n ≡ Some y

@@ -17,8 +17,9 @@ use Rattle.sgt_certify_greedy.specs.declared.walks.Reached.{Reached}
 use Rattle.sgt_certify_greedy.specs.Pairs.{ArePairsOf, IsFollowed, IsPair, Leads}
 use Rattle.sgt_certify_greedy.specs.Sorted.{without}
 use Rattle.sgt_certify_greedy.specs.Walks.{end_of, HasNoRound, IsPath, IsReached, IsRound}
-use Rattle.sgt_certify_greedy.proofs.Elements.{contains-cases, contains-none, without-has, without-only}
+use Rattle.sgt_certify_greedy.proofs.Elements.{without-has, without-only}
 use Rattle.sgt_certify_greedy.proofs.Placing.{pushed_at}
+use Rattle.sgt_names.proofs.Elements.{contains-cases, contains-none}
 
 -- ---- a walk with one more step
 

@@ -8,20 +8,18 @@ use Rattle.sgt_cert.specs.Text.{certificate_text, format_line, sections_from, Is
 use Rattle.sgt_cert.specs.declared.certificate.Certificate.{Certificate}
 use Rattle.sgt_cert.specs.declared.bundle.SiteLog.{SiteLog}
 use Rattle.sgt_cert.proofs.OneLine.{certificate-one_line}
-use Rattle.sgt_cert.proofs.OneText.{first_line, lines-one, section-one, sections-lines, format-one_line}
+use Rattle.sgt_cert.proofs.OneText.{lines-one, section-one, sections-lines, format-one_line}
 use Rattle.sgt_certify_logs.specs.Certifiable.{SpellsLogs, IsWithLine}
+use Rattle.sgt_notation.proofs.Texts.{has_no_lf, first_line}
 
 abbrev body : List SiteLog → List (List ℕ)
 body sites = map line_text (sections_from 0 sites)
-
-no_lf : (front : List ℕ) → HasNoLf front → HasNot 10 front
-no_lf front h = recursion_from_All (λ b. b ≢ 10) front h
 
 pub with-bundle : (bytes text : List ℕ) (c : Certificate) (sites : List SiteLog) → IsWithLine bytes (certificate_text c) text → IsCertificate c
     → c.sites ≡ length sites → SpellsLogs bytes sites → Spells text (record { certificate = c; sites = sites })
 with-bundle bytes text c sites made is many logs =
     let e = sym made.given ∙ logs.text ∙ first_line (format_line logs.second) (body sites) in
-    let cut = cut_at_byte 10 made.front (format_line logs.second) made.rest (text_of_lines (body sites)) (no_lf made.front made.first) (format-one_line logs.second) e in
+    let cut = cut_at_byte 10 made.front (format_line logs.second) made.rest (text_of_lines (body sites)) (has_no_lf made.front made.first) (format-one_line logs.second) e in
     record {
       certificate = is;
       shape = subst (λ n. IsShaped n sites) (sym many) logs.shape;
@@ -39,9 +37,9 @@ pub with-logs : (bytes line text : List ℕ) (b : Parts) → IsWithLine bytes li
 with-logs bytes line text b made s =
     let e = sym made.made ∙ s.text ∙ first_line (format_line s.second) (certificate_text b.certificate ∷ body b.sites) in
     let cut = cut_at_byte 10 made.front (format_line s.second) (line ++ 10 ∷ made.rest) (text_of_lines (certificate_text b.certificate ∷ body b.sites))
-    (no_lf made.front made.first) (format-one_line s.second) e in
+    (has_no_lf made.front made.first) (format-one_line s.second) e in
     let cut2 = cut_at_byte 10 line (certificate_text b.certificate) made.rest (text_of_lines (body b.sites))
-    (no_lf line made.one) (certificate-one_line b.certificate s.certificate) (cut.1 ∙ first_line (certificate_text b.certificate) (body b.sites)) in (
+    (has_no_lf line made.one) (certificate-one_line b.certificate s.certificate) (cut.1 ∙ first_line (certificate_text b.certificate) (body b.sites)) in (
       record {
         shape = subst (λ n. IsShaped n b.sites) (sym s.shape.each) s.shape;
         logs = s.logs;

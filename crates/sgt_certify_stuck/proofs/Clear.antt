@@ -8,14 +8,11 @@ use Rattle.sgt_names.specs.Entry.{tx_of, item_of, is_increment}
 use Rattle.sgt_names.specs.declared.entry.Entry.{Entry}
 use Rattle.sgt_names.specs.declared.entry.Entry.TheVariants.{Read}
 use Rattle.sgt_names.specs.declared.entry.Kind.TheVariants.{Wr, Rw, Ww}
-use Rattle.sgt_certify_logs.proofs.Operations.{reads-item, writes-item}
 use Rattle.sgt_certify_stuck.specs.Apart.{AreApart, Does, HasItem, HasTx, IsClear}
 use Rattle.sgt_certify_stuck.specs.declared.apart.Class.{Class}
+use Rattle.sgt_names.proofs.Elements.{bool_cases}
+use Rattle.sgt_notation.proofs.DecidableEntries.{reads-item, writes-item}
 use Rattle.sgt_certify_stuck.specs.declared.apart.Class.TheVariants as class
-
-bool_cases : (b : Bool) → (b ≡ true) ⊎ (b ≡ false)
-bool_cases true = inl refl
-bool_cases false = inr refl
 
 -- one of the first n entries is of a source and does this to the item
 abbrev pub IsSeen : List Entry → ℕ → BTreeSet ℕ → Class → Name → Type 0

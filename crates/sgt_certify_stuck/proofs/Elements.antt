@@ -11,10 +11,7 @@ use Rattle.std.proofs.lemmas.Map.Text.{is_eq-slice_cmp}
 use Rattle.std.proofs.lemmas.Slice.Eq.{bytes_eq-Decides}
 use Rattle.std.proofs.lemmas.Option.{same_Some, slice_get_within}
 use Rattle.sgt_names.proofs.Places.{Contains_at, Contains-from_at}
-
-pub bool_cases : (b : Bool) → (b ≡ true) ⊎ (b ≡ false)
-bool_cases true = inl refl
-bool_cases false = inr refl
+use Rattle.sgt_names.proofs.Elements.{nat_cmp-other, bool_cases}
 
 -- what holds of the first n elements and of the one at n holds of one more
 pub at_more : {A : Type 0} (P : A → Type 0) (xs : List A) (n : ℕ) (a : A) → slice_get xs n ≡ Some a → P a
@@ -32,14 +29,6 @@ each-in P xs n all each x has =
     let at = Contains_at xs x has in
     let within = slice_get_within xs at.0 x at.1 in
     each at.0 x (omega (arith, within, all)) at.1
-
-pub other-key : (k q : ℕ) → k ≢ q → is_eq (nat_cmp k q) ≡ false
-other-key k q apart =
-    elim (cases_order k q) [
-      | inl same ↦ absurd (apart same)
-      | inr (inl less) ↦ ap is_eq (sym (nat_cmp_is k q Less less))
-      | inr (inr more) ↦ ap is_eq (sym (nat_cmp_is k q Greater more))
-    ]
 
 pub cond-true : (b c : Bool) → c ≡ true → cond b true c ≡ true
 cond-true true c h = refl

@@ -17,6 +17,7 @@ use Rattle.sgt_certify_stuck.specs.Onward.{ArePlacesOf, CommitsStand, ConflictsF
 use Rattle.sgt_certify_stuck.specs.declared.apart.Class.{Class}
 use Rattle.sgt_certify_stuck.specs.declared.apart.Class.TheVariants as class
 use Rattle.sgt_names.specs.declared.entry.Kind.TheVariants.{Wr, Rw, Ww}
+use Rattle.sgt_names.proofs.Elements.{bool_cases}
 
 pub one-place : (places : BTreeMap ℕ ℕ) (a i j : ℕ) → StandsAt places a i → StandsAt places a j → i ≡ j
 one-place places a i j f g = same_Some i j (sym f ∙ g)
@@ -193,11 +194,6 @@ tops-on entries places n first second tops next a place had at stands_a above ke
         | inr now ↦ (n, a, omega arith, at, subst (StandsAt places (tx_of a)) (sym now.0) stands_a, now.1)
       ];
 }
-
--- the four passes meet each conflict
-bool_cases : (b : Bool) → (b ≡ true) ⊎ (b ≡ false)
-bool_cases true = inl refl
-bool_cases false = inr refl
 
 pub onward-from : (entries : List Entry) (places : BTreeMap ℕ ℕ) → PairLeadsOnward entries places class.Change class.Read
     → PairLeadsOnward entries places class.Read class.Change → PairLeadsOnward entries places class.Change class.Put

@@ -20,11 +20,9 @@ use Rattle.sgt_history_text.specs.declared.fault.LineFault.TheVariants.{NotALine
 use Rattle.sgt_history_text.specs.declared.wanted.Wanted.{Wanted}
 use Rattle.sgt_check.specs.Answer.{neither}
 use Rattle.sgt_check.proofs.OneLine.{line-one}
-use Rattle.sgt_check.proofs.OneHistory.{Whole, each-one, front, no_lf_in, spelled-no_lf, whole, without}
-
-no_byte : (l m : List ℕ) → l ++ 10 ∷ m ≡ [] → ⊥
-no_byte [] m e = cc
-no_byte (x ∷ l) m e = cc
+use Rattle.sgt_check.proofs.OneHistory.{Whole, each-one, no_lf_in, spelled-no_lf, whole}
+use Rattle.sgt_names.proofs.Elements.{no_line}
+use Rattle.sgt_notation.proofs.Texts.{line_front, has_no_lf}
 
 -- ---- behind the lines before
 
@@ -36,29 +34,29 @@ record Behind (before xs : List (List ℕ)) (r rest : List ℕ) : Type 0 where
 behind : (before xs : List (List ℕ)) (r rest : List ℕ) → AllByRecursion (HasNot 10) before → AllByRecursion (HasNot 10) xs → HasNot 10 r
     → text_of_lines xs ++ r ≡ text_of_lines before ++ rest → Behind before xs r rest
 behind [] xs r rest h g hr e = record { more = xs; is = refl; rest_is = sym e }
-behind (b ∷ bs) [] r rest h g hr e = absurd (no_lf_in b (text_of_lines bs ++ rest) (subst (HasNot 10) (e ∙ front b bs rest) hr))
+behind (b ∷ bs) [] r rest h g hr e = absurd (no_lf_in b (text_of_lines bs ++ rest) (subst (HasNot 10) (e ∙ line_front b bs rest) hr))
 behind (b ∷ bs) (x ∷ xs) r rest h g hr e =
-    let cut = cut_at_byte 10 x b (text_of_lines xs ++ r) (text_of_lines bs ++ rest) g.0 h.0 (sym (front x xs r) ∙ e ∙ front b bs rest) in
+    let cut = cut_at_byte 10 x b (text_of_lines xs ++ r) (text_of_lines bs ++ rest) g.0 h.0 (sym (line_front x xs r) ∙ e ∙ line_front b bs rest) in
     let more = behind bs xs r rest h.1 g.1 hr cut.1 in
     record { more = more.more; is = ap₂ (λ (z : List ℕ) (zs : List (List ℕ)). z ∷ zs) cut.0 more.is; rest_is = more.rest_is }
 
--- what is in front of the rest: nothing, or a line
+-- what is in line_front of the rest: nothing, or a line
 abbrev Leads : List (List ℕ) → List ℕ → Type 0
 Leads [] rest = rest ≡ []
 Leads (m ∷ ms) rest = ((more : List ℕ) × (rest ≡ m ++ 10 ∷ more)) ⊎ ((rest ≡ m) × (m ≢ []))
 
 leads-whole : (more : List (List ℕ)) (r rest : List ℕ) → rest ≡ text_of_lines more ++ r → r ≡ [] → Leads more rest
 leads-whole [] r rest e none = e ∙ none
-leads-whole (m ∷ ms) r rest e none = inl (text_of_lines ms ++ r, e ∙ front m ms r)
+leads-whole (m ∷ ms) r rest e none = inl (text_of_lines ms ++ r, e ∙ line_front m ms r)
 
 leads-last : (more : List (List ℕ)) (r rest : List ℕ) → rest ≡ text_of_lines more ++ r → r ≢ [] → Leads (more ++ r ∷ []) rest
 leads-last [] r rest e some = inr (e, some)
-leads-last (m ∷ ms) r rest e some = inl (text_of_lines ms ++ r, e ∙ front m ms r)
+leads-last (m ∷ ms) r rest e some = inl (text_of_lines ms ++ r, e ∙ line_front m ms r)
 
 in-front-one : (line m rest : List ℕ) → IsInFront line rest → HasNot 10 m → ((more : List ℕ) × (rest ≡ m ++ 10 ∷ more)) ⊎ ((rest ≡ m) × (m ≢ [])) → m ≡ line
 in-front-one line m rest f none (inl (more, is)) = elim f.there [
-  | inl (more', is') ↦ (cut_at_byte 10 m line more more' none (without line f.none) (sym is ∙ is')).0
-  | inr (is', some) ↦ absurd (no_lf_in m more (subst (HasNot 10) (sym is' ∙ is) (without line f.none)))
+  | inl (more', is') ↦ (cut_at_byte 10 m line more more' none (has_no_lf line f.none) (sym is ∙ is')).0
+  | inr (is', some) ↦ absurd (no_lf_in m more (subst (HasNot 10) (sym is' ∙ is) (has_no_lf line f.none)))
 ]
 in-front-one line m rest f none (inr (is, some)) = elim f.there [
   | inl (more', is') ↦ absurd (no_lf_in line more' (subst (HasNot 10) (sym is ∙ is') none))
@@ -67,7 +65,7 @@ in-front-one line m rest f none (inr (is, some)) = elim f.there [
 
 in-front-some : (line rest : List ℕ) → IsInFront line rest → rest ≡ [] → ⊥
 in-front-some line rest f none = elim f.there [
-  | inl (more, is) ↦ no_byte line more (sym is ∙ none)
+  | inl (more, is) ↦ no_line line more (sym is ∙ none)
   | inr (is, some) ↦ some (sym is ∙ none)
 ]
 
@@ -161,7 +159,7 @@ not-longer m rest short (inl (more, is)) long =
     All_at (λ b. b ≢ 10) (take (longest_line + 1) (m ++ 10 ∷ more)) (length m) 10 (subst (λ (bytes : List ℕ). HasNoLf (take (longest_line + 1) bytes)) is long.1) there refl
 not-longer m rest short (inr (is, some)) long = omega (arith, short, long.0, ap (λ (bytes : List ℕ). length bytes) is)
 
--- the line in front of the rest, if there is one, has none of the faults
+-- the line in line_front of the rest, if there is one, has none of the faults
 none-blocks : (w : Wanted) (ys : List (List ℕ)) (rest : List ℕ) (ids one two : List Json) (k : List (Transaction Json Json)) → Leads ys rest → EachWith w ys two k
     → StandOnce (one ++ two) → ids ≡ one → (fault : LineFault) → Blocks w ids rest fault → ⊥
 none-blocks w [] rest ids one two k none s once same NotALine (line, f, never) = in-front-some line rest f none
@@ -170,10 +168,10 @@ none-blocks w [] rest ids one two k none s once same IdAgain (line, id, t, f, is
 none-blocks w (m ∷ ms) rest ids one [] k leads s once same fault blocks = absurd s
 none-blocks w (m ∷ ms) rest ids one (id' ∷ two) [] leads s once same fault blocks = absurd s
 none-blocks w (m ∷ ms) rest ids one (id' ∷ two) (t' ∷ k) leads s once same NotALine (line, f, never) =
-    never id' t' (subst (λ (l : List ℕ). IsLineWith w l id' t') (in-front-one line m rest f (without m s.0) leads) s.2)
+    never id' t' (subst (λ (l : List ℕ). IsLineWith w l id' t') (in-front-one line m rest f (has_no_lf m s.0) leads) s.2)
 none-blocks w (m ∷ ms) rest ids one (id' ∷ two) (t' ∷ k) leads s once same TooLong long = not-longer m rest s.1 leads long
 none-blocks w (m ∷ ms) rest ids one (id' ∷ two) (t' ∷ k) leads s once same IdAgain (line, id, t, f, is, again) =
-    let here = subst (λ (l : List ℕ). IsLine l id' t') (in-front-one line m rest f (without m s.0) leads) s.2.line_is in
+    let here = subst (λ (l : List ℕ). IsLine l id' t') (in-front-one line m rest f (has_no_lf m s.0) leads) s.2.line_is in
     let id_is = (line-one line id' id t' t here is.line_is).0 in
     let at = Contains_at one id (subst (λ (js : List Json). Contains js id) same again) in
     let first = front_at one (id' ∷ two) at.0 id at.1 in

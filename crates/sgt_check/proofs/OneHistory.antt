@@ -16,27 +16,22 @@ use Rattle.sgt_history_text.specs.Text.{AreLines, Blocks, IsFirstUnreadable, IsI
 use Rattle.sgt_history_text.specs.declared.fault.LineFault.{LineFault}
 use Rattle.sgt_history_text.specs.declared.fault.LineFault.TheVariants.{NotALine, TooLong, IdAgain}
 use Rattle.sgt_check.proofs.OneLine.{line-one}
+use Rattle.sgt_notation.proofs.Texts.{has_no_lf, line_front}
 
 -- ---- lines
-
-pub without : (line : List ℕ) → HasNoLf line → HasNot 10 line
-without line none = recursion_from_All (λ b. b ≢ 10) line none
 
 pub no_lf_in : (l m : List ℕ) → HasNot 10 (l ++ 10 ∷ m) → ⊥
 no_lf_in [] m h = h.0 refl
 no_lf_in (x ∷ l) m h = no_lf_in l m h.1
 
-pub front : (l : List ℕ) (ls : List (List ℕ)) (rest : List ℕ) → text_of_lines (l ∷ ls) ++ rest ≡ l ++ 10 ∷ (text_of_lines ls ++ rest)
-front l ls rest = simp append_assoc
-
--- whole lines, and what stands behind them without an LF, are cut in one way
+-- whole lines, and what stands behind them has_no_lf an LF, are cut in one way
 cut-one : (xs ys : List (List ℕ)) (r s : List ℕ) → AllByRecursion (HasNot 10) xs → AllByRecursion (HasNot 10) ys → HasNot 10 r → HasNot 10 s
     → text_of_lines xs ++ r ≡ text_of_lines ys ++ s → (xs ≡ ys) × (r ≡ s)
 cut-one [] [] r s h g hr hs e = (refl, e)
-cut-one [] (y ∷ ys) r s h g hr hs e = absurd (no_lf_in y (text_of_lines ys ++ s) (subst (HasNot 10) (e ∙ front y ys s) hr))
-cut-one (x ∷ xs) [] r s h g hr hs e = absurd (no_lf_in x (text_of_lines xs ++ r) (subst (HasNot 10) (sym e ∙ front x xs r) hs))
+cut-one [] (y ∷ ys) r s h g hr hs e = absurd (no_lf_in y (text_of_lines ys ++ s) (subst (HasNot 10) (e ∙ line_front y ys s) hr))
+cut-one (x ∷ xs) [] r s h g hr hs e = absurd (no_lf_in x (text_of_lines xs ++ r) (subst (HasNot 10) (sym e ∙ line_front x xs r) hs))
 cut-one (x ∷ xs) (y ∷ ys) r s h g hr hs e =
-    let cut = cut_at_byte 10 x y (text_of_lines xs ++ r) (text_of_lines ys ++ s) h.0 g.0 (sym (front x xs r) ∙ e ∙ front y ys s) in
+    let cut = cut_at_byte 10 x y (text_of_lines xs ++ r) (text_of_lines ys ++ s) h.0 g.0 (sym (line_front x xs r) ∙ e ∙ line_front y ys s) in
     let rest = cut-one xs ys r s h.1 g.1 hr hs cut.1 in
     (ap₂ (λ (z : List ℕ) (zs : List (List ℕ)). z ∷ zs) cut.0 rest.0, rest.1)
 
@@ -84,7 +79,7 @@ pub spelled-no_lf : (lines : List (List ℕ)) (ids : List Json) (h : List (Trans
 spelled-no_lf [] ids h s = tt
 spelled-no_lf (line ∷ lines) [] h s = absurd s
 spelled-no_lf (line ∷ lines) (id ∷ ids) [] s = absurd s
-spelled-no_lf (line ∷ lines) (id ∷ ids) (t ∷ ts) s = (without line s.0, spelled-no_lf lines ids ts s.3)
+spelled-no_lf (line ∷ lines) (id ∷ ids) (t ∷ ts) s = (has_no_lf line s.0, spelled-no_lf lines ids ts s.3)
 
 -- ---- transactions
 

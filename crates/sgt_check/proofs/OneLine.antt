@@ -17,39 +17,18 @@ use Rattle.json.specs.Find.{at}
 use Rattle.json.specs.Json.{no_items, item, value}
 use Rattle.json.specs.Tree.{depth, json_tokens}
 use Rattle.json.proofs.Printed.Trees.{value-json_tokens}
+use Rattle.sgt_history_text.proofs.Trees.{read_back, same_tokens}
+use Rattle.sgt_history_text.proofs.Parts.{same_items}
+use Rattle.sgt_names.proofs.Lists.{heads, tails}
+use Rattle.sgt_history_text.proofs.Solid.{elements}
 
 -- ---- values of JSON
-
--- read with room enough, the tokens of a value give it
-read_back : (j : Json) (d : ℕ) → depth j ≤ d → value d (json_tokens j) ≡ Some (j, [])
-read_back j d h = ap (value d) (sym (append-nil (json_tokens j))) ∙ value-json_tokens j d [] h
-
-same_tokens : (i j : Json) → json_tokens i ≡ json_tokens j → i ≡ j
-same_tokens i j e =
-    let d = depth i + depth j in
-    let both : Some (i, []) ≡ Some (j, []) = sym (read_back i d (omega arith)) ∙ ap (value d) e ∙ read_back j d (omega arith) in
-    ap (λ p. p.0) (same_Some (i, []) (j, []) both)
-
-same_items : (xs ys : List Json) → items_of xs ≡ items_of ys → xs ≡ ys
-same_items [] [] e = refl
-same_items [] (y ∷ ys) e = absurd cc
-same_items (x ∷ xs) [] e = absurd cc
-same_items (x ∷ xs) (y ∷ ys) e =
-    let first : x ≡ y = cc in
-    let rest : items_of xs ≡ items_of ys = cc in
-    rw (first, same_items xs ys rest) refl
 
 -- ---- operations
 
 at_given : (i : Json) (k : Kind) (n : ℕ) (v : Option Json) → at 3 (operation_json (record { version = n; item = i; kind = k; value = v })) ≡ v
 at_given i k n None = refl
 at_given i k n (Some g) = refl
-
-heads : {A : Type 0} (x y : A) (xs ys : List A) → x ∷ xs ≡ y ∷ ys → x ≡ y
-heads x y xs ys e = cc
-
-tails : {A : Type 0} (x y : A) (xs ys : List A) → x ∷ xs ≡ y ∷ ys → xs ≡ ys
-tails x y xs ys e = cc
 
 same_string : (s t : List ℕ) → string s ≡ string t → s ≡ t
 same_string s t e = cc
@@ -71,9 +50,6 @@ same_end false false e = refl
 
 same_digits : (s t : List ℕ) → number s ≡ number t → s ≡ t
 same_digits s t e = cc
-
-same_array : (xs ys : Items) → array xs ≡ array ys → xs ≡ ys
-same_array xs ys e = cc
 
 same_parts : (v w : ℕ) (i j : Json) (k l : Kind) (a b : Option Json) → v ≡ w → i ≡ j → k ≡ l → a ≡ b
     → ◌≡◌ {A = Operation Json Json} (record { version = v; item = i; kind = k; value = a }) (record { version = w; item = j; kind = l; value = b })
@@ -108,7 +84,7 @@ line-one line id id' t t' a b =
     let ops = same_Some (array (items_of (map operation_json t.operations))) (array (items_of (map operation_json t'.operations)))
     (sym a.ops ∙ ap (get (codes "ops")) same ∙ b.ops) in
     let items = same_items (map operation_json t.operations) (map operation_json t'.operations)
-    (same_array (items_of (map operation_json t.operations)) (items_of (map operation_json t'.operations)) ops) in (
+    (elements (items_of (map operation_json t.operations)) (items_of (map operation_json t'.operations)) ops) in (
       same_Some id id' (sym a.tx ∙ ap (get (codes "tx")) same ∙ b.tx),
       same_transaction t.commits t'.commits t.operations t'.operations (same_end t.commits t'.commits end)
           (same_operations t.operations t'.operations (recursion_from_All IsOperation t.operations a.each) (recursion_from_All IsOperation t'.operations b.each) items),

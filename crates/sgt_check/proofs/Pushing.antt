@@ -2,6 +2,7 @@
 use Rattle.std.proofs.Common.{◌≡◌, ℕ, List, ◌++◌, ap, ◌∙◌, append_assoc, Result, Ok, Err, OnOk}
 use Rattle.std.specs.Prelude.{if◌then◌else◌}
 use Rattle.std.specs.Result.{is_ok}
+use Rattle.sgt_names.proofs.Elements.{ok-taken}
 
 pub two : (o a b x y : List ℕ) → x ≡ o ++ a → y ≡ x ++ b → y ≡ o ++ (a ++ b)
 two o a b x y e f = f ∙ ap (λ (t : List ℕ). t ++ b) e ∙ append_assoc o a b
@@ -14,8 +15,3 @@ four o a b c d x y z w e f g h = two o a (b ++ (c ++ d)) x w e (three x b c d y 
 
 pub five : (o a b c d k x y z w v : List ℕ) → x ≡ o ++ a → y ≡ x ++ b → z ≡ y ++ c → w ≡ z ++ d → v ≡ w ++ k → v ≡ o ++ (a ++ (b ++ (c ++ (d ++ k))))
 five o a b c d k x y z w v e f g h i = two o a (b ++ (c ++ (d ++ k))) x v e (four x b c d k y z w v f g h i)
-
--- what was put if a call went well was put where it did
-pub put-ok : {T E : Type 0} (r : Result T E) (new a b : List ℕ) → new ≡ (if is_ok r then a else b) → OnOk r (new ≡ a)
-put-ok (Ok v) new a b e = e
-put-ok (Err x) new a b e = tt

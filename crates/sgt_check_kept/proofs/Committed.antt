@@ -14,6 +14,8 @@ use Rattle.sgt_history.specs.Transaction.{Transaction}
 use Rattle.sgt_history_text.specs.Moment.{AreEntries, AreTold, HasSession, HasTimes, IsEntry}
 use Rattle.sgt_history_time.specs.declared.times.Times.{Times}
 use Rattle.sgt_history_time.specs.Serializable.{AreOfCommitted}
+use Rattle.sgt_history_text.proofs.Trees.{read_back, same_tokens}
+use Rattle.sgt_history_text.proofs.Telling.{number_is}
 
 -- ---- committed
 
@@ -65,18 +67,6 @@ module _ {E : Type 0} (Has : List ℕ → E → Type 0) where
     told-one false lines h es fs are are' = are ∙ sym are'
 
 -- ---- values of JSON
-
-read_back : (j : Json) (d : ℕ) → depth j ≤ d → value d (json_tokens j) ≡ Some (j, [])
-read_back j d h = ap (value d) (sym (append-nil (json_tokens j))) ∙ value-json_tokens j d [] h
-
-same_tokens : (i j : Json) → json_tokens i ≡ json_tokens j → i ≡ j
-same_tokens i j e =
-    let d = depth i + depth j in
-    let both : Some (i, []) ≡ Some (j, []) = sym (read_back i d (omega arith)) ∙ ap (value d) e ∙ read_back j d (omega arith) in
-    ap (λ p. p.0) (same_Some (i, []) (j, []) both)
-
-number_is : (s t : List ℕ) → Some (number s) ≡ Some (number t) → s ≡ t
-number_is s t e = cc
 
 same_times : (b d b' d' : ℕ) → b ≡ b' → d ≡ d' → ◌≡◌ {A = Times} (record { begin = b; done = d }) (record { begin = b'; done = d' })
 same_times b d b' d' one two = rw (one, two) refl

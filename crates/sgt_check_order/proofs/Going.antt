@@ -17,12 +17,8 @@ use Rattle.sgt_check_order.specs.Order.{IsFirstStray, IsStray, NameEach, Names, 
 use Rattle.sgt_check_order.specs.Told.{IsRead, IsRoll, IsTaken}
 use Rattle.sgt_check_order.specs.declared.roll.Roll.{Roll}
 use Rattle.sgt_check_order.proofs.Lines.{each-length, each-push, lines-first, lines-last}
-
-without : (line : List ℕ) → HasNoLf line → HasNot 10 line
-without line none = recursion_from_All (λ b. b ≢ 10) line none
-
-some_byte : (l : List ℕ) → 0 < length l → l ≢ []
-some_byte l h e = omega (arith, h, ap length e)
+use Rattle.sgt_notation.proofs.Texts.{has_no_lf, all-spent, spends-none, spends_on, fault-met}
+use Rattle.sgt_history_text.proofs.Going.{some_byte}
 
 -- the text has these lines, and behind them those of what comes
 abbrev pub IsRest : List (List ℕ) → Option (List ℕ) → Option (List ℕ) → Type 0
@@ -49,10 +45,10 @@ goes-none js told ahead order none fresh = record {
 
 -- what stands first in what came, where it is a line, and where it is the last
 first-line : (old new : List ℕ) (l : List ℕ) → HasNoLf l → old ≡ l ++ 10 ∷ new → lines_of old ≡ l ∷ lines_of new
-first-line old new l none is = ap lines_of is ∙ lines-first l new (without l none)
+first-line old new l none is = ap lines_of is ∙ lines-first l new (has_no_lf l none)
 
 first-cut : (old : List ℕ) (l : List ℕ) → HasNoLf l → 0 < length l → old ≡ l → lines_of old ≡ l ∷ []
-first-cut old l none some is = ap lines_of is ∙ lines-last l (without l none) (some_byte l some)
+first-cut old l none some is = ap lines_of is ∙ lines-last l (has_no_lf l none) (some_byte l some)
 
 seam : (xs : List (List ℕ)) (l : List ℕ) (ys : List (List ℕ)) → xs ++ l ∷ ys ≡ (xs ++ l ∷ []) ++ ys
 seam xs l ys = sym (append_assoc xs (l ∷ []) ys)
@@ -198,28 +194,3 @@ named-stray h js bytes roll n number (rolled, names) (line, t, committed, missin
     past xs n size = slice_get_past xs n (omega (arith, size))
 
 -- ---- the reads
-
-pub spends_on : (told mid new : Option (List ℕ)) (a b c : ℕ) → Spends a told b mid → Spends b mid c new → Spends a told c new
-spends_on None mid new a b c first later = tt
-spends_on (Some xs) None new a b c first later = absurd first
-spends_on (Some xs) (Some ys) None a b c first later = absurd later
-spends_on (Some xs) (Some ys) (Some zs) a b c first later = omega arith
-
-pub spends-none : (told : Option (List ℕ)) (a b : ℕ) → b ≡ a → Spends a told b told
-spends-none None a b same = tt
-spends-none (Some xs) a b same = omega arith
-
--- no read was left, so each of them took a byte
-all-spent : (told new : Option (List ℕ)) → Spends 4294967295 told 0 new → IfSome told (λ bytes. most_reads ≤ length bytes)
-all-spent None new spends = tt
-all-spent (Some xs) None spends = absurd spends
-all-spent (Some xs) (Some ys) spends = let all : 4294967295 ≤ length xs = omega arith in all
-
--- a read fault is one of the source, or all reads were made
-pub fault-met : (told : Option (List ℕ)) (failures asked asked' reads : ℕ) (old new : Stream) (line : List ℕ) → old.failures ≡ failures → Spends 4294967295 told reads old.told → old.ahead.reads ≡ reads
-    → asked' + new.ahead.reads ≡ asked + 4294967295 → MetReadFault old line new → ReadFaultIsDue told failures new.failures asked asked'
-fault-met told failures asked asked' reads old new line quiet spends same counts met =
-    elim met.cause [
-      | inl failed ↦ inl (omega (arith, failed.0, quiet))
-      | inr spent ↦ inr (omega (arith, spent.0, counts), all-spent told new.told (spends_on told old.told new.told 4294967295 reads 0 spends (subst (λ (n : ℕ). Spends n old.told 0 new.told) same spent.2)))
-    ]

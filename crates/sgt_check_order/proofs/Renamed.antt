@@ -8,7 +8,7 @@ use Rattle.json.specs.Json.{Json}
 use Rattle.sgt_names.specs.declared.outcome.Outcome.{Outcome}
 use Rattle.sgt_names.specs.declared.outcome.Outcome.TheVariants.{Yes, No, Unreadable}
 use Rattle.sgt_names.proofs.Lists.{map_at}
-use Rattle.sgt_history.proofs.Renaming.{has-back, has-on, mapped_at, order-on, run-renamed, serves-on}
+use Rattle.sgt_history.proofs.Renaming.{has-back, has-on, order-on, run-renamed, serves-on}
 use Rattle.sgt_history.specs.History.{closed_of}
 use Rattle.sgt_history.specs.Serial.{Follows, IsCommitted, KeepApart, run_of}
 use Rattle.sgt_history.specs.Transaction.{Transaction, renamed, renamed_operation}
@@ -31,6 +31,7 @@ use Rattle.sgt_check_order.specs.Order.{IsFirstStray, IsStray}
 use Rattle.sgt_check_order.specs.Run.{IsBreak, IsFirstBreak}
 use Rattle.sgt_check_order.specs.Text.{break_text}
 use Rattle.sgt_check_order.specs.Told.{IsTold}
+use Rattle.sgt_names.proofs.Elements.{get-mapped}
 
 -- ---- other names
 
@@ -39,7 +40,7 @@ module _ {I J V W : Type 0} (f : I → J) (g : V → W) (h : List (Transaction I
   other = map (renamed f g) h
 
   committed-on : (line : ℕ) (t : Transaction I V) → IsCommitted h line t → IsCommitted other line (renamed f g t)
-  committed-on line t c = (mapped_at (renamed f g) h line t c.0, c.1)
+  committed-on line t c = (get-mapped (renamed f g) h line t c.0, c.1)
 
   committed-back : (line : ℕ) (t : Transaction J W) → IsCommitted other line t → (u : Transaction I V) × IsCommitted h line u
   committed-back line t c =
@@ -83,7 +84,7 @@ module _ {I J V W : Type 0} (f : I → J) (g : V → W) (h : List (Transaction I
 
     break-same : (p : ℕ) (o : Operation I V) (found : ℕ) → IsBreak run p o found → IsBreak named_run p (renamed_operation f g o) found
     break-same p o found b = record {
-      there = mapped_at (renamed_operation f g) run p o b.there;
+      there = get-mapped (renamed_operation f g) run p o b.there;
       has = has-on f g h apart order p p found o b.there b.has;
       breaks = λ follows. b.breaks (follows-back p o b.there follows);
       before = λ earlier w lt at.

@@ -12,9 +12,10 @@ use Rattle.sgt_history.specs.Transaction.{Transaction}
 use Rattle.sgt_history.specs.declared.history.Line.{Line}
 use Rattle.sgt_history.specs.declared.history.Operation.{Operation}
 use Rattle.sgt_history_evidence.proofs.Cutting.{cut_at, length-cut, line-within}
-use Rattle.sgt_history_text.proofs.Lookups.{get-push_cases, get-set_other, get-set_same, length-slice_set, once-push}
+use Rattle.sgt_history_text.proofs.Lookups.{once-push}
 use Rattle.sgt_check_order.specs.Told.{IsRoll}
 use Rattle.sgt_check_order.specs.declared.roll.Roll.{Roll}
+use Rattle.sgt_names.proofs.Elements.{get-push_cases, get-slice_set_other, get-slice_set_same, length-slice_set}
 
 -- ---- nobody
 
@@ -87,10 +88,10 @@ module _ (h : List (Transaction ℕ ℕ)) (old : Roll) (number : ℕ) (t : Trans
         (ap (λ (l : List ℕ). slice_get l (length old.order.items)) order ∙ middle_at old.order.items number [])
 
     marked-last : slice_get new.called.items number ≡ Some true
-    marked-last = ap (λ (l : List Bool). slice_get l number) called ∙ get-set_same old.called.items number true called-within
+    marked-last = ap (λ (l : List Bool). slice_get l number) called ∙ get-slice_set_same old.called.items number true called-within
 
     marked-other : (k : ℕ) → k ≢ number → slice_get new.called.items k ≡ slice_get old.called.items k
-    marked-other k apart = ap (λ (l : List Bool). slice_get l k) called ∙ get-set_other old.called.items number k true apart
+    marked-other k apart = ap (λ (l : List Bool). slice_get l k) called ∙ get-slice_set_other old.called.items number k true apart
 
     pub roll-push : IsRoll h new
     roll-push = record {

@@ -12,10 +12,10 @@ use Rattle.sgt_history.specs.declared.history.Operation.{Operation}
 use Rattle.sgt_history.specs.Serial.{Follows, Has, IsWriteOf, RunsRight, operations_in, run_of}
 use Rattle.sgt_history.specs.Transaction.{Transaction}
 use Rattle.sgt_history.proofs.Runs.{one_version}
-use Rattle.sgt_history_text.proofs.Lookups.{get-push_cases}
 use Rattle.sgt_check_order.specs.Run.{IsBreak}
 use Rattle.sgt_check_order.specs.Told.{AreRun, IsBroken, IsRun, IsRunOf, Tells}
 use Rattle.sgt_check_order.specs.declared.run.Broken.{Broken}
+use Rattle.sgt_names.proofs.Elements.{get-push_cases}
 
 abbrev Op : Type 0
 Op = Operation ℕ ℕ

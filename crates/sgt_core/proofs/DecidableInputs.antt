@@ -15,6 +15,7 @@ use Rattle.sgt_core.specs.declared.input.Input.{Input}
 use Rattle.sgt_core.specs.Input.{Begins, IsBegun, input_lines}
 use Rattle.sgt_core.proofs.SearchedEvents.{searched-events}
 use Rattle.sgt_input.proofs.SearchedSites.{searched-site_lines}
+use Rattle.sgt_names.proofs.Elements.{take-front, drop-front, length-take_within}
 
 -- ---- lines of sites
 
@@ -87,14 +88,6 @@ known-split xs n =
     (decidable-both (decidable-both (known-sites 0 (take n xs)) (known-events (drop n xs)))
     (decidable-both (decidable-most n max_sites) (decidable-if (cases_eq n 0) (λ _. no-more (drop n xs)))))
 
-front_of : {A : Type 0} (fs bs : List A) → take (length fs) (fs ++ bs) ≡ fs
-front_of [] bs = refl
-front_of (a ∷ fs) bs = ap (λ xs. a ∷ xs) (front_of fs bs)
-
-behind_of : {A : Type 0} (fs bs : List A) → drop (length fs) (fs ++ bs) ≡ bs
-behind_of [] bs = refl
-behind_of (a ∷ fs) bs = behind_of fs bs
-
 none-taken : {A : Type 0} (n : ℕ) (xs : List A) → n ≤ length xs → take n xs ≡ [] → n ≡ 0
 none-taken zero xs le e = refl
 none-taken (suc n) [] le e = absurd (omega (arith, le))
@@ -104,18 +97,13 @@ none-mapped : {A B : Type 0} (f : A → B) (xs : List A) → map f xs ≡ [] →
 none-mapped f [] e = refl
 none-mapped f (x ∷ xs) e = absurd cc
 
-taken-long : {A : Type 0} (n : ℕ) (xs : List A) → n ≤ length xs → length (take n xs) ≡ n
-taken-long zero xs le = refl
-taken-long (suc n) [] le = absurd (omega (arith, le))
-taken-long (suc n) (x ∷ xs) le = ap suc (taken-long n xs (omega (arith, le)))
-
 begins-from : (xs : List (List ℕ)) (n : ℕ) → n ≤ length xs → Splits xs n → Begins xs
 begins-from xs n within s =
     let ss = s.sites.0 in
     let es = s.events.0 in
     let many = ap length s.sites.3 in
     let mapped = length-map ss site_text in
-    let taken = taken-long n xs within in (
+    let taken = length-take_within n xs within in (
       record { sites = ss; events = es },
       record {
         few = omega (arith, s.few, within, many, mapped, taken);
@@ -135,8 +123,8 @@ splits-of xs input is same =
     let bs = map event_text input.events in
     let n = length input.sites in
     let long : length fs ≡ n = length-map input.sites site_text in
-    let front : take n xs ≡ fs = ap (take n) same ∙ ap (λ k. take k (fs ++ bs)) (sym long) ∙ front_of fs bs in
-    let behind : drop n xs ≡ bs = ap (drop n) same ∙ ap (λ k. drop k (fs ++ bs)) (sym long) ∙ behind_of fs bs in
+    let front : take n xs ≡ fs = ap (take n) same ∙ ap (λ k. take k (fs ++ bs)) (sym long) ∙ take-front fs bs in
+    let behind : drop n xs ≡ bs = ap (drop n) same ∙ ap (λ k. drop k (fs ++ bs)) (sym long) ∙ drop-front fs bs in
     record {
       sites = (input.sites, is.each, is.numbered, front);
       events = (input.events, is.events, behind);

@@ -17,8 +17,9 @@ use Rattle.sgt_notation.proofs.OneSpelling.{apart}
 use Rattle.sgt_core.specs.declared.input.Input.{Input}
 use Rattle.sgt_core.specs.Input.{Begins, IsBegun, input_lines}
 use Rattle.sgt_input.specs.Sites.{TakesSite}
-use Rattle.sgt_input.proofs.SiteLines.{last-number, map-push, more-numbers, not-nil}
+use Rattle.sgt_input.proofs.SiteLines.{last-number, more-numbers, not-nil}
 use Rattle.sgt_core.specs.private.Taking.{Takes, TakesEvent}
+use Rattle.sgt_names.proofs.Elements.{map-push}
 
 -- no event is spelled like a site
 pub event-no_site : (l : SiteLine) (e : EventLine) → IsEventLine e → site_text l ≡ event_text e → ⊥

@@ -26,7 +26,7 @@ use Rattle.sgt_core.specs.declared.input.Input.{Input}
 use Rattle.sgt_core.specs.Replay.{EndsWith, IsRunText, MayAnswer, Replies}
 use Rattle.sgt_core.specs.Reply.{reply_lines, reply_text}
 use Rattle.sgt_core.specs.private.Running.{AnswersLine, WritesReplies}
-use Rattle.sgt_input.proofs.Lines.{text-append}
+use Rattle.sgt_notation.proofs.Texts.{text-append}
 
 -- lines are answered, and then more
 replies-append : (c d e : CoreState) (xs ys : List EventLine) (rs ss : List Reply) → Replies c xs rs d → Replies d ys ss e

@@ -7,7 +7,8 @@ use Rattle.sgt_notation.specs.declared.event.Event.TheVariants.{Begin, Read, Put
 use Rattle.sgt_notation.specs.declared.event.EventLine.{EventLine}
 use Rattle.sgt_notation.specs.declared.event.EventLine.TheVariants.{One, ToDecide}
 use Rattle.sgt_notation.proofs.Decidable.{Decidable, or_else, IsSearched, searched-below, searched-both}
-use Rattle.sgt_input.proofs.SearchedSites.{searched-names, searched-places, searched-sites, searched-txs}
+use Rattle.sgt_input.proofs.SearchedSites.{searched-places, searched-sites}
+use Rattle.sgt_notation.proofs.SearchedLines.{searched-names, searched-txs}
 
 -- ---- their parts
 

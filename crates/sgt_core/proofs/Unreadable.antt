@@ -16,16 +16,13 @@ use Rattle.sgt_input.specs.Stopping.{IsTaken}
 use Rattle.sgt_input.proofs.Keeping.{spelled}
 use Rattle.sgt_input.proofs.SiteLines.{site-plain}
 use Rattle.sgt_input.proofs.Unreadable as any
-use Rattle.sgt_input.proofs.Unreadable.{AreInputs, IsPlain}
+use Rattle.sgt_input.proofs.Unreadable.{AreInputs, IsPlain, nonempty}
 use Rattle.sgt_core.proofs.DecidableInputs.{known-begins}
 use Rattle.sgt_input.proofs.ReadOrNot.{read-or_not}
 use Rattle.sgt_core.specs.declared.input.Input.{Input}
 use Rattle.sgt_core.specs.Input.{Begins, FirstUnreadable, IsBegun, IsInput, Spells, input_lines}
 use Rattle.sgt_core.specs.Replay.{IsAnswer, TellsUnreadable}
 use Rattle.sgt_core.specs.private.Taking.{HaveLines}
-
-nonempty : {A : Type 0} (x : A) (xs : List A) → x ∷ xs ≡ [] → ⊥
-nonempty x xs e = absurd cc
 
 -- ---- the lines that an input begins with
 

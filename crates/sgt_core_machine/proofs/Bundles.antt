@@ -15,7 +15,6 @@ use Rattle.sgt_cert.specs.declared.bundle.SiteLog.{SiteLog}
 use Rattle.sgt_cert.specs.declared.certificate.Certificate.{Certificate}
 use Rattle.sgt_cert.specs.Parts.{Parts as BundleParts, FitTogether}
 use Rattle.sgt_certifier.specs.Certifier.{State, certificate_of}
-use Rattle.sgt_certifier.proofs.Ruling.{place_map}
 use Rattle.sgt_cert.specs.Valid.{IsValid}
 use Rattle.sgt_core_model.specs.declared.reply.CoreFault.{CoreFault}
 use Rattle.sgt_core_machine.specs.declared.machine.Place.{Place}
@@ -27,6 +26,7 @@ use Rattle.sgt_core_model.proofs.Fitting.{bundle-fits}
 use Rattle.sgt_core_machine.proofs.Opening.{same_lists}
 use Rattle.sgt_core_machine.proofs.Refusing.{site_count}
 use Rattle.sgt_core_machine.proofs.Standing.{reached_kept}
+use Rattle.sgt_names.proofs.Elements.{get-mapped}
 
 -- final values that fit are those of the log
 pub finals_are : (base : List Holding) (es : List Entry) (items finals : List Holding) → names finals ≡ names items → FinalsAreLegal base es finals
@@ -54,7 +54,7 @@ logs_are m c s =
     let number : q.0.0 ≡ k = e.0 ∙ zero_on k in
     let p = map_at (λ (w : Place). w.site.items) m.places k q.0.1 (ap (λ l. slice_get l k) (sym s.items) ∙ e.1) in
     let logs : p.0.site.entries ≡ c.entries q.0.0 = sym (s.places k p.0 p.1).entries ∙ ap c.entries (sym number) in
-    place_map log_at m.places k p.0 p.1 ∙ ap Some (ap₂ site_log p.2 logs ∙ q.2))
+    get-mapped log_at m.places k p.0 p.1 ∙ ap Some (ap₂ site_log p.2 logs ∙ q.2))
   where
     zero_on : (k : ℕ) → 0 + k ≡ k
     zero_on k = omega arith

@@ -9,11 +9,10 @@ use Rattle.sgt_names.specs.Draft.{at_site}
 use Rattle.sgt_names.specs.declared.draft.Touch.{Touch}
 use Rattle.sgt_names.specs.declared.entry.Entry.{Entry}
 use Rattle.sgt_names.proofs.Lists.{within_at}
-use Rattle.sgt_order.proofs.Lists.{get_set_same, get_set_other}
 use Rattle.sgt_site.specs.declared.cell.Install.{Install}
 use Rattle.sgt_certifier.specs.Certifier.{State, with_finished}
 use Rattle.sgt_certifier.specs.declared.call.Decided.{Decided}
-use Rattle.sgt_certifier.proofs.Members.{nil_none, filter_member, member_filter}
+use Rattle.sgt_certifier.proofs.Members.{filter_member, member_filter}
 use Rattle.sgt_notation.specs.declared.event.Event.TheVariants.{Decide}
 use Rattle.sgt_core_machine.specs.declared.machine.Place.{Place}
 use Rattle.sgt_core_machine.specs.declared.machine.Part.{Part}
@@ -33,6 +32,7 @@ use Rattle.sgt_core_machine.proofs.Standing.{reached_more, reached_kept}
 use Rattle.sgt_core_machine.proofs.Refusing.{site_count}
 use Rattle.sgt_core_machine.proofs.Stepping.{step_own}
 use Rattle.sgt_core_machine.proofs.Noting.{ended_noted}
+use Rattle.sgt_names.proofs.Elements.{get-slice_set_same, get-slice_set_other, contains-none}
 
 -- what the model's decision leaves, where the machine's certifier was left so
 pub record IsDecision (c : CoreState) (tx : ℕ) (new : State) (reply : Decided) : Type 0 where
@@ -213,14 +213,14 @@ module _ (m : Parts) (c : CoreState) (s : StandsFor m c) (tx slot : ℕ) (h : Is
     ended_running : (j : ℕ) (o : Option Running) → slice_get (slice_set m.table slot None) j ≡ Some o → RunsAt f m.before j o
     ended_running j o at = elim (cases_eq j slot) [
       | inl is ↦
-          let here : slice_get (slice_set m.table slot None) slot ≡ Some None = get_set_same m.table slot None (slice_get_within m.table slot _ h.1.1) in
+          let here : slice_get (slice_set m.table slot None) slot ≡ Some None = get-slice_set_same m.table slot None (slice_get_within m.table slot _ h.1.1) in
           let same : None ≡ o = same_Some None o (sym here ∙ (ap (slice_get (slice_set m.table slot None)) (sym is) ∙ at)) in
           subst (λ w. RunsAt f m.before j w) same (λ there. ended_out (subst (Contains (with_finished v.certifier tx).active) (ap (λ i. suc (m.before + i)) is ∙ sym h.0) there))
-      | inr ne ↦ ended_slot j o ne (s.running j o (sym (get_set_other m.table slot j None ne) ∙ at))
+      | inr ne ↦ ended_slot j o ne (s.running j o (sym (get-slice_set_other m.table slot j None ne) ∙ at))
     ]
 
     ended_part : (t : ℕ) (p : Place) → slice_get m.places t ≡ Some p → (part : Part) → p.part ≡ part → IsPart m c t p part → IsPart b f t p part
-    ended_part t p at Idle e is = (is.0, refl, λ member. nil_none t member)
+    ended_part t p at Idle e is = (is.0, refl, λ member. contains-none t member)
     ended_part t p at Written e is = absurd (not_written _ is.decided)
     ended_part t p at Due e is = absurd (none t p at e)
 

@@ -23,10 +23,11 @@ use Rattle.sgt_names.proofs.Places.{Contains_at, Contains-from_at, All-from_at, 
 use Rattle.sgt_names.proofs.Ranged.{find_none}
 use Rattle.sgt_site.specs.private.Cells.{ItemsRise, touch_in}
 use Rattle.sgt_site.proofs.Appends.{chosen_at}
-use Rattle.sgt_site.proofs.Basics.{less_apart, apart_false}
-use Rattle.sgt_site.proofs.Parts.{part-rises, touch-there, kept-touch, touch-kept}
-use Rattle.sgt_certifier.proofs.Members.{cons_cases, cons_here, cons_later, nil_none, filter_member, place_cases, place_right}
+use Rattle.sgt_site.proofs.Basics.{less_apart}
+use Rattle.sgt_site.proofs.Parts.{part-rises, touch-there, kept-touch, touch-kept, touch-later}
+use Rattle.sgt_certifier.proofs.Members.{cons_here, filter_member, place_cases, place_right}
 use Rattle.sgt_core_model.specs.Core.{comes_before, change_in, put_in}
+use Rattle.sgt_names.proofs.Elements.{bytes_eq-other, contains-cases, contains-later, contains-none}
 
 -- ---- at one site
 
@@ -47,18 +48,13 @@ touched_in (t ∷ ts) s x =
       | inr miss ↦ rw miss (touched_in ts s x)
     ]
 
--- an item is not touched again behind its place
-touch_later : (t : Touch) (part : List Touch) (x : Name) → ItemsRise (t ∷ part) → bytes_eq t.item x ≡ true → touch_in part x ≡ None
-touch_later t part x rises hit = find_none (λ (u : Touch). bytes_eq u.item x) part (λ m u here.
-    apart_false u.item x (λ same. less_apart t.item u.item (AllPairs_at (λ (a b : Touch). slice_cmp nat_cmp a.item b.item ≡ Less) (t ∷ part) 0 (suc m) t u rises (omega arith) refl here) ((bytes_eq-Decides t.item x).0 hit ∙ sym same)))
-
 abbrev change_of_touch : Option Touch → Option Change
 change_of_touch o = option_and_then (λ (t : Touch). t.change) o
 
 by_change : (t : Touch) (part : List Touch) (x : Name) (o : Option Change) (b : Bool) → ItemsRise (t ∷ part) → bytes_eq t.item x ≡ b
     → change_in (writing_in part) x ≡ change_of_touch (touch_in part x)
     → change_in (cons_option (option_and_then (λ c. Some (t.item, c)) o) (writing_in part)) x ≡ cond b o (change_of_touch (touch_in part x))
-by_change t part x None true rises is rest = rest ∙ ap change_of_touch (touch_later t part x rises is)
+by_change t part x None true rises is rest = rest ∙ ap change_of_touch (touch-later t part x rises is)
 by_change t part x None false rises is rest = rest
 by_change t part x (Some c) true rises is rest = rw is refl
 by_change t part x (Some c) false rises is rest = rw is rest
@@ -96,11 +92,11 @@ kept_seen ts s x v n rising m =
 
 filter_all : {A : Type 0} (p : A → Bool) (xs : List A) → ((x : A) → Contains xs x → p x ≡ true) → filter p xs ≡ xs
 filter_all p [] h = refl
-filter_all p (x ∷ xs) h = rw (h x (cons_here x xs)) (ap (λ ys. x ∷ ys) (filter_all p xs (λ y m. h y (cons_later x xs y m))))
+filter_all p (x ∷ xs) h = rw (h x (cons_here x xs)) (ap (λ ys. x ∷ ys) (filter_all p xs (λ y m. h y (contains-later x xs y m))))
 
 filter_nothing : {A : Type 0} (p : A → Bool) (xs : List A) → ((x : A) → Contains xs x → p x ≡ false) → filter p xs ≡ []
 filter_nothing p [] h = refl
-filter_nothing p (x ∷ xs) h = rw (h x (cons_here x xs)) (filter_nothing p xs (λ y m. h y (cons_later x xs y m)))
+filter_nothing p (x ∷ xs) h = rw (h x (cons_here x xs)) (filter_nothing p xs (λ y m. h y (contains-later x xs y m)))
 
 filter_three : {A : Type 0} (p : A → Bool) (xs ys zs : List A) → filter p (xs ++ (ys ++ zs)) ≡ filter p xs ++ (filter p ys ++ filter p zs)
 filter_three p xs ys zs = filter-append p xs (ys ++ zs) ∙ ap (λ l. filter p xs ++ l) (filter-append p ys zs)
@@ -212,7 +208,7 @@ module _ (old new : List Touch) (touch : Touch) (h : ChangesOnly old new touch) 
     behind d m = let w = writes_item B d m in subst (λ x. slice_cmp nat_cmp touch.item x ≡ Less) w.3 (rest_more w.0 w.1 w.2)
 
     there_item : (o : Option Touch) → IfSome o (λ t. place_of t ≡ place_of touch) → (d : Name × Change) → Contains (writing_in (option_to_list o)) d → d.0 ≡ touch.item
-    there_item None place d m = absurd (nil_none d m)
+    there_item None place d m = absurd (contains-none d m)
     there_item (Some u) place d m = let w = writes_item (u ∷ []) d m in sym w.3 ∙ (ap (λ (t : Touch). t.item) (sym (only u w.0 w.1 w.2)) ∙ ap (λ (p : ℕ × Name). p.1) place)
       where
         only : (u : Touch) (n : ℕ) (t : Touch) → slice_get (u ∷ []) n ≡ Some t → u ≡ t
@@ -247,7 +243,7 @@ module _ (old new : List Touch) (touch : Touch) (h : ChangesOnly old new touch) 
         nil_right (x ∷ xs) = ap (λ ys. x ∷ ys) (nil_right xs)
 
     not_in : (part : List Touch) → ((n : ℕ) (t : Touch) → slice_get part n ≡ Some t → t.item ≡ touch.item → ⊥) → touch_in part touch.item ≡ None
-    not_in part out = find_none (λ (u : Touch). bytes_eq u.item touch.item) part (λ n u at. apart_false u.item touch.item (out n u at))
+    not_in part out = find_none (λ (u : Touch). bytes_eq u.item touch.item) part (λ n u at. bytes_eq-other u.item touch.item (out n u at))
 
     -- what the draft had of the item
     pub was_there : touched_at old (touch.site, touch.item) ≡ h.there
@@ -309,7 +305,7 @@ module _ (old new : List Touch) (touch : Touch) (h : ChangesOnly old new touch) 
         = ap kept_in old_here ∙ (chosen_three kept_of F (option_to_list h.there) B ∙ ap (λ l. kept_in F ++ (l ++ kept_in B)) (nothing h.there (sym was_seen ∙ none))) in (
           λ m. elim (Contains-append_cases (kept_in F) _ k (subst (λ l. Contains l k) now m)) [
             | inl front ↦ inr (subst (λ l. Contains l k) (sym was) (Contains-append_left (kept_in F) (kept_in B) k front))
-            | inr back ↦ elim (cons_cases _ (kept_in B) k back) [
+            | inr back ↦ elim (contains-cases _ (kept_in B) k back) [
               | inl this ↦ inl this
               | inr rest ↦ inr (subst (λ l. Contains l k) (sym was) (Contains-append_right (kept_in F) (kept_in B) k rest))
             ]
@@ -318,7 +314,7 @@ module _ (old new : List Touch) (touch : Touch) (h : ChangesOnly old new touch) 
             | inl this ↦ Contains-append_right (kept_in F) _ k (subst (Contains ((touch.item, seen.value, seen.version) ∷ kept_in B)) this (cons_here _ (kept_in B)))
             | inr m ↦ elim (Contains-append_cases (kept_in F) (kept_in B) k (subst (λ l. Contains l k) was m)) [
               | inl front ↦ Contains-append_left (kept_in F) _ k front
-              | inr rest ↦ Contains-append_right (kept_in F) _ k (cons_later _ (kept_in B) k rest)
+              | inr rest ↦ Contains-append_right (kept_in F) _ k (contains-later _ (kept_in B) k rest)
             ]
           ]),
         )

@@ -6,13 +6,13 @@ use Rattle.std.proofs.lemmas.Option.{slice_get-map, slice_get_read, slice_get_wi
 use Rattle.sgt_names.specs.Name.{Name}
 use Rattle.sgt_names.specs.Log.{names}
 use Rattle.sgt_names.proofs.Lists.{option_cases}
-use Rattle.sgt_certifier.proofs.Members.{nil_none}
 use Rattle.sgt_order.proofs.Lists.{set_same}
 use Rattle.sgt_core_machine.specs.declared.machine.Place.{Place}
 use Rattle.sgt_core_machine.specs.declared.machine.Running.{Running}
 use Rattle.sgt_core_model.specs.Core.{CoreState, items_in, items_at}
 use Rattle.sgt_core_model.specs.Step.{IsOfSite}
 use Rattle.sgt_core_machine.specs.Machine.{Parts, StandsFor}
+use Rattle.sgt_names.proofs.Elements.{contains-none}
 
 -- the items of a site are those of its place
 pub items_there : (m : Parts) (c : CoreState) (s : ℕ) (o : Option Place) → StandsFor m c → slice_get m.places s ≡ o
@@ -28,7 +28,7 @@ pub to_place : (m : Parts) (c : CoreState) (s : ℕ) (x : Name) (p : Place) → 
 to_place m c s x p stands at h = subst (λ items. Contains (names items) x) (items_there m c s (Some p) stands at) h
 
 pub of_none : (m : Parts) (c : CoreState) (s : ℕ) (x : Name) → StandsFor m c → slice_get m.places s ≡ None → IsOfSite c s x → ⊥
-of_none m c s x stands at h = nil_none x (subst (λ items. Contains (names items) x) (items_there m c s None stands at) h)
+of_none m c s x stands at h = contains-none x (subst (λ items. Contains (names items) x) (items_there m c s None stands at) h)
 
 -- ---- results
 

@@ -6,6 +6,7 @@ use Rattle.std.proofs.lemmas.Option.{same_Some}
 use Rattle.sgt_names.specs.DraftParts.{PartView, touched_in}
 use Rattle.sgt_names.specs.declared.draft.Touch.{Touch}
 use Rattle.sgt_names.proofs.Lists.{take_next}
+use Rattle.sgt_edges.proofs.Touching.{few-all}
 
 tested : {A : Type 0} (x : A) (o : Option A) (b : Bool) → cond b (Some x) o ≡ None → (b ≡ false) × (o ≡ None)
 tested x o true e = absurd cc
@@ -30,8 +31,3 @@ find_nothing f (y ∷ xs) x none miss =
 pub find_further : {A : Type 0} (f : A → Bool) (xs : List A) (n : ℕ) (x : A) → slice_get xs n ≡ Some x → find f (take n xs) ≡ None → f x ≡ false
     → find f (take (n + 1) xs) ≡ None
 find_further f xs n x at none miss = ap (find f) (take_next xs n x at) ∙ find_nothing f (take n xs) x none miss
-
--- a draft that has no parts touches what is in its list
-pub few_all : (few : List Touch) (ps : List PartView) (ts : List Touch) → few ++ touched_in ps ≡ ts → length ps ≡ 0 → few ≡ ts
-few_all few [] ts is none = sym (append-nil few) ∙ is
-few_all few (p ∷ ps) ts is none = absurd cc

@@ -13,7 +13,6 @@ use Rattle.sgt_names.specs.declared.entry.Entry.{Entry}
 use Rattle.sgt_names.specs.declared.entry.Entry.TheVariants as entry
 use Rattle.sgt_names.proofs.Lists.{option_cases}
 use Rattle.sgt_names.proofs.Places.{Contains-from_at}
-use Rattle.sgt_order.proofs.Lists.{get_set_same, get_set_other}
 use Rattle.sgt_arena.specs.declared.handle.Handle.{Handle}
 use Rattle.sgt_site.specs.State.{KeepsReads}
 use Rattle.sgt_site.specs.declared.cell.Install.{Install}
@@ -22,7 +21,6 @@ use Rattle.sgt_certifier.specs.Certifier.{State, serial, with_install}
 use Rattle.sgt_certifier.specs.Certifier.{Install as Noted}
 use Rattle.sgt_certifier.specs.History.{IsNoted}
 use Rattle.sgt_certifier.specs.Kept.{changed_at as changed_names}
-use Rattle.sgt_certifier.proofs.Members.{cons_cases, nil_none}
 use Rattle.sgt_core_machine.specs.declared.machine.Place.{Place}
 use Rattle.sgt_core_machine.specs.declared.machine.Part.{Part}
 use Rattle.sgt_core_machine.specs.declared.machine.Part.TheVariants.{Idle, Due, Written}
@@ -42,6 +40,8 @@ use Rattle.sgt_core_model.proofs.LegalSteps.{only_here, only_there, cleared_here
 use Rattle.sgt_core_machine.proofs.OwnHandles.{own_by}
 use Rattle.sgt_core_machine.proofs.Standing.{reached_kept}
 use Rattle.sgt_core_machine.proofs.Noting.{install_noted}
+use Rattle.sgt_core_model.proofs.Committing.{no_block}
+use Rattle.sgt_names.proofs.Elements.{get-slice_set_same, get-slice_set_other, contains-cases, contains-none}
 
 -- ---- the verdict
 
@@ -103,9 +103,9 @@ still_unnoted s tx site u items ne out m =
     let one : Noted = record { tx = tx; site = site; items = items } in
     elim (Contains-append_cases s.installs (one ∷ []) m.1 (m.0, m.2, m.3)) [
       | inl was ↦ out (was.0, m.1, was.1, was.2, m.4)
-      | inr last ↦ elim (cons_cases one [] m.1 last) [
+      | inr last ↦ elim (contains-cases one [] m.1 last) [
         | inl e ↦ ne (sym (ap (λ (x : Noted). x.site) e ∙ m.4.1))
-        | inr none ↦ nil_none m.1 none
+        | inr none ↦ contains-none m.1 none
       ]
     ]
 
@@ -140,25 +140,21 @@ handles_by Committed s tx slot handle installed order number is h i m =
     let one : Install = record { tx = tx; handle = handle } in
     elim (Contains-append_cases installed (one ∷ []) i m) [
       | inl was ↦ h i was
-      | inr last ↦ elim (cons_cases one [] i last) [
+      | inr last ↦ elim (contains-cases one [] i last) [
         | inl same ↦ subst (IsHandleOf s) same (inl (
           ap (λ (g : Handle). g.generation) is,
           number ∙ ap (λ (g : Handle). suc (s.before + g.index)) (sym is),
           order refl,
         ))
-        | inr none ↦ absurd (nil_none i none)
+        | inr none ↦ absurd (contains-none i none)
       ]
     ]
 
 -- ---- the block
 
-not_empty : (es : List Entry) (e : Entry) → es ++ e ∷ [] ≡ [] → ⊥
-not_empty [] e h = absurd cc
-not_empty (f ∷ es) e h = absurd cc
-
 block_some : (verdict : Verdict) (tx : ℕ) (cs : List (Name × Change)) → block_by verdict tx cs ≡ [] → ⊥
-block_some Committed tx cs e = not_empty (as_changes tx cs) (entry.Commit tx) e
-block_some Refused tx cs e = not_empty (as_wants tx cs) (entry.Refuse tx) e
+block_some Committed tx cs e = no_block (as_changes tx cs) (entry.Commit tx) e
+block_some Refused tx cs e = no_block (as_wants tx cs) (entry.Refuse tx) e
 
 -- a block is due where the machine says so
 pub due_some : (m : Parts) (c : CoreState) (tx : ℕ) (touched : List Touch) (s : ℕ) (verdict : Verdict) (x : Phase) → verdict_in x ≡ Some verdict
@@ -261,7 +257,7 @@ module _ (m : Parts) (c : CoreState) (s : StandsFor m c) (verdict : Verdict) (tx
   no_read : (u : ℕ) (e : Entry) → Contains (more u) e → IsRead e → ⊥
   no_read u e member read = elim (cases_eq u t) [
     | inl is ↦ (k.sound.legal.sites t inside).due_reads e (subst (λ es. Contains es e) (ap more is ∙ only_here t (c.due t)) member) read
-    | inr ne ↦ nil_none e (subst (λ es. Contains es e) (only_there t (c.due t) u ne) member)
+    | inr ne ↦ contains-none e (subst (λ es. Contains es e) (only_there t (c.due t) u ne) member)
   ]
 
   reads_stay : (i u : ℕ) (kept : List (Name × ℕ × ℕ)) → KeepsReads (c.entries u) i kept → KeepsReads (d.entries u) i kept
@@ -378,10 +374,10 @@ module _ (m : Parts) (c : CoreState) (s : StandsFor m c) (verdict : Verdict) (tx
     pub written_places : (u : ℕ) (v : Place) → slice_get n.places u ≡ Some v → IsPlace n d u v
     written_places u v at = elim (cases_eq u t) [
       | inl is ↦
-          let now : slice_get (slice_set m.places t q) t ≡ Some q = get_set_same m.places t q (slice_get_within m.places t p w.there) in
+          let now : slice_get (slice_set m.places t q) t ≡ Some q = get-slice_set_same m.places t q (slice_get_within m.places t p w.there) in
           let same : q ≡ v = same_Some q v (sym now ∙ (ap (λ ps. slice_get ps t) (sym new_places) ∙ (ap (slice_get n.places) (sym is) ∙ at))) in
           subst (IsPlace n d u) same (subst (λ i. IsPlace n d i q) (sym is) here)
-      | inr ne ↦ elsewhere u ne v (s.places u v (sym (get_set_other m.places t u q ne) ∙ (ap (λ ps. slice_get ps u) (sym new_places) ∙ at)))
+      | inr ne ↦ elsewhere u ne v (s.places u v (sym (get-slice_set_other m.places t u q ne) ∙ (ap (λ ps. slice_get ps u) (sym new_places) ∙ at)))
     ]
 
     pub written_running : (j : ℕ) (x : Option Running) → slice_get n.table j ≡ Some x → RunsAt d n.before j x

@@ -6,9 +6,8 @@ use Rattle.std.proofs.lemmas.Bool.{cases_Bool, cases_eq, eq-eqb, ne_eqb, true≢
 use Rattle.std.proofs.lemmas.List.{length-map, length-set}
 use Rattle.std.proofs.lemmas.Option.{same_Some, slice_get_within}
 use Rattle.sgt_names.proofs.Lists.{Any_at, Any-from_at, within_at}
-use Rattle.sgt_order.proofs.Lists.{get_set_same, get_set_other}
 use Rattle.sgt_certifier.specs.Certifier.{State, with_finished}
-use Rattle.sgt_certifier.proofs.Members.{cons_here, cons_later, filter_member, member_filter, nil_none}
+use Rattle.sgt_certifier.proofs.Members.{cons_here, filter_member, member_filter}
 use Rattle.sgt_notation.specs.declared.event.Event.TheVariants.{Install as Write}
 use Rattle.sgt_core_model.specs.declared.reply.Reply.TheVariants.{Installed}
 use Rattle.sgt_core_machine.specs.declared.machine.Place.{Place}
@@ -27,6 +26,7 @@ use Rattle.sgt_core_model.proofs.Runs.{is_site}
 use Rattle.sgt_core_machine.proofs.Standing.{reached_more}
 use Rattle.sgt_core_machine.proofs.InstallBlocks.{written_state, IsToWrite, due_some, written_places, written_running, written_items, written_carries, written_stands}
 use Rattle.sgt_core_machine.proofs.Noting.{ended_noted}
+use Rattle.sgt_names.proofs.Elements.{get-slice_set_same, get-slice_set_other, contains-later, contains-none}
 
 -- the block of the open step is still due at the site
 abbrev pub IsDueThere : Place → Type 0
@@ -34,7 +34,7 @@ IsDueThere place = place.part ≡ Due
 
 all_true : (p : ℕ → Bool) (xs : List ℕ) → ((x : ℕ) → Contains xs x → p x ≡ true) → list_all p xs ≡ true
 all_true p [] h = refl
-all_true p (x ∷ xs) h = rw (h x (cons_here x xs)) (all_true p xs (λ y member. h y (cons_later x xs y member)))
+all_true p (x ∷ xs) h = rw (h x (cons_here x xs)) (all_true p xs (λ y member. h y (contains-later x xs y member)))
 
 carries_finished : (s t : State) (i : ℕ) → Carries s t → Carries (record (with_finished s i) { installs = [] }) (with_finished t i)
 carries_finished s t i h = record { same = ap (λ st. with_finished st i) h.same; noted = ended_noted s t (record (with_finished s i) { installs = [] }) (with_finished t i) h.noted refl refl (λ j m. m); fewer = h.fewer; lead = h.lead }
@@ -108,7 +108,7 @@ module _ (m : Parts) (c : CoreState) (s : StandsFor m c) (verdict : Verdict) (tx
           let is : v ≡ record found.0 { part = Idle } = ends.places.each u found.0 v found.1 at in
           let g = places u found.0 found.1 in
           let clear = nothing_due u found.0 found.0.part (not_due u found.0 found.1) g.part in
-          subst (IsPlace e f u) (sym is) (record { number = g.number; entries = g.entries; handles = g.handles; apart = g.apart; part = (clear.0, refl, λ member. nil_none u member) })
+          subst (IsPlace e f u) (sym is) (record { number = g.number; entries = g.entries; handles = g.handles; apart = g.apart; part = (clear.0, refl, λ member. contains-none u member) })
 
       freed : Contains f.certifier.active (suc (n.before + slot)) → ⊥
       freed member =
@@ -137,10 +137,10 @@ module _ (m : Parts) (c : CoreState) (s : StandsFor m c) (verdict : Verdict) (tx
       in_table j x at = elim (cases_eq j slot) [
         | inl is ↦
             let there = ap (λ (v : Parts). slice_get v.table slot) h.is ∙ w.runs in
-            let now : slice_get (slice_set n.table slot None) slot ≡ Some None = get_set_same n.table slot None (slice_get_within n.table slot (Some w.running) there) in
+            let now : slice_get (slice_set n.table slot None) slot ≡ Some None = get-slice_set_same n.table slot None (slice_get_within n.table slot (Some w.running) there) in
             let same : None ≡ x = same_Some None x (sym now ∙ (ap (slice_get (slice_set n.table slot None)) (sym is) ∙ at)) in
             subst (RunsAt f n.before j) same (subst (λ i. RunsAt f n.before i None) (sym is) freed)
-        | inr ne ↦ stays j x ne (written_running m c s verdict tx slot t w n h j x (sym (get_set_other n.table slot j None ne) ∙ at))
+        | inr ne ↦ stays j x ne (written_running m c s verdict tx slot t w n h j x (sym (get-slice_set_other n.table slot j None ne) ∙ at))
       ]
 
       new_running : (j : ℕ) (x : Option Running) → slice_get e.table j ≡ Some x → RunsAt f e.before j x

@@ -16,7 +16,7 @@ use Rattle.sgt_names.specs.declared.entry.Entry.TheVariants as entry
 use Rattle.sgt_names.specs.declared.entry.Kind.{Kind}
 use Rattle.sgt_names.specs.declared.entry.Label.{Label}
 use Rattle.sgt_names.proofs.Places.{AllPairs_at, Contains_at, Contains-from_at}
-use Rattle.sgt_names.proofs.Lists.{All_in}
+use Rattle.sgt_names.proofs.Lists.{All_in, map_at}
 use Rattle.sgt_arena.specs.declared.handle.Handle.{Handle}
 use Rattle.sgt_site.specs.declared.cell.Install.{Install}
 use Rattle.sgt_site.specs.State.{SiteState, IsSite, handle_of, committed_in, change_entry}
@@ -31,8 +31,7 @@ use Rattle.sgt_edges.proofs.Once.{no-edges}
 use Rattle.sgt_certifier.specs.Certifier.{State, Arc, Joins, Ruling, committed, ruled}
 use Rattle.sgt_certifier.specs.History.{tx_under, arcs_of, IsKnown, Fits}
 use Rattle.sgt_certifier.specs.Sound.{IsRuled}
-use Rattle.sgt_certifier.proofs.Members.{AllPairs-append, cons_cases, cons_here, cons_later, nil_none, filter_member, member_filter, place_cases}
-use Rattle.sgt_certifier.proofs.Ruling.{map_place, place_map}
+use Rattle.sgt_certifier.proofs.Members.{AllPairs-append, cons_here, filter_member, member_filter, place_cases}
 use Rattle.sgt_core_machine.specs.declared.machine.Place.{Place}
 use Rattle.sgt_core_machine.specs.declared.machine.Running.{Running}
 use Rattle.sgt_core_model.specs.Core.{CoreState, IsEdgeOf, as_changes, followed}
@@ -42,6 +41,8 @@ use Rattle.sgt_core_model.proofs.Kept.{AreOlderFirst, SuitsRuling, IsKept}
 use Rattle.sgt_core_model.proofs.Entries.{of_change, change_tx, read_no_end}
 use Rattle.sgt_core_model.proofs.Conflicting.{in_longer}
 use Rattle.sgt_core_model.proofs.Reached.{reaches_alike, reaches-on}
+use Rattle.sgt_core_model.proofs.Ordered.{changes_tx}
+use Rattle.sgt_names.proofs.Elements.{contains-cases, contains-later, contains-none, get-mapped}
 
 -- ---- arcs of edges
 
@@ -55,7 +56,7 @@ pub arc_from : (s : State) (es : List Edge) (arc : Arc) → Contains (arcs_of s 
     → (e : Edge) × Contains es e × (e.from.generation ≡ s.generation) × (arc_under s e ≡ arc)
 arc_from s es arc m =
     let at = Contains_at (arcs_of s es) arc m in
-    let from = map_place (arc_under s) (filter (λ (e : Edge). e.from.generation == s.generation) es) at.0 arc at.1 in
+    let from = map_at (arc_under s) (filter (λ (e : Edge). e.from.generation == s.generation) es) at.0 arc at.1 in
     let kept = filter_member (λ (e : Edge). e.from.generation == s.generation) es from.0 (Contains-from_at _ at.0 from.0 from.1) in
     (from.0, kept.0, eqb-true from.0.from.generation s.generation kept.1, from.2)
 
@@ -64,7 +65,7 @@ pub arc_of_edge : (s : State) (es : List Edge) (e : Edge) → Contains es e → 
 arc_of_edge s es e m gen =
     let in_kept = member_filter (λ (e : Edge). e.from.generation == s.generation) es e m (eq-eqb e.from.generation s.generation gen) in
     let at = Contains_at (filter (λ (e : Edge). e.from.generation == s.generation) es) e in_kept in
-    Contains-from_at (arcs_of s es) at.0 (arc_under s e) (place_map (arc_under s) _ at.0 e at.1)
+    Contains-from_at (arcs_of s es) at.0 (arc_under s e) (get-mapped (arc_under s) _ at.0 e at.1)
 
 -- ---- who has a handle
 
@@ -76,17 +77,17 @@ handle_member (i ∷ is) tx h e = elim (cases_eq i.tx tx) [
       subst (Contains (i ∷ is)) (one i.tx tx i.handle h same (same_Some i.handle h hit)) (cons_here i is)
   | inr other ↦
       let rest : handle_of is tx ≡ Some h = sym (ap (λ b. if b then Some i.handle else handle_of is tx) (ne_eqb i.tx tx other)) ∙ e in
-      cons_later i is _ (handle_member is tx h rest)
+      contains-later i is _ (handle_member is tx h rest)
 ]
   where
     one : (a b : ℕ) (g h : Handle) → a ≡ b → g ≡ h → ◌≡◌ {A = Install} (record { tx = a; handle = g }) (record { tx = b; handle = h })
     one a b g h p q = ap (λ t. record { tx = t; handle = g }) p ∙ ap (λ k. record { tx = b; handle = k }) q
 
 member_handle : (is : List Install) (tx : ℕ) → Contains (map (λ (i : Install). i.tx) is) tx → (h : Handle) × (handle_of is tx ≡ Some h)
-member_handle [] tx m = absurd (nil_none tx m)
+member_handle [] tx m = absurd (contains-none tx m)
 member_handle (i ∷ is) tx m = elim (cases_eq i.tx tx) [
   | inl same ↦ (i.handle, ap (λ b. if b then Some i.handle else handle_of is tx) (eq-eqb i.tx tx same))
-  | inr other ↦ elim (cons_cases i.tx (map (λ (j : Install). j.tx) is) tx m) [
+  | inr other ↦ elim (contains-cases i.tx (map (λ (j : Install). j.tx) is) tx m) [
     | inl is_it ↦ absurd (other is_it)
     | inr later ↦
         let r = member_handle is tx later in
@@ -139,9 +140,6 @@ older_first before es w kind x a b k late =
         | inr later ↦ let lt = w.new k.f (Contains-from_at w.newer later.0 k.f later.2) in let is = k.to in omega (arith, lt, is)
       ]
     ]
-
-changes_tx : (i : ℕ) (cs : List (Name × Change)) (e : Entry) → Contains (as_changes i cs) e → tx_of e ≡ i
-changes_tx i cs e m = let d = of_change (change_entry i) cs e m in ap tx_of (sym d.2) ∙ change_tx i d.0.0 d.0.1
 
 followed_older : (before tx : ℕ) (es : List Entry) (cs : List (Name × Change)) → before < tx → AreOlderFirst before es → AreOlderFirst before (es ++ as_changes tx cs)
 followed_older before tx es cs late w = record {
@@ -318,7 +316,7 @@ module _ (m : Parts) (c : CoreState) (k : IsKept c) (carries : Carries m.certifi
       empty (e ∷ es) g = absurd (g e (cons_here e es))
 
   inside : (e : Entry) → Contains (c.entries t) e → t < length c.items
-  inside e member = below (length c.items) t (λ out. nil_none e (subst (λ es. Contains es e) (k.sound.walked.outside t out) member))
+  inside e member = below (length c.items) t (λ out. contains-none e (subst (λ es. Contains es e) (k.sound.walked.outside t out) member))
     where
       below : (n u : ℕ) → (n ≤ u → ⊥) → u < n
       below n u out = omega (arith, out)
@@ -462,7 +460,7 @@ module _ (m : Parts) (c : CoreState) (k : IsKept c) (carries : Carries m.certifi
         | inr new_edge ↦ forward_of e new_edge (from ∙ sym handle_is) ∙ ap (λ (st : State). st.generation) carries.same
       ];
       here = λ e member. elim (Contains-append_cases before_edges more e member) [
-        | inl old_edge ↦ cons_later t (gathered_in c.step) e.label.site (h.here e old_edge)
+        | inl old_edge ↦ contains-later t (gathered_in c.step) e.label.site (h.here e old_edge)
         | inr new_edge ↦ subst (Contains (t ∷ gathered_in c.step)) (sym (label_site e new_edge)) (cons_here t (gathered_in c.step))
       ];
       once = AllPairs-append (λ e f. e ≢ f) before_edges more h.once differ (λ e f old_edge new_edge same.
@@ -473,7 +471,7 @@ module _ (m : Parts) (c : CoreState) (k : IsKept c) (carries : Carries m.certifi
             let e = arc_from s more arc (subst (λ arcs. Contains arcs arc) (sym (arcs_same more)) new_arc) in
             subst (IsEdgeOf gathered_too tx) e.3 (too (arc_under s e.0) (own_edge e.0 e.1 e.2))
       ];
-      lead = λ arc is gathered. elim (cons_cases t (gathered_in c.step) arc.label.site gathered) [
+      lead = λ arc is gathered. elim (contains-cases t (gathered_in c.step) arc.label.site gathered) [
         | inl here ↦
             reaches_alike Step (λ a b. Joins u.arcs a b ⊎ Joins (arcs_of u (before_edges ++ more)) a b)
             (λ a b j. elim j [
@@ -494,10 +492,10 @@ pub none_gathered : (s : State) (c : CoreState) (tx slot : ℕ) → tx ≡ suc (
 none_gathered s c tx slot number none = record {
   place = slot;
   window = number;
-  fit = λ e member. absurd (nil_none e member);
-  forward = λ e member from. absurd (nil_none e member);
-  here = λ e member. absurd (nil_none e member);
+  fit = λ e member. absurd (contains-none e member);
+  forward = λ e member from. absurd (contains-none e member);
+  here = λ e member. absurd (contains-none e member);
   once = no-edges [] refl;
-  own = λ arc member. absurd (nil_none arc member);
-  lead = λ arc is gathered. absurd (nil_none arc.label.site (subst (λ ts. Contains ts arc.label.site) none gathered));
+  own = λ arc member. absurd (contains-none arc member);
+  lead = λ arc is gathered. absurd (contains-none arc.label.site (subst (λ ts. Contains ts arc.label.site) none gathered));
 }

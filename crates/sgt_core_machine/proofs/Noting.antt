@@ -6,8 +6,9 @@ use Rattle.sgt_names.specs.Name.{Name}
 use Rattle.sgt_certifier.specs.Certifier.{State, Install, committed, serial, with_install}
 use Rattle.sgt_certifier.specs.History.{IsNoted}
 use Rattle.sgt_certifier.specs.Sound.{IsRuled}
-use Rattle.sgt_certifier.proofs.Members.{cons_cases, cons_here, nil_none}
+use Rattle.sgt_certifier.proofs.Members.{cons_here}
 use Rattle.sgt_core_machine.specs.Machine.{HasNoted}
+use Rattle.sgt_names.proofs.Elements.{contains-cases, contains-none}
 
 abbrev IsOf : ℕ → ℕ → Install → Type 0
 IsOf tx site x = (x.tx ≡ tx) × (x.site ≡ site)
@@ -56,19 +57,19 @@ install_noted s t tx site items h member =
             let m = h.open_step u o at (was.0, n.1, was.1, was.2, n.4) in
             let left = Contains-append_left s.installs (mine ∷ []) m.1 (m.0, m.2, m.3) in
             (left.0, m.1, left.1, left.2, m.4)
-        | inr last ↦ elim (cons_cases one [] n.1 last) [
+        | inr last ↦ elim (contains-cases one [] n.1 last) [
           | inl e ↦
               let right = Contains-append_right s.installs (mine ∷ []) mine (cons_here mine []) in
               let is : IsOf u at one = subst (IsOf u at) (sym e) n.4 in
               (right.0, mine, right.1, right.2, is)
-          | inr none ↦ absurd (nil_none n.1 none)
+          | inr none ↦ absurd (contains-none n.1 none)
         ]
       ];
       committed = λ i m. elim (Contains-append_cases t.installs (one ∷ []) i m) [
         | inl was ↦ h.committed i was
-        | inr last ↦ elim (cons_cases one [] i last) [
+        | inr last ↦ elim (contains-cases one [] i last) [
           | inl e ↦ subst (λ (x : Install). Contains (serial t) x.tx) e member
-          | inr none ↦ absurd (nil_none i none)
+          | inr none ↦ absurd (contains-none i none)
         ]
       ];
     }

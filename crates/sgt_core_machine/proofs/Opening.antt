@@ -10,7 +10,7 @@ use Rattle.sgt_names.proofs.Lists.{front_at, take_next, middle_at, within_at, ma
 use Rattle.sgt_names.proofs.Places.{All-from_at}
 use Rattle.sgt_site.specs.State.{AreItems, opened}
 use Rattle.sgt_certifier.specs.Certifier.{State, opening}
-use Rattle.sgt_certifier.proofs.Members.{nil_none, place_cases}
+use Rattle.sgt_certifier.proofs.Members.{place_cases}
 use Rattle.sgt_core_machine.proofs.OwnHandles.{own_none}
 use Rattle.sgt_notation.specs.declared.event.Event.{Event}
 use Rattle.sgt_core_model.specs.declared.reply.Reply.{Reply}
@@ -20,6 +20,7 @@ use Rattle.sgt_core_model.specs.Core.{fresh}
 use Rattle.sgt_core_model.specs.Step.{MayStep, Run}
 use Rattle.sgt_core_machine.specs.Machine.{Parts, Carries, IsPlace, AreOpened, StandsFor, GoesOn}
 use Rattle.sgt_core_machine.proofs.Standing.{run_more}
+use Rattle.sgt_names.proofs.Elements.{contains-none}
 
 -- ---- sites
 
@@ -81,7 +82,7 @@ new_stands sites places certifier h is some few = record {
       let e = h.each k p.0 p.1 in
       let same : e.0 ≡ items = ap (λ (q : Place). q.site.items) (sym e.3) ∙ p.2 in
       e.1 ∙ ap Some same);
-  certifier = subst (λ (s : State). Carries s opening) (sym is) (record { same = refl; noted = record { open_step = λ tx o site n. absurd (nil_none n.1 (n.0, n.2, n.3)); committed = λ i m. absurd (nil_none i m) }; fewer = λ arc m. m; lead = λ a b j. absurd (nil_none _ j.1) });
+  certifier = subst (λ (s : State). Carries s opening) (sym is) (record { same = refl; noted = record { open_step = λ tx o site n. absurd (contains-none n.1 (n.0, n.2, n.3)); committed = λ i m. absurd (contains-none i m) }; fewer = λ arc m. m; lead = λ a b j. absurd (contains-none _ j.1) });
   before = refl;
   begun = refl;
   window = refl;
@@ -92,9 +93,9 @@ new_stands sites places certifier h is some few = record {
       subst (λ (q : Place). IsPlace (start places certifier) (fresh sites) k q) (sym e.3) (record {
         number = refl;
         entries = refl;
-        handles = λ i m. absurd (nil_none i m);
+        handles = λ i m. absurd (contains-none i m);
         apart = own_none;
-        part = (refl, refl, nil_none k);
+        part = (refl, refl, contains-none k);
       });
   step = (refl, refl);
 }

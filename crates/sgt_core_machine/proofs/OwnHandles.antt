@@ -8,7 +8,6 @@ use Rattle.sgt_site.specs.declared.cell.Install.{Install}
 use Rattle.sgt_site.specs.State.{SiteState, handle_of}
 use Rattle.sgt_edges.specs.Edges.{HaveOwnHandles}
 use Rattle.sgt_certifier.specs.Certifier.{State}
-use Rattle.sgt_certifier.proofs.Members.{nil_none}
 use Rattle.sgt_core_model.specs.declared.reply.CoreFault.TheVariants as fault
 use Rattle.sgt_core_model.specs.Core.{CoreState, OpenStep}
 use Rattle.sgt_core_model.specs.Step.{StepIs, IsAllowed, IsOtherOpen, gathered_in}
@@ -18,6 +17,7 @@ use Rattle.sgt_core_machine.specs.declared.installing.Verdict.TheVariants.{Commi
 use Rattle.sgt_core_machine.specs.private.Installing.{installed_by}
 use Rattle.sgt_core_machine.specs.Machine.{IsHandleOf}
 use Rattle.sgt_core_machine.proofs.Leading.{handle_member}
+use Rattle.sgt_names.proofs.Elements.{contains-none}
 
 -- of a list of installs
 abbrev Own : List Install → Type 0
@@ -81,5 +81,5 @@ pub not_yet : (c : CoreState) (tx t : ℕ) → IsAllowed c (Gather tx t) → (Is
 not_yet c tx t allowed no_other member = by_step c.step member no_other (λ own. allowed fault.AlreadyDone (own, member))
   where
     by_step : (step : Option OpenStep) → Contains (gathered_in step) t → (StepIs (λ i. i ≡ tx → ⊥) step → ⊥) → (StepIs (λ i. i ≡ tx) step → ⊥) → ⊥
-    by_step None gathered other own = nil_none t gathered
+    by_step None gathered other own = contains-none t gathered
     by_step (Some o) gathered other own = elim (cases_eq o.tx tx) [ inl mine ↦ own mine | inr another ↦ other another ]

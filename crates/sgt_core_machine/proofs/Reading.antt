@@ -19,11 +19,9 @@ use Rattle.sgt_names.specs.declared.entry.Entry.{Entry}
 use Rattle.sgt_names.specs.declared.entry.Entry.TheVariants as entry
 use Rattle.sgt_names.proofs.Lists.{option_cases}
 use Rattle.sgt_names.proofs.Places.{Contains-from_at}
-use Rattle.sgt_order.proofs.Lists.{get_set_same, get_set_other}
 use Rattle.sgt_site.specs.State.{LogsRead, KeepsReads, version_at}
 use Rattle.sgt_site.proofs.Appends.{chosen_at, LogsRead-append, LogsRead-cases}
 use Rattle.sgt_certifier.specs.Certifier.{Arc}
-use Rattle.sgt_certifier.proofs.Members.{cons_cases, nil_none}
 use Rattle.sgt_core_machine.specs.declared.machine.Place.{Place}
 use Rattle.sgt_core_machine.specs.declared.machine.Running.{Running}
 use Rattle.sgt_core_model.specs.Core.{CoreState, IsEdgeOf, as_changes, items_at, change_in, only_at, with_entries, read_of, seen, look}
@@ -39,6 +37,7 @@ use Rattle.sgt_core_machine.proofs.Drafting.{change_there, seen_kept, kept_seen,
 use Rattle.sgt_core_machine.proofs.Redrafting.{IsLike, slot_begun, slot_active, redraft_stands}
 use Rattle.sgt_core_machine.proofs.Changing.{read_allowed}
 use Rattle.sgt_core_machine.proofs.Finding.{items_there}
+use Rattle.sgt_names.proofs.Elements.{get-slice_set_same, get-slice_set_other, contains-cases, contains-none}
 
 -- ---- what a transaction finds
 
@@ -153,8 +152,8 @@ module _ (m : Parts) (c : CoreState) (stands : StandsFor m c) (tx slot s : ℕ) 
   only_this t f member = elim (cases_eq t s) [
     | inl is ↦
         let one : more t ≡ e ∷ [] = ap more is ∙ only_here s (e ∷ []) in
-        elim (cons_cases e [] f (subst (λ es. Contains es f) one member)) [ inl same ↦ sym same | inr empty ↦ absurd (nil_none f empty) ]
-    | inr ne ↦ absurd (nil_none f (subst (λ es. Contains es f) (only_there s (e ∷ []) t ne) member))
+        elim (contains-cases e [] f (subst (λ es. Contains es f) one member)) [ inl same ↦ sym same | inr empty ↦ absurd (contains-none f empty) ]
+    | inr ne ↦ absurd (contains-none f (subst (λ es. Contains es f) (only_there s (e ∷ []) t ne) member))
   ]
 
   other_reads : (i t : ℕ) (kept : List (Name × ℕ × ℕ)) → (i ≡ tx → ⊥) → KeepsReads (c.entries t) i kept → KeepsReads (d.entries t) i kept
@@ -268,12 +267,12 @@ module _ (m : Parts) (c : CoreState) (stands : StandsFor m c) (tx slot s : ℕ) 
   like : (t : ℕ) (q : Place) → slice_get places t ≡ Some q → (p : Place) × (slice_get m.places t ≡ Some p) × IsLike p q (d.entries t)
   like t q at = elim (cases_eq t s) [
     | inl is ↦
-        let here : slice_get (slice_set m.places s new_place) s ≡ Some new_place = get_set_same m.places s new_place (slice_get_within m.places s r.place r.was) in
+        let here : slice_get (slice_set m.places s new_place) s ≡ Some new_place = get-slice_set_same m.places s new_place (slice_get_within m.places s r.place r.was) in
         let same : new_place ≡ q = same_Some new_place q (sym here ∙ (ap (λ ps. slice_get ps s) (sym r.is) ∙ (ap (slice_get places) (sym is) ∙ at))) in
         let logs : d.entries t ≡ new_place.site.entries = ap d.entries is ∙ (ap (λ es. c.entries s ++ es) (only_here s (e ∷ [])) ∙ ap (λ es. es ++ e ∷ []) at_place) in
         (r.place, ap (slice_get m.places) is ∙ r.was, subst (λ w. IsLike r.place w (d.entries t)) same (record { number = refl; entries = logs; installed = refl; pledge = refl; part = refl }))
     | inr ne ↦
-        let there : slice_get m.places t ≡ Some q = sym (get_set_other m.places s t new_place ne) ∙ (ap (λ ps. slice_get ps t) (sym r.is) ∙ at) in
+        let there : slice_get m.places t ≡ Some q = sym (get-slice_set_other m.places s t new_place ne) ∙ (ap (λ ps. slice_get ps t) (sym r.is) ∙ at) in
         let logs : d.entries t ≡ c.entries t = ap (λ es. c.entries t ++ es) (only_there s (e ∷ []) t ne) ∙ append-nil (c.entries t) in
         (q, there, record { number = refl; entries = logs ∙ (stands.places t q there).entries; installed = refl; pledge = refl; part = refl })
   ]
@@ -358,7 +357,7 @@ module _ (m : Parts) (c : CoreState) (stands : StandsFor m c) (tx slot s : ℕ) 
         was_unseen : seen_at k.before.draft.touched (s, x) ≡ None
         was_unseen =
             let q : Running = record room.before { draft = record { touched = room.before.draft.touched; has_room = true } } in
-            let at : slice_get table slot ≡ Some (Some q) = ap (λ ts. slice_get ts slot) room.is ∙ get_set_same m.table slot (Some q) (slice_get_within m.table slot _ room.was) in
+            let at : slice_get table slot ≡ Some (Some q) = ap (λ ts. slice_get ts slot) room.is ∙ get-slice_set_same m.table slot (Some q) (slice_get_within m.table slot _ room.was) in
             let same : Some q ≡ Some k.before = same_Some (Some q) (Some k.before) (sym at ∙ k.was) in
             ap (λ (w : Running). seen_at w.draft.touched (s, x)) (sym (same_Some q k.before same)) ∙ unseen_there
 

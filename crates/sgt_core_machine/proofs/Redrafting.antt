@@ -9,7 +9,6 @@ use Rattle.sgt_names.specs.Draft.{at_site, kept_in}
 use Rattle.sgt_names.specs.declared.draft.Touch.{Touch}
 use Rattle.sgt_names.specs.declared.entry.Change.{Change}
 use Rattle.sgt_names.specs.declared.entry.Entry.{Entry}
-use Rattle.sgt_order.proofs.Lists.{get_set_same, get_set_other}
 use Rattle.sgt_site.specs.State.{KeepsReads}
 use Rattle.sgt_certifier.specs.Certifier.{Arc}
 use Rattle.sgt_core_machine.specs.declared.machine.Place.{Place}
@@ -24,6 +23,7 @@ use Rattle.sgt_core_model.specs.Step.{StepIs, IsOwnOpen}
 use Rattle.sgt_core_machine.specs.Machine.{Parts, IsReached, IsRunning, RunsAt, IsDueBy, IsWrittenAt, IsPart, IsPlace, IsPhase, IsStep, StandsFor, IsSlotOf}
 use Rattle.sgt_core_machine.proofs.Standing.{reached_kept}
 use Rattle.sgt_core_machine.proofs.OwnHandles.{own_stays}
+use Rattle.sgt_names.proofs.Elements.{get-slice_set_same, get-slice_set_other}
 
 -- an active transaction was begun and is active
 pub slot_begun : (m : Parts) (c : CoreState) (tx slot : ℕ) → StandsFor m c → IsSlotOf m tx slot → tx ≤ c.certifier.begun
@@ -92,7 +92,7 @@ module _ (m : Parts) (c : CoreState) (s : StandsFor m c) (tx slot : ℕ) (number
       record {
         place = h.place;
         running = h.running;
-        there = get_set_other m.table slot h.place (Some q) apart ∙ h.there;
+        there = get-slice_set_other m.table slot h.place (Some q) apart ∙ h.there;
         decided = h.decided;
         gathered = h.gathered;
         touched = h.touched;
@@ -109,7 +109,7 @@ module _ (m : Parts) (c : CoreState) (s : StandsFor m c) (tx slot : ℕ) (number
           open_step = a.open_step;
           place = a.place;
           running = a.running;
-          there = get_set_other m.table slot a.place (Some q) apart ∙ a.there;
+          there = get-slice_set_other m.table slot a.place (Some q) apart ∙ a.there;
           tx = a.tx;
           gathered = a.gathered;
           touched = a.touched;
@@ -169,10 +169,10 @@ module _ (m : Parts) (c : CoreState) (s : StandsFor m c) (tx slot : ℕ) (number
     redraft_running : (k : ℕ) (o : Option Running) → slice_get (slice_set m.table slot (Some q)) k ≡ Some o → RunsAt d m.before k o
     redraft_running k o at = elim (cases_eq k slot) [
       | inl is ↦
-          let here : slice_get (slice_set m.table slot (Some q)) slot ≡ Some (Some q) = get_set_same m.table slot (Some q) (slice_get_within m.table slot (Some r) there) in
+          let here : slice_get (slice_set m.table slot (Some q)) slot ≡ Some (Some q) = get-slice_set_same m.table slot (Some q) (slice_get_within m.table slot (Some r) there) in
           let same : Some q ≡ o = same_Some (Some q) o (sym here ∙ (ap (slice_get (slice_set m.table slot (Some q))) (sym is) ∙ at)) in
           subst (λ w. RunsAt d m.before k w) same (subst (λ j. IsRunning d m.before j q) (sym is) own)
-      | inr ne ↦ redraft_slot k o ne (s.running k o (sym (get_set_other m.table slot k (Some q) ne) ∙ at))
+      | inr ne ↦ redraft_slot k o ne (s.running k o (sym (get-slice_set_other m.table slot k (Some q) ne) ∙ at))
     ]
 
     pub redraft_stands : StandsFor (redraft_parts m places slot q) (redrafted c entries changes)

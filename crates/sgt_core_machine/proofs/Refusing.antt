@@ -8,7 +8,6 @@ use Rattle.sgt_names.specs.Draft.{Touches, IsUsed}
 use Rattle.sgt_names.specs.declared.draft.Touch.{Touch}
 use Rattle.sgt_names.proofs.Lists.{All_in, Any_at, Any-from_at, within_at}
 use Rattle.sgt_names.proofs.Places.{Contains-from_at}
-use Rattle.sgt_certifier.proofs.Members.{nil_none}
 use Rattle.sgt_core_model.proofs.Walks.{untouched_outside}
 use Rattle.sgt_notation.specs.declared.event.Event.{Event}
 use Rattle.sgt_notation.specs.declared.event.Event.TheVariants.{Gather, Decide, Install as Write}
@@ -28,6 +27,7 @@ use Rattle.sgt_core_model.proofs.Runs.{touching_there}
 use Rattle.sgt_core_model.proofs.Total.{refused-answered}
 use Rattle.sgt_core_machine.proofs.Redrafting.{slot_begun, slot_active}
 use Rattle.sgt_core_machine.proofs.Touching.{touches_draft, draft_touches, step_refused, gather_beyond, gather_again, gather_untouched, gather_allowed, decide_untimely, decide_done, decide_allowed, install_beyond, install_undecided}
+use Rattle.sgt_names.proofs.Elements.{contains-none}
 
 abbrev pub Goes : Parts → CoreState → Event → Reply → Type 0
 Goes m c event reply = (d : CoreState) × MayStep c event reply d × StandsFor m d
@@ -50,7 +50,7 @@ decided_cases c tx = by_step c.certifier.step refl
 
 -- the sites that are gathered of the step, where it isn't another's
 own_gathered : (o : Option OpenStep) (tx t : ℕ) → (StepIs (λ i. i ≡ tx → ⊥) o → ⊥) → Contains (gathered_in o) t → StepIs (λ i. i ≡ tx) o
-own_gathered None tx t out m = absurd (nil_none t m)
+own_gathered None tx t out m = absurd (contains-none t m)
 own_gathered (Some o) tx t out m = elim (cases_eq o.tx tx) [ inl is ↦ is | inr other ↦ absurd (out other) ]
 
 pub idle_part : (part : Part) → ((part ≡ Idle → ⊥) → ⊥) → part ≡ Idle

@@ -34,6 +34,7 @@ use Rattle.sgt_core_machine.proofs.Stepping.{step_own}
 use Rattle.sgt_core_machine.proofs.AllEdges.{all_committed, all_refused, commits_all, committed_carries, refuses_all, refused_carries}
 use Rattle.sgt_core_machine.proofs.Decisions.{IsDecision, decision_due, decision_ends}
 use Rattle.sgt_core_machine.proofs.Noting.{none_of}
+use Rattle.sgt_core_model.proofs.Committing.{no_block}
 
 -- a decided step is the certifier's
 pub ruled_step : (m : Parts) (c : CoreState) (o : Option Open) → IsStep m c o → IsRuled o → (q : Open) × (o ≡ Some q) × (c.certifier.step ≡ Some q.tx)
@@ -53,11 +54,6 @@ not_ruled m c (Some o) h out = by_phase o.phase h.2 out
     by_phase (Gathering edges) h out = h.0
     by_phase Committed h out = absurd (out (inl refl))
     by_phase Refused h out = absurd (out (inr refl))
-
--- a block ends in an entry
-not_empty : (es : List Entry) (e : Entry) → es ++ e ∷ [] ≡ [] → ⊥
-not_empty [] e is = cc
-not_empty (f ∷ es) e is = cc
 
 module _ (m : Parts) (c : CoreState) (s : StandsFor m c) (tx slot : ℕ) (number : tx ≡ suc (m.before + slot)) (allowed : IsAllowed c (Decide tx)) where
   abbrev k : IsKept c
@@ -101,7 +97,7 @@ module _ (m : Parts) (c : CoreState) (s : StandsFor m c) (tx slot : ℕ) (number
         subst (λ (st : State). Contains st.order o.tx) (sym is)
             (subst (Contains d.places) (sym mine) (subst (λ ps. Contains ps tx) (sym d.placed.2) (placed_self d.placed.0 m.certifier.order tx))),
       );
-      some = λ t hit none. not_empty _ _ (sym (ap (λ b. cond b (commit_block tx (c.changes tx t)) []) hit) ∙ none);
+      some = λ t hit none. no_block _ _ (sym (ap (λ b. cond b (commit_block tx (c.changes tx t)) []) hit) ∙ none);
       none = λ t miss. ap (λ b. cond b (commit_block tx (c.changes tx t)) []) miss;
       due_by = λ n e touched t due changes hit awaits. (
         ap (λ (f : ℕ → List Entry). f t) due ∙ (ap (λ b. cond b (commit_block tx (c.changes tx t)) []) hit ∙ ap (λ ch. commit_block tx (ch tx t)) (sym changes)),
@@ -134,7 +130,7 @@ module _ (m : Parts) (c : CoreState) (s : StandsFor m c) (tx slot : ℕ) (number
             let f : Some tx ≡ None = sym open_tx ∙ undecided in
             cc,
       );
-      some = λ t hit none. not_empty _ _ (sym (ap (λ b. cond b (refuse_block tx (c.changes tx t)) []) hit) ∙ none);
+      some = λ t hit none. no_block _ _ (sym (ap (λ b. cond b (refuse_block tx (c.changes tx t)) []) hit) ∙ none);
       none = λ t miss. ap (λ b. cond b (refuse_block tx (c.changes tx t)) []) miss;
       due_by = λ n e touched t due changes hit awaits.
           ap (λ (f : ℕ → List Entry). f t) due ∙ (ap (λ b. cond b (refuse_block tx (c.changes tx t)) []) hit ∙ ap (λ ch. refuse_block tx (ch tx t)) (sym changes));

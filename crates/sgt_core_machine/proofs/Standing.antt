@@ -1,7 +1,6 @@
 -- A state that the machine stands for: runs that go on, and what the state says of the machine's parts.
 use Rattle.std.proofs.Common.{◌≡◌, ◌<◌, ◌≤◌, ◌+◌, ℕ, suc, List, [], ◌∷◌, ◌++◌, refl, sym, ◌∙◌, arith, Contains, Option, Some, None, subst}
 use Rattle.std.specs.Prelude.{slice_get, is_some, false}
-use Rattle.sgt_certifier.proofs.Members.{nil_none}
 use Rattle.sgt_notation.specs.declared.event.Event.{Event}
 use Rattle.sgt_core_model.specs.declared.reply.Reply.{Reply}
 use Rattle.sgt_core_model.specs.declared.reply.CoreFault.{CoreFault}
@@ -15,6 +14,7 @@ use Rattle.sgt_core_model.specs.Step.{gathered_in, tx_in, Fails, fault_place, Is
 use Rattle.sgt_core_machine.specs.Machine.{Parts, IsReached, IsPart, IsStep, StandsFor, Stands, GoesOn}
 use Rattle.sgt_core_model.proofs.Kept.{IsKept}
 use Rattle.sgt_core_model.proofs.Runs.{runs-kept, idle}
+use Rattle.sgt_names.proofs.Elements.{contains-none}
 
 -- ---- runs
 
@@ -58,7 +58,7 @@ pub certifier_closed : (m : Parts) (c : CoreState) → StandsFor m c → m.step 
 certifier_closed m c s none = idle c (reached_kept c s.reached) (core_closed m c s none)
 
 none_gathered : (c : CoreState) (s : ℕ) → c.step ≡ None → Contains (gathered_in c.step) s → ⊥
-none_gathered c s none m = nil_none s (subst (λ o. Contains (gathered_in o) s) none m)
+none_gathered c s none m = contains-none s (subst (λ o. Contains (gathered_in o) s) none m)
 
 -- while none is open a site has no part of one
 pub part_closed : (m n : Parts) (c d : CoreState) (s : ℕ) (p : Place) (part : Part) → IsPart m c s p part → m.step ≡ None → c.step ≡ None → d.step ≡ None

@@ -8,11 +8,10 @@ use Rattle.sgt_names.specs.declared.draft.Touch.{Touch}
 use Rattle.sgt_names.specs.declared.entry.Entry.{Entry}
 use Rattle.sgt_names.specs.Entry.{tx_of}
 use Rattle.sgt_names.proofs.Lists.{within_at}
-use Rattle.sgt_order.proofs.Lists.{get_set_same, get_set_other}
 use Rattle.sgt_site.specs.State.{Pledge, SiteState, IsPledged}
 use Rattle.sgt_edges.specs.declared.edge.Edge.{Edge}
 use Rattle.sgt_certifier.specs.Certifier.{State}
-use Rattle.sgt_certifier.proofs.Members.{cons_cases, cons_here, cons_later, nil_none}
+use Rattle.sgt_certifier.proofs.Members.{cons_here}
 use Rattle.sgt_notation.specs.declared.event.Event.{Event}
 use Rattle.sgt_notation.specs.declared.event.Event.TheVariants.{Gather}
 use Rattle.sgt_core_model.specs.declared.reply.Reply.{Reply}
@@ -34,6 +33,7 @@ use Rattle.sgt_core_model.proofs.Runs.{gather_idle}
 use Rattle.sgt_core_machine.proofs.Standing.{reached_more, reached_kept}
 use Rattle.sgt_core_machine.proofs.Leading.{gathered_more, none_gathered}
 use Rattle.sgt_core_machine.proofs.OwnHandles.{own_stays, not_yet}
+use Rattle.sgt_names.proofs.Elements.{get-slice_set_same, get-slice_set_other, contains-cases, contains-later, contains-none}
 
 -- what is left of a site, whether or not the pledge stood
 pub record IsLeft (tx : ℕ) (old new : Place) : Type 0 where
@@ -134,7 +134,7 @@ module _ (m : Parts) (c : CoreState) (s : StandsFor m c) (tx : ℕ) (no_other : 
         entries = old.entries ∙ sym (ap (λ (st : SiteState). st.entries) r.site);
         handles = λ i member. old.handles i (subst (λ is. Contains is i) (ap (λ (st : SiteState). st.installed) r.site) member);
         apart = own_stays p.site q.site (ap (λ (st : SiteState). st.installed) r.site) old.apart;
-        part = subst (IsPart closed_parts closed_state t q) (sym r.part) (no_pledge t p q r p.part old.part, nothing_due c (reached_kept c s.reached) undecided t, λ g. nil_none t g);
+        part = subst (IsPart closed_parts closed_state t q) (sym r.part) (no_pledge t p q r p.part old.part, nothing_due c (reached_kept c s.reached) undecided t, λ g. contains-none t g);
       }
 
   same_items : map (λ (p : Place). p.site.items) places ≡ map (λ (p : Place). p.site.items) m.places
@@ -270,7 +270,7 @@ module _ (m : Parts) (c : CoreState) (s : StandsFor m c) (tx slot : ℕ) (number
   due_none u = nothing_due c k undecided u
 
   other_part : (u : ℕ) (q : Place) → (t ≡ u → ⊥) → (part : Part) → IsPart m c u q part → IsPart n d u q part
-  other_part u q ne Idle h = (h.0, h.1, λ member. elim (cons_cases t (gathered_in c.step) u member) [ inl is ↦ ne is | inr later ↦ h.2 later ])
+  other_part u q ne Idle h = (h.0, h.1, λ member. elim (contains-cases t (gathered_in c.step) u member) [ inl is ↦ ne is | inr later ↦ h.2 later ])
   other_part u q ne Written h = absurd (let f : Some (suc (m.before + h.place)) ≡ None = sym h.decided ∙ undecided in cc)
   other_part u q ne Due h =
       let a = h.1 in
@@ -283,7 +283,7 @@ module _ (m : Parts) (c : CoreState) (s : StandsFor m c) (tx slot : ℕ) (number
           running = a.running;
           there = a.there;
           tx = all.own ∙ (sym same ∙ a.tx);
-          gathered = cons_later t (gathered_in c.step) u a.gathered;
+          gathered = contains-later t (gathered_in c.step) u a.gathered;
           touched = a.touched;
           pledge = a.pledge ∙ ap (λ i. Some (record { tx = i; part = at_site u a.running.draft.touched })) (same ∙ sym all.own);
           due = subst (λ w. IsDueBy n d o.tx a.running.draft.touched w u) (sym all.phase) (due_none u);
@@ -320,11 +320,11 @@ module _ (m : Parts) (c : CoreState) (s : StandsFor m c) (tx slot : ℕ) (number
   new_place : (u : ℕ) (q : Place) → slice_get new.places u ≡ Some q → IsPlace n d u q
   new_place u q at = elim (cases_eq u t) [
     | inl is ↦
-        let here : slice_get (slice_set m.places t pledged) t ≡ Some pledged = get_set_same m.places t pledged (slice_get_within m.places t p g.pledge.there) in
+        let here : slice_get (slice_set m.places t pledged) t ≡ Some pledged = get-slice_set_same m.places t pledged (slice_get_within m.places t p g.pledge.there) in
         let same : pledged ≡ q = same_Some pledged q (sym here ∙ (ap (λ ps. slice_get ps t) (sym g.pledge.is) ∙ (ap (slice_get new.places) (sym is) ∙ at))) in
         subst (λ w. IsPlace n d u w) same (subst (λ v. IsPlace n d v pledged) (sym is) here_place)
     | inr ne ↦
-        let there : slice_get m.places u ≡ Some q = sym (get_set_other m.places t u pledged ne) ∙ (ap (λ ps. slice_get ps u) (sym g.pledge.is) ∙ at) in
+        let there : slice_get m.places u ≡ Some q = sym (get-slice_set_other m.places t u pledged ne) ∙ (ap (λ ps. slice_get ps u) (sym g.pledge.is) ∙ at) in
         let h = s.places u q there in
         record { number = h.number; entries = h.entries; handles = h.handles; apart = h.apart; part = other_part u q (λ e. ne (sym e)) q.part h.part }
   ]

@@ -16,7 +16,7 @@ use Rattle.sgt_names.proofs.Lists.{IsSome-value, Any_at, Any-from_at, All_in}
 use Rattle.sgt_names.proofs.Places.{Contains_at, Contains-from_at}
 use Rattle.sgt_site.specs.State.{version_at}
 use Rattle.sgt_site.proofs.Appends.{chosen_at, chosen_from, count_before}
-use Rattle.sgt_certifier.proofs.Members.{cons_cases, nil_none, filter_member, member_filter}
+use Rattle.sgt_certifier.proofs.Members.{filter_member, member_filter}
 use Rattle.sgt_notation.specs.declared.event.Event.{Event}
 use Rattle.sgt_notation.specs.declared.event.Event.TheVariants.{Gather, Decide, Install as Write, Commit, Withdraw}
 use Rattle.sgt_core_model.specs.declared.reply.CoreFault.{CoreFault}
@@ -29,6 +29,7 @@ use Rattle.sgt_core_model.proofs.Kept.{IsKept, IsRead}
 use Rattle.sgt_core_model.proofs.LegalSteps.{touches_own}
 use Rattle.sgt_core_model.proofs.Runs.{is_site}
 use Rattle.sgt_core_machine.proofs.Changing.{later}
+use Rattle.sgt_names.proofs.Elements.{or_cases, or_right, contains-cases, contains-none}
 
 -- ---- what is touched
 
@@ -49,20 +50,12 @@ any_member p (x ∷ xs) h = elim (cases_Bool (p x)) [
   | inr miss ↦ let r = any_member p xs (subst (λ b. (b || list_any p xs) ≡ true) miss h) in (r.0, Rattle.sgt_certifier.proofs.Members.cons_later x xs r.0 r.1, r.2)
 ]
 
-or_cases : (a b : Bool) → (a || b) ≡ true → (a ≡ true) ⊎ (b ≡ true)
-or_cases true b h = inl refl
-or_cases false b h = inr h
-
-or_right : (a : Bool) → (a || true) ≡ true
-or_right true = refl
-or_right false = refl
-
 some_member : (cs : List (Name × Change)) → is_some_change cs ≡ true → (d : Name × Change) × Contains cs d
 some_member [] h = absurd (true≢false (sym h))
 some_member (d ∷ ds) h = (d, Rattle.sgt_certifier.proofs.Members.cons_here d ds)
 
 member_some : (cs : List (Name × Change)) (d : Name × Change) → Contains cs d → is_some_change cs ≡ true
-member_some [] d m = absurd (nil_none d m)
+member_some [] d m = absurd (contains-none d m)
 member_some (e ∷ es) d m = refl
 
 module _ (c : CoreState) (k : IsKept c) (before place s : ℕ) (r : Running) (h : IsRunning c before place r) where
@@ -74,7 +67,7 @@ module _ (c : CoreState) (k : IsKept c) (before place s : ℕ) (r : Running) (h 
 
   logged_read : (c.certifier.step ≡ Some tx → ⊥) → (e : Entry) → Contains (c.entries s) e → tx_of e ≡ tx → IsRead e
   logged_read undecided e m own =
-      elim ((k.sound.legal.sites s (inside (length c.items) s (λ out. nil_none e (subst (λ es. Contains es e) (k.sound.walked.outside s out) m)))).log.stands e (Contains-append_left (c.entries s) (c.due s) e m)) [
+      elim ((k.sound.legal.sites s (inside (length c.items) s (λ out. contains-none e (subst (λ es. Contains es e) (k.sound.walked.outside s out) m)))).log.stands e (Contains-append_left (c.entries s) (c.due s) e m)) [
         | inl free ↦ free.0
         | inr ruled ↦
             let by = ruled.0.1 in

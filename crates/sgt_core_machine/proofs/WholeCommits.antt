@@ -6,7 +6,7 @@ use Rattle.std.proofs.lemmas.List.Elements.{Contains-append_cases, Contains-appe
 use Rattle.sgt_names.proofs.Places.{Contains-from_at}
 use Rattle.sgt_names.specs.declared.entry.Entry.{Entry}
 use Rattle.sgt_certifier.specs.Certifier.{State}
-use Rattle.sgt_certifier.proofs.Members.{cons_cases, cons_here, cons_later, nil_none, filter_member}
+use Rattle.sgt_certifier.proofs.Members.{cons_here, filter_member}
 use Rattle.sgt_notation.specs.declared.event.Event.{Event}
 use Rattle.sgt_notation.specs.declared.event.Event.TheVariants.{Gather, Decide, Install as Write, Commit}
 use Rattle.sgt_core_model.specs.declared.reply.Reply.{Reply}
@@ -21,21 +21,18 @@ use Rattle.sgt_core_model.proofs.Cycles.{AreDistinct}
 use Rattle.sgt_core_model.proofs.LegalSteps.{cleared_there}
 use Rattle.sgt_core_model.proofs.Runs.{is_active, at_most, none_open, idle, noted-step}
 use Rattle.sgt_core_model.proofs.Committing.{append-all, in_range, range-distinct, filter-distinct, IsGoing, gather_allowed, decide_allowed, write_allowed, stays_open, noted_active, noted_begun, still_touched, some_block}
+use Rattle.sgt_names.proofs.Elements.{map-push, contains-cases, contains-later, contains-none}
 
 -- ---- lists
 
 -- what stands at a place of a list of different numbers doesn't stand before it
 pub fresh_at : (xs : List ℕ) (i s : ℕ) → AreDistinct xs → slice_get xs i ≡ Some s → Contains (take i xs) s → ⊥
 fresh_at [] i s d at m = absurd cc
-fresh_at (x ∷ xs) zero s d at m = nil_none s m
-fresh_at (x ∷ xs) (suc i) s d at m = elim (cons_cases x (take i xs) s m) [
+fresh_at (x ∷ xs) zero s d at m = contains-none s m
+fresh_at (x ∷ xs) (suc i) s d at m = elim (contains-cases x (take i xs) s m) [
   | inl is ↦ d.0 (subst (Contains xs) (sym is) (Contains-from_at xs i s at))
   | inr later ↦ fresh_at xs i s d.1 at later
 ]
-
-map_push : {A B : Type 0} (f : A → B) (xs : List A) (x : A) → map f (xs ++ x ∷ []) ≡ map f xs ++ f x ∷ []
-map_push f [] x = refl
-map_push f (y ∷ ys) x = ap (λ zs. f y ∷ zs) (map_push f ys x)
 
 -- ---- refusals
 
@@ -84,7 +81,7 @@ module _ (c : CoreState) (tx : ℕ) (k : IsKept c) (allowed : IsAllowed c (Commi
     serves = refl;
     same = refl;
     alone = subst (λ o. StepIs (λ t. t ≡ tx → ⊥) o → ⊥) (sym closed) (λ n. n);
-    gathered = λ s. (λ m. absurd (nil_none s m), λ m. absurd (nil_none s (subst (λ o. Contains (gathered_in o) s) closed m)));
+    gathered = λ s. (λ m. absurd (contains-none s m), λ m. absurd (contains-none s (subst (λ o. Contains (gathered_in o) s) closed m)));
   }
 
   module _ (o : Option OpenStep) (done : List ℕ) (h : GathersAll c tx done (record c { step = o })) where
@@ -93,20 +90,20 @@ module _ (c : CoreState) (tx : ℕ) (k : IsKept c) (allowed : IsAllowed c (Commi
     one_more s may =
         let e : CoreState = record c { step = Some (record { tx = tx; gathered = s ∷ gathered_in o }) } in
         record {
-          serves = subst (λ (es : List Event). ServesAll c es (map (λ t. Gathered) (done ++ s ∷ [])) e) (sym (map_push (Gather tx) done s))
-              (subst (λ (rs : List Reply). ServesAll c (map (Gather tx) done ++ Gather tx s ∷ []) rs e) (sym (map_push (λ (t : ℕ). Gathered) done s))
+          serves = subst (λ (es : List Event). ServesAll c es (map (λ t. Gathered) (done ++ s ∷ [])) e) (sym (map-push (Gather tx) done s))
+              (subst (λ (rs : List Reply). ServesAll c (map (Gather tx) done ++ Gather tx s ∷ []) rs e) (sym (map-push (λ (t : ℕ). Gathered) done s))
               (append-all c (map (Gather tx) done) (Gather tx s ∷ []) (map (λ t. Gathered) done) (Gathered ∷ []) (record c { step = o }) e h.serves (e, (may, refl), refl)));
           same = refl;
           alone = λ n. n refl;
           gathered = λ t. (
             λ m. elim (Contains-append_cases done (s ∷ []) t m) [
-              | inl before ↦ cons_later s (gathered_in o) t ((h.gathered t).0 before)
-              | inr last ↦ elim (cons_cases s [] t last) [
+              | inl before ↦ contains-later s (gathered_in o) t ((h.gathered t).0 before)
+              | inr last ↦ elim (contains-cases s [] t last) [
                 | inl is ↦ subst (Contains (s ∷ gathered_in o)) is (cons_here s (gathered_in o))
-                | inr none ↦ absurd (nil_none t none)
+                | inr none ↦ absurd (contains-none t none)
               ]
             ],
-            λ m. elim (cons_cases s (gathered_in o) t m) [
+            λ m. elim (contains-cases s (gathered_in o) t m) [
               | inl is ↦ Contains-append_right done (s ∷ []) t (subst (Contains (s ∷ [])) is (cons_here s []))
               | inr before ↦ Contains-append_left done (s ∷ []) t ((h.gathered t).1 before)
             ],
@@ -139,13 +136,13 @@ module _ (c : CoreState) (tx : ℕ) (k : IsKept c) (allowed : IsAllowed c (Commi
   decide_may o h = decide_allowed (record c { step = o }) tx (going o h.alone) (idle c k closed) (λ s m. let n = (h.gathered s).0 m in (own o s h.alone n, n))
     where
       own : (o : Option OpenStep) (s : ℕ) → (StepIs (λ i. i ≡ tx → ⊥) o → ⊥) → Contains (gathered_in o) s → StepIs (λ i. i ≡ tx) o
-      own None s out m = absurd (nil_none s m)
+      own None s out m = absurd (contains-none s m)
       own (Some p) s out m = elim (cases_eq p.tx tx) [ inl is ↦ is | inr other ↦ absurd (out other) ]
 
 -- the blocks are due at each of the sites
 pub all_due : (c : CoreState) (tx : ℕ) (sites : List ℕ) → AreDistinct sites → ((s : ℕ) → Contains sites s → IsBlockDue c tx s) → AwaitsBlocks c tx sites
 all_due c tx [] d each = tt
-all_due c tx (s ∷ ss) d each = (each s (cons_here s ss), (d.0, all_due c tx ss d.1 (λ t m. each t (cons_later s ss t m))))
+all_due c tx (s ∷ ss) d each = (each s (cons_here s ss), (d.0, all_due c tx ss d.1 (λ t m. each t (contains-later s ss t m))))
 
 -- and still are after the decision, since the step stays open for them
 pub due_decided : (c : CoreState) (tx : ℕ) (mid : State) (block : ℕ → List Entry) (sites : List ℕ)
@@ -222,7 +219,7 @@ still_due c tx s h (t ∷ ts) out all =
         touched = still_touched c tx t (only_at s (c.due s) t) a.touched;
         due = λ e. a.due (sym (cleared_there s c.due t (λ is. out (subst (Contains (t ∷ ts)) is (cons_here t ts)))) ∙ e);
       },
-      (all.1.0, still_due c tx s h ts (λ m. out (cons_later t ts s m)) all.1.1),
+      (all.1.0, still_due c tx s h ts (λ m. out (contains-later t ts s m)) all.1.1),
     )
 
 awaits_rest : (c : CoreState) (tx s : ℕ) → IsBlockDue c tx s → (ts : List ℕ) → (Contains ts s → ⊥) → AwaitsBlocks c tx ts → AwaitsBlocks (installed c tx s) tx ts
@@ -245,8 +242,8 @@ install_gives c d tx done s rest h all reply e step =
     let a = all.0 in
     let may = write_allowed d tx s (record { active = a.active; begun = a.begun; alone = a.alone }) a.decided (record { inside = a.inside; touched = a.touched; due = a.due }) in
     let is : e ≡ installed d tx s = write_by d tx s may reply e step in (
-      subst (λ (es : List Event). ServesAll c es (map (λ t. Installed) (done ++ s ∷ [])) e) (sym (map_push (Write tx) done s))
-          (subst (λ (rs : List Reply). ServesAll c (map (Write tx) done ++ Write tx s ∷ []) rs e) (sym (map_push (λ (t : ℕ). Installed) done s))
+      subst (λ (es : List Event). ServesAll c es (map (λ t. Installed) (done ++ s ∷ [])) e) (sym (map-push (Write tx) done s))
+          (subst (λ (rs : List Reply). ServesAll c (map (Write tx) done ++ Write tx s ∷ []) rs e) (sym (map-push (λ (t : ℕ). Installed) done s))
           (append-all c (map (Write tx) done) (Write tx s ∷ []) (map (λ t. Installed) done) (Installed ∷ []) d e h (e, (may, is), refl))),
       subst (λ (x : CoreState). AwaitsBlocks x tx rest) (sym is) (awaits_rest d tx s a rest all.1.0 all.1.1),
     )

@@ -19,7 +19,7 @@ use Rattle.sgt_certifier.specs.Kept.{IsTold}
 use Rattle.sgt_certifier.specs.declared.call.Call.TheVariants as call
 use Rattle.sgt_certifier.specs.declared.call.CertifierFault.{CertifierFault}
 use Rattle.sgt_certifier.specs.declared.call.CertifierFault.TheVariants as told
-use Rattle.sgt_certifier.proofs.Members.{nil_none, place_cases, cons_here, cons_cases}
+use Rattle.sgt_certifier.proofs.Members.{place_cases, cons_here}
 use Rattle.sgt_notation.specs.declared.event.Event.TheVariants.{Begin, Close}
 use Rattle.sgt_core_model.specs.declared.reply.Reply.TheVariants.{Begun, Closed, Fault}
 use Rattle.sgt_core_model.specs.declared.reply.CoreFault.{CoreFault}
@@ -33,6 +33,7 @@ use Rattle.sgt_core_machine.specs.Machine.{Parts, Carries, IsRunning, RunsAt, Is
 use Rattle.sgt_core_model.proofs.Kept.{IsKept}
 use Rattle.sgt_core_machine.proofs.Standing.{reached_more, reached_kept, core_closed, certifier_closed, part_closed}
 use Rattle.sgt_core_machine.proofs.Noting.{same_noted}
+use Rattle.sgt_names.proofs.Elements.{contains-none, contains-cases}
 
 -- ---- a transaction begins
 
@@ -42,7 +43,7 @@ carries_begun s t h = record { noted = same_noted s t (with_begun s) (with_begun
 -- none was read by one that isn't begun
 unread_by : (c : CoreState) → IsKept c → (s tx : ℕ) → c.certifier.begun < tx → KeepsReads (c.entries s) tx []
 unread_by c k s tx lt x v n = (
-  λ m. absurd (nil_none _ m),
+  λ m. absurd (contains-none _ m),
   λ h. absurd (let le = k.sound.ordered.begun s (entry.Read tx x v) (Contains-from_at (c.entries s) h.place _ h.at) in omega arith),
 )
 
@@ -75,7 +76,7 @@ module _ (m : Parts) (c : CoreState) (s : StandsFor m c) (none : m.step ≡ None
       let begun = s.begun in
       elim (Contains-append_cases c.certifier.active (suc c.certifier.begun ∷ []) _ there) [
         | inl was ↦ out was
-        | inr n ↦ elim (cons_cases (suc c.certifier.begun) [] _ n) [ inl is ↦ omega (arith, is, lt) | inr none_left ↦ nil_none _ none_left ]
+        | inr n ↦ elim (contains-cases (suc c.certifier.begun) [] _ n) [ inl is ↦ omega (arith, is, lt) | inr none_left ↦ contains-none _ none_left ]
       ]
   slot_stays k (Some q) lt h = record { active = Contains-append_left c.certifier.active _ _ h.active; handle = h.handle; rising = h.rising; used = h.used; changes = h.changes; reads = h.reads }
 
@@ -143,7 +144,7 @@ module _ (m : Parts) (c : CoreState) (s : StandsFor m c) (none : m.step ≡ None
 -- ---- the window is closed
 
 pub carries_closed : (s t : State) → Carries s t → Carries (with_closed s) (with_closed t)
-carries_closed s t h = record { noted = same_noted s t (with_closed s) (with_closed t) h.noted refl refl refl (λ j m. subst (λ xs. Contains xs j) (sym (append-nil (serial t))) m); same = ap with_closed h.same; fewer = λ arc m. m; lead = λ a b j. absurd (nil_none _ j.1) }
+carries_closed s t h = record { noted = same_noted s t (with_closed s) (with_closed t) h.noted refl refl refl (λ j m. subst (λ xs. Contains xs j) (sym (append-nil (serial t))) m); same = ap with_closed h.same; fewer = λ arc m. m; lead = λ a b j. absurd (contains-none _ j.1) }
 
 close_allowed : (m : Parts) (c : CoreState) → StandsFor m c → m.step ≡ None → IsRequestAllowed m.certifier close → IsAllowed c Close
 close_allowed m c s none may fault.Unknown f = absurd (let e = f.1 in cc)

@@ -10,12 +10,11 @@ use Rattle.sgt_names.specs.declared.entry.Entry.{Entry}
 use Rattle.sgt_names.specs.declared.entry.Entry.TheVariants as entry
 use Rattle.sgt_names.proofs.Lists.{within_at}
 use Rattle.sgt_names.proofs.Places.{Contains-from_at}
-use Rattle.sgt_order.proofs.Lists.{get_set_same, get_set_other}
 use Rattle.sgt_arena.specs.declared.handle.Handle.{Handle}
 use Rattle.sgt_site.specs.State.{SiteState, Pledge, IsPledged, KeepsReads, withdraw_block}
 use Rattle.sgt_site.proofs.Appends.{LogsRead-append, LogsRead-cases}
 use Rattle.sgt_certifier.specs.Certifier.{State, without, with_withdrawn}
-use Rattle.sgt_certifier.proofs.Members.{cons_cases, nil_none, filter_member, member_filter}
+use Rattle.sgt_certifier.proofs.Members.{filter_member, member_filter}
 use Rattle.sgt_notation.specs.declared.event.Event.TheVariants.{Withdraw}
 use Rattle.sgt_core_model.specs.declared.reply.Reply.TheVariants.{Withdrawn, Fault}
 use Rattle.sgt_core_model.specs.declared.reply.CoreFault.TheVariants as fault
@@ -35,6 +34,8 @@ use Rattle.sgt_core_machine.proofs.Stepping.{left_of}
 use Rattle.sgt_core_machine.proofs.Touching.{touches_draft, draft_touches, withdraw_allowed}
 use Rattle.sgt_core_machine.proofs.Opening.{same_lists}
 use Rattle.sgt_core_machine.proofs.Noting.{same_noted}
+use Rattle.sgt_certifier.proofs.Ruling.{without_out}
+use Rattle.sgt_names.proofs.Elements.{get-slice_set_same, get-slice_set_other, contains-cases, contains-none}
 
 -- ---- lists and logs
 
@@ -50,15 +51,15 @@ module _ (R : Place → Place → Type 0) (old now : List Place) (at : ℕ) (p q
   pub done_more : (k : ℕ) (v w : Place) → k < at + 1 → slice_get old k ≡ Some v → slice_get (slice_set now at q) k ≡ Some w → R v w
   done_more k v w lt at_v at_w = elim (cases_eq k at) [
     | inl is ↦
-        let here : slice_get (slice_set now at q) at ≡ Some q = get_set_same now at q (slice_get_within now at p there) in
+        let here : slice_get (slice_set now at q) at ≡ Some q = get-slice_set_same now at q (slice_get_within now at p there) in
         let same_w : q ≡ w = same_Some q w (sym here ∙ (ap (slice_get (slice_set now at q)) (sym is) ∙ at_w)) in
         let same_v : p ≡ v = same_Some p v (sym there ∙ (rest at (omega arith) ∙ (ap (slice_get old) (sym is) ∙ at_v))) in
         subst (λ (x : Place). R x w) same_v (subst (R p) same_w one)
-    | inr ne ↦ done k v w (omega (arith, lt, ne)) at_v (sym (get_set_other now at k q ne) ∙ at_w)
+    | inr ne ↦ done k v w (omega (arith, lt, ne)) at_v (sym (get-slice_set_other now at k q ne) ∙ at_w)
   ]
 
   pub rest_more : (k : ℕ) → at + 1 ≤ k → slice_get (slice_set now at q) k ≡ slice_get old k
-  rest_more k le = let ne : k ≡ at → ⊥ = λ e. omega (arith, e, le) in get_set_other now at k q ne ∙ rest k (omega (arith, le))
+  rest_more k le = let ne : k ≡ at → ⊥ = λ e. omega (arith, e, le) in get-slice_set_other now at k q ne ∙ rest k (omega (arith, le))
 
 -- a withdrawal is no read
 reads_stay : (es more : List Entry) (tx i : ℕ) (kept : List (Name × ℕ × ℕ)) → ((f : Entry) → Contains more f → f ≡ entry.Withdraw tx) → KeepsReads es i kept → KeepsReads (es ++ more) i kept
@@ -72,14 +73,9 @@ only_withdrawal : (c : CoreState) (tx t : ℕ) (f : Entry) → Contains (withdra
 only_withdrawal c tx t f member = elim (cases_Bool (touches c tx t)) [
   | inl hit ↦
       let m : Contains (entry.Withdraw tx ∷ []) f = rw hit at member in
-      elim (cons_cases (entry.Withdraw tx) [] f m) [ inl is ↦ sym is | inr none ↦ absurd (nil_none f none) ]
-  | inr miss ↦ let m : Contains [] f = rw miss at member in absurd (nil_none f m)
+      elim (contains-cases (entry.Withdraw tx) [] f m) [ inl is ↦ sym is | inr none ↦ absurd (contains-none f none) ]
+  | inr miss ↦ let m : Contains [] f = rw miss at member in absurd (contains-none f m)
 ]
-
-not_without : (tx : ℕ) (xs : List ℕ) → Contains (without tx xs) tx → ⊥
-not_without tx xs m =
-    let out : not (tx == tx) ≡ true = (filter_member (λ t. not (t == tx)) xs tx m).1 in
-    true≢false (sym out ∙ ap not (eq-eqb tx tx refl))
 
 still_active : (tx t : ℕ) (xs : List ℕ) → (t ≡ tx → ⊥) → Contains xs t → Contains (without tx xs) t
 still_active tx t xs ne m = member_filter (λ i. not (i == tx)) xs t m (ap not (ne_eqb t tx ne))
@@ -99,7 +95,7 @@ module _ (m : Parts) (c : CoreState) (s : StandsFor m c) (none : m.step ≡ None
   undecided = certifier_closed m c s none
 
   not_gathered : (t : ℕ) → Contains (gathered_in c.step) t → ⊥
-  not_gathered t n = nil_none t (subst (λ o. Contains (gathered_in o) t) closed n)
+  not_gathered t n = contains-none t (subst (λ o. Contains (gathered_in o) t) closed n)
 
   -- no site has a part of a step
   idle_there : (t : ℕ) (p : Place) (part : Part) → IsPart m c t p part → (part ≡ Idle) × (p.site.pledge ≡ None) × (c.due t ≡ [])
@@ -231,11 +227,11 @@ module _ (m : Parts) (c : CoreState) (s : StandsFor m c) (none : m.step ≡ None
       withdrawn_slot : (k : ℕ) (o : Option Running) → slice_get (slice_set m.table slot None) k ≡ Some o → RunsAt d m.before k o
       withdrawn_slot k o at = elim (cases_eq k slot) [
         | inl is ↦
-            let here : slice_get (slice_set m.table slot None) slot ≡ Some None = get_set_same m.table slot None (slice_get_within m.table slot (Some r) w.offers.there) in
+            let here : slice_get (slice_set m.table slot None) slot ≡ Some None = get-slice_set_same m.table slot None (slice_get_within m.table slot (Some r) w.offers.there) in
             let same : None ≡ o = same_Some None o (sym here ∙ (ap (slice_get (slice_set m.table slot None)) (sym is) ∙ at)) in
-            subst (λ (v : Option Running). RunsAt d m.before k v) same (λ active. not_without tx c.certifier.active
+            subst (λ (v : Option Running). RunsAt d m.before k v) same (λ active. without_out tx c.certifier.active
             (subst (Contains (without tx c.certifier.active)) (sym (h.0 ∙ ap (λ j. suc (m.before + j)) (sym is))) active))
-        | inr ne ↦ other_slot k o ne (s.running k o (sym (get_set_other m.table slot k None ne) ∙ at))
+        | inr ne ↦ other_slot k o ne (s.running k o (sym (get-slice_set_other m.table slot k None ne) ∙ at))
       ]
 
       withdrawn_certifier : Carries new.certifier (with_withdrawn c.certifier tx)

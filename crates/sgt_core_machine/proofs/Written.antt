@@ -13,7 +13,6 @@ use Rattle.sgt_site.specs.State.{AreItems}
 use Rattle.sgt_site.specs.declared.fault.SiteFault.{SiteFault}
 use Rattle.sgt_site.specs.declared.fault.SiteFault.TheVariants as site_fault
 use Rattle.sgt_cert.specs.Parts.{ComesBefore, IsShapedLog, FitTogether}
-use Rattle.sgt_certifier.proofs.Ruling.{place_map}
 use Rattle.sgt_core_model.specs.Runs.{AreSites}
 use Rattle.sgt_names.specs.declared.entry.Holding.{Holding}
 use Rattle.sgt_notation.specs.Spelling.{line_text, text_of_lines}
@@ -26,6 +25,7 @@ use Rattle.sgt_core_model.specs.Core.{CoreState, bundle_of}
 use Rattle.sgt_core_machine.specs.Machine.{Parts, StandsFor, RefusesSites}
 use Rattle.sgt_core_machine.specs.Cut.{finals_at, finals_in, last_values, logs_at}
 use Rattle.sgt_core_machine.proofs.Bundles.{bundle_fits_there, bundle_is, logs_are}
+use Rattle.sgt_names.proofs.Elements.{get-mapped}
 
 joined : (a b rest : List ℕ) → (a ++ (b ++ [])) ++ rest ≡ a ++ (b ++ rest)
 joined a b rest = grind (arith, common_steps)
@@ -58,7 +58,7 @@ finals_in_order log h =
     record {
       room = let r = h.room in omega (arith, long, r);
       rising = AllPairs-from_at (λ (a b : Holding). slice_cmp nat_cmp a.item b.item ≡ Less) log.finals (λ p q a b lt at_a at_b.
-          AllPairs_at ComesBefore (names log.finals) p q a.item b.item rising lt (place_map (λ (d : Holding). d.item) log.finals p a at_a) (place_map (λ (d : Holding). d.item) log.finals q b at_b));
+          AllPairs_at ComesBefore (names log.finals) p q a.item b.item rising lt (get-mapped (λ (d : Holding). d.item) log.finals p a at_a) (get-mapped (λ (d : Holding). d.item) log.finals q b at_b));
     }
 
 pub sites_of_finals : (b : BundleParts) → FitTogether b → AreSites (finals_in b)

@@ -10,7 +10,7 @@ use Rattle.sgt_names.specs.declared.entry.Entry.TheVariants as entry
 use Rattle.sgt_names.specs.declared.entry.Holding.{Holding}
 use Rattle.sgt_order.specs.Graph.{IsPlaced}
 use Rattle.sgt_certifier.specs.Certifier.{State, Arc, Ruling, Joins, committed, refused, withdrawn, with_finished, with_install}
-use Rattle.sgt_certifier.proofs.Members.{cons_here, cons_later}
+use Rattle.sgt_certifier.proofs.Members.{cons_here}
 use Rattle.sgt_notation.specs.declared.event.Event.{Event}
 use Rattle.sgt_notation.specs.declared.event.Event.TheVariants.{Begin, Read, Put, Add, Gather, Decide, Install, Commit, Withdraw, Close}
 use Rattle.sgt_core_model.specs.declared.reply.Reply.{Reply}
@@ -20,6 +20,7 @@ use Rattle.sgt_core_model.specs.Core.{CoreState, fresh, IsEdgeOf, AreEdges, with
 use Rattle.sgt_core_model.specs.Step.{Reads, CommitsAt, RefusesAt, Does, AfterMemory, Serves, ServesAll, parts_of_commit, replies_of_commit, MayStep, Run}
 use Rattle.sgt_core_model.specs.Runs.{without_walk, AreAlike}
 use Rattle.sgt_core_model.proofs.Reached.{reaches_alike}
+use Rattle.sgt_names.proofs.Elements.{map-push, contains-later}
 
 -- ---- lists
 
@@ -27,20 +28,16 @@ filter_alike : (p q : ℕ → Bool) (xs : List ℕ) → ((x : ℕ) → Contains 
 filter_alike p q [] h = refl
 filter_alike p q (x ∷ xs) h =
     ap (λ b. cond b (x ∷ filter p xs) (filter p xs)) (h x (cons_here x xs))
-    ∙ ap (λ ys. cond (q x) (x ∷ ys) ys) (filter_alike p q xs (λ y m. h y (cons_later x xs y m)))
+    ∙ ap (λ ys. cond (q x) (x ∷ ys) ys) (filter_alike p q xs (λ y m. h y (contains-later x xs y m)))
 
 alike_tests : (a b : Bool) → (a ≡ true → b ≡ true) → (b ≡ true → a ≡ true) → a ≡ b
 alike_tests true b f g = sym (f refl)
 alike_tests a true f g = g refl
 alike_tests false false f g = refl
 
-map_last : {A B : Type 0} (f : A → B) (xs : List A) (x : A) → map f (xs ++ x ∷ []) ≡ map f xs ++ f x ∷ []
-map_last f [] x = refl
-map_last f (y ∷ ys) x = ap (λ zs. f y ∷ zs) (map_last f ys x)
-
 rulings_more : (xs ys : List Ruling) (q r : Ruling) → map without_walk xs ≡ map without_walk ys → without_walk q ≡ without_walk r
     → map without_walk (xs ++ q ∷ []) ≡ map without_walk (ys ++ r ∷ [])
-rulings_more xs ys q r all last = map_last without_walk xs q ∙ (ap₂ (λ (zs : List Ruling) (z : Ruling). zs ++ z ∷ []) all last ∙ sym (map_last without_walk ys r))
+rulings_more xs ys q r all last = map-push without_walk xs q ∙ (ap₂ (λ (zs : List Ruling) (z : Ruling). zs ++ z ∷ []) all last ∙ sym (map-push without_walk ys r))
 
 -- the two lists have the same members
 abbrev HaveSame : List Arc → List Arc → Type 0

@@ -15,11 +15,12 @@ use Rattle.sgt_names.proofs.Places.{AllPairs-from_at, AllPairs_at}
 use Rattle.sgt_site.specs.State.{change_entry, want_entry}
 use Rattle.sgt_cert.specs.declared.certificate.Step.{Step}
 use Rattle.sgt_certifier.specs.Certifier.{Ruling, committed, refused, withdrawn}
-use Rattle.sgt_certifier.proofs.Members.{cons_cases, nil_none}
-use Rattle.sgt_certifier.proofs.Ruling.{map_place}
 use Rattle.sgt_core_model.proofs.Kept.{IsRead, SuitsRuling, AreBlocks, AreApart}
-use Rattle.sgt_core_model.proofs.Entries.{of_change, change_tx, want_tx, change_item, want_item, change_open, want_open, change_suits, want_suits, change_writes, want_writes}
+use Rattle.sgt_core_model.proofs.Entries.{of_change, change_tx, want_tx, change_item, want_item, change_open, want_open, change_suits, want_suits, want_writes}
 use Rattle.sgt_core_model.proofs.Legal.{IsBlock, WritesApart, block_of}
+use Rattle.sgt_names.proofs.Elements.{contains-cases, contains-none}
+use Rattle.sgt_names.proofs.Lists.{map_at}
+use Rattle.sgt_site.proofs.Entries.{writes_one}
 
 -- how the private changes of i are written where it is decided so, with this end behind them
 record IsForm (i : ℕ) (r : Ruling) (make : Name → Change → Entry) (last : Entry) : Type 0 where
@@ -60,7 +61,7 @@ committed_form i = record {
   item = change_item i;
   opens = change_open i;
   suits = change_suits i i;
-  writes = change_writes i;
+  writes = writes_one i;
   next = change_next i;
   ends = change_ends i;
   last_own = refl;
@@ -93,8 +94,8 @@ module _ (i : ℕ) (r : Ruling) (make : Name → Change → Entry) (last : Entry
     opens = λ e c. let m = of_change make cs e c in subst IsOpen m.2 (form.opens m.0.0 m.0.1);
     suits = λ e c. let m = of_change make cs e c in subst (λ f. SuitsRuling f r) m.2 (form.suits m.0.0 m.0.1);
     apart = AllPairs-from_at WritesApart (map (λ (d : Name × Change). make d.0 d.1) cs) (λ p q e f lt at_e at_f x we wf.
-        let g = map_place (λ (d : Name × Change). make d.0 d.1) cs p e at_e in
-        let h = map_place (λ (d : Name × Change). make d.0 d.1) cs q f at_f in
+        let g = map_at (λ (d : Name × Change). make d.0 d.1) cs p e at_e in
+        let h = map_at (λ (d : Name × Change). make d.0 d.1) cs q f at_f in
         AllPairs_at AreApart cs p q g.0 h.0 once lt g.1 h.1
         (form.writes g.0.0 g.0.1 x (subst (Writes x) (sym g.2) we) ∙ sym (form.writes h.0.0 h.0.1 x (subst (Writes x) (sym h.2) wf))));
     last_own = form.last_own;
@@ -137,10 +138,10 @@ refused-blocks i walk cs = form-blocks i (refused i walk) (want_entry i) (entry.
 
 pub withdrawn-block : (items : List Holding) (i : ℕ) → IsBlock items i (withdrawn i) [] (entry.Withdraw i)
 withdrawn-block items i = record {
-  own = λ e c. absurd (nil_none e c);
-  known = λ e c. absurd (nil_none e c);
-  opens = λ e c. absurd (nil_none e c);
-  suits = λ e c. absurd (nil_none e c);
+  own = λ e c. absurd (contains-none e c);
+  known = λ e c. absurd (contains-none e c);
+  opens = λ e c. absurd (contains-none e c);
+  suits = λ e c. absurd (contains-none e c);
   apart = λ p q d lt within. absurd (omega arith);
   last_own = refl;
   last_end = tt;
@@ -158,10 +159,10 @@ either_blocks ops last h false = blocks-nil
 -- a block has no reads
 pub block_reads : (items : List Holding) (i : ℕ) (r : Ruling) (ops : List Entry) (last : Entry) → IsBlock items i r ops last
     → (t : Bool) (e : Entry) → Contains (block_of t ops last) e → IsRead e → ⊥
-block_reads items i r ops last b false e c k = nil_none e c
+block_reads items i r ops last b false e c k = contains-none e c
 block_reads items i r ops last b true e c k = elim (Contains-append_cases ops (last ∷ []) e c) [
   | inl op ↦ open_read e (b.opens e op) k
-  | inr end ↦ elim (cons_cases last [] e end) [ inl is ↦ end_read e (subst IsEnd is b.last_end) k | inr none ↦ absurd (nil_none e none) ]
+  | inr end ↦ elim (contains-cases last [] e end) [ inl is ↦ end_read e (subst IsEnd is b.last_end) k | inr none ↦ absurd (contains-none e none) ]
 ]
   where
     open_read : (e : Entry) → IsOpen e → IsRead e → ⊥

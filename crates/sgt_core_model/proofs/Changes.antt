@@ -19,10 +19,11 @@ use Rattle.sgt_names.specs.declared.entry.Change.TheVariants.{Put, Add}
 use Rattle.sgt_names.specs.declared.entry.Entry.{Entry}
 use Rattle.sgt_names.specs.declared.entry.Entry.TheVariants as entry
 use Rattle.sgt_names.proofs.Lists.{option_cases}
-use Rattle.sgt_certifier.proofs.Members.{AllPairs-append, cons_cases, nil_none, filter_member}
+use Rattle.sgt_certifier.proofs.Members.{AllPairs-append, filter_member}
 use Rattle.sgt_core_model.specs.Core.{CoreState, items_at, comes_before, change_in, put_in, changed_at, with_change, read_of, seen, look}
 use Rattle.sgt_core_model.proofs.Kept.{AreApart, IsLegal}
 use Rattle.sgt_core_model.proofs.Legal.{pairs_insert, insert_cases}
+use Rattle.sgt_names.proofs.Elements.{contains-cases, contains-none}
 
 -- ---- in a list of changes
 
@@ -105,10 +106,10 @@ read_found tx x (entry.Read i y v) own k = (v, rw (eq-eqb i tx own) (rw ((bytes_
 read_found tx x _ own k = absurd k
 
 none_found : (f : Entry → Option ℕ) (xs : List Entry) → filter_map f xs ≡ [] → (e : Entry) → Contains xs e → f e ≡ None
-none_found f [] h e c = absurd (nil_none e c)
+none_found f [] h e c = absurd (contains-none e c)
 none_found f (x ∷ xs) h e c =
     elim (option_cases (f x)) [
-      | inl none ↦ elim (cons_cases x xs e c) [
+      | inl none ↦ elim (contains-cases x xs e c) [
         | inl is ↦ subst (λ z. f z ≡ None) is none
         | inr later ↦ none_found f xs (subst (λ o. cons_option o (filter_map f xs) ≡ []) none h) e later
       ]

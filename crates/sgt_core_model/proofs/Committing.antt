@@ -7,7 +7,7 @@ use Rattle.std.proofs.lemmas.Option.{same_Some}
 use Rattle.sgt_names.specs.Entry.{tx_of}
 use Rattle.sgt_names.specs.declared.entry.Entry.{Entry}
 use Rattle.sgt_certifier.specs.Certifier.{State}
-use Rattle.sgt_certifier.proofs.Members.{cons_cases, cons_here, cons_later, nil_none, filter_member}
+use Rattle.sgt_certifier.proofs.Members.{cons_here, filter_member}
 use Rattle.sgt_notation.specs.declared.event.Event.{Event}
 use Rattle.sgt_notation.specs.declared.event.Event.TheVariants.{Gather, Decide, Install as Write, Commit}
 use Rattle.sgt_core_model.specs.declared.reply.Reply.{Reply}
@@ -21,6 +21,7 @@ use Rattle.sgt_core_model.proofs.LegalSteps.{all_pass, empty_is, cleared_there}
 use Rattle.sgt_core_model.proofs.Cycles.{AreDistinct}
 use Rattle.sgt_core_model.proofs.Runs.{is_active, at_most, none_open, idle, is_site, noted-step, serves_all-kept}
 use Rattle.sgt_core_model.proofs.Going.{verdict}
+use Rattle.sgt_names.proofs.Elements.{contains-cases, contains-later, contains-none}
 
 -- ---- lists
 
@@ -31,8 +32,8 @@ append-all a [] ys (r ∷ rs) qs b c first second = absurd first
 append-all a (x ∷ xs) ys [] qs b c first second = absurd first
 
 pub in_range : (low n k : ℕ) → Contains (range_with_len low n) k → (low ≤ k) × (k < low + n)
-in_range low zero k m = absurd (nil_none k m)
-in_range low (suc n) k m = elim (cons_cases low (range_with_len (low + 1) n) k m) [
+in_range low zero k m = absurd (contains-none k m)
+in_range low (suc n) k m = elim (contains-cases low (range_with_len (low + 1) n) k m) [
   | inl is ↦ (omega (arith, is), omega (arith, is))
   | inr later ↦ let r = in_range (low + 1) n k later in (omega (arith, r.0), omega (arith, r.1))
 ]
@@ -101,15 +102,15 @@ pub record AreGathered (c : CoreState) (tx : ℕ) (sites : List ℕ) : Type 0 wh
   pub kept : (s : ℕ) → IsGathered c tx s → IsGathered (record c { step = step }) tx s
 
 unfoldable pub gather_all : (c : CoreState) (tx : ℕ) (sites : List ℕ) → IsGoing c tx → AreDistinct sites → ((s : ℕ) → Contains sites s → IsToGather c tx s) → AreGathered c tx sites
-gather_all c tx [] g d each = record { step = c.step; serves = refl; alone = g.alone; gathered = λ s m. absurd (nil_none s m); kept = λ s h. h }
+gather_all c tx [] g d each = record { step = c.step; serves = refl; alone = g.alone; gathered = λ s m. absurd (contains-none s m); kept = λ s h. h }
 gather_all c tx (s ∷ ss) g d each =
     let mid : CoreState = record c { step = Some (record { tx = tx; gathered = s ∷ gathered_in c.step }) } in
     let going : IsGoing mid tx = record { active = g.active; begun = g.begun; alone = λ n. n refl } in
     let here = each s (cons_here s ss) in
-    let rest = gather_all mid tx ss going d.1 (λ t m. let e = each t (cons_later s ss t m) in record {
+    let rest = gather_all mid tx ss going d.1 (λ t m. let e = each t (contains-later s ss t m) in record {
       inside = e.inside;
       touched = e.touched;
-      fresh = λ n. elim (cons_cases s (gathered_in c.step) t n) [
+      fresh = λ n. elim (contains-cases s (gathered_in c.step) t n) [
         | inl is ↦ d.0 (subst (Contains ss) (sym is) m)
         | inr was ↦ e.fresh was
       ];
@@ -119,11 +120,11 @@ gather_all c tx (s ∷ ss) g d each =
       step = rest.step;
       serves = (mid, (gather_allowed c tx s g here, refl), rest.serves);
       alone = rest.alone;
-      gathered = λ t m. elim (cons_cases s ss t m) [
+      gathered = λ t m. elim (contains-cases s ss t m) [
         | inl is ↦ subst (IsGathered (record c { step = rest.step }) tx) is (rest.kept s own)
         | inr later ↦ rest.gathered t later
       ];
-      kept = λ t h. rest.kept t (refl, cons_later s (gathered_in c.step) t h.1);
+      kept = λ t h. rest.kept t (refl, contains-later s (gathered_in c.step) t h.1);
     }
 
 -- ---- its block is written at each of its sites
@@ -179,15 +180,15 @@ write_all c tx (s ∷ []) g own d each = (installed c tx s, (installed c tx s, (
 write_all c tx (s ∷ t ∷ ts) g own d each =
     let mid : CoreState = record (with_entries c (only_at s (c.due s))) { certifier = noted c tx s; due = changed_at s [] c.due } in
     let due_there : (n : ℕ) → Contains (t ∷ ts) n → mid.due n ≡ [] → ⊥
-    = λ n m e. (each n (cons_later s (t ∷ ts) n m)).due (sym (cleared_there s c.due n (λ is. d.0 (subst (Contains (t ∷ ts)) is m))) ∙ e) in
-    let inside_t = (each t (cons_later s (t ∷ ts) t (cons_here t ts))).inside in
+    = λ n m e. (each n (contains-later s (t ∷ ts) n m)).due (sym (cleared_there s c.due n (λ is. d.0 (subst (Contains (t ∷ ts)) is m))) ∙ e) in
+    let inside_t = (each t (contains-later s (t ∷ ts) t (cons_here t ts))).inside in
     let open_still : installed c tx s ≡ mid = stays_open mid tx t inside_t (due_there t (cons_here t ts)) in
     let going : IsGoing mid tx = record {
       active = subst (λ xs. Contains xs tx) (sym (noted_active c tx s)) g.active;
       begun = subst (λ n. tx ≤ n) (sym (noted_begun c tx s)) g.begun;
       alone = g.alone;
     } in
-    let rest = write_all mid tx (t ∷ ts) going (noted-step c tx s ∙ own) d.1 (λ n m. let e = each n (cons_later s (t ∷ ts) n m) in record {
+    let rest = write_all mid tx (t ∷ ts) going (noted-step c tx s ∙ own) d.1 (λ n m. let e = each n (contains-later s (t ∷ ts) n m) in record {
       inside = e.inside;
       touched = still_touched c tx n (only_at s (c.due s) n) e.touched;
       due = due_there n m;
@@ -236,7 +237,7 @@ commits c tx k allowed =
     let all = gather_all c tx sites going distinct (λ s m. record {
       inside = inside s m;
       touched = hit s m;
-      fresh = subst (λ o. Contains (gathered_in o) s → ⊥) (sym closed) (nil_none s);
+      fresh = subst (λ o. Contains (gathered_in o) s → ⊥) (sym closed) (contains-none s);
     }) in
     let mid : CoreState = record c { step = all.step } in
     let mid_going : IsGoing mid tx = record { active = active; begun = begun; alone = all.alone } in

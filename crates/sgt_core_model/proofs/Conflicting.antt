@@ -14,7 +14,8 @@ use Rattle.sgt_site.specs.State.{change_entry, want_entry}
 use Rattle.sgt_core_model.specs.Core.{as_changes}
 use Rattle.sgt_core_model.proofs.Entries.{as_wants}
 use Rattle.sgt_names.proofs.Places.{Contains-from_at}
-use Rattle.sgt_certifier.proofs.Members.{place_cases, place_left, place_right}
+use Rattle.sgt_certifier.proofs.Members.{place_cases, place_right}
+use Rattle.sgt_names.proofs.Lists.{front_at}
 
 -- where an entry that isn't among ys stands without ys
 record KeptPlace (xs ys zs : List Entry) (n : ℕ) (e : Entry) : Type 0 where
@@ -25,7 +26,7 @@ record KeptPlace (xs ys zs : List Entry) (n : ℕ) (e : Entry) : Type 0 where
 kept_place : (xs ys zs : List Entry) (n : ℕ) (e : Entry) → (Contains ys e → ⊥) → slice_get (xs ++ (ys ++ zs)) n ≡ Some e → KeptPlace xs ys zs n e
 kept_place xs ys zs n e out h =
     elim (place_cases xs (ys ++ zs) n e h) [
-      | inl front ↦ record { place = n; found = place_left xs zs n e front.1; where_is = inl (front.0, refl) }
+      | inl front ↦ record { place = n; found = front_at xs zs n e front.1; where_is = inl (front.0, refl) }
       | inr rest ↦
           elim (place_cases ys zs rest.0 e rest.2) [
             | inl mid ↦ absurd (out (Contains-from_at ys rest.0 e mid.1))
@@ -69,8 +70,8 @@ in_longer xs ys kind x a b h = record {
   e = h.e;
   f = h.f;
   before = h.before;
-  first = place_left xs ys h.p h.e h.first;
-  second = place_left xs ys h.q h.f h.second;
+  first = front_at xs ys h.p h.e h.first;
+  second = front_at xs ys h.q h.f h.second;
   from = h.from;
   to = h.to;
   apart = h.apart;
@@ -98,7 +99,7 @@ without_last xs g kind x a b free h =
 moved_place : (xs ys zs : List Entry) (n : ℕ) (e : Entry) → slice_get (xs ++ zs) n ≡ Some e → (m : ℕ) × (slice_get (xs ++ (ys ++ zs)) m ≡ Some e) × (((n < length xs) × (m ≡ n)) ⊎ ((length xs ≤ n) × (m ≡ n + length ys)))
 moved_place xs ys zs n e h =
     elim (place_cases xs zs n e h) [
-      | inl front ↦ (n, place_left xs (ys ++ zs) n e front.1, inl (front.0, refl))
+      | inl front ↦ (n, front_at xs (ys ++ zs) n e front.1, inl (front.0, refl))
       | inr back ↦ (length xs + (length ys + back.0), place_right xs (ys ++ zs) (length ys + back.0) e (place_right ys zs back.0 e back.2), inr (omega (arith, back.1), omega (arith, back.1)))
     ]
 
@@ -151,7 +152,7 @@ like_place : (xs : List Entry) (i : ℕ) (cs : List (Name × Change)) (n : ℕ) 
     → (f : Entry) × (slice_get (xs ++ as_wants i cs) n ≡ Some f) × IsLike e f
 like_place xs i cs n e h =
     elim (place_cases xs (as_changes i cs) n e h) [
-      | inl front ↦ (e, place_left xs (as_wants i cs) n e front.1, record { tx = refl; reads = λ x k. k; writes = λ x k. k; increment = λ k. k })
+      | inl front ↦ (e, front_at xs (as_wants i cs) n e front.1, record { tx = refl; reads = λ x k. k; writes = λ x k. k; increment = λ k. k })
       | inr back ↦
           let w = want_place i cs back.0 e back.2 in
           (w.0, subst (λ k. slice_get (xs ++ as_wants i cs) k ≡ Some w.0) (sym back.1) (place_right xs (as_wants i cs) back.0 w.0 w.1), w.2)

@@ -9,8 +9,9 @@ use Rattle.sgt_cert.specs.Certificate.{stops}
 use Rattle.sgt_cert.specs.declared.certificate.Step.{Step}
 use Rattle.sgt_certifier.specs.Certifier.{State, Arc, Joins, Walks, IsWalk}
 use Rattle.sgt_certifier.specs.Sound.{IsSoundCertifier, AreNew}
-use Rattle.sgt_certifier.proofs.Members.{cons_cases, cons_here, cons_later, nil_none}
+use Rattle.sgt_certifier.proofs.Members.{cons_here}
 use Rattle.sgt_certifier.proofs.Replaying.{contains_cases}
+use Rattle.sgt_names.proofs.Elements.{contains-cases, contains-later, contains-none}
 
 -- ---- a walk that comes through nobody twice
 
@@ -28,13 +29,13 @@ record IsSimple (edge : ℕ → ℕ → Type 0) (a b : ℕ) : Type 0 where
 module _ (edge : ℕ → ℕ → Type 0) where
   -- cut off in front of a
   cut : (a b c : ℕ) (ys : List ℕ) → Leads edge c ys b → AreDistinct (c ∷ ys) → (Contains ys b → ⊥) → Contains (c ∷ ys) a → IsSimple edge a b
-  cut a b c [] h d short m = elim (cons_cases c [] a m) [
+  cut a b c [] h d short m = elim (contains-cases c [] a m) [
     | inl is ↦ subst (λ t. IsSimple edge t b) is (record { between = []; leads = h; distinct = d; short = short })
-    | inr none ↦ absurd (nil_none a none)
+    | inr none ↦ absurd (contains-none a none)
   ]
-  cut a b c (y ∷ ys) h d short m = elim (cons_cases c (y ∷ ys) a m) [
+  cut a b c (y ∷ ys) h d short m = elim (contains-cases c (y ∷ ys) a m) [
     | inl is ↦ subst (λ t. IsSimple edge t b) is (record { between = y ∷ ys; leads = h; distinct = d; short = short })
-    | inr later ↦ cut a b y ys h.1 d.1 (λ k. short (cons_later y ys b k)) later
+    | inr later ↦ cut a b y ys h.1 d.1 (λ k. short (contains-later y ys b k)) later
   ]
 
   -- one step in front of such a walk
@@ -46,15 +47,15 @@ module _ (edge : ℕ → ℕ → Type 0) where
           between = c ∷ s.between;
           leads = (first, s.leads);
           distinct = (fresh, s.distinct);
-          short = λ m. elim (cons_cases c s.between b m) [ inl is ↦ other is | inr later ↦ s.short later ];
+          short = λ m. elim (contains-cases c s.between b m) [ inl is ↦ other is | inr later ↦ s.short later ];
         }
       ]
 
   simple : (a : ℕ) (xs : List ℕ) (b : ℕ) → Leads edge a xs b → IsSimple edge a b
-  simple a [] b h = record { between = []; leads = h; distinct = (λ c. nil_none a c, tt); short = λ c. nil_none b c }
+  simple a [] b h = record { between = []; leads = h; distinct = (λ c. contains-none a c, tt); short = λ c. contains-none b c }
   simple a (c ∷ cs) b h =
       elim (cases_eq c b) [
-        | inl is ↦ record { between = []; leads = subst (edge a) is h.0; distinct = (λ k. nil_none a k, tt); short = λ k. nil_none b k }
+        | inl is ↦ record { between = []; leads = subst (edge a) is h.0; distinct = (λ k. contains-none a k, tt); short = λ k. contains-none b k }
         | inr other ↦ step_before a c b h.0 other (simple c cs b h.1)
       ]
 
@@ -64,7 +65,7 @@ distinct-pairs (x ∷ xs) d = (others x xs d.0, distinct-pairs xs d.1)
   where
     others : (x : ℕ) (xs : List ℕ) → (Contains xs x → ⊥) → AllByRecursion (λ y. x ≡ y → ⊥) xs
     others x [] out = tt
-    others x (y ∷ ys) out = (λ is. out (subst (Contains (y ∷ ys)) (sym is) (cons_here y ys)), others x ys (λ c. out (cons_later y ys x c)))
+    others x (y ∷ ys) out = (λ is. out (subst (Contains (y ∷ ys)) (sym is) (cons_here y ys)), others x ys (λ c. out (contains-later y ys x c)))
 
 -- ---- its steps
 
@@ -91,10 +92,10 @@ module _ (s : State) (i : ℕ) (arcs : List Arc) (sound : IsSoundCertifier s) (o
   ]
 
   all_led : (a : ℕ) (xs : List ℕ) (b : ℕ) → Leads (Joins (s.arcs ++ arcs)) a xs b → (Contains xs i → ⊥) → (x : ℕ) → Contains xs x → Contains s.order x
-  all_led a [] b h other x m = absurd (nil_none x m)
-  all_led a (c ∷ cs) b h other x m = elim (cons_cases c cs x m) [
+  all_led a [] b h other x m = absurd (contains-none x m)
+  all_led a (c ∷ cs) b h other x m = elim (contains-cases c cs x m) [
     | inl is ↦ subst (Contains s.order) is (led_to a c h.0 (λ at_i. other (subst (Contains (c ∷ cs)) at_i (cons_here c cs))))
-    | inr later ↦ all_led c cs b h.1 (λ k. other (cons_later c cs i k)) x later
+    | inr later ↦ all_led c cs b h.1 (λ k. other (contains-later c cs i k)) x later
   ]
 
   pub cycle : Reaches (Joins (s.arcs ++ arcs)) i i → (walk : List Step) × IsWalk s.order (s.arcs ++ arcs) i walk
@@ -103,7 +104,7 @@ module _ (s : State) (i : ℕ) (arcs : List Arc) (sound : IsSoundCertifier s) (o
       let rest = simple (Joins (s.arcs ++ arcs)) c cs i h.1 in
       let between = c ∷ rest.between in
       let leads : Leads (Joins (s.arcs ++ arcs)) i between i = (h.0, rest.leads) in
-      let other : Contains between i → ⊥ = λ m. elim (cons_cases c rest.between i m) [
+      let other : Contains between i → ⊥ = λ m. elim (contains-cases c rest.between i m) [
         | inl is ↦ no_loop (subst (Joins (s.arcs ++ arcs) i) is h.0)
         | inr later ↦ rest.short later
       ] in

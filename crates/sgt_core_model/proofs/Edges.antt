@@ -18,12 +18,14 @@ use Rattle.sgt_names.specs.declared.entry.Kind.{Kind}
 use Rattle.sgt_names.specs.declared.entry.Kind.TheVariants.{Wr, Rw, Ww}
 use Rattle.sgt_names.proofs.Places.{Contains_at, Contains-from_at}
 use Rattle.sgt_certifier.specs.Certifier.{Arc}
-use Rattle.sgt_certifier.proofs.Members.{cons_cases, cons_here, cons_later, nil_none, filter_member, member_filter}
+use Rattle.sgt_certifier.proofs.Members.{cons_here, filter_member, member_filter}
 use Rattle.sgt_core_model.specs.Core.{CoreState, sites_of, followed, AreEdges}
 use Rattle.sgt_core_model.proofs.Kept.{IsSound}
 use Rattle.sgt_core_model.proofs.Walks.{edge_site}
 use Rattle.sgt_core_model.proofs.Faults.{is_in, is_in-Decides}
 use Rattle.sgt_core_model.proofs.Runs.{is_site}
+use Rattle.sgt_notation.proofs.DecidableEntries.{clash-item}
+use Rattle.sgt_names.proofs.Elements.{contains-cases, contains-later, contains-none}
 
 -- ---- two entries
 
@@ -38,7 +40,7 @@ writes x (entry.Want tx y v) = bytes_eq y x
 writes x (entry.WantAdd tx y v) = bytes_eq y x
 writes x _ = false
 
-never : Decides false ⊥
+pub never : Decides false ⊥
 never = (λ e. absurd (true≢false (sym e)), λ n. absurd n)
 
 reads-Decides : (x : Name) (e : Entry) → Decides (reads x e) (Reads x e)
@@ -71,30 +73,6 @@ clashes-Decides Ww x e f =
     (Decides-and (writes x e) (writes x f && not (is_increment e && is_increment f)) (writes-Decides x e)
     (Decides-and (writes x f) (not (is_increment e && is_increment f)) (writes-Decides x f) (both-Decides (is_increment e) (is_increment f))))
 
--- the item of a clash is that of the first entry
-clash_item : (kind : Kind) (x : Name) (e f : Entry) → Clash kind x e f → item_of e ≡ Some x
-clash_item Wr x e f k = written x e k.0
-  where
-    written : (x : Name) (e : Entry) → Writes x e → item_of e ≡ Some x
-    written x (entry.Write tx y v) k = ap Some k
-    written x (entry.Add tx y v) k = ap Some k
-    written x (entry.Want tx y v) k = ap Some k
-    written x (entry.WantAdd tx y v) k = ap Some k
-    written x _ k = absurd k
-clash_item Rw x e f k = read x e k.0
-  where
-    read : (x : Name) (e : Entry) → Reads x e → item_of e ≡ Some x
-    read x (entry.Read tx y v) k = ap Some k
-    read x _ k = absurd k
-clash_item Ww x e f k = written x e k.0
-  where
-    written : (x : Name) (e : Entry) → Writes x e → item_of e ≡ Some x
-    written x (entry.Write tx y v) k = ap Some k
-    written x (entry.Add tx y v) k = ap Some k
-    written x (entry.Want tx y v) k = ap Some k
-    written x (entry.WantAdd tx y v) k = ap Some k
-    written x _ k = absurd k
-
 -- ---- the arcs of two entries
 
 abbrev pub arc_of : ℕ → Name → Entry → Entry → Kind → Arc
@@ -119,18 +97,18 @@ record IsOfPair (s : ℕ) (e f : Entry) (arc : Arc) : Type 0 where
   pub clash : Clash arc.label.kind arc.label.item e f
 
 item_arc : (s : ℕ) (o : Option Name) (e f : Entry) (kind : Kind) (arc : Arc) → Contains (with_item s o e f kind) arc → IsOfPair s e f arc
-item_arc s None e f kind arc m = absurd (nil_none arc m)
+item_arc s None e f kind arc m = absurd (contains-none arc m)
 item_arc s (Some x) e f kind arc m =
     elim (cases_Bool (conflicting x e f kind)) [
       | inl hit ↦
-          elim (cons_cases (arc_of s x e f kind) [] arc (subst (λ b. Contains (if b then arc_of s x e f kind ∷ [] else []) arc) hit m)) [
+          elim (contains-cases (arc_of s x e f kind) [] arc (subst (λ b. Contains (if b then arc_of s x e f kind ∷ [] else []) arc) hit m)) [
             | inl is ↦
                 let apart = Decides-not (tx_of e == tx_of f) (Decides-eqb (tx_of e) (tx_of f)) in
                 let both = (Decides-and (clashes kind x e f) (not (tx_of e == tx_of f)) (clashes-Decides kind x e f) apart).0 hit in
                 subst (IsOfPair s e f) is (record { site = refl; from = refl; to = refl; apart = both.1; clash = both.0 })
-            | inr none ↦ absurd (nil_none arc none)
+            | inr none ↦ absurd (contains-none arc none)
           ]
-      | inr miss ↦ absurd (nil_none arc (subst (λ b. Contains (if b then arc_of s x e f kind ∷ [] else []) arc) miss m))
+      | inr miss ↦ absurd (contains-none arc (subst (λ b. Contains (if b then arc_of s x e f kind ∷ [] else []) arc) miss m))
     ]
 
 pair_arc : (s : ℕ) (e f : Entry) (arc : Arc) → Contains (of_pair s e f) arc → IsOfPair s e f arc
@@ -150,7 +128,7 @@ made_arc s x e f kind clash apart =
     let hit : conflicting x e f kind ≡ true = rw ((clashes-Decides kind x e f).1 clash) differ in
     let there : Contains (with_item s (Some x) e f kind) (arc_of s x e f kind)
     = subst (λ b. Contains (if b then arc_of s x e f kind ∷ [] else []) (arc_of s x e f kind)) (sym hit) (cons_here (arc_of s x e f kind) []) in
-    subst (λ o. Contains (with_item s o e f kind) (arc_of s x e f kind)) (sym (clash_item kind x e f clash)) there
+    subst (λ o. Contains (with_item s o e f kind) (arc_of s x e f kind)) (sym (clash-item kind x e f clash)) there
 
 of_kind : (s : ℕ) (e f : Entry) (arc : Arc) (kind : Kind) → Contains (with_item s (item_of e) e f kind) arc → Contains (of_pair s e f) arc
 of_kind s e f arc Wr m = Contains-append_left (with_item s (item_of e) e f Wr) _ arc m
@@ -168,17 +146,17 @@ arcs_in s (e ∷ es) = flat_map (of_pair s e) es ++ arcs_in s es
 
 -- what is made of an element is in what is made of all
 flat_in : {A B : Type 0} (f : A → List B) (xs : List A) (x : A) (y : B) → Contains xs x → Contains (f x) y → Contains (flat_map f xs) y
-flat_in f [] x y c m = absurd (nil_none x c)
-flat_in f (z ∷ zs) x y c m = elim (cons_cases z zs x c) [
+flat_in f [] x y c m = absurd (contains-none x c)
+flat_in f (z ∷ zs) x y c m = elim (contains-cases z zs x c) [
   | inl is ↦ Contains-append_left (f z) (flat_map f zs) y (subst (λ w. Contains (f w) y) (sym is) m)
   | inr later ↦ Contains-append_right (f z) (flat_map f zs) y (flat_in f zs x y later m)
 ]
 
 flat_from : {A B : Type 0} (f : A → List B) (xs : List A) (y : B) → Contains (flat_map f xs) y → (x : A) × Contains xs x × Contains (f x) y
-flat_from f [] y m = absurd (nil_none y m)
+flat_from f [] y m = absurd (contains-none y m)
 flat_from f (z ∷ zs) y m = elim (Contains-append_cases (f z) (flat_map f zs) y m) [
   | inl here ↦ (z, cons_here z zs, here)
-  | inr later ↦ let r = flat_from f zs y later in (r.0, cons_later z zs r.0 r.1, r.2)
+  | inr later ↦ let r = flat_from f zs y later in (r.0, contains-later z zs r.0 r.1, r.2)
 ]
 
 -- a later conflict is one of the longer log
@@ -198,7 +176,7 @@ conflict_later e es kind x a b h = record {
 }
 
 arcs_are : (s : ℕ) (es : List Entry) (arc : Arc) → Contains (arcs_in s es) arc → (arc.label.site ≡ s) × Conflicts es arc.label.kind arc.label.item arc.from arc.to
-arcs_are s [] arc m = absurd (nil_none arc m)
+arcs_are s [] arc m = absurd (contains-none arc m)
 arcs_are s (e ∷ es) arc m = elim (Contains-append_cases (flat_map (of_pair s e) es) (arcs_in s es) arc m) [
   | inl here ↦
       let r = flat_from (of_pair s e) es arc here in

@@ -13,8 +13,9 @@ use Rattle.sgt_names.proofs.Places.{Contains_at, Contains-from_at}
 use Rattle.sgt_site.specs.State.{change_entry, want_entry}
 use Rattle.sgt_cert.specs.declared.certificate.Step.{Step}
 use Rattle.sgt_certifier.specs.Certifier.{Ruling, committed, refused}
-use Rattle.sgt_certifier.proofs.Ruling.{map_place}
 use Rattle.sgt_core_model.proofs.Kept.{IsRead, SuitsRuling}
+use Rattle.sgt_site.proofs.Entries.{writes_one}
+use Rattle.sgt_names.proofs.Lists.{map_at}
 
 -- private changes as a refused transaction asked for them
 abbrev pub as_wants : ℕ → List (Name × Change) → List Entry
@@ -103,10 +104,6 @@ pub want_suits : (i j : ℕ) (walk : List Step) (x : Name) (change : Change) →
 want_suits i j walk x (Put v) = tt
 want_suits i j walk x (Add v) = tt
 
-pub change_writes : (i : ℕ) (x : Name) (change : Change) (y : Name) → Writes y (change_entry i x change) → x ≡ y
-change_writes i x (Put v) y k = k
-change_writes i x (Add v) y k = k
-
 pub want_writes : (i : ℕ) (x : Name) (change : Change) (y : Name) → Writes y (want_entry i x change) → x ≡ y
 want_writes i x (Put v) y k = k
 want_writes i x (Add v) y k = k
@@ -116,5 +113,5 @@ pub of_change : (f : Name → Change → Entry) (cs : List (Name × Change)) (e 
     → (d : Name × Change) × Contains cs d × (f d.0 d.1 ≡ e)
 of_change f cs e c =
     let p = Contains_at (map (λ (d : Name × Change). f d.0 d.1) cs) e c in
-    let m = map_place (λ (d : Name × Change). f d.0 d.1) cs p.0 e p.1 in
+    let m = map_at (λ (d : Name × Change). f d.0 d.1) cs p.0 e p.1 in
     (m.0, Contains-from_at cs p.0 m.0 m.1, m.2)

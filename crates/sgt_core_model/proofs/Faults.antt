@@ -11,25 +11,26 @@ use Rattle.std.proofs.lemmas.Slice.Eq.{bytes_eq-Decides}
 use Rattle.sgt_names.specs.Log.{names}
 use Rattle.sgt_names.specs.declared.entry.Entry.{Entry}
 use Rattle.sgt_certifier.specs.Certifier.{window_room}
-use Rattle.sgt_certifier.proofs.Members.{cons_cases, cons_here, cons_later, nil_none}
+use Rattle.sgt_certifier.proofs.Members.{cons_here}
 use Rattle.sgt_notation.specs.declared.event.Event.{Event}
 use Rattle.sgt_notation.specs.declared.event.Event.TheVariants.{Begin, Read, Put, Add, Gather, Decide, Install, Commit, Withdraw, Close}
 use Rattle.sgt_core_model.specs.declared.reply.CoreFault.{CoreFault}
 use Rattle.sgt_core_model.specs.declared.reply.CoreFault.TheVariants as fault
 use Rattle.sgt_core_model.specs.Core.{OpenStep, CoreState, items_at, touches, touched, is_empty}
 use Rattle.sgt_core_model.specs.Step.{StepIs, IsOwnOpen, IsOtherOpen, gathered_in, IsGathered, tx_in, HasEnded, IsOfSite, Fails, fault_place, IsRefused, IsAllowed}
+use Rattle.sgt_names.proofs.Elements.{contains-cases, contains-later, contains-none}
 
 -- ---- tests
 
 module _ {A : Type 0} (test : A → A → Bool) (decides : (x y : A) → Decides (test x y) (x ≡ y)) where
   pub member-Decides : (a : A) (xs : List A) → Decides (list_any (λ x. test x a) xs) (Contains xs a)
-  member-Decides a [] = (λ e. absurd (true≢false (sym e)), λ c. absurd (nil_none a c))
+  member-Decides a [] = (λ e. absurd (true≢false (sym e)), λ c. absurd (contains-none a c))
   member-Decides a (x ∷ xs) =
       elim (cases_Bool (test x a)) [
         | inl hit ↦ (λ e. subst (Contains (x ∷ xs)) ((decides x a).0 hit) (cons_here x xs), λ c. rw hit refl)
         | inr miss ↦ rw miss (
-          λ e. cons_later x xs a ((member-Decides a xs).0 e),
-          λ c. elim (cons_cases x xs a c) [
+          λ e. contains-later x xs a ((member-Decides a xs).0 e),
+          λ c. elim (contains-cases x xs a c) [
             | inl is ↦ absurd (true≢false (sym ((decides x a).1 is) ∙ miss))
             | inr later ↦ (member-Decides a xs).1 later
           ],
@@ -130,13 +131,13 @@ gathered-Decides c tx s = Decides-and (own_open c tx) (is_in (gathered_in c.step
 
 -- a site that passes the test
 some_site : (p : ℕ → Bool) (P : ℕ → Type 0) → ((s : ℕ) → Decides (p s) (P s)) → (sites : List ℕ) → Decides (list_any p sites) ((s : ℕ) × Contains sites s × P s)
-some_site p P each [] = (λ e. absurd (true≢false (sym e)), λ r. absurd (nil_none r.0 r.1))
+some_site p P each [] = (λ e. absurd (true≢false (sym e)), λ r. absurd (contains-none r.0 r.1))
 some_site p P each (s ∷ sites) =
     elim (cases_Bool (p s)) [
       | inl hit ↦ rw hit (λ e. (s, cons_here s sites, (each s).0 hit), λ r. refl)
       | inr miss ↦ rw miss (
-        λ e. let r = (some_site p P each sites).0 e in (r.0, cons_later s sites r.0 r.1, r.2),
-        λ r. elim (cons_cases s sites r.0 r.1) [
+        λ e. let r = (some_site p P each sites).0 e in (r.0, contains-later s sites r.0 r.1, r.2),
+        λ r. elim (contains-cases s sites r.0 r.1) [
           | inl is ↦ absurd (true≢false (sym ((each s).1 (subst P (sym is) r.2)) ∙ miss))
           | inr later ↦ (some_site p P each sites).1 (r.0, later, r.2)
         ],
@@ -249,11 +250,11 @@ no_memory c (Withdraw tx) h = h
 no_memory c Close h = h
 
 none_there : (c : CoreState) (event : Event) (fs : List CoreFault) → first_in c event fs ≡ None → (f : CoreFault) → Contains fs f → Fails c event f → ⊥
-none_there c event [] none f m h = nil_none f m
+none_there c event [] none f m h = contains-none f m
 none_there c event (g ∷ gs) none f m h =
     elim (cases_Bool (fails c event g)) [
       | inl hit ↦ absurd (let e : Some g ≡ None = subst (λ b. (if b then Some g else first_in c event gs) ≡ None) hit none in cc)
-      | inr miss ↦ elim (cons_cases g gs f m) [
+      | inr miss ↦ elim (contains-cases g gs f m) [
         | inl is ↦ not_from_Decides (fails c event g) (fails-Decides c event g) miss (subst (Fails c event) (sym is) h)
         | inr later ↦ none_there c event gs (subst (λ b. (if b then Some g else first_in c event gs) ≡ None) miss none) f later h
       ]
@@ -278,7 +279,7 @@ first_there c event (h ∷ hs) rising f first =
       | inl hit ↦
           let is : h ≡ f = same_Some h f (subst (λ b. (if b then Some h else first_in c event hs) ≡ Some f) hit first) in (
             subst (Fails c event) is ((fails-Decides c event h).0 hit),
-            λ g m lt there. elim (cons_cases h hs g m) [
+            λ g m lt there. elim (contains-cases h hs g m) [
               | inl same ↦ let e = ap fault_place (sym is ∙ same) in omega (arith, lt, e)
               | inr later ↦ let more = rising.0 g later in let e = ap fault_place is in omega (arith, lt, more, e)
             ],
@@ -286,7 +287,7 @@ first_there c event (h ∷ hs) rising f first =
       | inr miss ↦
           let r = first_there c event hs rising.1 f (subst (λ b. (if b then Some h else first_in c event hs) ≡ Some f) miss first) in (
             r.0,
-            λ g m lt there. elim (cons_cases h hs g m) [
+            λ g m lt there. elim (contains-cases h hs g m) [
               | inl same ↦ not_from_Decides (fails c event h) (fails-Decides c event h) miss (subst (Fails c event) (sym same) there)
               | inr later ↦ r.1 g later lt there
             ],
@@ -299,10 +300,10 @@ rise [] = true
 rise (f ∷ fs) = list_all (λ g. nat_lt (fault_place f) (fault_place g)) fs && rise fs
 
 all_pass : (p : CoreFault → Bool) (fs : List CoreFault) (g : CoreFault) → list_all p fs ≡ true → Contains fs g → p g ≡ true
-all_pass p [] g t c = absurd (nil_none g c)
+all_pass p [] g t c = absurd (contains-none g c)
 all_pass p (f ∷ fs) g t c =
     let both = (Decides-and (p f) (list_all p fs) (true-Decides (p f)) (true-Decides (list_all p fs))).0 t in
-    elim (cons_cases f fs g c) [ inl is ↦ subst (λ h. p h ≡ true) is both.0 | inr later ↦ all_pass p fs g both.1 later ]
+    elim (contains-cases f fs g c) [ inl is ↦ subst (λ h. p h ≡ true) is both.0 | inr later ↦ all_pass p fs g both.1 later ]
 
 rise-true : (fs : List CoreFault) → rise fs ≡ true → AreRising fs
 rise-true [] t = tt

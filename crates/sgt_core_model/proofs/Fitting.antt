@@ -17,7 +17,6 @@ use Rattle.sgt_site.specs.State.{AreItems}
 use Rattle.sgt_cert.specs.Parts.{ComesBefore, IsShapedLog, HasStepsWithin, FitTogether}
 use Rattle.sgt_cert.specs.declared.certificate.Step.{Step}
 use Rattle.sgt_certifier.specs.Certifier.{Ruling, committed, refused, withdrawn, serial, ranked}
-use Rattle.sgt_certifier.proofs.Ruling.{map_place}
 use Rattle.sgt_notation.specs.declared.event.Event.{Event}
 use Rattle.sgt_notation.specs.declared.event.Event.TheVariants.{Begin, Read, Put, Add, Gather, Decide, Install, Commit, Withdraw, Close}
 use Rattle.sgt_core_model.specs.declared.reply.Reply.{Reply}
@@ -28,6 +27,7 @@ use Rattle.sgt_core_model.specs.Step.{AfterMemory, Reads, Does, ServesAll, MaySt
 use Rattle.sgt_core_model.specs.Runs.{AreSites}
 use Rattle.sgt_core_model.proofs.Kept.{AreAt, IsSound}
 use Rattle.sgt_core_model.proofs.Valid.{enumerated}
+use Rattle.sgt_names.proofs.Lists.{map_at}
 
 -- ---- the items stay
 
@@ -85,8 +85,8 @@ log-shape : (items : List Holding) (es : List Entry) → AreItems items → IsSh
 log-shape items es are = record {
   room = are.room;
   rising = AllPairs-from_at ComesBefore (names items) (λ p q x y lt at_x at_y.
-      let g = map_place (λ (h : Holding). h.item) items p x at_x in
-      let h = map_place (λ (h : Holding). h.item) items q y at_y in
+      let g = map_at (λ (h : Holding). h.item) items p x at_x in
+      let h = map_at (λ (h : Holding). h.item) items q y at_y in
       let less = AllPairs_at (λ (a b : Holding). slice_cmp nat_cmp a.item b.item ≡ Less) items p q g.0 h.0 are.rising lt g.1 h.1 in
       subst (λ z. slice_cmp nat_cmp z y ≡ Less) g.2 (subst (λ z. slice_cmp nat_cmp g.0.item z ≡ Less) h.2 less));
   finals = finals-names (λ h. unwrap_or (value_at items es h.item) 0) items;
@@ -94,7 +94,7 @@ log-shape items es are = record {
 
 logs-shape : (c : CoreState) → AreSites c.items → All IsShapedLog (bundle_of c).sites
 logs-shape c are = All-from_at IsShapedLog (bundle_of c).sites (λ n log at_n.
-    let m = map_place (λ (p : ℕ × List Holding). site_log p.1 (c.entries p.0)) (enumerate_from 0 c.items) n log at_n in
+    let m = map_at (λ (p : ℕ × List Holding). site_log p.1 (c.entries p.0)) (enumerate_from 0 c.items) n log at_n in
     let e = enumerated 0 c.items n m.0 m.1 in
     subst IsShapedLog m.2 (log-shape m.0.1 (c.entries m.0.0) (All_at AreItems c.items n m.0.1 are.each e.1)))
 
@@ -112,7 +112,7 @@ ruling-within c n (refused tx walk) h at_n =
 
 decisions-within : (c : CoreState) → IsSound c → All (HasStepsWithin (length c.items)) (bundle_of c).certificate.decisions
 decisions-within c h = All-from_at (HasStepsWithin (length c.items)) (bundle_of c).certificate.decisions (λ n d at_n.
-    let m = map_place (ranked (serial c.certifier)) c.certifier.rulings n d at_n in
+    let m = map_at (ranked (serial c.certifier)) c.certifier.rulings n d at_n in
     subst (HasStepsWithin (length c.items)) m.2 (ruling-within c n m.0 h m.1))
 
 pub bundle-fits : (c : CoreState) → IsSound c → AreSites c.items → FitTogether (bundle_of c)

@@ -13,7 +13,7 @@ use Rattle.sgt_names.specs.declared.entry.Entry.TheVariants as entry
 use Rattle.sgt_names.specs.declared.entry.Holding.{Holding}
 use Rattle.sgt_site.specs.State.{change_entry, want_entry, commit_block, refuse_block}
 use Rattle.sgt_certifier.specs.Certifier.{Install, Ruling, committed, refused, withdrawn, ruled, serial}
-use Rattle.sgt_certifier.proofs.Members.{cons_cases, cons_here, nil_none}
+use Rattle.sgt_certifier.proofs.Members.{cons_here}
 use Rattle.sgt_certifier.proofs.Ruling.{AllPairs-push}
 use Rattle.sgt_core_model.specs.Core.{CoreState, fresh, only_at, touches, as_changes, withdrawn_block, noted}
 use Rattle.sgt_core_model.specs.Runs.{changed_item, changed_by, IsLoggedInstall}
@@ -22,6 +22,7 @@ use Rattle.sgt_core_model.proofs.Entries.{of_change, change_tx, want_open}
 use Rattle.sgt_core_model.proofs.Legal.{pairs_across}
 use Rattle.sgt_core_model.proofs.LegalSteps.{only_here, only_there}
 use Rattle.sgt_core_model.proofs.Counted.{items_of, install_at}
+use Rattle.sgt_names.proofs.Elements.{contains-cases, contains-none}
 
 -- ---- what a transaction changes in entries
 
@@ -71,7 +72,7 @@ last_here i cs = Contains-append_right (as_changes i cs) (entry.Commit i ∷ [])
 commit_own : (i tx : ℕ) (cs : List (Name × Change)) → Contains (commit_block i cs) (entry.Commit tx) → tx ≡ i
 commit_own i tx cs m = elim (Contains-append_cases (as_changes i cs) (entry.Commit i ∷ []) (entry.Commit tx) m) [
   | inl op ↦ let d = of_change (change_entry i) cs (entry.Commit tx) op in ap tx_of (sym d.2) ∙ change_tx i d.0.0 d.0.1
-  | inr end ↦ elim (cons_cases (entry.Commit i) [] (entry.Commit tx) end) [ inl is ↦ ap tx_of (sym is) | inr none ↦ absurd (nil_none (entry.Commit tx) none) ]
+  | inr end ↦ elim (contains-cases (entry.Commit i) [] (entry.Commit tx) end) [ inl is ↦ ap tx_of (sym is) | inr none ↦ absurd (contains-none (entry.Commit tx) none) ]
 ]
 
 -- ---- entries that tell no install
@@ -81,12 +82,12 @@ pub record AreQuiet (entries : List Entry) : Type 0 where
   pub changes : (tx : ℕ) → changed_by tx entries ≡ []
 
 quiet_nil : AreQuiet []
-quiet_nil = record { commits = λ tx. nil_none (entry.Commit tx); changes = λ tx. refl }
+quiet_nil = record { commits = λ tx. contains-none (entry.Commit tx); changes = λ tx. refl }
 
 -- one entry alone, or none
 quiet_one : (e : Entry) → ((tx : ℕ) → e ≡ entry.Commit tx → ⊥) → ((tx : ℕ) → changed_item tx e ≡ None) → AreQuiet (e ∷ [])
 quiet_one e commit none = record {
-  commits = λ tx m. elim (cons_cases e [] (entry.Commit tx) m) [ inl is ↦ commit tx is | inr later ↦ nil_none (entry.Commit tx) later ];
+  commits = λ tx m. elim (contains-cases e [] (entry.Commit tx) m) [ inl is ↦ commit tx is | inr later ↦ contains-none (entry.Commit tx) later ];
   changes = λ tx. ap (λ o. cons_option o []) (none tx);
 }
 
@@ -111,7 +112,7 @@ refused-quiet : (i : ℕ) (cs : List (Name × Change)) → AreQuiet (refuse_bloc
 refused-quiet i cs = record {
   commits = λ tx m. elim (Contains-append_cases (map (λ (d : Name × Change). want_entry i d.0 d.1) cs) (entry.Refuse i ∷ []) (entry.Commit tx) m) [
     | inl op ↦ let d = of_change (want_entry i) cs (entry.Commit tx) op in subst IsOpen d.2 (want_open i d.0.0 d.0.1)
-    | inr end ↦ elim (cons_cases (entry.Refuse i) [] (entry.Commit tx) end) [ inl is ↦ absurd cc | inr none ↦ nil_none (entry.Commit tx) none ]
+    | inr end ↦ elim (contains-cases (entry.Refuse i) [] (entry.Commit tx) end) [ inl is ↦ absurd cc | inr none ↦ contains-none (entry.Commit tx) none ]
   ];
   changes = λ tx. block_none tx (want_entry i) (entry.Refuse i) cs (λ x c. want_none tx i x c) refl;
 }
@@ -176,7 +177,7 @@ module _ (logs : ℕ → List Entry) (installs : List Install) (i k : ℕ) (cs :
       | inl here ↦
           let at_k = subst (λ n. Contains (only_at k (commit_block i cs) n) (entry.Commit tx)) here block in
           inr (here, commit_own i tx cs (subst (λ es. Contains es (entry.Commit tx)) (only_here k (commit_block i cs)) at_k))
-      | inr there ↦ absurd (nil_none (entry.Commit tx) (subst (λ es. Contains es (entry.Commit tx)) (only_there k (commit_block i cs) s there) block))
+      | inr there ↦ absurd (contains-none (entry.Commit tx) (subst (λ es. Contains es (entry.Commit tx)) (only_there k (commit_block i cs) s there) block))
     ]
   ]
 
@@ -185,9 +186,9 @@ module _ (logs : ℕ → List Entry) (installs : List Install) (i k : ℕ) (cs :
     | inl old ↦
         let l = (h.noted a).0 old in
         record { logged = longer a.site a.tx l.logged; items = l.items ∙ sym (others_same a.site a.tx (was_other a.site a.tx l.logged)) }
-    | inr last ↦ elim (cons_cases install [] a last) [
+    | inr last ↦ elim (contains-cases install [] a last) [
       | inl is ↦ subst (IsLoggedInstall after) is (record { logged = own_commit; items = sym own_changes })
-      | inr none ↦ absurd (nil_none a none)
+      | inr none ↦ absurd (contains-none a none)
     ]
   ]
 
@@ -232,7 +233,7 @@ install-installs c i k own due inside legal counted h = elim (counted.due i k ow
 
 pub fresh-installs : (items : List (List Holding)) → AreInstalls (fresh items).entries (fresh items).certifier.installs
 fresh-installs items = record {
-  noted = λ a. (λ m. absurd (nil_none a m), λ l. absurd (nil_none (entry.Commit a.tx) l.logged));
+  noted = λ a. (λ m. absurd (contains-none a m), λ l. absurd (contains-none (entry.Commit a.tx) l.logged));
   once = λ p q d lt within. absurd (omega arith);
   uncommitted = λ s tx none. refl;
 }
@@ -247,7 +248,7 @@ suits_commit tx (withdrawn i) suits own = absurd suits
 -- and the log is of a site
 pub logged-inside : (c : CoreState) (s tx : ℕ) → IsSound c → Contains (c.entries s) (entry.Commit tx) → s < length c.items
 logged-inside c s tx h m =
-    let out : length c.items ≤ s → ⊥ = λ le. nil_none (entry.Commit tx) (subst (λ es. Contains es (entry.Commit tx)) (h.walked.outside s le) m) in
+    let out : length c.items ≤ s → ⊥ = λ le. contains-none (entry.Commit tx) (subst (λ es. Contains es (entry.Commit tx)) (h.walked.outside s le) m) in
     omega (arith, out)
 
 pub logged-committed : (c : CoreState) (s tx : ℕ) → IsSound c → Contains (c.entries s) (entry.Commit tx) → Contains (serial c.certifier) tx

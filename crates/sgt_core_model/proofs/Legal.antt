@@ -13,17 +13,18 @@ use Rattle.sgt_names.specs.declared.entry.Entry.{Entry}
 use Rattle.sgt_names.specs.declared.entry.Entry.TheVariants as entry
 use Rattle.sgt_names.specs.declared.entry.Holding.{Holding}
 use Rattle.sgt_names.proofs.Places.{AllPairs-from_at, AllPairs_at, Contains_at, Contains-from_at}
-use Rattle.sgt_certifier.proofs.Members.{AllPairs-append, cons_cases, cons_here, cons_later, nil_none, place_left, place_right}
+use Rattle.sgt_certifier.proofs.Members.{AllPairs-append, cons_here, place_right}
 use Rattle.sgt_certifier.specs.Certifier.{State, Ruling, ruled}
 use Rattle.sgt_certifier.specs.Sound.{IsRuled}
-use Rattle.sgt_certifier.proofs.Ruling.{push_cases, push_last}
 use Rattle.sgt_core_model.proofs.Kept.{IsRead, SuitsRuling, IsFree, Stands, EndInRulingOrder, NotTwice, NotEnded, IsLegalLog}
 use Rattle.sgt_core_model.proofs.Entries.{read_no_end, read_no_write, read_suits, open_no_end, open_no_read, end_no_write, end_no_read, end_has_none}
+use Rattle.sgt_names.proofs.Elements.{contains-cases, contains-later, contains-none, get-push_cases, get-push_last}
+use Rattle.sgt_names.proofs.Lists.{front_at}
 
 -- ---- lists in parts
 
 pub pairs_front : {A : Type 0} (R : A → A → Type 0) (xs ys : List A) → AllPairs R (xs ++ ys) → AllPairs R xs
-pairs_front R xs ys h = AllPairs-from_at R xs (λ p q a b lt at_a at_b. AllPairs_at R (xs ++ ys) p q a b h lt (place_left xs ys p a at_a) (place_left xs ys q b at_b))
+pairs_front R xs ys h = AllPairs-from_at R xs (λ p q a b lt at_a at_b. AllPairs_at R (xs ++ ys) p q a b h lt (front_at xs ys p a at_a) (front_at xs ys q b at_b))
 
 pub pairs_back : {A : Type 0} (R : A → A → Type 0) (xs ys : List A) → AllPairs R (xs ++ ys) → AllPairs R ys
 pairs_back R xs ys h = AllPairs-from_at R ys (λ p q a b lt at_a at_b. AllPairs_at R (xs ++ ys) (length xs + p) (length xs + q) a b h (omega arith) (place_right xs ys p a at_a) (place_right xs ys q b at_b))
@@ -33,7 +34,7 @@ pairs_across R xs ys h a b ca cb =
     let p = Contains_at xs a ca in
     let q = Contains_at ys b cb in
     let inside = slice_get_within xs p.0 a p.1 in
-    AllPairs_at R (xs ++ ys) p.0 (length xs + q.0) a b h (omega arith) (place_left xs ys p.0 a p.1) (place_right xs ys q.0 b q.1)
+    AllPairs_at R (xs ++ ys) p.0 (length xs + q.0) a b h (omega arith) (front_at xs ys p.0 a p.1) (place_right xs ys q.0 b q.1)
 
 pairs_one : {A : Type 0} (R : A → A → Type 0) (r : A) → AllPairs R (r ∷ [])
 pairs_one R r i j d lt within = absurd (omega arith)
@@ -41,19 +42,19 @@ pairs_one R r i j d lt within = absurd (omega arith)
 pub pairs_insert : {A : Type 0} (R : A → A → Type 0) (xs ys : List A) (r : A) → AllPairs R (xs ++ ys) → ((a : A) → Contains xs a → R a r) → ((b : A) → Contains ys b → R r b) → AllPairs R (xs ++ r ∷ ys)
 pairs_insert R xs ys r h before after =
     AllPairs-append R xs (r ∷ ys) (pairs_front R xs ys h)
-    (AllPairs-append R (r ∷ []) ys (pairs_one R r) (pairs_back R xs ys h) (λ a b ca cb. elim (cons_cases r [] a ca) [ inl e ↦ subst (λ z. R z b) e (after b cb) | inr none ↦ absurd (nil_none a none) ]))
-    (λ a b ca cb. elim (cons_cases r ys b cb) [ inl e ↦ subst (R a) e (before a ca) | inr later ↦ pairs_across R xs ys h a b ca later ])
+    (AllPairs-append R (r ∷ []) ys (pairs_one R r) (pairs_back R xs ys h) (λ a b ca cb. elim (contains-cases r [] a ca) [ inl e ↦ subst (λ z. R z b) e (after b cb) | inr none ↦ absurd (contains-none a none) ]))
+    (λ a b ca cb. elim (contains-cases r ys b cb) [ inl e ↦ subst (R a) e (before a ca) | inr later ↦ pairs_across R xs ys h a b ca later ])
 
 pub insert_cases : {A : Type 0} (xs ys : List A) (r a : A) → Contains (xs ++ r ∷ ys) a → (r ≡ a) ⊎ Contains (xs ++ ys) a
 insert_cases xs ys r a c = elim (Contains-append_cases xs (r ∷ ys) a c) [
   | inl front ↦ inr (Contains-append_left xs ys a front)
-  | inr back ↦ elim (cons_cases r ys a back) [ inl e ↦ inl e | inr later ↦ inr (Contains-append_right xs ys a later) ]
+  | inr back ↦ elim (contains-cases r ys a back) [ inl e ↦ inl e | inr later ↦ inr (Contains-append_right xs ys a later) ]
 ]
 
 pub inserted : {A : Type 0} (xs ys : List A) (r a : A) → Contains (xs ++ ys) a → Contains (xs ++ r ∷ ys) a
 inserted xs ys r a c = elim (Contains-append_cases xs ys a c) [
   | inl front ↦ Contains-append_left xs (r ∷ ys) a front
-  | inr back ↦ Contains-append_right xs (r ∷ ys) a (cons_later r ys a back)
+  | inr back ↦ Contains-append_right xs (r ∷ ys) a (contains-later r ys a back)
 ]
 
 -- ---- a read
@@ -124,7 +125,7 @@ module _ (items : List Holding) (old new : State) (log : List Entry) (i : ℕ) (
   -- an end in the log is of another transaction, decided before
   old_number : (e : Entry) → Contains log e → IsEnd e → (m : ℕ) (q : Ruling) → slice_get new.rulings m ≡ Some q → ruled q ≡ tx_of e → slice_get old.rulings m ≡ Some q
   old_number e c end m q at_m is =
-      elim (push_cases old.rulings r m q (ap (λ rs. slice_get rs m) (sym d.rulings) ∙ at_m)) [
+      elim (get-push_cases old.rulings r m q (ap (λ rs. slice_get rs m) (sym d.rulings) ∙ at_m)) [
         | inl was ↦ was
         | inr fresh ↦
             let own : tx_of e ≡ i = sym is ∙ sym (ap ruled fresh.1) ∙ d.of_i in
@@ -134,14 +135,14 @@ module _ (items : List Holding) (old new : State) (log : List Entry) (i : ℕ) (
   -- a decision on i has the last number
   last_number : (m : ℕ) (q : Ruling) → slice_get new.rulings m ≡ Some q → ruled q ≡ i → m ≡ length old.rulings
   last_number m q at_m is =
-      elim (push_cases old.rulings r m q (ap (λ rs. slice_get rs m) (sym d.rulings) ∙ at_m)) [
+      elim (get-push_cases old.rulings r m q (ap (λ rs. slice_get rs m) (sym d.rulings) ∙ at_m)) [
         | inl was ↦ absurd (free.1 (subst (λ u. old.step ≡ Some u) is (ruled_.ended m q was (subst (Contains old.active) (sym is) free.0))))
         | inr fresh ↦ fresh.0
       ]
 
   in_bounds : (m : ℕ) (q : Ruling) → slice_get new.rulings m ≡ Some q → m ≤ length old.rulings
   in_bounds m q at_m =
-      elim (push_cases old.rulings r m q (ap (λ rs. slice_get rs m) (sym d.rulings) ∙ at_m)) [
+      elim (get-push_cases old.rulings r m q (ap (λ rs. slice_get rs m) (sym d.rulings) ∙ at_m)) [
         | inl was ↦ let inside = slice_get_within old.rulings m q was in omega arith
         | inr fresh ↦ omega (arith, fresh.0)
       ]
@@ -159,12 +160,12 @@ module _ (items : List Holding) (old new : State) (log : List Entry) (i : ℕ) (
     | inl read ↦ elim (cases_eq (tx_of e) i) [
       | inl own ↦
           let f = ended e c own in
-          inr ((length old.rulings, (r, subst (λ rs. slice_get rs (length old.rulings) ≡ Some r) (sym d.rulings) (push_last old.rulings r), d.of_i ∙ sym own, read_suits e r read.0)), (f.0, f.1, f.2, f.3 ∙ sym own))
+          inr ((length old.rulings, (r, subst (λ rs. slice_get rs (length old.rulings) ≡ Some r) (sym d.rulings) (get-push_last old.rulings r), d.of_i ∙ sym own, read_suits e r read.0)), (f.0, f.1, f.2, f.3 ∙ sym own))
       | inr other ↦ inl (read.0, d.others (tx_of e) other read.1)
     ]
     | inr done ↦
         let by = done.0.1 in
-        inr ((done.0.0, (by.0, subst (λ rs. slice_get rs done.0.0 ≡ Some by.0) (sym d.rulings) (place_left old.rulings (r ∷ []) done.0.0 by.0 by.1), by.2, by.3)), (done.1.0, kept done.1.0 done.1.1, done.1.2, done.1.3))
+        inr ((done.0.0, (by.0, subst (λ rs. slice_get rs done.0.0 ≡ Some by.0) (sym d.rulings) (front_at old.rulings (r ∷ []) done.0.0 by.0 by.1), by.2, by.3)), (done.1.0, kept done.1.0 done.1.1, done.1.2, done.1.3))
   ]
 
   -- the transaction doesn't touch the site
@@ -180,7 +181,7 @@ module _ (items : List Holding) (old new : State) (log : List Entry) (i : ℕ) (
   block_member : (e : Entry) → Contains (ops ++ last ∷ []) e → Contains ops e ⊎ (last ≡ e)
   block_member e c = elim (Contains-append_cases ops (last ∷ []) e c) [
     | inl op ↦ inl op
-    | inr end ↦ elim (cons_cases last [] e end) [ inl is ↦ inr is | inr none ↦ absurd (nil_none e none) ]
+    | inr end ↦ elim (contains-cases last [] e end) [ inl is ↦ inr is | inr none ↦ absurd (contains-none e none) ]
   ]
 
   block_own : (e : Entry) → Contains (ops ++ last ∷ []) e → tx_of e ≡ i
@@ -207,12 +208,12 @@ module _ (items : List Holding) (old new : State) (log : List Entry) (i : ℕ) (
               | inr both ↦ AllPairs_at WritesApart ops p k e f b.apart lt at_e at_f x both.0 both.1
             ]))
             (pairs_one NotTwice last)
-            (λ e f ce cf x t. elim (cons_cases last [] f cf) [
+            (λ e f ce cf x t. elim (contains-cases last [] f cf) [
               | inl is ↦ elim t.1 [
                 | inl both ↦ end_no_read last x b.last_end (subst (Reads x) (sym is) both.1)
                 | inr both ↦ end_no_write last x b.last_end (subst (Writes x) (sym is) both.1)
               ]
-              | inr none ↦ absurd (nil_none f none)
+              | inr none ↦ absurd (contains-none f none)
             ]))
             (λ e f ce cf x t.
             let read = own_read e ce (t.0 ∙ block_own f cf) in
@@ -234,7 +235,7 @@ module _ (items : List Holding) (old new : State) (log : List Entry) (i : ℕ) (
           | inr new_one ↦
               let suits : SuitsRuling e r = elim (block_member e new_one) [ inl op ↦ b.suits e op | inr is ↦ subst (λ f. SuitsRuling f r) is b.last_suits ] in
               let own = block_own e new_one in
-              inr ((length old.rulings, (r, subst (λ rs. slice_get rs (length old.rulings) ≡ Some r) (sym d.rulings) (push_last old.rulings r), d.of_i ∙ sym own, suits)), (last, last_in, b.last_end, b.last_own ∙ sym own))
+              inr ((length old.rulings, (r, subst (λ rs. slice_get rs (length old.rulings) ≡ Some r) (sym d.rulings) (get-push_last old.rulings r), d.of_i ∙ sym own, suits)), (last, last_in, b.last_end, b.last_own ∙ sym own))
         ];
         in_order = AllPairs-append (EndInRulingOrder new.rulings) log block old_in_order
             (AllPairs-append (EndInRulingOrder new.rulings) ops (last ∷ [])

@@ -13,11 +13,13 @@ use Rattle.sgt_names.specs.declared.entry.Holding.{Holding}
 use Rattle.sgt_names.proofs.Places.{AllPairs-from_at, AllPairs_at, Contains-from_at}
 use Rattle.sgt_certifier.specs.Certifier.{State, Ruling}
 use Rattle.sgt_certifier.specs.Sound.{IsRuled}
-use Rattle.sgt_certifier.proofs.Members.{nil_none, place_cases, place_left, place_right}
+use Rattle.sgt_certifier.proofs.Members.{place_cases, place_right}
 use Rattle.sgt_core_model.proofs.Kept.{IsRead, IsFree, EndInRulingOrder, IsLegalLog, AreBlocks, IsLegalSite}
 use Rattle.sgt_core_model.proofs.Entries.{reads_read}
 use Rattle.sgt_core_model.proofs.Legal.{read-legal, decided-legal, block_of, IsBlock, Decides}
 use Rattle.sgt_core_model.proofs.Blocks.{blocks-nil, block_reads}
+use Rattle.sgt_names.proofs.Elements.{contains-none}
+use Rattle.sgt_names.proofs.Lists.{front_at}
 
 -- ---- one site
 
@@ -43,7 +45,7 @@ site-state items s t es due same free h = record { log = state-legal items s t (
 blocks-append : (xs ys : List Entry) → AreBlocks xs → AreBlocks ys → AreBlocks (xs ++ ys)
 blocks-append xs ys hx hy n e at_n opens =
     elim (place_cases xs ys n e at_n) [
-      | inl front ↦ let r = hx n e front.1 opens in (r.0, place_left xs ys (suc n) r.0 r.1, r.2)
+      | inl front ↦ let r = hx n e front.1 opens in (r.0, front_at xs ys (suc n) r.0 r.1, r.2)
       | inr back ↦
           let r = hy back.0 e back.2 opens in
           let next : length xs + suc back.0 ≡ suc n = omega (arith, back.1) in
@@ -105,7 +107,7 @@ site-written items s es due h = record {
   blocks = blocks-append es due h.blocks h.due_blocks;
   due_blocks = blocks-nil;
   reads = reads-append items es due h.reads (no_reads_behind items es due h.due_reads);
-  due_reads = λ e c k. nil_none e c;
+  due_reads = λ e c k. contains-none e c;
 }
 
 -- the block of a decision is due

@@ -15,21 +15,22 @@ use Rattle.sgt_names.specs.declared.entry.Holding.{Holding}
 use Rattle.sgt_cert.specs.declared.certificate.Step.{Step}
 use Rattle.sgt_certifier.specs.Certifier.{State, Arc, committed, refused, withdrawn, Commits, Refuses, with_begun, with_finished, with_withdrawn, with_install, with_closed}
 use Rattle.sgt_certifier.specs.Sound.{IsRuled}
-use Rattle.sgt_certifier.proofs.Members.{cons_cases, cons_here, nil_none, member_filter}
+use Rattle.sgt_certifier.proofs.Members.{cons_here, member_filter}
 use Rattle.sgt_core_model.specs.Core.{OpenStep, CoreState, fresh, items_at, sites_of, with_entries, only_at, changed_at, touches, is_some_change, as_changes, is_empty, is_written, committed_block, refused_block, withdrawn_block}
 use Rattle.sgt_core_model.proofs.Kept.{IsOrdered, IsFree, IsLegalSite, IsLegal}
 use Rattle.sgt_core_model.proofs.Entries.{as_wants}
 use Rattle.sgt_core_model.proofs.Legal.{Decides}
 use Rattle.sgt_core_model.proofs.LegalSites.{site-state, site-read, site-written, site-due}
 use Rattle.sgt_core_model.proofs.Blocks.{committed-block, committed-blocks, refused-block, refused-blocks, withdrawn-block, withdrawn-blocks, either_blocks}
+use Rattle.sgt_names.proofs.Elements.{contains-cases, contains-none}
 
 -- who has an entry at the site touches it
 any_here : (p : Entry → Bool) (xs : List Entry) (e : Entry) → Contains xs e → p e ≡ true → list_any p xs ≡ true
-any_here p [] e c t = absurd (nil_none e c)
+any_here p [] e c t = absurd (contains-none e c)
 any_here p (x ∷ xs) e c t =
     elim (cases_Bool (p x)) [
       | inl hit ↦ rw hit refl
-      | inr miss ↦ rw miss (elim (cons_cases x xs e c) [
+      | inr miss ↦ rw miss (elim (contains-cases x xs e c) [
         | inl is ↦ absurd (true≢false (sym t ∙ subst (λ f. p f ≡ false) is miss))
         | inr later ↦ any_here p xs e later t
       ])
@@ -80,10 +81,10 @@ read-legal_at c t k x v h ruled_ free known fresh legal = record {
 
 -- the step ends where no block is due any more
 pub all_pass : (p : ℕ → Bool) (xs : List ℕ) (x : ℕ) → list_all p xs ≡ true → Contains xs x → p x ≡ true
-all_pass p [] x t c = absurd (nil_none x c)
+all_pass p [] x t c = absurd (contains-none x c)
 all_pass p (y ∷ ys) x t c =
     elim (cases_Bool (p y)) [
-      | inl hit ↦ elim (cons_cases y ys x c) [
+      | inl hit ↦ elim (contains-cases y ys x c) [
         | inl is ↦ subst (λ z. p z ≡ true) is hit
         | inr later ↦ all_pass p ys x (subst (λ b. (b && list_all p ys) ≡ true) hit t) later
       ]
@@ -199,7 +200,7 @@ withdraw-legal c i o ruled_ h none active =
 
 pub close-legal : (c : CoreState) → IsLegal c → c.certifier.active ≡ [] → IsLegal (record c { certifier = with_closed c.certifier })
 close-legal c h none = record {
-  sites = λ s lt. site-state (items_at c s) c.certifier (with_closed c.certifier) (c.entries s) (c.due s) refl (λ j f. absurd (nil_none j (subst (λ ts. Contains ts j) none f.0))) (h.sites s lt);
+  sites = λ s lt. site-state (items_at c s) c.certifier (with_closed c.certifier) (c.entries s) (c.due s) refl (λ j f. absurd (contains-none j (subst (λ ts. Contains ts j) none f.0))) (h.sites s lt);
   changes_known = h.changes_known;
   changes_once = h.changes_once;
 }
@@ -211,17 +212,17 @@ pub fresh-legal : (items : List (List Holding)) → IsLegal (fresh items)
 fresh-legal items = record {
   sites = λ s lt. record {
     log = record {
-      known = λ e c. absurd (nil_none e c);
+      known = λ e c. absurd (contains-none e c);
       once = λ i j d l within. absurd (omega arith);
       closed = λ i j d l within. absurd (omega arith);
-      stands = λ e c. absurd (nil_none e c);
+      stands = λ e c. absurd (contains-none e c);
       in_order = λ i j d l within. absurd (omega arith);
     };
     blocks = λ n e at_n. absurd cc;
     due_blocks = λ n e at_n. absurd cc;
     reads = λ n t x v at_n. absurd cc;
-    due_reads = λ e c. absurd (nil_none e c);
+    due_reads = λ e c. absurd (contains-none e c);
   };
-  changes_known = λ t s d c. absurd (nil_none d c);
+  changes_known = λ t s d c. absurd (contains-none d c);
   changes_once = λ t s i j d l within. absurd (omega arith);
 }

@@ -18,7 +18,7 @@ use Rattle.sgt_order.specs.Graph.{IsTopological}
 use Rattle.sgt_cert.specs.declared.certificate.Step.{Step}
 use Rattle.sgt_certifier.specs.Certifier.{State, Arc, committed, refused, Joins, Commits, Refuses, serial, with_begun, with_finished, with_withdrawn, with_install, with_closed}
 use Rattle.sgt_certifier.specs.Sound.{IsSoundCertifier, IsOfWindow, AreNew}
-use Rattle.sgt_certifier.proofs.Members.{cons_cases, nil_none, place_cases, placed_member, AllPairs-append}
+use Rattle.sgt_certifier.proofs.Members.{place_cases, placed_member, AllPairs-append}
 use Rattle.sgt_certifier.proofs.Keeping.{opening-sound, begun-sound, finished-sound, withdrawn-sound, refused-sound, committed-sound, closed-sound, renoted-sound, uncommitted}
 use Rattle.sgt_core_model.specs.Core.{OpenStep, CoreState, fresh, with_entries, only_at, changed_at, touches, as_changes, AreEdges, committed_block, refused_block, withdrawn_block}
 use Rattle.sgt_site.specs.State.{change_entry, want_entry}
@@ -26,6 +26,7 @@ use Rattle.sgt_core_model.specs.Runs.{IsLoggedConflict}
 use Rattle.sgt_core_model.proofs.Kept.{written, IsOrdered}
 use Rattle.sgt_core_model.proofs.Entries.{as_wants, of_change, change_tx, want_tx}
 use Rattle.sgt_core_model.proofs.Conflicting.{without_others, in_longer, without_last}
+use Rattle.sgt_names.proofs.Elements.{contains-cases, contains-none}
 
 abbrev NotBack : (ℕ → ℕ → Type 0) → ℕ → ℕ → Type 0
 NotBack edge a b = edge b a → ⊥
@@ -129,7 +130,7 @@ closing-ordered c i h open_i =
     = λ s kind x a b k. in_longer (c.entries s) (c.due s) kind x a b (subst (λ zs. Conflicts zs kind x a b) (append-nil (c.entries s)) k) in
     record {
       certifier = finished-sound c.certifier i h.certifier open_i;
-      due = λ s e m. absurd (nil_none e m);
+      due = λ s e m. absurd (contains-none e m);
       begun = h.begun;
       windows = h.windows;
       edges = λ s kind x a b ca cb k. h.edges s kind x a b ca cb (longer s kind x a b k);
@@ -153,7 +154,7 @@ pub only_tx : (k : ℕ) (es : List Entry) (j : ℕ) → ((e : Entry) → Contain
 only_tx k es j own s e m =
     elim (cases_Bool (s == k)) [
       | inl here ↦ own e (subst (λ b. Contains (cond b es []) e) here m)
-      | inr there ↦ absurd (nil_none e (subst (λ b. Contains (cond b es []) e) there m))
+      | inr there ↦ absurd (contains-none e (subst (λ b. Contains (cond b es []) e) there m))
     ]
 
 pub read-ordered : (c : CoreState) (tx s : ℕ) (x : Name) (v : ℕ) → IsOrdered c → Contains c.certifier.active tx → (c.certifier.step ≡ Some tx → ⊥)
@@ -162,9 +163,9 @@ read-ordered c tx s x v o active free =
     let here = o.certifier.active_here tx active in
     grown-ordered c tx (only_at s (entry.Read tx x v ∷ [])) o here.0 here.1
     (λ placed_in. free (o.certifier.committed_open tx active placed_in))
-    (only_tx s (entry.Read tx x v ∷ []) tx (λ e m. elim (cons_cases (entry.Read tx x v) [] e m) [
+    (only_tx s (entry.Read tx x v ∷ []) tx (λ e m. elim (contains-cases (entry.Read tx x v) [] e m) [
       | inl is ↦ ap tx_of (sym is)
-      | inr none ↦ absurd (nil_none e none)
+      | inr none ↦ absurd (contains-none e none)
     ]))
 
 pub same-ordered : (c : CoreState) (changes : ℕ → ℕ → List (Name × Change)) (step : Option OpenStep) → IsOrdered c
@@ -175,13 +176,13 @@ same-ordered c changes step o = record { certifier = o.certifier; due = o.due; b
 
 block_tx : (t : Bool) (ops : List Entry) (last : Entry) (i : ℕ) → ((e : Entry) → Contains ops e → tx_of e ≡ i) → tx_of last ≡ i
     → (e : Entry) → Contains (cond t (ops ++ last ∷ []) []) e → tx_of e ≡ i
-block_tx false ops last i own end e m = absurd (nil_none e m)
+block_tx false ops last i own end e m = absurd (contains-none e m)
 block_tx true ops last i own end e m = elim (Contains-append_cases ops (last ∷ []) e m) [
   | inl op ↦ own e op
-  | inr at_end ↦ elim (cons_cases last [] e at_end) [ inl is ↦ ap tx_of (sym is) ∙ end | inr none ↦ absurd (nil_none e none) ]
+  | inr at_end ↦ elim (contains-cases last [] e at_end) [ inl is ↦ ap tx_of (sym is) ∙ end | inr none ↦ absurd (contains-none e none) ]
 ]
 
-changes_tx : (i : ℕ) (cs : List (Name × Change)) (e : Entry) → Contains (as_changes i cs) e → tx_of e ≡ i
+pub changes_tx : (i : ℕ) (cs : List (Name × Change)) (e : Entry) → Contains (as_changes i cs) e → tx_of e ≡ i
 changes_tx i cs e m = let d = of_change (change_entry i) cs e m in ap tx_of (sym d.2) ∙ change_tx i d.0.0 d.0.1
 
 wants_tx : (i : ℕ) (cs : List (Name × Change)) (e : Entry) → Contains (as_wants i cs) e → tx_of e ≡ i
@@ -208,7 +209,7 @@ refused_tx : (c : CoreState) (i s : ℕ) (e : Entry) → Contains (refused_block
 refused_tx c i s e m = block_tx (touches c i s) (as_wants i (c.changes i s)) (entry.Refuse i) i (wants_tx i (c.changes i s)) refl e m
 
 withdrawn_tx : (c : CoreState) (i s : ℕ) (e : Entry) → Contains (withdrawn_block c i s) e → tx_of e ≡ i
-withdrawn_tx c i s e m = block_tx (touches c i s) [] (entry.Withdraw i) i (λ f n. absurd (nil_none f n)) refl e m
+withdrawn_tx c i s e m = block_tx (touches c i s) [] (entry.Withdraw i) i (λ f n. absurd (contains-none f n)) refl e m
 
 pub edges-new : (c : CoreState) (i : ℕ) (arcs : List Arc) → AreEdges c i arcs → AreNew c.certifier i arcs
 edges-new c i arcs edges arc m = ((edges arc).0 m).ends
@@ -290,13 +291,13 @@ only_member : (k : ℕ) (es : List Entry) (s : ℕ) (e : Entry) → Contains (on
 only_member k es s e m =
     elim (cases_Bool (s == k)) [
       | inl here ↦ subst (λ b. Contains (cond b es []) e) here m
-      | inr there ↦ absurd (nil_none e (subst (λ b. Contains (cond b es []) e) there m))
+      | inr there ↦ absurd (contains-none e (subst (λ b. Contains (cond b es []) e) there m))
     ]
 
 cleared_member : (k : ℕ) (due : ℕ → List Entry) (s : ℕ) (e : Entry) → Contains (changed_at k [] due s) e → Contains (due s) e
 cleared_member k due s e m =
     elim (cases_Bool (s == k)) [
-      | inl here ↦ absurd (nil_none e (subst (λ b. Contains (cond b [] (due s)) e) here m))
+      | inl here ↦ absurd (contains-none e (subst (λ b. Contains (cond b [] (due s)) e) here m))
       | inr there ↦ subst (λ b. Contains (cond b [] (due s)) e) there m
     ]
 
@@ -368,17 +369,17 @@ close-ordered c o idle none = record {
   certifier = closed-sound c.certifier o.certifier idle none;
   due = o.due;
   begun = o.begun;
-  windows = λ s. record { older = c.entries s; newer = []; parts = sym (append-nil (c.entries s)); old = o.begun s; new = λ e m. absurd (nil_none e m) };
-  edges = λ s kind x a b ca cb n. absurd (nil_none a ca);
+  windows = λ s. record { older = c.entries s; newer = []; parts = sym (append-nil (c.entries s)); old = o.begun s; new = λ e m. absurd (contains-none e m) };
+  edges = λ s kind x a b ca cb n. absurd (contains-none a ca);
   past = ordered-serial c o;
 }
 
 pub fresh-ordered : (items : List (List Holding)) → IsOrdered (fresh items)
 fresh-ordered items = record {
   certifier = opening-sound;
-  due = λ s e m. absurd (nil_none e m);
-  begun = λ s e m. absurd (nil_none e m);
-  windows = λ s. record { older = []; newer = []; parts = refl; old = λ e m. absurd (nil_none e m); new = λ e m. absurd (nil_none e m) };
-  edges = λ s kind x a b ca cb n. absurd (nil_none a ca);
+  due = λ s e m. absurd (contains-none e m);
+  begun = λ s e m. absurd (contains-none e m);
+  windows = λ s. record { older = []; newer = []; parts = refl; old = λ e m. absurd (contains-none e m); new = λ e m. absurd (contains-none e m) };
+  edges = λ s kind x a b ca cb n. absurd (contains-none a ca);
   past = λ i j d lt within. absurd (omega arith);
 }

@@ -6,7 +6,8 @@ use Rattle.std.proofs.lemmas.Bool.{true≢false}
 use Rattle.std.proofs.lemmas.Bool.Decides.{Decides-eqb, Decides-and, Decides-or, Decides-like}
 use Rattle.sgt_order.specs.Graph.{Leads, Reaches, TellsReached}
 use Rattle.sgt_certifier.specs.Certifier.{Arc, Joins}
-use Rattle.sgt_certifier.proofs.Members.{cons_cases, cons_here, cons_later, nil_none}
+use Rattle.sgt_certifier.proofs.Members.{cons_here}
+use Rattle.sgt_names.proofs.Elements.{contains-cases, contains-later, contains-none}
 
 -- ---- walks put together
 
@@ -45,7 +46,7 @@ module _ (edge : ℕ → ℕ → Type 0) where
 -- ---- fewer edges
 
 joins_more : (e : Arc) (es : List Arc) (a b : ℕ) → Joins es a b → Joins (e ∷ es) a b
-joins_more e es a b j = (j.0, cons_later e es _ j.1)
+joins_more e es a b j = (j.0, contains-later e es _ j.1)
 
 leads_more : (e : Arc) (es : List Arc) (a : ℕ) (xs : List ℕ) (b : ℕ) → Leads (Joins es) a xs b → Leads (Joins (e ∷ es)) a xs b
 leads_more e es a [] b h = joins_more e es a b h
@@ -72,7 +73,7 @@ through-reaches e es a b h = elim h [
 
 -- the first step of a walk is the new edge, or an old one
 first_step : (e : Arc) (es : List Arc) (a b : ℕ) → Joins (e ∷ es) a b → ((a ≡ e.from) × (b ≡ e.to)) ⊎ Joins es a b
-first_step e es a b j = elim (cons_cases e es _ j.1) [
+first_step e es a b j = elim (contains-cases e es _ j.1) [
   | inl is ↦ inl (sym (ap (λ (x : Arc). x.from) is), sym (ap (λ (x : Arc). x.to) is))
   | inr old ↦ inr (j.0, old)
 ]
@@ -108,8 +109,8 @@ reaches [] a b = false
 reaches (e ∷ es) a b = reaches es a b || (((a == e.from) || reaches es a e.from) && ((e.to == b) || reaches es e.to b))
 
 no_walk : (a : ℕ) (xs : List ℕ) (b : ℕ) → Leads (Joins []) a xs b → ⊥
-no_walk a [] b h = nil_none _ h.1
-no_walk a (c ∷ cs) b h = nil_none _ h.0.1
+no_walk a [] b h = contains-none _ h.1
+no_walk a (c ∷ cs) b h = contains-none _ h.0.1
 
 pub reaches-Decides : (arcs : List Arc) (a b : ℕ) → Decides (reaches arcs a b) (Reaches (Joins arcs) a b)
 reaches-Decides [] a b = (λ e. absurd (true≢false (sym e)), λ r. absurd (no_walk a r.0 b r.1))

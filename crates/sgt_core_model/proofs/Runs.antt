@@ -16,7 +16,7 @@ use Rattle.sgt_names.specs.declared.entry.Entry.TheVariants as entry
 use Rattle.sgt_names.specs.declared.entry.Holding.{Holding}
 use Rattle.sgt_names.proofs.Lists.{option_cases}
 use Rattle.sgt_certifier.specs.Certifier.{State, with_begun, with_withdrawn, with_install, with_closed}
-use Rattle.sgt_certifier.proofs.Members.{cons_cases, cons_here, cons_later, nil_none, member_filter}
+use Rattle.sgt_certifier.proofs.Members.{cons_here, member_filter}
 use Rattle.sgt_certifier.proofs.Replaying.{contains_cases}
 use Rattle.sgt_certifier.proofs.Keeping.{uncommitted}
 use Rattle.sgt_certifier.proofs.Ruling.{opening-ruled, begun-ruled, finished-ruled, withdrawn-ruled, refused-ruled, committed-ruled, closed-ruled, renoted-ruled}
@@ -34,7 +34,8 @@ use Rattle.sgt_core_model.proofs.Entries.{as_wants}
 use Rattle.sgt_core_model.proofs.Ordered.{moved_block, only_tx, closing-ordered, begin-ordered, read-ordered, same-ordered, yes-ordered, no-ordered, install-ordered, noted-ordered, withdraw-ordered, close-ordered, fresh-ordered}
 use Rattle.sgt_core_model.proofs.LegalSteps.{begin-legal, read-legal_at, closing-legal, install-legal, noted-legal, yes-legal, no-legal, withdraw-legal, close-legal, gather-legal, fresh-legal, none_due, touches_own}
 use Rattle.sgt_core_model.proofs.Changes.{change-legal, unread}
-use Rattle.sgt_core_model.proofs.Walks.{or_true, untouched_outside, closing-walked, yes-walked, no-walked, install-walked, withdraw-walked, read-walked, same-walked, site_of_item, fresh-walked}
+use Rattle.sgt_core_model.proofs.Walks.{untouched_outside, closing-walked, yes-walked, no-walked, install-walked, withdraw-walked, read-walked, same-walked, site_of_item, fresh-walked}
+use Rattle.sgt_names.proofs.Elements.{contains-cases, contains-later, contains-none, or_right}
 
 -- ---- what an allowed event says
 
@@ -102,7 +103,7 @@ touching_there c i s hit = either (list_any (λ e. tx_of e == i) (c.entries s)) 
     logged (f ∷ fs) e =
         elim (cases_Bool (tx_of f == i)) [
           | inl own ↦ (f, cons_here f fs, eqb-true (tx_of f) i own)
-          | inr other ↦ let r = logged fs (subst (λ b. (b || list_any (λ e. tx_of e == i) fs) ≡ true) other e) in (r.0, cons_later f fs r.0 r.1, r.2)
+          | inr other ↦ let r = logged fs (subst (λ b. (b || list_any (λ e. tx_of e == i) fs) ≡ true) other e) in (r.0, contains-later f fs r.0 r.1, r.2)
         ]
 
     either : (t : Bool) → list_any (λ e. tx_of e == i) (c.entries s) ≡ t → IsThere c i s
@@ -122,13 +123,13 @@ none_active [] twice = refl
 none_active (x ∷ xs) twice = absurd (twice (λ e. cc))
 
 name_cases : (xs : List Name) (x : Name) → Contains xs x ⊎ (Contains xs x → ⊥)
-name_cases [] x = inr (nil_none x)
+name_cases [] x = inr (contains-none x)
 name_cases (y ∷ ys) x =
     elim (cases_Bool (bytes_eq y x)) [
       | inl hit ↦ inl (subst (Contains (y ∷ ys)) ((bytes_eq-Decides y x).0 hit) (cons_here y ys))
       | inr miss ↦ elim (name_cases ys x) [
-        | inl later ↦ inl (cons_later y ys x later)
-        | inr none ↦ inr (λ c. elim (cons_cases y ys x c) [ inl is ↦ true≢false (sym ((bytes_eq-Decides y x).1 is) ∙ miss) | inr later ↦ none later ])
+        | inl later ↦ inl (contains-later y ys x later)
+        | inr none ↦ inr (λ c. elim (contains-cases y ys x c) [ inl is ↦ true≢false (sym ((bytes_eq-Decides y x).1 is) ∙ miss) | inr later ↦ none later ])
       ]
     ]
 
@@ -140,7 +141,7 @@ range_has low zero k lt = absurd (omega arith)
 range_has low (suc n) zero lt = let e : low ≡ low + 0 = omega arith in subst (Contains (low ∷ range_with_len (low + 1) n)) e (cons_here low (range_with_len (low + 1) n))
 range_has low (suc n) (suc k) lt =
     let e : low + 1 + k ≡ low + suc k = omega arith in
-    cons_later low (range_with_len (low + 1) n) (low + suc k) (subst (Contains (range_with_len (low + 1) n)) e (range_has (low + 1) n k (omega arith)))
+    contains-later low (range_with_len (low + 1) n) (low + suc k) (subst (Contains (range_with_len (low + 1) n)) e (range_has (low + 1) n k (omega arith)))
 
 pub is_site : (c : CoreState) (s : ℕ) → s < length c.items → Contains (sites_of c) s
 is_site c s lt = let e : 0 + s ≡ s = omega arith in subst (Contains (sites_of c)) e (range_has 0 (length c.items) s lt)
@@ -180,7 +181,7 @@ some_fails p (x ∷ xs) e =
     elim (cases_Bool (p x)) [
       | inl hit ↦
           let rest : list_all p xs ≡ false = subst (λ b. (b && list_all p xs) ≡ false) hit e in
-          let r = some_fails p xs rest in (r.0, cons_later x xs r.0 r.1, r.2)
+          let r = some_fails p xs rest in (r.0, contains-later x xs r.0 r.1, r.2)
       | inr miss ↦ (x, cons_here x xs, miss)
     ]
 
@@ -215,12 +216,12 @@ block_touches c tx mid last ops s there = elim there [
     | inl was ↦ touches_own c tx s logged.0 was logged.2
     | inr new ↦ only_if (touches c tx s) (ops s ++ last ∷ []) logged.0 new
   ]
-  | inr some ↦ ap (λ b. list_any (λ e. tx_of e == tx) (c.entries s) || b) some ∙ or_true (list_any (λ e. tx_of e == tx) (c.entries s))
+  | inr some ↦ ap (λ b. list_any (λ e. tx_of e == tx) (c.entries s) || b) some ∙ or_right (list_any (λ e. tx_of e == tx) (c.entries s))
 ]
   where
     only_if : (t : Bool) (es : List Entry) (e : Entry) → Contains (cond t es []) e → t ≡ true
     only_if true es e m = refl
-    only_if false es e m = absurd (nil_none e m)
+    only_if false es e m = absurd (contains-none e m)
 
 -- and there it is gathered
 pub block_gathered : (c : CoreState) (tx : ℕ) → IsSound c → ((s : ℕ) → Contains (touched c tx) s → (IsGathered c tx s → ⊥) → ⊥)
@@ -263,9 +264,9 @@ begin-kept c k allowed = record {
 }
 
 read_tx : (k tx : ℕ) (x : Name) (v s : ℕ) (e : Entry) → Contains (only_at k (entry.Read tx x v ∷ []) s) e → tx_of e ≡ tx
-read_tx k tx x v s e m = only_tx k (entry.Read tx x v ∷ []) tx (λ f n. elim (cons_cases (entry.Read tx x v) [] f n) [
+read_tx k tx x v s e m = only_tx k (entry.Read tx x v ∷ []) tx (λ f n. elim (contains-cases (entry.Read tx x v) [] f n) [
   | inl is ↦ ap tx_of (sym is)
-  | inr none ↦ absurd (nil_none f none)
+  | inr none ↦ absurd (contains-none f none)
 ]) s e m
 
 reads_site-kept : (c : CoreState) (tx s : ℕ) (x : Name) (v : ℕ) (new : CoreState) → IsKept c → IsAllowed c (Read tx s x) → look c tx s x ≡ None
@@ -435,7 +436,7 @@ close-kept c k allowed =
         ordered = close-ordered c k.sound.ordered closed none;
         ruled = closed-ruled c.certifier k.sound.ruled;
         legal = close-legal c k.sound.legal none;
-        walked = same-walked c (with_closed c.certifier) c.changes c.step k.sound.walked (λ arc m. absurd (nil_none arc m)) refl;
+        walked = same-walked c (with_closed c.certifier) c.changes c.step k.sound.walked (λ arc m. absurd (contains-none arc m)) refl;
       };
       together = k.together;
       gathered = λ i s e m. absurd (let f : Some i ≡ None = sym e ∙ closed in cc);

@@ -17,7 +17,7 @@ use Rattle.sgt_names.specs.declared.entry.Entry.{Entry}
 use Rattle.sgt_names.specs.declared.entry.Entry.TheVariants as entry
 use Rattle.sgt_names.specs.declared.entry.Holding.{Holding}
 use Rattle.sgt_names.proofs.Places.{All-from_at, AllPairs-from_at, AllPairs_at, Contains-from_at, slice_get-none}
-use Rattle.sgt_names.proofs.Lists.{option_cases}
+use Rattle.sgt_names.proofs.Lists.{option_cases, map_at}
 use Rattle.sgt_cert.specs.Certificate.{decided_tx, Suits}
 use Rattle.sgt_cert.specs.Valid.{IsDecided, EndInOrder, Agrees, RiseInRank, IsRanked, IsLogged, AreLogged, IsValidLog, IsValid}
 use Rattle.sgt_cert.specs.declared.certificate.Step.{Step}
@@ -25,13 +25,15 @@ use Rattle.sgt_cert.specs.declared.bundle.SiteLog.{SiteLog}
 use Rattle.sgt_cert.specs.declared.certificate.Decision.{Decision}
 use Rattle.sgt_cert.specs.declared.certificate.Decision.TheVariants as decision
 use Rattle.sgt_certifier.specs.Certifier.{Ruling, committed, refused, withdrawn, ruled, serial, ranked, place_in}
-use Rattle.sgt_certifier.proofs.Members.{cons_cases, cons_here, nil_none, forward}
-use Rattle.sgt_certifier.proofs.Ruling.{map_place, place_map, certificate-once, certificate-ranks, certificate-cycles}
+use Rattle.sgt_certifier.proofs.Members.{cons_here, forward}
+use Rattle.sgt_certifier.proofs.Ruling.{certificate-once, certificate-ranks, certificate-cycles, decided_ranked, ranked_refusal}
 use Rattle.sgt_core_model.specs.Core.{CoreState, items_in, items_at, finals_of, site_log, bundle_of}
 use Rattle.sgt_core_model.specs.Runs.{IsLoggedConflict}
 use Rattle.sgt_core_model.proofs.Kept.{SuitsRuling, IsRuledBy, IsLegalSite, EndInRulingOrder, IsAt, AreAt, IsSound, written}
 use Rattle.sgt_core_model.proofs.Conflicting.{in_longer}
 use Rattle.sgt_core_model.proofs.Ordered.{ordered-serial}
+use Rattle.sgt_cert.proofs.Headline.{listed}
+use Rattle.sgt_names.proofs.Elements.{contains-cases, contains-none, get-mapped}
 
 -- ---- values
 
@@ -46,17 +48,6 @@ changes_some v (c ∷ cs) =
     let w = changes_some u.0 cs in
     (w.0, ap (λ o. fold value_with o cs) u.1 ∙ w.1)
 
-listed : (items : List Holding) (x : Name) → Contains (names items) x → (v : ℕ) × (value_in items x ≡ Some v)
-listed [] x c = absurd (nil_none x c)
-listed (h ∷ hs) x c =
-    elim (cases_Bool (bytes_eq h.item x)) [
-      | inl hit ↦ (h.value, ap (λ t. cond t (Some h.value) (value_in hs x)) hit)
-      | inr miss ↦ elim (cons_cases h.item (names hs) x c) [
-        | inl is ↦ absurd (true≢false (sym ((bytes_eq-Decides h.item x).1 is) ∙ miss))
-        | inr later ↦ let r = listed hs x later in (r.0, ap (λ t. cond t (Some h.value) (value_in hs x)) miss ∙ r.1)
-      ]
-    ]
-
 -- a listed item has a value at the end of any entries
 pub valued : (items : List Holding) (es : List Entry) (x : Name) → Contains (names items) x → (w : ℕ) × (value_at items es x ≡ Some w)
 valued items es x c =
@@ -69,9 +60,9 @@ final_of items es h = record { item = h.item; value = unwrap_or (value_at items 
 
 finals-legal : (items : List Holding) (es : List Entry) → FinalsAreLegal items es (finals_of items es)
 finals-legal items es = All-from_at (λ (h : Holding). value_at items es h.item ≡ Some h.value) (finals_of items es) (λ n f at_n.
-    let m = map_place (final_of items es) items n f at_n in
+    let m = map_at (final_of items es) items n f at_n in
     let h = m.0 in
-    let in_names : Contains (names items) h.item = Contains-from_at (names items) n h.item (place_map (λ (k : Holding). k.item) items n h m.1) in
+    let in_names : Contains (names items) h.item = Contains-from_at (names items) n h.item (get-mapped (λ (k : Holding). k.item) items n h m.1) in
     let w = valued items es h.item in_names in
     subst (λ (k : Holding). value_at items es k.item ≡ Some k.value) m.2 (w.1 ∙ ap Some (sym (ap (λ o. unwrap_or o 0) w.1))))
 
@@ -87,11 +78,6 @@ suits-ranked order (entry.Commit tx) (committed i) h = tt
 suits-ranked order (entry.Refuse tx) (refused i w) h = tt
 suits-ranked order (entry.Withdraw tx) (withdrawn i) h = tt
 suits-ranked order _ _ h = absurd h
-
-decided_is : (order : List ℕ) (r : Ruling) → decided_tx (ranked order r) ≡ ruled r
-decided_is order (committed u) = refl
-decided_is order (refused u walk) = refl
-decided_is order (withdrawn u) = refl
 
 commit_is : (order : List ℕ) (r : Ruling) (tx rank : ℕ) → ranked order r ≡ decision.Commit tx rank → (r ≡ committed tx) × (place_in order tx ≡ rank)
 commit_is order (committed u) tx rank e =
@@ -117,7 +103,7 @@ module _ (c : CoreState) (h : IsSound c) (none : c.certifier.active ≡ []) (s :
   legal = h.legal.sites s lt
 
   idle : (e : Entry) → Contains (c.due s) e → ⊥
-  idle e m = nil_none (tx_of e) (subst (λ ts. Contains ts (tx_of e)) none (h.ordered.certifier.open_active (tx_of e) (h.ordered.due s e m)))
+  idle e m = contains-none (tx_of e) (subst (λ ts. Contains ts (tx_of e)) none (h.ordered.certifier.open_active (tx_of e) (h.ordered.due s e m)))
 
   due_is : c.due s ≡ []
   due_is = empty (c.due s) idle
@@ -135,7 +121,7 @@ module _ (c : CoreState) (h : IsSound c) (none : c.certifier.active ≡ []) (s :
   -- each entry is decided, and its transaction has an end
   done : (e : Entry) → Contains (c.entries s) e → ((n : ℕ) × IsRuledBy c.certifier.rulings e n) × ((f : Entry) × Contains (c.entries s) f × IsEnd f × (tx_of f ≡ tx_of e))
   done e m = elim (legal.log.stands e (in_log e m)) [
-    | inl read ↦ absurd (nil_none (tx_of e) (subst (λ ts. Contains ts (tx_of e)) none read.1.0))
+    | inl read ↦ absurd (contains-none (tx_of e) (subst (λ ts. Contains ts (tx_of e)) none read.1.0))
     | inr d ↦ (d.0, (d.1.0, subst (λ es. Contains es d.1.0) log_is d.1.1, d.1.2, d.1.3))
   ]
 
@@ -154,15 +140,15 @@ module _ (c : CoreState) (h : IsSound c) (none : c.certifier.active ≡ []) (s :
 
   ruling_of : (e : Entry) (n : ℕ) → IsDecided decisions e n → (r : Ruling) × (slice_get c.certifier.rulings n ≡ Some r) × (ruled r ≡ tx_of e)
   ruling_of e n d =
-      let m = map_place (ranked order) c.certifier.rulings n d.0 d.1 in
-      (m.0, m.1, sym (decided_is order m.0) ∙ ap decided_tx m.2 ∙ d.2)
+      let m = map_at (ranked order) c.certifier.rulings n d.0 d.1 in
+      (m.0, m.1, sym (decided_ranked order m.0) ∙ ap decided_tx m.2 ∙ d.2)
 
   agrees : Agrees decisions (c.entries s)
   agrees = record {
     decided = All-from_at (λ e. (n : ℕ) × IsDecided decisions e n) (c.entries s) (λ n e at_n.
         let by = (done e (Contains-from_at (c.entries s) n e at_n)).0 in
         let r = by.1 in
-        (by.0, (ranked order r.0, place_map (ranked order) c.certifier.rulings by.0 r.0 r.1, decided_is order r.0 ∙ r.2, suits-ranked order e r.0 r.3)));
+        (by.0, (ranked order r.0, get-mapped (ranked order) c.certifier.rulings by.0 r.0 r.1, decided_ranked order r.0 ∙ r.2, suits-ranked order e r.0 r.3)));
     in_order = subst (AllPairs (EndInOrder decisions)) log_is (AllPairs-from_at (EndInOrder decisions) log (λ p q e f le at_e at_f end end_f m n de df.
         let a = ruling_of e m de in
         let b = ruling_of f n df in
@@ -171,8 +157,8 @@ module _ (c : CoreState) (h : IsSound c) (none : c.certifier.active ≡ []) (s :
 
   is_ranked : IsRanked decisions (c.entries s)
   is_ranked = AllPairs-from_at (RiseInRank decisions) (c.entries s) (λ p q e f le at_e at_f kind x m n r r_ clash apart first_com second_com.
-      let a = map_place (ranked order) c.certifier.rulings m (decision.Commit (tx_of e) r) first_com in
-      let b = map_place (ranked order) c.certifier.rulings n (decision.Commit (tx_of f) r_) second_com in
+      let a = map_at (ranked order) c.certifier.rulings m (decision.Commit (tx_of e) r) first_com in
+      let b = map_at (ranked order) c.certifier.rulings n (decision.Commit (tx_of f) r_) second_com in
       let a_is = commit_is order a.0 (tx_of e) r a.2 in
       let b_is = commit_is order b.0 (tx_of f) r_ b.2 in
       let e_in = h.ruled.to_serial m (tx_of e) (a.1 ∙ ap Some a_is.0) in
@@ -212,7 +198,7 @@ enumerate_place m (y ∷ ys) (suc k) x h =
 
 valid_site : (c : CoreState) → IsSound c → c.certifier.active ≡ [] → (n : ℕ) (log : SiteLog) → slice_get (bundle_of c).sites n ≡ Some log → IsValidLog (bundle_of c).certificate.decisions log
 valid_site c h none n log at_n =
-    let m = map_place (λ (p : ℕ × List Holding). site_log p.1 (c.entries p.0)) (enumerate_from 0 c.items) n log at_n in
+    let m = map_at (λ (p : ℕ × List Holding). site_log p.1 (c.entries p.0)) (enumerate_from 0 c.items) n log at_n in
     let p = m.0 in
     let e = enumerated 0 c.items n p m.1 in
     let number : p.0 ≡ n = e.0 ∙ zero-add n in
@@ -229,7 +215,7 @@ logged_step c h none a step at =
       | inl absent ↦ let out = slice_get-none c.items s absent in let in_ = at.site in absurd (omega arith)
       | inr present ↦
           let items = present.0 in
-          let place = place_map (λ (p : ℕ × List Holding). site_log p.1 (c.entries p.0)) (enumerate_from 0 c.items) s (0 + s, items) (enumerate_place 0 c.items s items present.1) in
+          let place = get-mapped (λ (p : ℕ × List Holding). site_log p.1 (c.entries p.0)) (enumerate_from 0 c.items) s (0 + s, items) (enumerate_place 0 c.items s items present.1) in
           let at_s : slice_get (bundle_of c).sites s ≡ Some (site_log items (c.entries s)) = place ∙ ap (λ i. Some (site_log items (c.entries i))) (zero-add s) in
           (site_log items (c.entries s), at_s, subst (λ es. Conflicts es step.label.kind step.label.item a step.to) (log_is c h none s at.site) at.conflict)
     ]
@@ -238,17 +224,12 @@ logged_walk : (c : CoreState) → IsSound c → c.certifier.active ≡ [] → (a
 logged_walk c h none a [] at = tt
 logged_walk c h none a (step ∷ steps) at = (logged_step c h none a step at.0, logged_walk c h none step.to steps at.1)
 
-refusal_of : (order : List ℕ) (r : Ruling) (tx : ℕ) (walk : List Step) → ranked order r ≡ decision.Refuse tx walk → r ≡ refused tx walk
-refusal_of order (committed u) tx walk e = absurd cc
-refusal_of order (refused u w) tx walk e = cc
-refusal_of order (withdrawn u) tx walk e = absurd cc
-
 pub valid-bundle : (c : CoreState) → IsSound c → c.certifier.active ≡ [] → IsValid (bundle_of c)
 valid-bundle c h none = record {
   logs = All-from_at (IsValidLog (bundle_of c).certificate.decisions) (bundle_of c).sites (valid_site c h none);
   once = certificate-once c.certifier h.ruled;
   ranks = certificate-ranks c.certifier h.ruled;
   cycles = λ n tx walk at_n.
-      let m = map_place (ranked (serial c.certifier)) c.certifier.rulings n (decision.Refuse tx walk) at_n in
-      (certificate-cycles c.certifier h.ruled n tx walk at_n, logged_walk c h none tx walk (h.walked.walks n tx walk (m.1 ∙ ap Some (refusal_of (serial c.certifier) m.0 tx walk m.2))));
+      let m = map_at (ranked (serial c.certifier)) c.certifier.rulings n (decision.Refuse tx walk) at_n in
+      (certificate-cycles c.certifier h.ruled n tx walk at_n, logged_walk c h none tx walk (h.walked.walks n tx walk (m.1 ∙ ap Some (ranked_refusal (serial c.certifier) m.0 tx walk m.2))));
 }

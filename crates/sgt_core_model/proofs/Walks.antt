@@ -18,14 +18,14 @@ use Rattle.sgt_names.specs.declared.entry.Kind.{Kind}
 use Rattle.sgt_names.proofs.Places.{Contains-from_at}
 use Rattle.sgt_cert.specs.declared.certificate.Step.{Step}
 use Rattle.sgt_certifier.specs.Certifier.{State, Arc, Walks, Commits, Refuses, committed, refused, withdrawn, with_finished, with_withdrawn}
-use Rattle.sgt_certifier.proofs.Members.{nil_none, cons_here}
-use Rattle.sgt_certifier.proofs.Ruling.{push_cases}
+use Rattle.sgt_certifier.proofs.Members.{cons_here}
 use Rattle.sgt_core_model.specs.Core.{items_in, items_at, OpenStep, CoreState, fresh, with_entries, only_at, changed_at, touches, is_some_change, sites_of, as_changes, IsEdgeOf, AreEdges, committed_block, refused_block, withdrawn_block, is_empty, is_written}
 use Rattle.sgt_core_model.proofs.Kept.{IsAt, AreAt, IsWalked, IsLegal}
 use Rattle.sgt_core_model.proofs.Entries.{as_wants}
 use Rattle.sgt_core_model.proofs.Conflicting.{in_longer, with_others, as_asked}
 use Rattle.sgt_core_model.proofs.Ordered.{moved_block}
 use Rattle.sgt_core_model.proofs.LegalSteps.{unchanged_there, all_pass, empty_is, touches_own}
+use Rattle.sgt_names.proofs.Elements.{or_right, contains-none, get-push_cases}
 
 -- conflicts stay
 abbrev Grows : CoreState → CoreState → Type 0
@@ -58,7 +58,7 @@ closing-walked c i there w done =
     record { outside = w.outside; arcs = λ arc m. g arc.label arc.from arc.to (w.arcs arc m); walks = grown_walks c after w g (λ n tx walk e. e) }
 
 no_changes_outside : (c : CoreState) (i s : ℕ) → IsLegal c → length c.items ≤ s → c.changes i s ≡ []
-no_changes_outside c i s l out = empty (c.changes i s) (λ d m. nil_none d.0 (subst (λ o. Contains (names (items_in o)) d.0) (slice_get_past c.items s out) (l.changes_known i s d m)))
+no_changes_outside c i s l out = empty (c.changes i s) (λ d m. contains-none d.0 (subst (λ o. Contains (names (items_in o)) d.0) (slice_get_past c.items s out) (l.changes_known i s d m)))
   where
     empty : (ds : List (Name × Change)) → ((d : Name × Change) → Contains ds d → ⊥) → ds ≡ []
     empty [] g = refl
@@ -68,19 +68,15 @@ pub untouched_outside : (c : CoreState) (i s : ℕ) → IsWalked c → IsLegal c
 untouched_outside c i s w l out =
     ap (λ es. list_any (λ e. tx_of e == i) es || is_some_change (c.changes i s)) (w.outside s out) ∙ ap is_some_change (no_changes_outside c i s l out)
 
-pub or_true : (b : Bool) → (b || true) ≡ true
-or_true true = refl
-or_true false = refl
-
 touches_with : (c : CoreState) (i s n : ℕ) (e : Entry) → slice_get (c.entries s ++ as_changes i (c.changes i s)) n ≡ Some e → tx_of e ≡ i → touches c i s ≡ true
 touches_with c i s n e at_n own =
     elim (Contains-append_cases (c.entries s) (as_changes i (c.changes i s)) e (Contains-from_at (c.entries s ++ as_changes i (c.changes i s)) n e at_n)) [
       | inl logged ↦ touches_own c i s e logged own
-      | inr mine ↦ ap (λ b. list_any (λ f. tx_of f == i) (c.entries s) || b) (some_change (c.changes i s) e mine) ∙ or_true (list_any (λ f. tx_of f == i) (c.entries s))
+      | inr mine ↦ ap (λ b. list_any (λ f. tx_of f == i) (c.entries s) || b) (some_change (c.changes i s) e mine) ∙ or_right (list_any (λ f. tx_of f == i) (c.entries s))
     ]
   where
     some_change : (ds : List (Name × Change)) (e : Entry) → Contains (as_changes i ds) e → is_some_change ds ≡ true
-    some_change [] e m = absurd (nil_none e m)
+    some_change [] e m = absurd (contains-none e m)
     some_change (d ∷ ds) e m = refl
 
 -- an edge of i is at a site that i touches
@@ -121,7 +117,7 @@ yes-walked c i arcs mid w l none edges m =
             let at = edge_site c i arc w l e in
             record { site = at.0; conflict = block_grow (c.entries arc.label.site) (as_changes i (c.changes i arc.label.site)) (entry.Commit i) (touches c i arc.label.site) arc.label.kind arc.label.item arc.from arc.to at.1 e.conflict }
       ];
-      walks = grown_walks c after w g (λ n tx walk at_n. elim (push_cases c.certifier.rulings (committed i) n (refused tx walk) (subst (λ (s : State). slice_get s.rulings n ≡ Some (refused tx walk)) m.after at_n)) [
+      walks = grown_walks c after w g (λ n tx walk at_n. elim (get-push_cases c.certifier.rulings (committed i) n (refused tx walk) (subst (λ (s : State). slice_get s.rulings n ≡ Some (refused tx walk)) m.after at_n)) [
         | inl was ↦ was
         | inr new ↦ let e = new.1 in absurd cc
       ]);
@@ -146,7 +142,7 @@ no-walked c i arcs walk mid w l none edges m =
     record {
       outside = w.outside;
       arcs = λ arc member. g arc.label arc.from arc.to (w.arcs arc (subst (λ (s : State). Contains s.arcs arc) m.after member));
-      walks = λ n tx steps at_n. elim (push_cases c.certifier.rulings (refused i walk) n (refused tx steps) (subst (λ (s : State). slice_get s.rulings n ≡ Some (refused tx steps)) m.after at_n)) [
+      walks = λ n tx steps at_n. elim (get-push_cases c.certifier.rulings (refused i walk) n (refused tx steps) (subst (λ (s : State). slice_get s.rulings n ≡ Some (refused tx steps)) m.after at_n)) [
         | inl was ↦ steps_grow c after g tx steps (w.walks n tx steps was)
         | inr new ↦
             let e = new.1 in
@@ -181,7 +177,7 @@ withdraw-walked c i w l =
     record {
       outside = λ s out. ap (λ b. c.entries s ++ cond b (entry.Withdraw i ∷ []) []) (untouched_outside c i s w l out) ∙ append-nil (c.entries s) ∙ w.outside s out;
       arcs = λ arc m. g arc.label arc.from arc.to (w.arcs arc m);
-      walks = grown_walks c after w g (λ n tx walk at_n. elim (push_cases c.certifier.rulings (withdrawn i) n (refused tx walk) at_n) [ inl was ↦ was | inr new ↦ let e = new.1 in absurd cc ]);
+      walks = grown_walks c after w g (λ n tx walk at_n. elim (get-push_cases c.certifier.rulings (withdrawn i) n (refused tx walk) at_n) [ inl was ↦ was | inr new ↦ let e = new.1 in absurd cc ]);
     }
 
 pub read-walked : (c : CoreState) (s : ℕ) (e : Entry) → s < length c.items → IsWalked c → IsWalked (with_entries c (only_at s (e ∷ [])))
@@ -206,10 +202,10 @@ same-walked c mid changes step w fewer same =
     }
 
 pub fresh-walked : (items : List (List Holding)) → IsWalked (fresh items)
-fresh-walked items = record { outside = λ s out. refl; arcs = λ arc m. absurd (nil_none arc m); walks = λ n tx walk at_n. absurd cc }
+fresh-walked items = record { outside = λ s out. refl; arcs = λ arc m. absurd (contains-none arc m); walks = λ n tx walk at_n. absurd cc }
 
 pub site_of_item : (c : CoreState) (s : ℕ) (x : Name) → Contains (names (items_at c s)) x → s < length c.items
-site_of_item c s x m = inside s (λ out. nil_none x (subst (λ o. Contains (names (items_in o)) x) (slice_get_past c.items s out) m))
+site_of_item c s x m = inside s (λ out. contains-none x (subst (λ o. Contains (names (items_in o)) x) (slice_get_past c.items s out) m))
   where
     inside : (s : ℕ) → (length c.items ≤ s → ⊥) → s < length c.items
     inside s beyond = omega (arith, beyond)

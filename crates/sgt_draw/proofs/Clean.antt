@@ -5,19 +5,14 @@ use Rattle.std.proofs.lemmas.Bool.Decides.{eqb_tells}
 use Rattle.std.proofs.lemmas.List.Elements.{All-cons, All-nil, All-map}
 use Rattle.std.proofs.lemmas.List.Folds.{flat_map-map}
 use Rattle.sgt_draw.specs.Escaped.{IsClean, IsEntity, IsPlain, written, written_byte}
+use Rattle.sgt_names.proofs.AtSite.{apart}
 
 abbrev IsPiece : List ℕ → Type 0
 IsPiece piece = IsEntity piece ⊎ All IsPlain piece
 
-differ : (a b : ℕ) → a ≢ b → (a == b) ≡ false
-differ a b apart = elim (eqb_tells a b) [
-  | inl is ↦ absurd (apart is.1)
-  | inr other ↦ other.0
-]
-
 -- a byte that is no part of markup is written as it is
 pub as-it-is : (b : ℕ) → IsPlain b → written_byte b ≡ b ∷ []
-as-it-is b is = rw (differ b 60 is.0, differ b 62 is.1, differ b 38 is.2, differ b 34 is.3, differ b 39 is.4) refl
+as-it-is b is = rw (apart b 60 is.0, apart b 62 is.1, apart b 38 is.2, apart b 34 is.3, apart b 39 is.4) refl
 
 plain : (b : ℕ) → IsPlain b → IsPiece (written_byte b)
 plain b is = inr (subst (λ (t : List ℕ). All IsPlain t) (sym (as-it-is b is)) (All-cons IsPlain b [] is (All-nil IsPlain)))

@@ -24,6 +24,7 @@ use Rattle.sgt_edges.specs.Neighbours.{IsInFront, IsBehind, IsNeighbour, in_fron
 use Rattle.sgt_edges.specs.private.Gathered.{IsTooNew, IsNear, IsBetween, AddsAll, FromWriter, ToWriter, FromReader, ChangesBefore, ReadsBefore, IsOfRead, IsOfChange}
 use Rattle.sgt_edges.proofs.Neighbours.{neighbours-carry, neighbour-edge}
 use Rattle.sgt_edges.specs.declared.edge.Edge.{Edge}
+use Rattle.sgt_site.proofs.PendingReads.{ok-then}
 
 -- a list of one has it
 itself : {A : Type 0} (a : A) → Contains (a ∷ []) a
@@ -344,10 +345,6 @@ seen-known s t seen here some fine = elim (cases_lt (version_at s.entries t.item
   | inl lt ↦ absurd (fine (here, (seen, some, lt)))
   | inr le ↦ le
 ]
-
-pub ok_then : {T E P Q : Type 0} (r : Result T E) → OnOk r P → (P → Q) → OnOk r Q
-ok_then (Ok x) p f = f p
-ok_then (Err e) p f = tt
 
 -- one more that was not read too new, and all of them
 pub not-new-next : (s : SiteState) (ts : List Touch) (i : ℕ) (t : Touch) → slice_get ts i ≡ Some t

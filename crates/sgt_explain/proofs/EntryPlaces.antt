@@ -16,6 +16,8 @@ use Rattle.sgt_audit.proofs.SectionLines.{NotSite, AllByRecursion-map, inner}
 use Rattle.sgt_explain_lines.specs.Numbered.{with_site, open_site}
 use Rattle.sgt_explain_lines.specs.Sited.{StandsAt, site_at}
 use Rattle.sgt_explain_lines.specs.declared.section.Logged.{Logged as LoggedEntry}
+use Rattle.sgt_cert.proofs.OneText.{logged-one}
+use Rattle.sgt_audit.proofs.NoFault.{final-logged}
 
 -- an element of two lists in a row is one of the first, or of the second
 get-append : {A : Type 0} (xs ys : List A) (n : ℕ) (a : A) → slice_get (xs ++ ys) n ≡ Some a → (slice_get xs n ≡ Some a) ⊎ ((m : ℕ) × (n ≡ length xs + m) × (slice_get ys m ≡ Some a))
@@ -37,12 +39,6 @@ site-logged k e same = cc
 
 initial-logged : (h : Holding) (e : Entry) → Initial h ≡ Logged e → ⊥
 initial-logged h e same = cc
-
-final-logged : (h : Holding) (e : Entry) → Final h ≡ Logged e → ⊥
-final-logged h e same = cc
-
-logged-same : (f e : Entry) → Logged f ≡ Logged e → f ≡ e
-logged-same f e same = cc
 
 end-logged : (n : ℕ) (e : Entry) → slice_get (End ∷ []) n ≡ Some (Logged e) → ⊥
 end-logged zero e same = cc
@@ -76,7 +72,7 @@ in-section k log (suc n) e at =
           | inl item ↦ (let f = map_at Initial log.items n (Logged e) item in absurd (initial-logged f.0 e f.2))
           | inr there ↦ (let f = map_at Logged log.entries there.0 (Logged e) there.2 in
               let place = there.1 in
-              (there.0, f.1 ∙ ap Some (logged-same f.0 e f.2), omega (arith, long, place)))
+              (there.0, f.1 ∙ ap Some (logged-one f.0 e f.2), omega (arith, long, place)))
         ]
       ]
     ]
@@ -105,7 +101,7 @@ plain-take zero ys h = tt
 plain-take (suc m) [] h = tt
 plain-take (suc m) (y ∷ ys) h = (h.0, plain-take m ys h.1)
 
-site-kept : (o : Option ℕ) (ys : List SectionLine) → AllByRecursion NotSite ys → fold with_site o ys ≡ o
+pub site-kept : (o : Option ℕ) (ys : List SectionLine) → AllByRecursion NotSite ys → fold with_site o ys ≡ o
 site-kept o [] h = refl
 site-kept o (Site k ∷ ys) h = absurd h.0
 site-kept o (Initial x ∷ ys) h = site-kept o ys h.1

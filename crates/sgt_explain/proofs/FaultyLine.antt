@@ -14,13 +14,14 @@ use Rattle.sgt_notation.proofs.OneSpelling.{line-one}
 use Rattle.sgt_cert.specs.Text.{certificate_text, format_line}
 use Rattle.sgt_cert.specs.declared.certificate.Certificate.{Certificate}
 use Rattle.sgt_cert.proofs.OneLine.{certificate-one_line}
-use Rattle.sgt_cert.proofs.OneText.{format-one_line, line_front}
+use Rattle.sgt_cert.proofs.OneText.{format-one_line}
 use Rattle.sgt_audit.specs.declared.faults.Fault.{Fault}
 use Rattle.sgt_audit.specs.declared.faults.Fault.TheVariants as fault
 use Rattle.sgt_audit.specs.Faults.{fault_number, section_with, open_section, initial_in, items_in, entries_in, IsLineIn, Keeps, AllKept, Stage, start, headed, within, complete, lines_so_far, IsFaultless, Piece, whole, last, ComesNext, Rule, Breaks, FirstFault}
 use Rattle.sgt_audit.specs.Faults.{logged_in as entry_in}
 use Rattle.sgt_explain_lines.specs.Numbered.{HasLine, with_line, open_lines, stated_in, logged_in, numbered_items, numbered_entries}
 use Rattle.sgt_explain_lines.specs.Values.{holdings_of, entries_of}
+use Rattle.sgt_notation.proofs.Texts.{line_front}
 
 -- ---- the open section, with the numbers of its lines and without
 

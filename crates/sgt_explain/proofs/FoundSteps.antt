@@ -38,6 +38,7 @@ use Rattle.sgt_explain.specs.Steps.{EndsSite, EndsNowhere, IsWhole, IsUnmetStep}
 use Rattle.sgt_explain.proofs.FaultyLine.{FaultyLine, entries-same}
 use Rattle.sgt_explain.proofs.ShownSteps.{faulty, open-up_to, ends-log, end-line}
 use Rattle.sgt_explain.proofs.UnmetSteps.{none-repeats, shown-logged, unshown-none, start-stop, walk-logged}
+use Rattle.sgt_explain_decisions.proofs.Seeking.{refuse-same}
 
 -- the lines of sections that the text before a line has
 pub has-before : (bytes text : List ℕ) (n : ℕ) (before : List SectionLine) (line : SectionLine) → HasLine bytes n before line → n ≤ 18446744073709551615
@@ -63,9 +64,6 @@ has-before bytes text n before line h few front =
       text = is ∙ both ∙ ap (λ t. text_of_lines h.head ++ t) (sym (append-nil (text_of_lines (map line_text before))));
       ends = inr (refl, omega (arith, counted, few));
     })
-
-refuse-same : (t u : ℕ) (v w : List Step) → Refuse t v ≡ Refuse u w → (t ≡ u) × (v ≡ w)
-refuse-same t u v w same = (cc, cc)
 
 module _ (bytes : List ℕ) (n : ℕ) (first : FirstFault bytes n fault.WalkStep) where
   abbrev line : FaultyLine bytes n fault.WalkStep first.stage first.next

@@ -19,6 +19,7 @@ use Rattle.sgt_explain_lines.specs.Sited.{HasLines, HasBefore}
 use Rattle.sgt_explain.specs.Asked.{AreSeen, seen_before}
 use Rattle.sgt_explain.specs.Shown.{lines_before}
 use Rattle.sgt_explain.proofs.FaultyLine.{kept-spelled}
+use Rattle.sgt_notation.proofs.Texts.{lines-long}
 
 abbrev two_lines : Bool → Certificate → List (List ℕ)
 two_lines second c = format_line second ∷ certificate_text c ∷ []
@@ -57,15 +58,6 @@ seen-stage bytes rest n start text kept number = inl (refl, omega (arith, number
 seen-stage bytes rest n (headed second) text kept number = inl (refl, omega (arith, number))
 seen-stage bytes rest n (within second c before) text kept number = inr (lines-of bytes rest n second c before text kept.0 number)
 seen-stage bytes rest n (complete second c before) text kept number = inr (lines-of bytes rest n second c before text kept.0 number)
-
--- lines are no more than their bytes
-lines-long : (ls : List (List ℕ)) → length ls ≤ length (text_of_lines ls)
-lines-long [] = omega arith
-lines-long (l ∷ ls) =
-    let more = lines-long ls in
-    let one = length-append l (10 ∷ []) in
-    let all = length-append (l ++ 10 ∷ []) (text_of_lines ls) in
-    omega (arith, more, one, all)
 
 seen-all : (bytes : List ℕ) (b : Parts) → Spells bytes b → length bytes < 18446744073709551615 → HasBefore bytes 18446744073709551615 (sections_from 0 b.sites)
 seen-all bytes b s short =

@@ -12,7 +12,7 @@ use Rattle.sgt_cert.specs.Certificate.{IsDecidedOnce}
 use Rattle.sgt_cert.specs.declared.certificate.Decision.{Decision}
 use Rattle.sgt_cert.specs.declared.certificate.Decision.TheVariants.{Refuse}
 use Rattle.sgt_names.specs.Entry.{tx_of}
-use Rattle.sgt_cert.proofs.OneText.{format-one_line, line_front}
+use Rattle.sgt_cert.proofs.OneText.{format-one_line}
 use Rattle.sgt_audit.specs.declared.faults.Fault.{Fault}
 use Rattle.sgt_audit.specs.declared.faults.Fault.TheVariants as fault
 use Rattle.sgt_audit.specs.Faults.{Keeps, Stage, start, headed, within, complete, lines_so_far, Piece, whole, last, ComesNext, Rule, FirstFault, bytes_of}
@@ -31,6 +31,7 @@ use Rattle.sgt_explain.proofs.FaultyLine.{FaultyLine, end-line, decision-line, l
 use Rattle.sgt_explain.proofs.KeptDecisions.{overtaken-by, all-decided, ended-kept}
 use Rattle.sgt_explain.proofs.ShownValues.{logged-parts}
 use Rattle.sgt_explain.proofs.Telling.{on-ok}
+use Rattle.sgt_notation.proofs.Texts.{line_front}
 
 -- what was read there
 abbrev pub Reads : List ℕ → Option Certificate → Type 0

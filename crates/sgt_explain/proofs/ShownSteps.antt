@@ -22,7 +22,6 @@ use Rattle.sgt_cert.specs.declared.certificate.Certificate.{Certificate}
 use Rattle.sgt_cert.specs.declared.certificate.Decision.TheVariants.{Refuse}
 use Rattle.sgt_cert.specs.declared.certificate.Step.{Step}
 use Rattle.sgt_cert.specs.declared.bundle.SiteLog.{SiteLog}
-use Rattle.sgt_cert.proofs.OneText.{line_front}
 use Rattle.sgt_audit.specs.declared.faults.Fault.TheVariants as fault
 use Rattle.sgt_audit.specs.Faults.{entries_in, Keeps, bytes_of, FirstFault}
 use Rattle.sgt_audit.proofs.SectionLines.{NotSite, AllByRecursion-map, inner, up_to, entries_in-is}
@@ -38,6 +37,8 @@ use Rattle.sgt_explain_steps.proofs.Meetings.{are-misfit, leads-on}
 use Rattle.sgt_explain.specs.Shown.{lines_before, decisions_before}
 use Rattle.sgt_explain.specs.Steps.{EndsSite, EndsAt, NoneEnds, EndsNowhere, ShowsStep, IsWhole, IsUnmetStep, IsStepThere}
 use Rattle.sgt_explain.proofs.FaultyLine.{FaultyLine, entries-same, step-line}
+use Rattle.sgt_explain.proofs.EntryPlaces.{site-kept}
+use Rattle.sgt_notation.proofs.Texts.{line_front}
 
 -- ---- an earlier line of a text
 
@@ -147,14 +148,6 @@ module _ (bytes : List ℕ) (n : ℕ) (before : List SectionLine) (line : Sectio
           other End (reads (take k ls) End has) refl ((are (take k ls) End has).site ∙ at.1)
 
 -- ---- the log of the site whose section ends
-
-site-kept : (o : Option ℕ) (ys : List SectionLine) → AllByRecursion NotSite ys → fold with_site o ys ≡ o
-site-kept o [] h = refl
-site-kept o (Site k ∷ ys) h = absurd h.0
-site-kept o (Initial x ∷ ys) h = site-kept o ys h.1
-site-kept o (Logged e ∷ ys) h = site-kept o ys h.1
-site-kept o (Final x ∷ ys) h = site-kept o ys h.1
-site-kept o (End ∷ ys) h = site-kept o ys h.1
 
 pub open-up_to : (front : List SectionLine) (k : ℕ) (items : List Holding) (entries : List Entry) (finals : List Holding) → open_site (up_to front k items entries finals) ≡ Some k
 open-up_to front k items entries finals =

@@ -2,10 +2,7 @@
 use Rattle.std.proofs.Common.{◌≡◌, ℕ, ◌+◌, ◌≤◌, List, [], ◌++◌, length, Option, Some, None, refl, sym, ap, ◌∙◌, arith, subst, append_assoc, append-nil, length-append}
 use Rattle.std.specs.Prelude.{IfSome}
 use Rattle.std.specs.Io.KnownBytes.{Consumes, IsAtEnd}
-
-pub nothing-taken : (told : Option (List ℕ)) → Consumes told told []
-nothing-taken None = tt
-nothing-taken (Some xs) = refl
+use Rattle.sgt_names.proofs.Elements.{consumes_none}
 
 -- what was taken is no longer than all
 pub taken-long : (told new : Option (List ℕ)) (a : List ℕ) (n : ℕ) → Consumes told new a → n ≤ length a → IfSome told (λ bytes. n ≤ length bytes)

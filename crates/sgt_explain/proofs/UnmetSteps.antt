@@ -32,6 +32,7 @@ use Rattle.sgt_explain_decisions.specs.Cycles.{IsShownStep, IsUnshown}
 use Rattle.sgt_explain_steps.specs.Told.{begins_with_read, ends_with_read}
 use Rattle.sgt_explain_steps.specs.Unmet.{Does}
 use Rattle.sgt_explain.proofs.EntryPlaces.{IsLogPlace, stands-in, log-stands, start}
+use Rattle.sgt_explain_steps.proofs.Meetings.{clash-second}
 
 -- ---- what was found of a transaction on an item
 
@@ -106,11 +107,6 @@ clash-first : (kind : Kind) (x : Name) (e f : Entry) → Clash kind x e f → Do
 clash-first Wr x e f clash = clash.0
 clash-first Rw x e f clash = clash.0
 clash-first Ww x e f clash = clash.0
-
-clash-second : (kind : Kind) (x : Name) (e f : Entry) → Clash kind x e f → Does (ends_with_read kind) x f
-clash-second Wr x e f clash = clash.1
-clash-second Rw x e f clash = clash.1
-clash-second Ww x e f clash = clash.1
 
 clash-of : (kind : Kind) (x : Name) (e f : Entry) → Does (begins_with_read kind) x e → Does (ends_with_read kind) x f → (IsIncrement e → IsIncrement f → ⊥) → Clash kind x e f
 clash-of Wr x e f own other apart = (own, other)

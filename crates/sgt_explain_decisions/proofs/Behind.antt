@@ -8,21 +8,7 @@ use Rattle.sgt_explain_lines.specs.Told.{Adds}
 use Rattle.sgt_explain_lines.proofs.Adding.{adds-more}
 use Rattle.sgt_explain_decisions.specs.declared.placed.Placed.{Placed}
 use Rattle.sgt_explain_decisions.specs.Ends.{EndsTx, HasNoEnd, IsEndOf, IsReason, end_head, TellsEnd}
-
--- what a last text put there, where there was memory for it
-pub str-ok : {T E : Type 0} (r : Result T E) (new a b : List ℕ) → new ≡ (if is_ok r then a else b) → OnOk r (new ≡ a)
-str-ok (Ok t) new a b e = e
-str-ok (Err x) new a b e = tt
-
-pub two-parts : (old a one two new : List ℕ) → a ≡ old ++ one → new ≡ a ++ two → new ≡ old ++ (one ++ two)
-two-parts old a one two new e f = f ∙ ap (λ t. t ++ two) e ∙ append_assoc old one two
-
-pub three-parts : (old a b one two three new : List ℕ) → a ≡ old ++ one → b ≡ a ++ two → new ≡ b ++ three → new ≡ old ++ (one ++ (two ++ three))
-three-parts old a b one two three new e f g = two-parts old a one (two ++ three) new e (two-parts a b two three new f g)
-
-pub four-parts : (old a b c one two three four new : List ℕ) → a ≡ old ++ one → b ≡ a ++ two → c ≡ b ++ three → new ≡ c ++ four
-    → new ≡ old ++ (one ++ (two ++ (three ++ four)))
-four-parts old a b c one two three four new e f g h = two-parts old a one (two ++ (three ++ four)) new e (three-parts a b c two three four new f g h)
+use Rattle.sgt_names.proofs.Elements.{ok-taken, two-parts, three-parts, four-parts}
 
 -- more behind a beginning that is known
 pub adds-behind : (old head a new : List ℕ) → a ≡ old ++ head → Adds a new → Adds (old ++ head) new

@@ -18,6 +18,7 @@ use Rattle.sgt_cert.specs.declared.certificate.Decision.{Decision}
 use Rattle.sgt_cert.specs.declared.certificate.Decision.TheVariants.{Commit, Refuse, Withdraw}
 use Rattle.sgt_explain_decisions.specs.declared.placed.Placed.{Placed}
 use Rattle.sgt_explain_decisions.specs.Placed.{placed_of, all_placed, TiesRise, ArePlaced, StandBefore, IsDecisionOn, IsFirstOn, IsUndecided, IsUncommitted}
+use Rattle.sgt_names.proofs.Elements.{some-weaker, none-weaker}
 
 numbers-append : (n : ℕ) (xs ys : List Decision) → enumerate_from n (xs ++ ys) ≡ enumerate_from n xs ++ enumerate_from (n + length xs) ys
 numbers-append n [] ys = ap (λ k. enumerate_from k ys) (omega arith)
@@ -216,15 +217,6 @@ pub one-rank : (ds : List Decision) (tx m n r s : ℕ) → IsDecidedOnce ds → 
 one-rank ds tx m n r s once one other =
     let same = one-decision ds m n (Commit tx r) (Commit tx s) once one other refl in
     same_Some r s (ap rank_in (same_Some (Commit tx r) (Commit tx s) (sym one ∙ ap (slice_get ds) same ∙ other)))
-
--- what holds where nothing is found
-pub on-none : {A : Type 0} (o : Option A) (P Q : Type 0) → (P → Q) → IfNone o P → IfNone o Q
-on-none (Some a) P Q f p = p
-on-none None P Q f p = f p
-
-pub on-some : {A : Type 0} (o : Option A) (P Q : A → Type 0) → ((a : A) → P a → Q a) → IfSome o P → IfSome o Q
-on-some (Some a) P Q f p = f a p
-on-some None P Q f p = tt
 
 pub if-none : {A : Type 0} (o : Option A) (P : Type 0) → P → IfNone o P
 if-none (Some a) P p = tt

@@ -32,6 +32,8 @@ use Rattle.sgt_explain_decisions.specs.declared.sought.Found.{Found}
 use Rattle.sgt_explain_decisions.specs.declared.sought.Sought.{Sought}
 use Rattle.sgt_explain_decisions.specs.Sought.{Key, key_cmp, key_of, found_at, nothing, ReadsAs, ChangesAs, IsLastAt, IsFoundIn, AreFoundIn, IsFound, AreFound, IsSoughtFor, last_stop, AreSoughtFor, WalksAreSought}
 use Rattle.sgt_explain_decisions.specs.Sought.{AreUnfound, KeepsKeys, PutsAt, TakesPlace, HasOneMore, IsNextOf, TakesOne, AreMarked, Seeks, FindsOne, FindsAny}
+use Rattle.sgt_names.proofs.Elements.{nat_cmp-same}
+use Rattle.sgt_notation.proofs.DecidableEntries.{reads-item, writes-item}
 
 -- ---- keys
 
@@ -53,9 +55,6 @@ same-number a b e =
       | inr (inr more) ↦ absurd (false≢true (ap is_eq (nat_cmp_is a b Greater more) ∙ e))
     ]
 
-pub number-same : (a b : ℕ) → a ≡ b → is_eq (nat_cmp a b) ≡ true
-number-same a b e = sym (ap is_eq (nat_cmp_is a b Equal e))
-
 -- keys that compare as equal have one site, one item and one transaction
 pub same-key : (k q : Key) → is_eq (key_cmp k q) ≡ true → (k.0 ≡ q.0) × (k.1 ≡ q.1) × (k.2 ≡ q.2)
 same-key k q e =
@@ -69,8 +68,8 @@ same-key k q e =
 pub key-same : (k q : Key) → k.0 ≡ q.0 → k.1 ≡ q.1 → k.2 ≡ q.2 → is_eq (key_cmp k q) ≡ true
 key-same k q a b c =
     equal-both (ordering_then (nat_cmp k.0 q.0) (slice_cmp nat_cmp k.1 q.1)) (nat_cmp k.2 q.2)
-    (equal-both (nat_cmp k.0 q.0) (slice_cmp nat_cmp k.1 q.1) (number-same k.0 q.0 a) (is_eq-slice_cmp k.1 q.1 ∙ (bytes_eq-Decides k.1 q.1).1 b))
-    (number-same k.2 q.2 c)
+    (equal-both (nat_cmp k.0 q.0) (slice_cmp nat_cmp k.1 q.1) (nat_cmp-same k.0 q.0 a) (is_eq-slice_cmp k.1 q.1 ∙ (bytes_eq-Decides k.1 q.1).1 b))
+    (nat_cmp-same k.2 q.2 c)
 
 -- ---- what is sought
 
@@ -170,26 +169,6 @@ walks-next old new ds n d at kept own all number tx walk less at' =
     ]
 
 -- ---- one entry more
-
-reads-item : (x : Name) (e : Entry) → Reads x e → item_of e ≡ Some x
-reads-item x (entry.Read tx y v) is = ap Some is
-reads-item x (entry.Write tx y v) is = absurd is
-reads-item x (entry.Add tx y v) is = absurd is
-reads-item x (entry.Want tx y v) is = absurd is
-reads-item x (entry.WantAdd tx y v) is = absurd is
-reads-item x (entry.Commit tx) is = absurd is
-reads-item x (entry.Refuse tx) is = absurd is
-reads-item x (entry.Withdraw tx) is = absurd is
-
-writes-item : (x : Name) (e : Entry) → Writes x e → item_of e ≡ Some x
-writes-item x (entry.Read tx y v) is = absurd is
-writes-item x (entry.Write tx y v) is = ap Some is
-writes-item x (entry.Add tx y v) is = ap Some is
-writes-item x (entry.Want tx y v) is = ap Some is
-writes-item x (entry.WantAdd tx y v) is = ap Some is
-writes-item x (entry.Commit tx) is = absurd is
-writes-item x (entry.Refuse tx) is = absurd is
-writes-item x (entry.Withdraw tx) is = absurd is
 
 -- an entry that isn't the key's changes nothing there
 next-same : (site : ℕ) (l : Logged) (q : Key) (o : Option Found) → (IsSome o → site ≡ q.0 → tx_of l.entry ≡ q.2 → item_of l.entry ≡ Some q.1 → ⊥) → IsNextOf site l q o o

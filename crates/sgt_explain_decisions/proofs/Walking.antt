@@ -14,7 +14,8 @@ use Rattle.sgt_cert.specs.declared.certificate.Decision.TheVariants.{Commit, Ref
 use Rattle.sgt_explain_decisions.specs.Placed.{IsFirstOn}
 use Rattle.sgt_explain_decisions.specs.Walks.{IsRefusal, IsCommittedBefore, MayBePassed, steps_between, LeadsTo, AreApart, IsFirstAgain, HaveCycles}
 use Rattle.sgt_explain_decisions.proofs.Doubling.{pairs-next}
-use Rattle.sgt_explain_decisions.proofs.Seeking.{same-number, number-same}
+use Rattle.sgt_explain_decisions.proofs.Seeking.{same-number}
+use Rattle.sgt_names.proofs.Elements.{ne-same, nat_cmp-same}
 
 commit-of : (d : Decision) → is_commit d ≡ true → (rank : ℕ) × (d ≡ Commit (decided_tx d) rank)
 commit-of (Commit tx rank) e = (rank, refl)
@@ -53,7 +54,7 @@ passed-next between n step old new at none updated so_far = record {
     unseen-at a true e o is = tt
     unseen-at a false e (Some m) is = tt
     unseen-at a false e None is =
-        All-next (λ (s : Step). s.to ≢ a) between n step at (λ same. false≢true (sym e ∙ number-same step.to a same))
+        All-next (λ (s : Step). s.to ≢ a) between n step at (λ same. false≢true (sym e ∙ nat_cmp-same step.to a same))
         (subst (λ r. IfNone r (All (λ (s : Step). s.to ≢ a) (take n between))) is (so_far.unseen a))
 
 -- the transaction was passed before
@@ -76,9 +77,6 @@ again-of between n step passed old at is some so_far = record {
 pub none-of : (o : Option ℕ) → is_some o ≡ false → o ≡ None
 none-of (Some m) e = absurd (false≢true (sym e))
 none-of None e = refl
-
-pub ne-same : (a b : ℕ) (r : Bool) → r ≡ not (a == b) → r ≡ false → a ≡ b
-ne-same a b r is miss = elim (cases_eq a b) [ inl same ↦ same | inr apart ↦ absurd (true≢false (sym (ap not (ne_eqb a b apart)) ∙ sym is ∙ miss)) ]
 
 -- ---- cycles
 

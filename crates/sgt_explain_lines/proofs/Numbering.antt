@@ -16,11 +16,10 @@ use Rattle.sgt_notation.specs.declared.SectionLine.TheVariants.{Site, Initial, L
 use Rattle.sgt_notation.proofs.OneSpelling.{cut_at_byte, line-one, line-one_line}
 use Rattle.sgt_explain_lines.specs.declared.section.Section.{Section}
 use Rattle.sgt_explain_lines.specs.Numbered.{IsLineAt, HasLine, with_line, open_lines, with_site, open_site, stated_in, logged_in, final_stated_in, last_line, items_with, entries_with, finals_with, IsSectionOf, HasOneMore}
+use Rattle.sgt_notation.proofs.Texts.{line_front}
+use Rattle.sgt_notation.proofs.Short.{line-no_lf}
 
 -- ---- texts
-
-pub line_front : (l : List ℕ) (ls : List (List ℕ)) (rest : List ℕ) → text_of_lines (l ∷ ls) ++ rest ≡ l ++ 10 ∷ (text_of_lines ls ++ rest)
-line_front l ls rest = simp append_assoc
 
 -- a line is cut off in one way
 pub line-cut : (l m r s bytes : List ℕ) → HasNoLf l → HasNoLf m → bytes ≡ l ++ 10 ∷ r → bytes ≡ m ++ 10 ∷ s → (l ≡ m) × (r ≡ s)
@@ -56,11 +55,8 @@ all-passed lines rest now n most is = is ∙ ap (λ ls. text_of_lines ls ++ rest
 
 -- ---- lines of sections
 
-line-plain : (l : SectionLine) → IsLine l → HasNoLf (line_text l)
-line-plain l is = All-from_recursion (λ b. b ≢ 10) (line_text l) (line-one_line l is)
-
 pub lines-plain : (before : List SectionLine) → All IsLine before → All HasNoLf (map line_text before)
-lines-plain before spelled = All-from_map HasNoLf line_text before (All-weaken IsLine (λ l. HasNoLf (line_text l)) before line-plain spelled)
+lines-plain before spelled = All-from_map HasNoLf line_text before (All-weaken IsLine (λ l. HasNoLf (line_text l)) before line-no_lf spelled)
 
 -- a loop's line of a section
 pub record IsLineStep (before : List SectionLine) (rest : List ℕ) (n : ℕ) (text behind : List ℕ) : Type 0 where
@@ -95,7 +91,7 @@ line-at bytes after text behind number k before line h is passes cuts =
     h.text ∙ sym (append_assoc (text_of_lines h.head) (text_of_lines (map line_text before)) rest)
     ∙ ap (λ t. t ++ rest) (sym (flat_map-append (λ l. l ++ 10 ∷ []) h.head (map line_text before))) in
     let after-is = passes lines rest plain (omega (arith, is, long, same, two, counted)) whole in
-    (cuts (line_text line) h.rest (line-plain line h.one) after-is).0
+    (cuts (line_text line) h.rest (line-no_lf line h.one) after-is).0
 
 -- what holds by a read line holds by the line that is spelled
 pub on-ok : {T E : Type 0} (r : Result T E) (P Q : Type 0) → (P → Q) → OnOk r P → OnOk r Q

@@ -16,6 +16,7 @@ use Rattle.sgt_notation.proofs.Unspelled.{never}
 use Rattle.sgt_explain_lines.specs.Told.{Adds, IsShown, ShowsNumbered, bar}
 use Rattle.sgt_explain_lines.specs.declared.slips.Slip.{Slip}
 use Rattle.sgt_explain_lines.specs.Slips.{IsSlip, slip_text, notation_head, TellsSlip, EndsWith, Spells, IsDigit, IsFirstOther, IsCutAt, Lacks, HasAccess, SpellsAccess, is_operation_letter, is_end_letter}
+use Rattle.sgt_names.proofs.Elements.{none-weaker, ok-taken}
 
 pub first-other : (text : List ℕ) (i b : ℕ) → slice_get text i ≡ Some b → All IsDigit (take i text) → (IsDigit b → ⊥) → IsFirstOther text b
 first-other text i b at digits other = (take i text, drop (suc i) text, split_at text i b at, digits, other)
@@ -25,10 +26,6 @@ if-digit b r is e = is.0 e
 
 pub if-other : (b : ℕ) (r : Bool) → IsTrue r ↔ IsDigit b → r ≡ false → IsDigit b → ⊥
 if-other b r is e digit = true≢false (sym (is.1 digit) ∙ e)
-
-pub on-none : {A : Type 0} (o : Option A) (P Q : Type 0) → (P → Q) → IfNone o P → IfNone o Q
-on-none (Some a) P Q f p = tt
-on-none None P Q f p = f p
 
 -- ---- the last byte
 
@@ -127,11 +124,6 @@ tells-slip n line given old a b new head same shows told = (
       ∙ append_assoc (old ++ notation_head) (bar n ++ (shows.0 ++ codes "\n")) (slip_text told.0)
       ∙ append_assoc old notation_head ((bar n ++ (shows.0 ++ codes "\n")) ++ slip_text told.0),
 )
-
--- what a last text put there, where there was memory for it
-pub str-ok : {T E : Type 0} (r : Result T E) (new a b : List ℕ) → new ≡ (if is_ok r then a else b) → OnOk r (new ≡ a)
-str-ok (Ok t) new a b e = e
-str-ok (Err x) new a b e = tt
 
 pub printed : (old a b new tail : List ℕ) (byte : ℕ) → a ≡ old ++ codes "`" → b ≡ a ++ byte ∷ [] → new ≡ b ++ tail → new ≡ old ++ (codes "`" ++ (byte ∷ tail))
 printed old a b new tail byte e f g =

@@ -8,15 +8,13 @@ use Rattle.sgt_history.specs.declared.history.Operation.{Operation}
 use Rattle.sgt_history.specs.Transaction.{Transaction, renamed_value, renamed_operation, renamed}
 use Rattle.sgt_history.specs.Serial.{IsCommitted, IsOrder, operations_in, run_of, IsWriteOf, NoneWrites, IsLastWritten, Has, Follows, RunsRight, ValuesAgree, Serves, IsSerializable, IsIn, KeepApart}
 use Rattle.sgt_history.proofs.Placed.{IsFound, found_in_run}
+use Rattle.sgt_names.proofs.Elements.{get-mapped}
 
 map_append : {A B : Type 0} (f : A → B) (xs ys : List A) → map f (xs ++ ys) ≡ map f xs ++ map f ys
 map_append f [] ys = refl
 map_append f (x ∷ xs) ys = ap (λ zs. f x ∷ zs) (map_append f xs ys)
 
-pub mapped_at : {A B : Type 0} (f : A → B) (xs : List A) (n : ℕ) (x : A) → slice_get xs n ≡ Some x → slice_get (map f xs) n ≡ Some (f x)
-mapped_at f xs n x e = slice_get-map f xs n ∙ ap (option_map f) e
-
-value_of : {V W : Type 0} (g : V → W) (o : Option V) (w : W) → renamed_value g o ≡ Some w → (v : V) × (o ≡ Some v) × (g v ≡ w)
+pub value_of : {V W : Type 0} (g : V → W) (o : Option V) (w : W) → renamed_value g o ≡ Some w → (v : V) × (o ≡ Some v) × (g v ≡ w)
 value_of g None w e = absurd (cc (e))
 value_of g (Some v) w e = (v, refl, same_Some (g v) w e)
 
@@ -54,7 +52,7 @@ module _ {I J V W : Type 0} (f : I → J) (g : V → W) (h : List (Transaction I
       last = a.last;
       o = renamed_operation f g a.o;
       before = a.before;
-      there = mapped_at (renamed_operation f g) (run_of h order) a.last a.o a.there;
+      there = get-mapped (renamed_operation f g) (run_of h order) a.last a.o a.there;
       writes = write-on a.o u.item a.writes;
       version_is = a.version_is;
       none = λ r w above below at writes.
@@ -83,13 +81,13 @@ module _ {I J V W : Type 0} (f : I → J) (g : V → W) (h : List (Transaction I
           version_is = ap (λ k. k.version) old.2 ∙ a.version_is;
           none = λ r w above below at writes.
               a.none r (renamed_operation f g w) above below
-              (mapped_at (renamed_operation f g) (run_of h order) r w at) (write-on w u.item writes);
+              (get-mapped (renamed_operation f g) (run_of h order) r w at) (write-on w u.item writes);
         })
     has-back p q v u e (inr b) = inr (
       b.0,
       λ r w above below at writes.
           b.1 r (renamed_operation f g w) above below
-          (mapped_at (renamed_operation f g) (run_of h order) r w at) (write-on w u.item writes),
+          (get-mapped (renamed_operation f g) (run_of h order) r w at) (write-on w u.item writes),
     )
 
     right-on : RunsRight (run_of h order) → RunsRight (map (renamed_operation f g) (run_of h order))
@@ -103,7 +101,7 @@ module _ {I J V W : Type 0} (f : I → J) (g : V → W) (h : List (Transaction I
 
     right-back : RunsRight (map (renamed_operation f g) (run_of h order)) → RunsRight (run_of h order)
     right-back right p o at =
-        let follows = right p (renamed_operation f g o) (mapped_at (renamed_operation f g) (run_of h order) p o at) in
+        let follows = right p (renamed_operation f g o) (get-mapped (renamed_operation f g) (run_of h order) p o at) in
         record {
           read = λ e. has-back p p o.version o at (follows.read e);
           write = λ e. let b = follows.write e in (b.0, has-back p p b.0 o at b.1, b.2);
@@ -128,9 +126,9 @@ module _ {I J V W : Type 0} (f : I → J) (g : V → W) (h : List (Transaction I
         let at = Contains_at (run_of h order) o in_o in
         let at' = Contains_at (run_of h order) u in_u in
         let new = Contains-from_at (map (renamed_operation f g) (run_of h order)) at.0 (renamed_operation f g o)
-        (mapped_at (renamed_operation f g) (run_of h order) at.0 o at.1) in
+        (get-mapped (renamed_operation f g) (run_of h order) at.0 o at.1) in
         let new' = Contains-from_at (map (renamed_operation f g) (run_of h order)) at'.0 (renamed_operation f g u)
-        (mapped_at (renamed_operation f g) (run_of h order) at'.0 u at'.1) in
+        (get-mapped (renamed_operation f g) (run_of h order) at'.0 u at'.1) in
         let same = agree (renamed_operation f g o) (renamed_operation f g u) new new' (ap f item) version (g v) (g w)
         (ap (renamed_value g) given) (ap (renamed_value g) given') in
         apart.values o u v w (in_history order at.0 o at.1) (in_history order at'.0 u at'.1) given given' same
@@ -139,7 +137,7 @@ module _ {I J V W : Type 0} (f : I → J) (g : V → W) (h : List (Transaction I
     order-on ordered = record {
       committed = λ line there.
           let c = ordered.committed line there in
-          (renamed f g c.0, (mapped_at (renamed f g) h line c.0 c.1.0, c.1.1));
+          (renamed f g c.0, (get-mapped (renamed f g) h line c.0 c.1.0, c.1.1));
       all = λ line t c.
           let old = map_at (renamed f g) h line t c.0 in
           ordered.all line old.0 (old.1, ap (λ k. k.commits) old.2 ∙ c.1);
@@ -152,7 +150,7 @@ module _ {I J V W : Type 0} (f : I → J) (g : V → W) (h : List (Transaction I
           let c = ordered.committed line there in
           let old = map_at (renamed f g) h line c.0 c.1.0 in
           (old.0, (old.1, ap (λ k. k.commits) old.2 ∙ c.1.1));
-      all = λ line t c. ordered.all line (renamed f g t) (mapped_at (renamed f g) h line t c.0, c.1);
+      all = λ line t c. ordered.all line (renamed f g t) (get-mapped (renamed f g) h line t c.0, c.1);
       once = ordered.once;
     }
 

@@ -13,7 +13,7 @@ use Rattle.sgt_history.specs.Serial.{IsCommitted, IsWriteOf, NoneWrites, IsLastW
 use Rattle.sgt_history.specs.Conflicts.{IsOperation, Writes, IsNext}
 use Rattle.sgt_history.specs.Flaws.{AbortedWrites}
 
-decidable-kind : (k : Kind) → Decidable (k ≡ Write)
+pub decidable-kind : (k : Kind) → Decidable (k ≡ Write)
 decidable-kind Read = inr (λ e. cc)
 decidable-kind Write = inl refl
 

@@ -20,6 +20,7 @@ use Rattle.sgt_history_faults.specs.declared.touch.Touch.{Touch}
 use Rattle.sgt_history_faults.specs.Touch.{IsTouch, IsTouched, AreTouches}
 use Rattle.sgt_history_faults.specs.Order.{reads_of, MayPrecede, AreInOrder}
 use Rattle.sgt_history_conflicts.specs.Pairs.{IsWritten, Meets, NoneBetween, IsPair}
+use Rattle.sgt_history.proofs.Search.{decidable-kind}
 
 -- ---- a search
 
@@ -27,13 +28,9 @@ decidable-bool : (b : Bool) → Decidable (b ≡ true)
 decidable-bool true = inl refl
 decidable-bool false = inr (λ e. cc)
 
-decidable-write : (k : Kind) → Decidable (k ≡ Write)
-decidable-write Read = inr (λ e. cc)
-decidable-write Write = inl refl
-
 decidable-written : (e : Touch) → Decidable (IsWritten e)
 decidable-written e = decidable-as (λ p. record { write = p.0; commits = p.1 }) (λ w. (w.write, w.commits))
-    (decidable-both (decidable-write e.kind) (decidable-bool e.commits))
+    (decidable-both (decidable-kind e.kind) (decidable-bool e.commits))
 
 -- the last of those before the place, from one of them on
 record IsNearest (touches : List Touch) (P : Touch → Type 0) (i k : ℕ) : Type 0 where

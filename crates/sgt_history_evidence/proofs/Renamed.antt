@@ -11,13 +11,8 @@ use Rattle.sgt_history.specs.declared.named.Graph.{Graph}
 use Rattle.sgt_history.specs.Transaction.{Transaction, renamed_value, renamed_operation, renamed}
 use Rattle.sgt_history.specs.Serial.{IsCommitted, IsWriteOf, NoneWrites, IsLastWritten, IsIn, KeepApart}
 use Rattle.sgt_history.specs.Conflicts.{IsOperation, Writes, Reads, IsNext, HaveConflict, IsAmong, ConflictIn, IsChain, IsCycle, HasCycle}
-
-pub mapped_at : {A B : Type 0} (f : A → B) (xs : List A) (n : ℕ) (x : A) → slice_get xs n ≡ Some x → slice_get (map f xs) n ≡ Some (f x)
-mapped_at f xs n x e = slice_get-map f xs n ∙ ap (option_map f) e
-
-pub value_before : {V W : Type 0} (g : V → W) (o : Option V) (w : W) → renamed_value g o ≡ Some w → (v : V) × (o ≡ Some v) × (g v ≡ w)
-value_before g None w e = absurd (cc (e))
-value_before g (Some v) w e = (v, refl, same_Some (g v) w e)
+use Rattle.sgt_names.proofs.Elements.{get-mapped}
+use Rattle.sgt_history.proofs.Renaming.{value_of}
 
 module _ {I J V W : Type 0} (f : I → J) (g : V → W) (h : List (Transaction I V)) (apart : KeepApart f g h) where
   -- some operation of the history has this item
@@ -33,7 +28,7 @@ module _ {I J V W : Type 0} (f : I → J) (g : V → W) (h : List (Transaction I
   occurs line place t o at there = (o, in_it line place t o at there, refl)
 
   pub committed-on : (line : ℕ) (t : Transaction I V) → IsCommitted h line t → IsCommitted (map (renamed f g) h) line (renamed f g t)
-  committed-on line t c = (mapped_at (renamed f g) h line t c.0, c.1)
+  committed-on line t c = (get-mapped (renamed f g) h line t c.0, c.1)
 
   pub record Before (line : ℕ) (t' : Transaction J W) : Type 0 where
     pub t : Transaction I V
@@ -47,7 +42,7 @@ module _ {I J V W : Type 0} (f : I → J) (g : V → W) (h : List (Transaction I
       → IsOperation (map (renamed f g) h) line place (renamed f g t) (renamed_operation f g o)
   operation-on line place t o is = record {
     committed = committed-on line t is.committed;
-    there = mapped_at (renamed_operation f g) t.operations place o is.there;
+    there = get-mapped (renamed_operation f g) t.operations place o is.there;
   }
 
   pub record Was (line place : ℕ) (t' : Transaction J W) (o' : Operation J W) : Type 0 where
@@ -91,7 +86,7 @@ module _ {I J V W : Type 0} (f : I → J) (g : V → W) (h : List (Transaction I
 
   pub none-back : (t : Transaction I V) (x : I) (a b : ℕ) → NoneWrites (renamed f g t).operations a b (f x) → NoneWrites t.operations a b x
   none-back t x a b none place o low high there writes =
-      none place (renamed_operation f g o) low high (mapped_at (renamed_operation f g) t.operations place o there) (write-on o x writes)
+      none place (renamed_operation f g o) low high (get-mapped (renamed_operation f g) t.operations place o there) (write-on o x writes)
 
   pub last-on : (line : ℕ) (t : Transaction I V) (place : ℕ) (x : I) (v : ℕ) → slice_get h line ≡ Some t → Occurs x → IsLastWritten t.operations place x v
       → IsLastWritten (renamed f g t).operations place (f x) v
@@ -99,7 +94,7 @@ module _ {I J V W : Type 0} (f : I → J) (g : V → W) (h : List (Transaction I
     last = own.last;
     o = renamed_operation f g own.o;
     before = own.before;
-    there = mapped_at (renamed_operation f g) t.operations own.last own.o own.there;
+    there = get-mapped (renamed_operation f g) t.operations own.last own.o own.there;
     writes = write-on own.o x own.writes;
     version_is = own.version_is;
     none = none-on line t x (suc own.last) place at oc own.none;

@@ -13,8 +13,10 @@ use Rattle.sgt_history_evidence.specs.Values.{IsGift, GivesIn, GivesAt, IsFirstI
 use Rattle.sgt_history_evidence.specs.Writers.{WritesIn, WritesAs, IsFirstAs, IsLeastGreater}
 use Rattle.sgt_history_evidence.specs.declared.evidence.Evidence.{Evidence}
 use Rattle.sgt_history_evidence.specs.declared.evidence.Evidence.TheVariants.{Nothing, Wrote, WritesLater, Writer, Surpassed, Gives}
-use Rattle.sgt_history_evidence.proofs.Renamed.{Occurs, in_it, occurs, mapped_at, value_before, line-back, write-on, write-back, last-on, committed-on}
+use Rattle.sgt_history_evidence.proofs.Renamed.{Occurs, in_it, occurs, line-back, write-on, write-back, last-on, committed-on}
 use Rattle.sgt_history_evidence.proofs.RenamedFlaws.{future-on, other_value-on}
+use Rattle.sgt_names.proofs.Elements.{get-mapped}
+use Rattle.sgt_history.proofs.Renaming.{value_of}
 
 module _ {I J V W : Type 0} (f : I → J) (g : V → W) (h : List (Transaction I V)) (apart : KeepApart f g h) where
   -- ---- writers
@@ -23,7 +25,7 @@ module _ {I J V W : Type 0} (f : I → J) (g : V → W) (h : List (Transaction I
   writes_in-on t x v w = record {
     place = w.place;
     o = renamed_operation f g w.o;
-    there = mapped_at (renamed_operation f g) t.operations w.place w.o w.there;
+    there = get-mapped (renamed_operation f g) t.operations w.place w.o w.there;
     writes = write-on f g h apart w.o x w.writes;
     version_is = w.version_is;
   }
@@ -44,7 +46,7 @@ module _ {I J V W : Type 0} (f : I → J) (g : V → W) (h : List (Transaction I
   writes_as-on : (commits : Bool) (x : I) (v line : ℕ) → WritesAs commits h x v line → WritesAs commits (map (renamed f g) h) (f x) v line
   writes_as-on commits x v line w = record {
     t = renamed f g w.t;
-    in_line = mapped_at (renamed f g) h line w.t w.in_line;
+    in_line = get-mapped (renamed f g) h line w.t w.in_line;
     commits_is = w.commits_is;
     is = writes_in-on w.t x v w.is;
   }
@@ -72,7 +74,7 @@ module _ {I J V W : Type 0} (f : I → J) (g : V → W) (h : List (Transaction I
   surpassed-on o by greater oc s = record {
     first = first_as-on true o.item o.version by oc s.first;
     t = renamed f g s.t;
-    in_line = mapped_at (renamed f g) h by s.t s.in_line;
+    in_line = get-mapped (renamed f g) h by s.t s.in_line;
     least = record {
       writes = writes_in-on s.t o.item greater s.least.writes;
       above = s.least.above;
@@ -88,7 +90,7 @@ module _ {I J V W : Type 0} (f : I → J) (g : V → W) (h : List (Transaction I
     committed = committed-on f g h apart line a.t a.committed;
     is = record {
       o = renamed_operation f g a.is.o;
-      there = mapped_at (renamed_operation f g) a.t.operations place a.is.o a.is.there;
+      there = get-mapped (renamed_operation f g) a.t.operations place a.is.o a.is.there;
       gift = record {
         item_is = ap f a.is.gift.item_is;
         version_is = a.is.gift.version_is;
@@ -103,7 +105,7 @@ module _ {I J V W : Type 0} (f : I → J) (g : V → W) (h : List (Transaction I
       let old = line-back f g h apart line a.t a.committed.0 in
       let one = map_at (renamed_operation f g) old.t.operations place a.is.o
       (subst (λ (k : Transaction J W). slice_get k.operations place ≡ Some a.is.o) (sym old.is) a.is.there) in
-      let value = value_before g one.0.value a.is.gift.value (ap (λ (k : Operation J W). k.value) one.2 ∙ a.is.gift.given) in
+      let value = value_of g one.0.value a.is.gift.value (ap (λ (k : Operation J W). k.value) one.2 ∙ a.is.gift.given) in
       record {
         t = old.t;
         committed = (old.at, ap (λ (k : Transaction J W). k.commits) old.is ∙ a.committed.1);

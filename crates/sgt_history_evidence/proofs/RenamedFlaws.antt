@@ -9,7 +9,9 @@ use Rattle.sgt_history.specs.Transaction.{Transaction, renamed_value, renamed_op
 use Rattle.sgt_history.specs.Serial.{IsCommitted, IsWriteOf, NoneWrites, IsIn, KeepApart}
 use Rattle.sgt_history.specs.Conflicts.{IsOperation, Writes}
 use Rattle.sgt_history.specs.Flaws.{IsOtherOwn, IsNotGreater, IsFuture, IsForeign, NoneCommitted, AbortedWrites, IsFirstWriter, IsOtherValue, HasFlaw, IsFaulty, IsFaultless, IsFirstFault}
-use Rattle.sgt_history_evidence.proofs.Renamed.{Occurs, in_it, occurs, mapped_at, value_before, line-back, operation-on, operation-back, write-on, write-back, none-on, none-back, last-on, last-back, writes-on, writes-back}
+use Rattle.sgt_history_evidence.proofs.Renamed.{Occurs, in_it, occurs, line-back, operation-on, operation-back, write-on, write-back, none-on, none-back, last-on, last-back, writes-on, writes-back}
+use Rattle.sgt_names.proofs.Elements.{get-mapped}
+use Rattle.sgt_history.proofs.Renaming.{value_of}
 
 module _ {I J V W : Type 0} (f : I → J) (g : V → W) (h : List (Transaction I V)) (apart : KeepApart f g h) where
   -- ---- of its own transaction
@@ -57,7 +59,7 @@ module _ {I J V W : Type 0} (f : I → J) (g : V → W) (h : List (Transaction I
     foreign = none-on f g h apart line t o.item 0 place is.committed.0 (occurs f g h apart line place t o is.committed.0 is.there) later.foreign;
     later = later.later;
     by = renamed_operation f g later.by;
-    there = mapped_at (renamed_operation f g) t.operations later.later later.by later.there;
+    there = get-mapped (renamed_operation f g) t.operations later.later later.by later.there;
     writes = write-on f g h apart later.by o.item later.writes;
     version_is = later.version_is;
   }
@@ -103,11 +105,11 @@ module _ {I J V W : Type 0} (f : I → J) (g : V → W) (h : List (Transaction I
   pub aborted-on : (line : ℕ) (x : I) (v : ℕ) → AbortedWrites h line x v → AbortedWrites (map (renamed f g) h) line (f x) v
   aborted-on line x v w = record {
     t = renamed f g w.t;
-    in_line = mapped_at (renamed f g) h line w.t w.in_line;
+    in_line = get-mapped (renamed f g) h line w.t w.in_line;
     aborts = w.aborts;
     place = w.place;
     o = renamed_operation f g w.o;
-    there = mapped_at (renamed_operation f g) w.t.operations w.place w.o w.there;
+    there = get-mapped (renamed_operation f g) w.t.operations w.place w.o w.there;
     writes = write-on f g h apart w.o x w.writes;
     version_is = w.version_is;
   }
@@ -166,8 +168,8 @@ module _ {I J V W : Type 0} (f : I → J) (g : V → W) (h : List (Transaction I
       → IsOtherValue (map (renamed f g) h) line place (renamed_operation f g o) → IsOtherValue h line place o
   other_value-back line place t o is v =
       let old = operation-back f g h apart v.line_of v.place_of v.t v.other v.is in
-      let one = value_before g o.value v.value v.given in
-      let two = value_before g old.o.value v.value_of (ap (λ (k : Operation J W). k.value) old.o_is ∙ v.given_of) in
+      let one = value_of g o.value v.value v.given in
+      let two = value_of g old.o.value v.value_of (ap (λ (k : Operation J W). k.value) old.o_is ∙ v.given_of) in
       record {
         value = one.0;
         given = one.1;

@@ -27,7 +27,7 @@ covers-on (Some f) l r p l' r' p' c told = told-on f.line (rank_of f.flaw) f.pla
     told-on a b c l r p l' r' p' (inr (e, inr (k, x))) (inr (f, inl y)) = inr (e ∙ f, inl (omega (arith, k, y)))
     told-on a b c l r p l' r' p' (inr (e, inr (k, x))) (inr (f, inr (g, y))) = inr (e ∙ f, inr (k ∙ g, omega (arith, x, y)))
 
-kinds : (k : Kind) → (k ≡ Read) ⊎ (k ≡ Write)
+pub kinds : (k : Kind) → (k ≡ Read) ⊎ (k ≡ Write)
 kinds Read = inl refl
 kinds Write = inr refl
 

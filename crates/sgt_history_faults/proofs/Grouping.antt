@@ -17,6 +17,7 @@ use Rattle.sgt_history_faults.specs.Group.{AreAllAlike, AreAllCovered, AreAllFau
 use Rattle.sgt_history_faults.specs.Noted.{Covers, IsReal}
 use Rattle.sgt_history_faults.specs.Order.{reads_of, MayPrecede, AreInOrder}
 use Rattle.sgt_history_faults.proofs.Sorted.{may-on}
+use Rattle.sgt_history_faults.proofs.Covering.{kinds}
 
 -- ---- a part of a list
 
@@ -42,10 +43,6 @@ by-other W V e Unwritten f g h = (h.0, h.1, λ w c. h.2 w (g w c))
 by-other W V e IntermediateRead f g h =
     (h.0, h.1, h.2, record { is = (f h.2 h.3.is.0, h.3.is.1); least = λ u c. h.3.least u (g u c.0, c.1) }, h.4)
 by-other W V e Value f g h = h
-
-kinds : (k : Kind) → (k ≡ Read) ⊎ (k ≡ Write)
-kinds Read = inl refl
-kinds Write = inr refl
 
 -- what stands between two of one version is of it, and of a kind that may stand there
 between : (a m b : Touch) → MayPrecede a m → MayPrecede m b → a.item ≡ b.item → a.version ≡ b.version

@@ -19,10 +19,7 @@ use Rattle.sgt_history_faults.specs.declared.touch.Touch.{Touch}
 use Rattle.sgt_history_faults.specs.declared.touching.Whose.{Whose}
 use Rattle.sgt_history_faults.specs.Mine.{IsMine, FollowsOwn, ContradictsOwn, IsOwned, AreMine, StampedTo, IsItemBelow}
 use Rattle.sgt_history_faults.specs.Touch.{IsTouchOf, IsToTouch, IsTouched, IsContradicted, TellsContradiction, TakesLine}
-
-kinds : (k : Kind) → (k ≡ Read) ⊎ (k ≡ Write)
-kinds Read = inl refl
-kinds Write = inr refl
+use Rattle.sgt_history_faults.proofs.Covering.{kinds}
 
 one_last : (done : List (Operation ℕ ℕ)) (n x v w : ℕ) → IsLastWritten done n x v → IsLastWritten done n x w → v ≡ w
 one_last done n x v w a b = one_version done n x v w (inl a) (inl b)

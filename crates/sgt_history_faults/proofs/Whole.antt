@@ -19,10 +19,7 @@ use Rattle.sgt_history_faults.specs.Mine.{ContradictsOwn}
 use Rattle.sgt_history_faults.specs.Noted.{Covers}
 use Rattle.sgt_history_faults.specs.Touch.{WritesGreater, IsTouchOf, TellsSurpassed, IsToTouch, IsTouched, IsTouch, AreTouches}
 use Rattle.sgt_history_faults.specs.Group.{AreAllAlike, AreAllCovered, AreAllFaulty, IsWriteAlso, IsCommittedBy, IsEarliestBy, HasTouchFlaw}
-
-not-true : (b : Bool) → (b ≡ true → ⊥) → b ≡ false
-not-true true never = absurd (never refl)
-not-true false never = refl
+use Rattle.sgt_names.proofs.Elements.{false-unless_true}
 
 module _ (h : List (Transaction ℕ ℕ)) (touches : List Touch) (are : AreTouches h touches) where
   -- ---- from touches to operations
@@ -167,7 +164,7 @@ module _ (h : List (Transaction ℕ ℕ)) (touches : List Touch) (are : AreTouch
           record {
             t = u.t;
             in_line = u.in_line;
-            aborts = sym u.of.commits_is ∙ not-true w.commits (λ yes. none w (also, yes));
+            aborts = sym u.of.commits_is ∙ false-unless_true w.commits (λ yes. none w (also, yes));
             place = w.place;
             o = u.of.o;
             there = u.of.there;
@@ -296,7 +293,7 @@ module _ (h : List (Transaction ℕ ℕ)) (touches : List Touch) (are : AreTouch
               never w.line (record {
                 t = i.t;
                 in_line = i.in_line;
-                aborts = sym i.of.commits_is ∙ not-true w.commits (λ yes. none-by f.e f.item_is f.version_is none w (also, yes));
+                aborts = sym i.of.commits_is ∙ false-unless_true w.commits (λ yes. none-by f.e f.item_is f.version_is none w (also, yes));
                 place = w.place;
                 o = i.of.o;
                 there = i.of.there;

@@ -23,12 +23,7 @@ use Rattle.sgt_history_kept.specs.Placed.{ArePlaces, LeadsOn}
 use Rattle.sgt_history_time.specs.Serializable.{IsSerializableKeeping, ServesKeeping}
 use Rattle.sgt_history_time.specs.Steps.{StandsBefore}
 use Rattle.sgt_history_time.proofs.Forward.{cycle-excludes, serves-keeping}
-
-committed-both : (h : List (Transaction ℕ ℕ)) (kind : Conflict) (a b x v w : ℕ) → HaveConflict h kind a b x v w
-    → ((t : Transaction ℕ ℕ) × IsCommitted h a t) × ((u : Transaction ℕ ℕ) × IsCommitted h b u)
-committed-both h WriteWrite a b x v w (apart, first, second, next) = ((first.t, first.is.committed), (second.t, second.is.committed))
-committed-both h WriteRead a b x v w (apart, first, second, same) = ((first.t, first.is.committed), (second.t, second.is.committed))
-committed-both h ReadWrite a b x v w (apart, first, second, next) = ((first.t, first.is.committed), (second.t, second.is.committed))
+use Rattle.sgt_history_verdict.proofs.Served.{committed-both}
 
 module _ (h : List (Transaction ℕ ℕ)) (lines : ℕ) (edges : List Edge) (a : Asked) (from : IsKeptFrom h lines edges a) where
   both-commit : (first second : ℕ) → StandsBefore h a.times.items a.sessions.items first second

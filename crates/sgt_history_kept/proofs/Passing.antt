@@ -12,7 +12,8 @@ use Rattle.sgt_history_kept.specs.declared.passed.Unkept.{Unkept}
 use Rattle.sgt_history_time.specs.Kept.{IsBefore, IsEarlier, Keeps, KeepsRealTime, KeepsSessions}
 use Rattle.sgt_history_kept.specs.Seen.{ComesAhead, ComesBehind, ComesLast, EndsBefore, EndsBehind, IsLatestWith}
 use Rattle.sgt_history_kept.specs.Unkept.{IsFirstUnkept, IsNoLater, IsUnkept, KeepsTo, PassesInSession, PassesInTime, StandsAmong}
-use Rattle.sgt_history_kept.proofs.Setting.{set-here, set-elsewhere}
+use Rattle.sgt_history_time.proofs.InSessions.{same-session}
+use Rattle.sgt_names.proofs.Elements.{get-set_here, get_set_elsewhere}
 
 -- ---- the first lines of an order
 
@@ -71,14 +72,6 @@ pub record UpTo (last : List (Option ℕ)) (session line : ℕ) : Type 0 where
 pub record AreLast (order : List ℕ) (sessions : List (Option ℕ)) (n : ℕ) (last : List (Option ℕ)) : Type 0 where
   pub most : (line session : ℕ) → StandsAmong order n line → slice_get sessions line ≡ Some (Some session) → UpTo last session line
   pub met : (session line : ℕ) → slice_get last session ≡ Some (Some line) → StandsAmong order n line × (slice_get sessions line ≡ Some (Some session))
-
-same-session : (o : Option (Option ℕ)) (s : ℕ) → (o ≡ Some (Some s)) ⊎ (o ≡ Some (Some s) → ⊥)
-same-session None s = inr (λ e. cc)
-same-session (Some None) s = inr (λ e. let f = same_Some None (Some s) e in cc)
-same-session (Some (Some t)) s = elim (cases_eq t s) [
-  | inl e ↦ inl (ap (λ u. Some (Some u)) e)
-  | inr apart ↦ inr (λ e. apart (same_Some t s (same_Some (Some t) (Some s) e)))
-]
 
 last-none : (order : List ℕ) (sessions last : List (Option ℕ)) → last ≡ [] → AreLast order sessions 0 last
 last-none order sessions last is = record {
@@ -287,8 +280,8 @@ pub noted-last : (sessions old wide : List (Option ℕ)) (line session : ℕ) �
 noted-last sessions old wide line session own within same = record {
   own = λ s at.
       let is : session ≡ s = same_Some session s (same_Some (Some session) (Some s) (sym own ∙ at)) in
-      ap (slice_get (set wide session (Some line))) (sym is) ∙ set-here wide session (Some line) within;
+      ap (slice_get (set wide session (Some line))) (sym is) ∙ get-set_here wide session (Some line) within;
   others = λ s before apart.
-      let elsewhere = set-elsewhere wide session s (Some line) (λ e. apart (own ∙ ap (λ k. Some (Some k)) (sym e))) in
+      let elsewhere = get_set_elsewhere wide session s (Some line) (λ e. apart (own ∙ ap (λ k. Some (Some k)) (sym e))) in
       (λ at. (same s before).0 (sym elsewhere ∙ at), λ at. elsewhere ∙ (same s before).1 at);
 }

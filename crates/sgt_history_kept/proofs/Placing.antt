@@ -3,8 +3,8 @@ use Rattle.std.proofs.Common.{◌≡◌, ℕ, zero, suc, ◌+◌, ◌<◌, ◌�
 use Rattle.std.specs.Prelude.{slice_get}
 use Rattle.std.proofs.lemmas.Bool.{cases_eq, cases_lt}
 use Rattle.std.proofs.lemmas.Option.{same_Some, slice_get_within}
-use Rattle.sgt_history_kept.proofs.Setting.{set-here, set-elsewhere}
 use Rattle.sgt_history_kept.specs.Placed.{AllPlaced, ArePlaces, ArePlacesTo}
+use Rattle.sgt_names.proofs.Elements.{get-set_here, get_set_elsewhere}
 
 pub places-next : (order : List ℕ) (places : List (Option ℕ)) (line at : ℕ) → line < length places → ((p : ℕ) → slice_get places line ≡ Some (Some p) → ⊥)
     → slice_get order at ≡ Some line → ArePlacesTo order at places → ArePlacesTo order (at + 1) (set places line (Some at))
@@ -14,10 +14,10 @@ places-next order places line at within none here so = record { there = there; b
     there other place e = elim (cases_eq other line) [
       | inl same ↦
           let f : slice_get (set places line (Some at)) line ≡ Some (Some place) = ap (slice_get (set places line (Some at))) (sym same) ∙ e in
-          let place_is : at ≡ place = same_Some at place (same_Some (Some at) (Some place) (sym (set-here places line (Some at) within) ∙ f)) in
+          let place_is : at ≡ place = same_Some at place (same_Some (Some at) (Some place) (sym (get-set_here places line (Some at) within) ∙ f)) in
           (omega (arith, place_is), ap (slice_get order) (sym place_is) ∙ here ∙ ap Some (sym same))
       | inr apart ↦
-          let old = so.there other place (sym (set-elsewhere places line other (Some at) apart) ∙ e) in
+          let old = so.there other place (sym (get_set_elsewhere places line other (Some at) apart) ∙ e) in
           (omega (arith, old.0), old.1)
     ]
 
@@ -25,11 +25,11 @@ places-next order places line at within none here so = record { there = there; b
     back other place lt e = elim (cases_lt place at) [
       | inl less ↦
           let old = so.back other place less e in
-          set-elsewhere places line other (Some at) (λ same. none place (ap (slice_get places) (sym same) ∙ old)) ∙ old
+          get_set_elsewhere places line other (Some at) (λ same. none place (ap (slice_get places) (sym same) ∙ old)) ∙ old
       | inr ge ↦
           let place_is : at ≡ place = omega (arith, lt, ge) in
           let same : line ≡ other = same_Some line other (sym here ∙ ap (slice_get order) place_is ∙ e) in
-          ap (slice_get (set places line (Some at))) (sym same) ∙ set-here places line (Some at) within ∙ ap (λ p. Some (Some p)) place_is
+          ap (slice_get (set places line (Some at))) (sym same) ∙ get-set_here places line (Some at) within ∙ ap (λ p. Some (Some p)) place_is
     ]
 
 pub placed-next : (places : List (Option ℕ)) (n p : ℕ) → ((line : ℕ) → line < n → (place : ℕ) × (slice_get places line ≡ Some (Some place)))

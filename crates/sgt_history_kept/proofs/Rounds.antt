@@ -12,8 +12,9 @@ use Rattle.sgt_history_graph.specs.Graph.{Goes}
 use Rattle.sgt_history_kept.specs.declared.asked.Asked.{Asked}
 use Rattle.sgt_history_kept.specs.Decided.{AreJoined, IsAskedBefore, IsKeptFrom}
 use Rattle.sgt_history_time.specs.Steps.{StandsBefore}
-use Rattle.sgt_history_kept.proofs.Setting.{set-here, set-elsewhere}
 use Rattle.sgt_history_verdict.specs.Steps.{place_behind}
+use Rattle.sgt_history_verdict.proofs.Excluding.{chain-of}
+use Rattle.sgt_names.proofs.Elements.{get-set_here, get_set_elsewhere}
 
 -- ---- what is noted
 
@@ -34,9 +35,9 @@ pub joined-note : (edges : List Edge) (joined : List (Option ℕ)) (from to : �
 joined-note edges joined from to within in_it so x y at = elim (cases_eq x from) [
   | inl same ↦
       let f : slice_get (set joined from (Some to)) from ≡ Some (Some y) = ap (slice_get (set joined from (Some to))) (sym same) ∙ at in
-      let is : to ≡ y = same_Some to y (same_Some (Some to) (Some y) (sym (set-here joined from (Some to) within) ∙ f)) in
+      let is : to ≡ y = same_Some to y (same_Some (Some to) (Some y) (sym (get-set_here joined from (Some to) within) ∙ f)) in
       subst (λ (z : ℕ). Goes edges x z) is (subst (λ (z : ℕ). Goes edges z to) (sym same) in_it)
-  | inr apart ↦ so x y (sym (set-elsewhere joined from x (Some to) apart) ∙ at)
+  | inr apart ↦ so x y (sym (get_set_elsewhere joined from x (Some to) apart) ∙ at)
 ]
 
 -- ---- a cycle
@@ -55,10 +56,6 @@ leads-next R cycle n a b so at at' r place x y lt here there = elim (cases_lt pl
       let y_is : b ≡ y = same_Some b y (sym at' ∙ ap (λ (k : ℕ). slice_get cycle (place_behind k (length cycle))) same ∙ there) in
       subst (λ (z : ℕ). R x z) y_is (subst (λ (z : ℕ). R z b) x_is r)
 ]
-
-chain-of : (R : ℕ → ℕ → Type 0) (a : ℕ) (xs : List ℕ) → ((i x y : ℕ) → slice_get (a ∷ xs) i ≡ Some x → slice_get (a ∷ xs) (suc i) ≡ Some y → R x y) → IsChain R a xs
-chain-of R a [] next = tt
-chain-of R a (b ∷ bs) next = (next 0 a b refl refl, chain-of R b bs (λ i x y. next (suc i) x y))
 
 module _ (R : ℕ → ℕ → Type 0) (a : ℕ) (between : List ℕ) (n : ℕ) (all : length (a ∷ between) ≤ n) (so : LeadsTo R (a ∷ between) n) where
   abbrev cycle : List ℕ

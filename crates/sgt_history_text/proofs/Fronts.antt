@@ -14,6 +14,7 @@ use Rattle.sgt_names.proofs.Lists.{tails}
 use Rattle.json.specs.Value.{value_view}
 use Rattle.json.specs.declared.value.Value.{Value}
 use Rattle.sgt_history_text.specs.Shallow.{AfterValue, Closes, Enters, IsFront, IsScalar, NoValue, ReadsAs, arrays, empty, leaf, map_items}
+use Rattle.sgt_history_text.proofs.Keys.{heads_are}
 
 -- one value stands in front at most
 pub same_front : (i j : Json) (r s : List Token) → json_tokens i ++ r ≡ json_tokens j ++ s → (i ≡ j) × (r ≡ s)
@@ -37,16 +38,13 @@ IsOther (token.boolean b) = ⊥
 IsOther token.null = ⊥
 IsOther bad = Unit {0}
 
-head_is : (t u : Token) (ts us : List Token) → t ∷ ts ≡ u ∷ us → t ≡ u
-head_is t u ts us e = cc
-
 pub no_value : (t : Token) (ts : List Token) → IsOther t → NoValue (t ∷ ts)
-no_value t ts other rest (null, e) = subst IsOther (head_is t token.null ts _ e) other
-no_value t ts other rest (boolean b, e) = subst IsOther (head_is t (token.boolean b) ts _ e) other
-no_value t ts other rest (number s, e) = subst IsOther (head_is t (token.number s) ts _ e) other
-no_value t ts other rest (string s, e) = subst IsOther (head_is t (token.string s) ts _ e) other
-no_value t ts other rest (array js, e) = subst IsOther (head_is t begin_array ts _ e) other
-no_value t ts other rest (object ms, e) = subst IsOther (head_is t begin_object ts _ e) other
+no_value t ts other rest (null, e) = subst IsOther (heads_are t token.null ts _ e) other
+no_value t ts other rest (boolean b, e) = subst IsOther (heads_are t (token.boolean b) ts _ e) other
+no_value t ts other rest (number s, e) = subst IsOther (heads_are t (token.number s) ts _ e) other
+no_value t ts other rest (string s, e) = subst IsOther (heads_are t (token.string s) ts _ e) other
+no_value t ts other rest (array js, e) = subst IsOther (heads_are t begin_array ts _ e) other
+no_value t ts other rest (object ms, e) = subst IsOther (heads_are t begin_object ts _ e) other
 
 pub no_value_at : (old new : List Token) (t : Token) → old ≡ t ∷ new → IsOther t → NoValue old
 no_value_at old new t e other = subst NoValue (sym e) (no_value t new other)

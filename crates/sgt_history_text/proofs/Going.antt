@@ -18,17 +18,9 @@ use Rattle.sgt_history_text.specs.declared.fault.LineFault.TheVariants.{NotALine
 use Rattle.sgt_history_text.specs.declared.moments.Moments.{Moments}
 use Rattle.sgt_history_text.specs.declared.reading.Stop.TheVariants.{Ended, At}
 use Rattle.sgt_history_text.specs.declared.wanted.Wanted.{Wanted}
+use Rattle.sgt_notation.proofs.Texts.{text-append, all-spent, spends-none, spends_on, text-one_line, fault-met}
 
 -- ---- lines
-
-text-append : (xs ys : List (List ℕ)) → text_of_lines (xs ++ ys) ≡ text_of_lines xs ++ text_of_lines ys
-text-append [] ys = refl
-text-append (x ∷ xs) ys = ap (λ (t : List ℕ). (x ++ 10 ∷ []) ++ t) (text-append xs ys) ∙ sym (append_assoc (x ++ 10 ∷ []) (text_of_lines xs) (text_of_lines ys))
-
-one-line : (xs : List (List ℕ)) (l rest : List ℕ) → text_of_lines (xs ++ l ∷ []) ++ rest ≡ text_of_lines xs ++ (l ++ 10 ∷ rest)
-one-line xs l rest =
-    ap (λ (t : List ℕ). t ++ rest) (text-append xs (l ∷ [])) ∙ append_assoc (text_of_lines xs) (text_of_lines (l ∷ [])) rest
-    ∙ ap (λ (t : List ℕ). text_of_lines xs ++ t) (ap (λ (t : List ℕ). t ++ rest) (append-nil (l ++ 10 ∷ [])) ∙ append_assoc l (10 ∷ []) rest)
 
 each-push : (lines : List (List ℕ)) (ids : List Json) (h : List (Transaction Json Json)) (l : List ℕ) (id : Json) (t : Transaction Json Json)
     → SpellEach lines ids h → HasNoLf l → length l ≤ longest_line → IsLine l id t → SpellEach (lines ++ l ∷ []) (ids ++ id ∷ []) (h ++ t ∷ [])
@@ -88,7 +80,7 @@ rest-line xs limit None old new l rest gives = tt
 rest-line xs limit (Some bytes) None new l rest gives = absurd rest
 rest-line xs limit (Some bytes) (Some os) None l rest gives = absurd gives
 rest-line xs limit (Some bytes) (Some os) (Some ns) l rest gives =
-    rest ∙ ap (λ (t : List ℕ). text_of_lines xs ++ t) gives.2 ∙ sym (one-line xs l ns)
+    rest ∙ ap (λ (t : List ℕ). text_of_lines xs ++ t) gives.2 ∙ sym (text-one_line xs l ns)
 
 pub goes-line : (w : Wanted) (told old new : Option (List ℕ)) (b b' : Builder) (m m' : Moments) (l : List ℕ) (goes : Goes w told old b m) → HasNoLf l
     → length l ≤ longest_line → Gives longest_line old Line l new → IsTaken w goes.lines goes.ids goes.h l b' m' None → Goes w told new b' m'
@@ -128,7 +120,7 @@ stops-end w told old new b m l goes gives = (
   spelled w told goes.lines goes.ids goes.h b m goes.spell goes.built goes.moments (end-lines goes.lines told old new l goes.rest gives),
 )
 
-some_byte : (l : List ℕ) → 0 < length l → l ≢ []
+pub some_byte : (l : List ℕ) → 0 < length l → l ≢ []
 some_byte l h e = omega (arith, ap length e)
 
 cut-lines : (lines : List (List ℕ)) (told old new : Option (List ℕ)) (l : List ℕ) → IsRest lines told old → Gives longest_line old Cut l new
@@ -215,28 +207,3 @@ module _ (w : Wanted) (told old : Option (List ℕ)) (b : Builder) (m : Moments)
   )
 
 -- ---- the reads
-
-pub spends_on : (told mid new : Option (List ℕ)) (a b c : ℕ) → Spends a told b mid → Spends b mid c new → Spends a told c new
-spends_on None mid new a b c first later = tt
-spends_on (Some xs) None new a b c first later = absurd first
-spends_on (Some xs) (Some ys) None a b c first later = absurd later
-spends_on (Some xs) (Some ys) (Some zs) a b c first later = omega arith
-
-pub spends-none : (told : Option (List ℕ)) (a b : ℕ) → b ≡ a → Spends a told b told
-spends-none None a b same = tt
-spends-none (Some xs) a b same = omega arith
-
--- no read was left, so each of them took a byte
-all-spent : (told new : Option (List ℕ)) → Spends 4294967295 told 0 new → IfSome told (λ bytes. most_reads ≤ length bytes)
-all-spent None new spends = tt
-all-spent (Some xs) None spends = absurd spends
-all-spent (Some xs) (Some ys) spends = let all : 4294967295 ≤ length xs = omega arith in all
-
--- a read fault is one of the source, or all reads were made
-pub fault-met : (told : Option (List ℕ)) (failures asked asked' reads : ℕ) (old new : Stream) (line : List ℕ) → old.failures ≡ failures → Spends 4294967295 told reads old.told → old.ahead.reads ≡ reads
-    → asked' + new.ahead.reads ≡ asked + 4294967295 → MetReadFault old line new → ReadFaultIsDue told failures new.failures asked asked'
-fault-met told failures asked asked' reads old new line quiet spends same counts met =
-    elim met.cause [
-      | inl failed ↦ inl (omega (arith, failed.0, quiet))
-      | inr spent ↦ inr (omega (arith, spent.0, counts), all-spent told new.told (spends_on told old.told new.told 4294967295 reads 0 spends (subst (λ (n : ℕ). Spends n old.told 0 new.told) same spent.2)))
-    ]

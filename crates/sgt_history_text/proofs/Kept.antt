@@ -15,8 +15,9 @@ use Rattle.sgt_history_text.specs.Name.{compact, IsKey, IsNegative, IsValue, IsW
 use Rattle.sgt_history_text.specs.Table.{IsInterned, IsNew}
 use Rattle.sgt_history_text.specs.declared.table.Interned.{Interned}
 use Rattle.sgt_history_text.specs.declared.table.Interned.TheVariants.{Old, New}
-use Rattle.sgt_history_text.proofs.Lookups.{get-push_cases, get-push_last, once-push}
+use Rattle.sgt_history_text.proofs.Lookups.{once-push}
 use Rattle.sgt_history_text.proofs.Trees.{same_compact}
+use Rattle.sgt_names.proofs.Elements.{get-push_cases, get-push_last}
 
 -- ---- names and values can be written
 

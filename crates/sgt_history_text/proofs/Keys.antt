@@ -22,11 +22,9 @@ use Rattle.sgt_history_text.specs.declared.table.Interned.{Interned}
 use Rattle.sgt_history_text.specs.declared.table.Interned.TheVariants.{Old, New}
 use Rattle.sgt_history_text.proofs.Kept.{kept_at, kept_new, key_numbers}
 use Rattle.sgt_history_text.proofs.Trees.{same_tokens}
+use Rattle.sgt_history_text.proofs.Objects.{no_tokens}
 
 -- ---- one token
-
-some_token : (t : Token) (ts : List Token) → t ∷ ts ≡ [] → ⊥
-some_token t ts e = cc
 
 -- the token of an id
 record IsToken (id : Json) : Type 0 where
@@ -42,12 +40,12 @@ token-of (string s) k = record { t = spec.string s; is = refl; key = λ n. n }
 token-of (array js) k = absurd k
 token-of (object ms) k = absurd k
 
-heads_are : (t u : Token) (ts us : List Token) → t ∷ ts ≡ u ∷ us → t ≡ u
+pub heads_are : (t u : Token) (ts us : List Token) → t ∷ ts ≡ u ∷ us → t ≡ u
 heads_are t u ts us e = cc
 
 module _ (ts : List Token) (id : Json) (is : IsId id) (text : ts ≡ json_tokens id) where
   pub no_token : ts ≡ [] → ⊥
-  no_token none = let k = token-of id is in some_token k.t [] (sym k.is ∙ sym text ∙ none)
+  no_token none = let k = token-of id is in no_tokens k.t [] (sym k.is ∙ sym text ∙ none)
 
   module _ (t : Token) (new : List Token) (first : ts ≡ t ∷ new) where
     pub no_key : IsNoKey t → ⊥
@@ -61,7 +59,7 @@ module _ (ts : List Token) (id : Json) (is : IsId id) (text : ts ≡ json_tokens
 pub more_behind : (ts new : List Token) (t : Token) (id : Json) → IsId id → ts ≡ t ∷ new → (r : Option token.Token) (after : List Token) → true ≡ is_some r
     → MatchOption r ((new ≡ []) × (after ≡ [])) (λ u. new ≡ token_of u ∷ after) → ts ≡ json_tokens id → ⊥
 more_behind ts new t id is first None after some next text = false≢true (sym some)
-more_behind ts new t id is first (Some u) after some next text = some_token (token_of u) after (sym next ∙ none_more ts id is text t new first)
+more_behind ts new t id is first (Some u) after some next text = no_tokens (token_of u) after (sym next ∙ none_more ts id is text t new first)
 
 pub none_behind : (ts new : List Token) (t : Token) (j : Json) → ts ≡ t ∷ new → json_tokens j ≡ t ∷ [] → (r : Option token.Token) (after : List Token)
     → false ≡ is_some r → MatchOption r ((new ≡ []) × (after ≡ [])) (λ u. new ≡ token_of u ∷ after) → ts ≡ json_tokens j

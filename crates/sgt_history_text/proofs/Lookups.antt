@@ -17,43 +17,14 @@ use Rattle.std.proofs.lemmas.Bool.{cases_lt}
 use Rattle.sgt_history.specs.Serial.{StandOnce}
 use Rattle.sgt_history_text.specs.declared.table.Place.TheVariants.{Free, Crowded}
 use Rattle.sgt_history_text.specs.Table.{hash_of, probe, More, number_in, AreKnown, AreFound, EndsAt, IsBesides, IsNew, IsPassed, IsPlaced, IsTable, IsTaken, KeepsOthers}
+use Rattle.sgt_names.proofs.Elements.{get-push_cases, get-push_last, get-slice_set_other, get-slice_set_same, length-slice_set}
 
 -- ---- lists
-
-pub get-set_other : {A : Type 0} (xs : List A) (i j : ℕ) (v : A) → (j ≡ i → ⊥) → slice_get (slice_set xs i v) j ≡ slice_get xs j
-get-set_other [] i j v h = refl
-get-set_other (x ∷ xs) zero zero v h = absurd (h refl)
-get-set_other (x ∷ xs) zero (suc j) v h = refl
-get-set_other (x ∷ xs) (suc i) zero v h = refl
-get-set_other (x ∷ xs) (suc i) (suc j) v h = get-set_other xs i j v (λ e. h (ap suc e))
-
-pub get-set_same : {A : Type 0} (xs : List A) (i : ℕ) (v : A) → i < length xs → slice_get (slice_set xs i v) i ≡ Some v
-get-set_same [] i v h = absurd (omega arith)
-get-set_same (x ∷ xs) zero v h = refl
-get-set_same (x ∷ xs) (suc i) v h = get-set_same xs i v (omega arith)
-
-pub length-slice_set : {A : Type 0} (xs : List A) (i : ℕ) (v : A) → length (slice_set xs i v) ≡ length xs
-length-slice_set [] i v = refl
-length-slice_set (x ∷ xs) zero v = refl
-length-slice_set (x ∷ xs) (suc i) v = ap suc (length-slice_set xs i v)
 
 pub get-push_before : {A : Type 0} (xs : List A) (y : A) (i : ℕ) → i < length xs → slice_get (xs ++ y ∷ []) i ≡ slice_get xs i
 get-push_before [] y i h = absurd (omega arith)
 get-push_before (x ∷ xs) y zero h = refl
 get-push_before (x ∷ xs) y (suc i) h = get-push_before xs y i (omega arith)
-
-pub get-push_last : {A : Type 0} (xs : List A) (y : A) → slice_get (xs ++ y ∷ []) (length xs) ≡ Some y
-get-push_last [] y = refl
-get-push_last (x ∷ xs) y = get-push_last xs y
-
--- an element of the longer list is one of the shorter or the last
-pub get-push_cases : {A : Type 0} (xs : List A) (y : A) (i : ℕ) (z : A) → slice_get (xs ++ y ∷ []) i ≡ Some z
-    → (slice_get xs i ≡ Some z) ⊎ ((i ≡ length xs) × (y ≡ z))
-get-push_cases [] y zero z e = inr (refl, cc)
-get-push_cases [] y (suc i) z e = absurd cc
-get-push_cases (x ∷ xs) y zero z e = inl e
-get-push_cases (x ∷ xs) y (suc i) z e =
-    ⊎_elim (λ h. inl h) (λ h. inr (ap suc h.0, h.1)) (get-push_cases xs y i z e)
 
 pub once-push : {A : Type 0} (xs : List A) (y : A) → StandOnce xs → ((n : ℕ) → slice_get xs n ≡ Some y → ⊥) → StandOnce (xs ++ y ∷ [])
 once-push xs y once new i j x e f =
@@ -74,7 +45,7 @@ module _ (slots : List ℕ) (slot value : ℕ) (free : slice_get slots slot ≡ 
   -- a number stays where it is
   taken-set : (place n : ℕ) → slice_get slots place ≡ Some (suc n) → slice_get (slice_set slots slot value) place ≡ Some (suc n)
   taken-set place n e =
-      get-set_other slots slot place value (λ same. different n 0 (sym e ∙ ap (slice_get slots) same ∙ free) refl) ∙ e
+      get-slice_set_other slots slot place value (λ same. different n 0 (sym e ∙ ap (slice_get slots) same ∙ free) refl) ∙ e
 
   there-set : (text : List ℕ) (try n : ℕ) → slice_get slots (probe slots text try) ≡ Some (suc n)
       → slice_get (slice_set slots slot value) (probe (slice_set slots slot value) text try) ≡ Some (suc n)
@@ -105,9 +76,9 @@ module _ (slots : List ℕ) (slot value : ℕ) (free : slice_get slots slot ≡ 
   pub known-set : (count : ℕ) → AreKnown count slots → value ≤ count → AreKnown count (slice_set slots slot value)
   known-set count known le place number e =
       ⊎_elim
-      (λ (same : place ≡ slot). (let there = sym (get-set_same slots slot value (slice_get_within slots slot 0 free)) ∙ ap (slice_get (slice_set slots slot value)) (sym same) ∙ e in
+      (λ (same : place ≡ slot). (let there = sym (get-slice_set_same slots slot value (slice_get_within slots slot 0 free)) ∙ ap (slice_get (slice_set slots slot value)) (sym same) ∙ e in
       let n : value ≡ suc number = cc in omega arith))
-      (λ (apart : place ≡ slot → ⊥). known place number (sym (get-set_other slots slot place value apart) ∙ e))
+      (λ (apart : place ≡ slot → ⊥). known place number (sym (get-slice_set_other slots slot place value apart) ∙ e))
       (decided place slot)
     where
       decided : (a b : ℕ) → (a ≡ b) ⊎ (a ≡ b → ⊥)
@@ -119,7 +90,7 @@ module _ (slots : List ℕ) (slot value : ℕ) (free : slice_get slots slot ≡ 
   placed_here names text number try e soon at passed = record {
     try = try;
     soon = soon;
-    there = ap (slice_get (slice_set slots slot value)) (probe-set text try ∙ sym at) ∙ get-set_same slots slot value (slice_get_within slots slot 0 free) ∙ ap Some e;
+    there = ap (slice_get (slice_set slots slot value)) (probe-set text try ∙ sym at) ∙ get-slice_set_same slots slot value (slice_get_within slots slot 0 free) ∙ ap Some e;
     passed = λ k h. passed-set names text k (passed k h);
   }
 

@@ -15,7 +15,7 @@ use Rattle.sgt_history_text.proofs.Fronts.{same_front}
 brackets : (ts us : List Token) → begin_array ∷ ts ≡ begin_object ∷ us → ⊥
 brackets ts us e = absurd cc
 
-no_tokens : (t : Token) (ts : List Token) → t ∷ ts ≡ [] → ⊥
+pub no_tokens : (t : Token) (ts : List Token) → t ∷ ts ≡ [] → ⊥
 no_tokens t ts e = cc
 
 -- with nothing behind it

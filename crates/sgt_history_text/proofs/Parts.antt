@@ -17,6 +17,7 @@ use Rattle.sgt_history.specs.declared.history.Operation.{Operation}
 use Rattle.sgt_history_text.specs.Line.{IsOperation, kind_word, operation_json}
 use Rattle.sgt_history_text.specs.Name.{IsItem, IsValue}
 use Rattle.sgt_history_text.specs.Parsed.{seen_operation}
+use Rattle.sgt_history_text.proofs.Telling.{number_is}
 
 -- an array of these elements and no fifth
 pub operation_is : (j i : Json) (k : Kind) (n : ℕ) (v : Option Json) → at 0 j ≡ Some (string (kind_word k)) → at 1 j ≡ Some i
@@ -118,9 +119,6 @@ same_kind Write Write e = refl
 
 string_is : (s t : List ℕ) → Some (string s) ≡ Some (string t) → s ≡ t
 string_is s t e = cc
-
-number_is : (s t : List ℕ) → Some (number s) ≡ Some (number t) → s ≡ t
-number_is s t e = cc
 
 -- an operation of that kind and version is above 0, if it writes
 pub must_have : (j : Json) (k : Kind) (n : ℕ) (o : Operation Json Json) → at 0 j ≡ Some (string (kind_word k)) → at 2 j ≡ Some (number (decimal n))

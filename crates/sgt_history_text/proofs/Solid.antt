@@ -89,7 +89,7 @@ first_item x y xs ys e = cc
 rest_items : (x y : Json) (xs ys : Items) → item x xs ≡ item y ys → xs ≡ ys
 rest_items x y xs ys e = cc
 
-elements : (xs ys : Items) → array xs ≡ array ys → xs ≡ ys
+pub elements : (xs ys : Items) → array xs ≡ array ys → xs ≡ ys
 elements xs ys e = cc
 
 items_fixed : (f : Json → Json) (ks : Items) → AreSolid f ks → map_items f ks ≡ ks

@@ -109,7 +109,7 @@ same_commits j id id' t t' a b = same_end t.commits t'.commits (sym a.end ∙ b.
 
 -- ---- when it ran
 
-number_is : (s t : List ℕ) → Some (number s) ≡ Some (number t) → s ≡ t
+pub number_is : (s t : List ℕ) → Some (number s) ≡ Some (number t) → s ≡ t
 number_is s t e = cc
 
 -- the numbers that stand there are those

@@ -10,7 +10,7 @@ use Rattle.json.proofs.Printed.Trees.{value-json_tokens, ArePrintable-json_token
 use Rattle.sgt_history_text.specs.Name.{compact}
 
 -- read with room enough, the tokens of a value give it
-read_back : (j : Json) (d : ℕ) → depth j ≤ d → value d (json_tokens j) ≡ Some (j, [])
+pub read_back : (j : Json) (d : ℕ) → depth j ≤ d → value d (json_tokens j) ≡ Some (j, [])
 read_back j d h = ap (value d) (sym (append-nil (json_tokens j))) ∙ value-json_tokens j d [] h
 
 pub same_tokens : (i j : Json) → json_tokens i ≡ json_tokens j → i ≡ j

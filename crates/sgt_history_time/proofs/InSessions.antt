@@ -25,7 +25,7 @@ pub record InSessions (order : List ℕ) (sessions : List (Option ℕ)) (n : ℕ
   pub none : (i j first second : ℕ) → i < n → j ≤ i → slice_get order i ≡ Some first → slice_get order j ≡ Some second
       → IsEarlier sessions first second → ⊥
 
-same-session : (o : Option (Option ℕ)) (s : ℕ) → (o ≡ Some (Some s)) ⊎ (o ≡ Some (Some s) → ⊥)
+pub same-session : (o : Option (Option ℕ)) (s : ℕ) → (o ≡ Some (Some s)) ⊎ (o ≡ Some (Some s) → ⊥)
 same-session None s = inr (λ e. cc)
 same-session (Some None) s = inr (λ e. let f = same_Some None (Some s) e in cc)
 same-session (Some (Some t)) s = elim (cases_eq t s) [

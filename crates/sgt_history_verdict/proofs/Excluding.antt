@@ -26,7 +26,7 @@ exact h (verdict.Cyclic c) is = (λ serial. absurd serial, λ s. cycle-excludes 
 
 -- ---- steps
 
-chain-of : (R : ℕ → ℕ → Type 0) (a : ℕ) (xs : List ℕ) → ((i x y : ℕ) → slice_get (a ∷ xs) i ≡ Some x → slice_get (a ∷ xs) (suc i) ≡ Some y → R x y) → IsChain R a xs
+pub chain-of : (R : ℕ → ℕ → Type 0) (a : ℕ) (xs : List ℕ) → ((i x y : ℕ) → slice_get (a ∷ xs) i ≡ Some x → slice_get (a ∷ xs) (suc i) ≡ Some y → R x y) → IsChain R a xs
 chain-of R a [] next = tt
 chain-of R a (b ∷ bs) next = (next 0 a b refl refl, chain-of R b bs (λ i x y. next (suc i) x y))
 

@@ -7,10 +7,7 @@ use Rattle.sgt_names.proofs.Places.{Contains_at, Contains-from_at}
 use Rattle.sgt_history.specs.Transaction.{Transaction}
 use Rattle.sgt_history.specs.Serial.{IsCommitted, StandOnce}
 use Rattle.sgt_history_verdict.specs.Verdict.{with_committed, committed_in}
-
-bools : (b : Bool) → (b ≡ true) ⊎ (b ≡ false)
-bools true = inl refl
-bools false = inr refl
+use Rattle.sgt_names.proofs.Elements.{bool_cases}
 
 -- the first line is kept, or it isn't
 kept-first : (h : List (Transaction ℕ ℕ)) (line : ℕ) (t : Transaction ℕ ℕ) (ls : List ℕ) → IsCommitted h line t
@@ -23,7 +20,7 @@ left-first h line ls not = left (option_cases (slice_get h line))
   where
     left : (slice_get h line ≡ None) ⊎ ((t : Transaction ℕ ℕ) × (slice_get h line ≡ Some t)) → committed_in h (line ∷ ls) ≡ committed_in h ls
     left (inl none) = ap (λ o. with_committed o line (committed_in h ls)) none
-    left (inr (t, is)) = elim (bools t.commits) [
+    left (inr (t, is)) = elim (bool_cases t.commits) [
       | inl commits ↦ absurd (not t (is, commits))
       | inr aborts ↦ ap (λ o. with_committed o line (committed_in h ls)) is ∙ rw aborts refl
     ]
@@ -32,7 +29,7 @@ left-first h line ls not = left (option_cases (slice_get h line))
 decide : (h : List (Transaction ℕ ℕ)) (line : ℕ) → ((t : Transaction ℕ ℕ) × IsCommitted h line t) ⊎ ((t : Transaction ℕ ℕ) → IsCommitted h line t → ⊥)
 decide h line = elim (option_cases (slice_get h line)) [
   | inl none ↦ inr (λ t c. let f = sym none ∙ c.0 in cc)
-  | inr some ↦ elim (bools some.0.commits) [
+  | inr some ↦ elim (bool_cases some.0.commits) [
     | inl commits ↦ inl (some.0, (some.1, commits))
     | inr aborts ↦ inr (λ t c. let f = sym aborts ∙ ap (λ (u : Transaction ℕ ℕ). u.commits) (same_Some some.0 t (sym some.1 ∙ c.0)) ∙ c.1 in cc)
   ]

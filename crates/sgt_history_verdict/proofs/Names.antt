@@ -17,12 +17,9 @@ use Rattle.sgt_history_verdict.specs.Named.{IsNameOf, is_read_write, is_write_re
 use Rattle.sgt_history_verdict.specs.Steps.{AreSteps, IsStep, lines_of}
 use Rattle.sgt_history_verdict.specs.Verdict.{IsLeastGraph}
 use Rattle.sgt_history_verdict.proofs.Excluding.{steps-cycle}
+use Rattle.sgt_names.proofs.Elements.{bool_cases}
 
 -- ---- counts
-
-bools : (b : Bool) → (b ≡ true) ⊎ (b ≡ false)
-bools true = inl refl
-bools false = inr refl
 
 -- what one step adds to a count
 abbrev weight : Bool → ℕ
@@ -38,7 +35,7 @@ none-counted p (s ∷ rest) none =
 first-none : (p : Step → Bool) (s : Step) (rest : List Step) → count_by p (s ∷ rest) ≡ 0 → (p s ≡ false) × (count_by p rest ≡ 0)
 first-none p s rest none =
     let sum = sum_by-cons (λ (t : Step). weight (p t)) s rest in
-    elim (bools (p s)) [
+    elim (bool_cases (p s)) [
       | inl counts ↦ let one : weight (p s) ≡ weight true = ap weight counts in absurd (omega (arith, sum, one, none))
       | inr not ↦ let nothing : weight (p s) ≡ weight false = ap weight not in (not, omega (arith, sum, nothing, none))
     ]

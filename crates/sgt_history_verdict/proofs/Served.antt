@@ -43,7 +43,7 @@ order-excludes h g edges are count order o (cycle, is) =
 
 -- ---- an order
 
-committed-both : (h : List (Transaction ℕ ℕ)) (kind : Conflict) (a b x v w : ℕ) → HaveConflict h kind a b x v w
+pub committed-both : (h : List (Transaction ℕ ℕ)) (kind : Conflict) (a b x v w : ℕ) → HaveConflict h kind a b x v w
     → ((t : Transaction ℕ ℕ) × IsCommitted h a t) × ((u : Transaction ℕ ℕ) × IsCommitted h b u)
 committed-both h WriteWrite a b x v w (apart, first, second, next) = ((first.t, first.is.committed), (second.t, second.is.committed))
 committed-both h WriteRead a b x v w (apart, first, second, same) = ((first.t, first.is.committed), (second.t, second.is.committed))

@@ -4,22 +4,8 @@ use Rattle.std.specs.List.{AllByRecursion}
 use Rattle.std.proofs.lemmas.List.{append-nil}
 use Rattle.sgt_notation.specs.Spelling.{text_of_lines}
 use Rattle.sgt_notation.proofs.OneSpelling.{HasNot, cut_at_byte}
-
-pub no_line : (l more : List ℕ) → l ++ 10 ∷ more ≡ [] → ⊥
-no_line [] more e = cc
-no_line (x ∷ l) more e = cc
-
-pub first_line : (l : List ℕ) (ls : List (List ℕ)) → text_of_lines (l ∷ ls) ≡ l ++ 10 ∷ text_of_lines ls
-first_line l ls = append_assoc l (10 ∷ []) (text_of_lines ls)
-
-pub text-append : (xs ys : List (List ℕ)) → text_of_lines (xs ++ ys) ≡ text_of_lines xs ++ text_of_lines ys
-text-append [] ys = refl
-text-append (x ∷ xs) ys = ap (λ (t : List ℕ). (x ++ 10 ∷ []) ++ t) (text-append xs ys) ∙ sym (append_assoc (x ++ 10 ∷ []) (text_of_lines xs) (text_of_lines ys))
-
-pub one-line : (xs : List (List ℕ)) (l rest : List ℕ) → text_of_lines (xs ++ l ∷ []) ++ rest ≡ text_of_lines xs ++ (l ++ 10 ∷ rest)
-one-line xs l rest =
-    ap (λ (t : List ℕ). t ++ rest) (text-append xs (l ∷ [])) ∙ append_assoc (text_of_lines xs) (text_of_lines (l ∷ [])) rest
-    ∙ ap (λ (t : List ℕ). text_of_lines xs ++ t) (ap (λ (t : List ℕ). t ++ rest) (append-nil (l ++ 10 ∷ [])) ∙ append_assoc l (10 ∷ []) rest)
+use Rattle.sgt_notation.proofs.Texts.{text-append, first_line, text-one_line}
+use Rattle.sgt_names.proofs.Elements.{no_line}
 
 -- lines without an LF are cut in one way
 pub texts-one : (xs ys : List (List ℕ)) → AllByRecursion (HasNot 10) xs → AllByRecursion (HasNot 10) ys → text_of_lines xs ≡ text_of_lines ys → xs ≡ ys

@@ -12,9 +12,9 @@ use Rattle.sgt_notation.specs.declared.fault.NotationFault.TheVariants.{NotALine
 use Rattle.sgt_notation.proofs.Decidable.{Decidable}
 use Rattle.sgt_notation.proofs.OneSpelling.{HasNot}
 use Rattle.sgt_input.specs.Unreadable.{Blocks, IsFirstUnreadable}
-use Rattle.sgt_input.proofs.Lines.{one-line}
+use Rattle.sgt_notation.proofs.Texts.{text-one_line}
 
-no_lf : (xs : List ℕ) → HasNot 10 xs → HasNoLf xs
+pub no_lf : (xs : List ℕ) → HasNot 10 xs → HasNoLf xs
 no_lf xs h = All-from_recursion (λ b. b ≢ 10) xs h
 
 -- ---- what comes first
@@ -116,7 +116,7 @@ module _ (begins : List (List ℕ) → Type 0) (known : (lines : List (List ℕ)
             let sum = length-append c.line (10 ∷ c.more) in
             going before rest text begun c (λ goes.
             told-from k (before ++ c.line ∷ []) c.more (omega (arith, size, all, sum))
-            (text ∙ ap (λ (t : List ℕ). text_of_lines before ++ t) c.text ∙ sym (one-line before c.line c.more)) goes)
+            (text ∙ ap (λ (t : List ℕ). text_of_lines before ++ t) c.text ∙ sym (text-one_line before c.line c.more)) goes)
       ]
 
   -- there is always one of the two

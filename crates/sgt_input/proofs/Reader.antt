@@ -12,7 +12,7 @@ use Rattle.sgt_input.specs.declared.reading.Stop.TheVariants as stop
 use Rattle.sgt_input.specs.Stopping.{IsStop}
 use Rattle.sgt_input.specs.Taking.{TakesFront, TakesLine}
 use Rattle.sgt_input.specs.Unreadable.{Blocks, IsFirstUnreadable}
-use Rattle.sgt_input.proofs.Lines.{one-line}
+use Rattle.sgt_notation.proofs.Texts.{all-spent, spends-none, spends_on, fault-met, text-one_line}
 
 -- the bytes are these lines and then what comes
 abbrev pub IsRest : List (List ℕ) → Option (List ℕ) → Option (List ℕ) → Type 0
@@ -40,12 +40,6 @@ nothing-taken begins took told ahead begun taken fresh =
 
 -- ---- the reads
 
-pub spends_on : (told mid new : Option (List ℕ)) (a b c : ℕ) → Spends a told b mid → Spends b mid c new → Spends a told c new
-spends_on None mid new a b c first later = tt
-spends_on (Some xs) None new a b c first later = absurd first
-spends_on (Some xs) (Some ys) None a b c first later = absurd later
-spends_on (Some xs) (Some ys) (Some zs) a b c first later = omega arith
-
 -- ---- after a line
 
 rest-line : (xs : List (List ℕ)) (limit : ℕ) (told old new : Option (List ℕ)) (l : List ℕ) → IsRest xs told old → Gives limit old Line l new
@@ -54,7 +48,7 @@ rest-line xs limit None old new l rest gives = tt
 rest-line xs limit (Some bytes) None new l rest gives = absurd rest
 rest-line xs limit (Some bytes) (Some os) None l rest gives = absurd gives
 rest-line xs limit (Some bytes) (Some os) (Some ns) l rest gives =
-    rest ∙ ap (λ (t : List ℕ). text_of_lines xs ++ t) gives.2 ∙ sym (one-line xs l ns)
+    rest ∙ ap (λ (t : List ℕ). text_of_lines xs ++ t) gives.2 ∙ sym (text-one_line xs l ns)
 
 pub after-line : (begins took took' : List (List ℕ) → Type 0) (told : Option (List ℕ)) (limit n : ℕ) (old new : Option (List ℕ)) (l : List ℕ)
     (goes : Goes begins took told old n) → Gives limit old Line l new → begins (goes.lines ++ l ∷ []) × took' (goes.lines ++ l ∷ [])
@@ -248,22 +242,3 @@ module _ (begins took : List (List ℕ) → Type 0) where
       }
 
 -- ---- all reads
-
-pub spends-none : (told : Option (List ℕ)) (a b : ℕ) → b ≡ a → Spends a told b told
-spends-none None a b same = tt
-spends-none (Some xs) a b same = omega arith
-
--- no read was left, so each of them took a byte
-all-spent : (told new : Option (List ℕ)) → Spends 4294967295 told 0 new → IfSome told (λ bytes. most_reads ≤ length bytes)
-all-spent None new spends = tt
-all-spent (Some xs) None spends = absurd spends
-all-spent (Some xs) (Some ys) spends = let all : 4294967295 ≤ length xs = omega arith in all
-
--- a read fault is one of the source, or all reads were made
-pub fault-met : (told : Option (List ℕ)) (failures asked asked' reads : ℕ) (old new : Stream) (line : List ℕ) → old.failures ≡ failures → Spends 4294967295 told reads old.told → old.ahead.reads ≡ reads
-    → asked' + new.ahead.reads ≡ asked + 4294967295 → MetReadFault old line new → ReadFaultIsDue told failures new.failures asked asked'
-fault-met told failures asked asked' reads old new line quiet spends same counts met =
-    elim met.cause [
-      | inl failed ↦ inl (omega (arith, failed.0, quiet))
-      | inr spent ↦ inr (omega (arith, spent.0, counts), all-spent told new.told (spends_on told old.told new.told 4294967295 reads 0 spends (subst (λ (n : ℕ). Spends n old.told 0 new.told) same spent.2)))
-    ]

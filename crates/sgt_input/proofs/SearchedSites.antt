@@ -18,7 +18,8 @@ use Rattle.sgt_notation.specs.declared.SectionLine.{SectionLine}
 use Rattle.sgt_notation.specs.declared.SectionLine.TheVariants.{Initial, Logged}
 use Rattle.sgt_notation.specs.declared.event.SiteLine.{SiteLine}
 use Rattle.sgt_notation.proofs.Decidable.{Decidable, decidable-as, decidable-both, decidable-AllPairs, IsSearched, searched-below, searched-both}
-use Rattle.sgt_notation.proofs.SearchedLines.{searched-lines}
+use Rattle.sgt_notation.proofs.SearchedLines.{searched-lines, searched-holdings, searched-txs, searched-names}
+use Rattle.sgt_notation.proofs.Texts.{decidable-Less}
 
 -- ---- what stands in lines of sections
 
@@ -30,32 +31,13 @@ abbrev of-tx : (ℕ → Type 0) → SectionLine → Type 0
 of-tx Q (Logged (Commit tx)) = Q tx
 of-tx Q _ = ⊥
 
-pub searched-holdings : IsSearched Holding IsHolding
-searched-holdings Q each = decidable-as (λ r. back r.0 r.1 r.2) (λ r. (Initial r.0, r.1, r.2)) (searched-lines (of-holding Q) one)
-  where
-    one : (l : SectionLine) → Decidable (of-holding Q l)
-    one (Initial h) = each h
-    one _ = inr (λ h. h)
-
     back : (l : SectionLine) → IsLine l → of-holding Q l → (h : Holding) × IsHolding h × Q h
     back (Initial h) is q = (h, is, q)
     back _ is q = absurd q
 
-pub searched-txs : IsSearched ℕ IsTx
-searched-txs Q each = decidable-as (λ r. back r.0 r.1 r.2) (λ r. (Logged (Commit r.0), r.1, r.2)) (searched-lines (of-tx Q) one)
-  where
-    one : (l : SectionLine) → Decidable (of-tx Q l)
-    one (Logged (Commit tx)) = each tx
-    one _ = inr (λ h. h)
-
     back : (l : SectionLine) → IsLine l → of-tx Q l → (tx : ℕ) × IsTx tx × Q tx
     back (Logged (Commit tx)) is q = (tx, is, q)
     back _ is q = absurd q
-
-pub searched-names : IsSearched Name IsName
-searched-names Q each =
-    decidable-as (λ r. (r.0.item, r.1.0, r.2)) (λ r. (record { item = r.0; value = 0 }, (r.1, omega arith), r.2))
-    (searched-holdings (λ h. Q h.item) (λ h. each h.item))
 
 pub searched-sites : IsSearched ℕ IsSite
 searched-sites = searched-below max_sites
@@ -107,17 +89,12 @@ searched-lists {A} Is (suc most) search Q each =
 
 -- ---- lines of sites
 
-decidable-less_than : (o : Ordering) → Decidable (o ≡ Less)
-decidable-less_than Less = inl refl
-decidable-less_than Equal = inr (λ e. cc)
-decidable-less_than Greater = inr (λ e. cc)
-
 abbrev AreRising : List Holding → Type 0
 AreRising hs = IsRisingBy (λ (h : Holding). h.item) (slice_cmp nat_cmp) hs
 
 decidable-rising : (hs : List Holding) → Decidable (AreRising hs)
 decidable-rising hs =
-    decidable-AllPairs (λ (a b : Holding). slice_cmp nat_cmp a.item b.item ≡ Less) (λ a b. decidable-less_than (slice_cmp nat_cmp a.item b.item)) hs
+    decidable-AllPairs (λ (a b : Holding). slice_cmp nat_cmp a.item b.item ≡ Less) (λ a b. decidable-Less (slice_cmp nat_cmp a.item b.item)) hs
 
 pub searched-site_lines : IsSearched SiteLine IsSiteLine
 searched-site_lines Q each =

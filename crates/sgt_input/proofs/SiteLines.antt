@@ -13,8 +13,10 @@ use Rattle.sgt_names.specs.Limits.{max_line}
 use Rattle.sgt_notation.specs.Spelling.{IsHolding, assignment}
 use Rattle.sgt_notation.specs.declared.event.SiteLine.{SiteLine}
 use Rattle.sgt_notation.proofs.OneSite.{site-no_lf, site-one}
-use Rattle.sgt_notation.proofs.Short.{name-short, value-short}
+use Rattle.sgt_notation.proofs.Short.{value-short}
 use Rattle.sgt_input.proofs.Unreadable.{IsPlain}
+use Rattle.sgt_names.proofs.Elements.{empty-length, map-push}
+use Rattle.sgt_names.proofs.Stored.{name-length}
 
 -- ---- their numbers
 
@@ -41,7 +43,7 @@ join-short w (v ∷ ws) h all =
     omega (arith, size, h, join-short v ws all.0 all.1)
 
 assignment-short : (h : Holding) → IsHolding h → length (assignment h.item h.value) ≤ 38
-assignment-short h is = simp length-append (omega (arith, name-short h.item is.0, value-short h.value is.1))
+assignment-short h is = simp length-append (omega (arith, name-length h.item is.0, value-short h.value is.1))
 
 items-short : (hs : List Holding) → AllByRecursion IsHolding hs → AllByRecursion (λ v. length v ≤ 38) (map (λ h. assignment h.item h.value) hs)
 items-short [] all = tt
@@ -61,21 +63,12 @@ site-plain l is = (recursion_from_All (λ c. c ≢ 10) (site_text l) (site-no_lf
 
 -- ---- lists
 
-pub map-push : {A B : Type 0} (f : A → B) (xs : List A) (x : A) → map f (xs ++ x ∷ []) ≡ map f xs ++ f x ∷ []
-map-push f [] x = refl
-map-push f (y ∷ xs) x = ap (λ ys. f y ∷ ys) (map-push f xs x)
-
 pub not-nil : {A : Type 0} (xs : List A) (x : A) → xs ++ x ∷ [] ≡ [] → ⊥
 not-nil [] x e = absurd cc
 not-nil (y ∷ xs) x e = absurd cc
 
--- emptiness, as a test tells it
-no-length : {A : Type 0} (xs : List A) → length xs ≡ 0 → xs ≡ []
-no-length [] e = refl
-no-length (x ∷ xs) e = absurd (omega arith)
-
 pub empty_when : {A : Type 0} (xs : List A) (n : ℕ) → length xs ≡ n → true ≡ (n == 0) → xs ≡ []
-empty_when xs n size e = no-length xs (size ∙ eqb-true n 0 (sym e))
+empty_when xs n size e = empty-length xs (size ∙ eqb-true n 0 (sym e))
 
 pub filled_when : {A : Type 0} (xs : List A) (n : ℕ) → length xs ≡ n → false ≡ (n == 0) → xs ≢ []
 filled_when xs n size e none = eqb-false n 0 (sym e) (sym size ∙ ap length none)

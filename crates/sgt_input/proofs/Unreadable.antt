@@ -16,9 +16,11 @@ use Rattle.sgt_notation.proofs.OneNext.{next-one}
 use Rattle.sgt_notation.proofs.OneSpelling.{HasNot, cut_at_byte}
 use Rattle.sgt_notation.proofs.Unspelled.{never}
 use Rattle.sgt_input.specs.Unreadable.{Blocks, IsFirstUnreadable}
-use Rattle.sgt_input.proofs.Lines.{first_line, no_line, one-line}
+use Rattle.sgt_notation.proofs.Texts.{line_front, first_line, text-one_line}
+use Rattle.sgt_input.proofs.ReadOrNot.{no_lf}
+use Rattle.sgt_names.proofs.Elements.{no_line}
 
-nonempty : {A : Type 0} (x : A) (xs : List A) → x ∷ xs ≡ [] → ⊥
+pub nonempty : {A : Type 0} (x : A) (xs : List A) → x ∷ xs ≡ [] → ⊥
 nonempty x xs e = absurd cc
 
 -- a line that is short, and has no LF
@@ -41,14 +43,8 @@ plain-no_lf (x ∷ xs) all = (all.0.0, plain-no_lf xs all.1)
 
 -- ---- what blocks an input
 
-no_lf : (xs : List ℕ) → HasNot 10 xs → HasNoLf xs
-no_lf xs h = All-from_recursion (λ b. b ≢ 10) xs h
-
 line-not_long : next.Line ≡ next.TooLong → ⊥
 line-not_long e = absurd cc
-
-line-front : (l : List ℕ) (ls : List (List ℕ)) (r : List ℕ) → text_of_lines (l ∷ ls) ++ r ≡ l ++ 10 ∷ (text_of_lines ls ++ r)
-line-front l ls r = ap (λ (t : List ℕ). t ++ r) (first_line l ls) ∙ append_assoc l (10 ∷ text_of_lines ls) r
 
 -- ---- two ways through the same bytes
 
@@ -61,7 +57,7 @@ two-ways : (xs ys : List (List ℕ)) (r s : List ℕ) → AllByRecursion (HasNot
 two-ways [] ys r s h g e = inl (ys, refl, e)
 two-ways (x ∷ xs) [] r s h g e = inr (x ∷ xs, refl, sym e)
 two-ways (x ∷ xs) (y ∷ ys) r s h g e =
-    let cut = cut_at_byte 10 x y (text_of_lines xs ++ r) (text_of_lines ys ++ s) h.0 g.0 (sym (line-front x xs r) ∙ e ∙ line-front y ys s) in
+    let cut = cut_at_byte 10 x y (text_of_lines xs ++ r) (text_of_lines ys ++ s) h.0 g.0 (sym (line_front x xs r) ∙ e ∙ line_front y ys s) in
     longer cut.0 (two-ways xs ys r s h.1 g.1 cut.1)
   where
     longer : x ≡ y → IsBehind xs ys r s ⊎ IsBehind ys xs s r → IsBehind (x ∷ xs) (y ∷ ys) r s ⊎ IsBehind (y ∷ ys) (x ∷ xs) s r
@@ -71,7 +67,7 @@ two-ways (x ∷ xs) (y ∷ ys) r s h g e =
 -- a text that is over goes on with nothing
 nothing-behind : (xs ys : List (List ℕ)) (r : List ℕ) → IsBehind xs ys [] r → (ys ≡ xs) × (r ≡ [])
 nothing-behind xs ys r ([], more, text) = (more ∙ append-nil xs, sym text)
-nothing-behind xs ys r (z ∷ zs, more, text) = absurd (no_line z (text_of_lines zs ++ r) (sym (text ∙ line-front z zs r)))
+nothing-behind xs ys r (z ∷ zs, more, text) = absurd (no_line z (text_of_lines zs ++ r) (sym (text ∙ line_front z zs r)))
 
 -- ---- one of the two there is
 
@@ -145,7 +141,7 @@ module _ (begins : List (List ℕ) → Type 0) (are : AreInputs begins) where
   not-further before z zs s f begun blocks =
       let next = are.front (before ++ z ∷ []) zs (subst begins (sym (append_assoc before (z ∷ []) zs)) begun) in
       goes-on before z (text_of_lines zs ++ s) f next (plain-last before z (are.plain (before ++ z ∷ []) next))
-      (subst (λ (t : List ℕ). Blocks begins before t f) (line-front z zs s) blocks)
+      (subst (λ (t : List ℕ). Blocks begins before t f) (line_front z zs s) blocks)
 
   -- what blocks behind the one blocks at the same place behind the other, or not at all
   same-place : (xs ys : List (List ℕ)) (r s : List ℕ) (f : NotationFault) → begins ys → Blocks begins xs r f → IsBehind xs ys r s → (ys ≡ xs) × (r ≡ s)
@@ -211,7 +207,7 @@ module _ (begins : List (List ℕ) → Type 0) (are : AreInputs begins) where
   input-or_fault (suc k) bytes rest before size text begun neither =
       by (comes max_line rest) (λ (l : HasLine max_line rest) (goes : begins (before ++ l.line ∷ [])).
       input-or_fault k bytes l.more (before ++ l.line ∷ []) (shorter max_line k rest l size)
-      (text ∙ ap (λ (t : List ℕ). text_of_lines before ++ t) l.text ∙ sym (one-line before l.line l.more)) goes neither)
+      (text ∙ ap (λ (t : List ℕ). text_of_lines before ++ t) l.text ∙ sym (text-one_line before l.line l.more)) goes neither)
     where
       by : Comes max_line rest → ((l : HasLine max_line rest) → begins (before ++ l.line ∷ []) → ⊥) → ⊥
       by (inl h) then = over bytes rest before text begun neither (list_cases before) h.0 h.1

@@ -15,3 +15,4 @@ pub mod Rising
 pub mod AtSite
 mod Shown
 pub mod Parts
+pub mod Elements

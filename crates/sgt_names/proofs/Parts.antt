@@ -21,6 +21,7 @@ use Rattle.sgt_names.proofs.Places.{AllPairs_at, slice_get-take, All_at, All-fro
 use Rattle.sgt_names.proofs.Lists.{All-weaken, AllByRecursion-append, Any_at, Any-from_at, front_at, back_at, middle_at, within_at, take_next}
 use Rattle.sgt_names.proofs.Ranged.{rising-set, rising-insert, All-insert}
 use Rattle.sgt_names.proofs.Touched.{place_total, less_apart as less_apart_places}
+use Rattle.sgt_names.proofs.AtSite.{apart}
 
 abbrev SiteBefore : PartView → PartView → Type 0
 SiteBefore p q = nat_cmp p.site q.site ≡ Less
@@ -37,7 +38,7 @@ used_by (p ∷ ps) all = All-append IsUsed p.touched (touched_in ps) all.0.used 
 pub parts_used : (ps : List PartView) → All IsPart ps → All IsUsed (touched_in ps)
 parts_used ps all = used_by ps (recursion_from_All IsPart ps all)
 
-pairs-append : {A : Type 0} (R : A → A → Type 0) (xs ys : List A) → PairsByRecursion R xs → PairsByRecursion R ys → AllByRecursion (λ x. AllByRecursion (R x) ys) xs → PairsByRecursion R (xs ++ ys)
+pub pairs-append : {A : Type 0} (R : A → A → Type 0) (xs ys : List A) → PairsByRecursion R xs → PairsByRecursion R ys → AllByRecursion (λ x. AllByRecursion (R x) ys) xs → PairsByRecursion R (xs ++ ys)
 pairs-append R [] ys front back cross = back
 pairs-append R (x ∷ xs) ys front back cross = (AllByRecursion-append (R x) xs ys front.0 cross.0, pairs-append R xs ys front.1 back cross.1)
 
@@ -73,12 +74,6 @@ is_equal m n same = grind (arith, nat_tests)
 equal_is : (m n : ℕ) → (m == n) ≡ true → m ≡ n
 equal_is m n same = grind (arith, nat_tests)
 
-is_apart : (m n : ℕ) → (m ≡ n → ⊥) → (m == n) ≡ false
-is_apart m n apart = elim (cases_Bool (m == n)) [
-  | inl hit ↦ absurd (apart (equal_is m n hit))
-  | inr miss ↦ miss
-]
-
 less_apart : (m n : ℕ) → nat_cmp m n ≡ Less → m ≡ n → ⊥
 less_apart m n less same = absurd (let e : nat_cmp m m ≡ Less = subst (λ k. nat_cmp m k ≡ Less) (sym same) less in let t = tied_itself nat_cmp_total m in cc)
 
@@ -97,7 +92,7 @@ site_whole s (t ∷ ts) here = filter_hit (λ (u : Touch). u.site == s) t ts (is
 
 site_away : (s : ℕ) (ts : List Touch) → AllByRecursion (λ t. t.site ≡ s → ⊥) ts → at_site s ts ≡ []
 site_away s [] away = refl
-site_away s (t ∷ ts) away = filter_miss (λ (u : Touch). u.site == s) t ts (is_apart t.site s away.0) ∙ site_away s ts away.1
+site_away s (t ∷ ts) away = filter_miss (λ (u : Touch). u.site == s) t ts (apart t.site s away.0) ∙ site_away s ts away.1
 
 part_whole : (s : ℕ) (p : PartView) → IsPart p → p.site ≡ s → at_site s p.touched ≡ p.touched
 part_whole s p part is = site_whole s p.touched (recursion_from_All (λ (t : Touch). t.site ≡ s) p.touched (All-weaken (λ (t : Touch). t.site ≡ p.site) (λ (t : Touch). t.site ≡ s) p.touched (λ t here. here ∙ is) part.here))

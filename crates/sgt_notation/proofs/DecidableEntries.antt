@@ -36,11 +36,11 @@ decidable-writes x (Want tx y v) = decidable-text y x
 decidable-writes x (WantAdd tx y v) = decidable-text y x
 decidable-writes x _ = inr (λ h. h)
 
-reads-item : (x : Name) (e : Entry) → Reads x e → item_of e ≡ Some x
+pub reads-item : (x : Name) (e : Entry) → Reads x e → item_of e ≡ Some x
 reads-item x (Read tx y v) h = ap Some h
 reads-item x _ h = absurd h
 
-writes-item : (x : Name) (e : Entry) → Writes x e → item_of e ≡ Some x
+pub writes-item : (x : Name) (e : Entry) → Writes x e → item_of e ≡ Some x
 writes-item x (Write tx y v) h = ap Some h
 writes-item x (Add tx y v) h = ap Some h
 writes-item x (Want tx y v) h = ap Some h
@@ -86,7 +86,7 @@ decidable-clash Ww x e f =
     decidable-three (decidable-writes x e) (decidable-writes x f)
     (decidable-if (decidable-test (is_increment e)) (λ added. decidable-not (decidable-test (is_increment f))))
 
-clash-item : (kind : Kind) (x : Name) (e f : Entry) → Clash kind x e f → item_of e ≡ Some x
+pub clash-item : (kind : Kind) (x : Name) (e f : Entry) → Clash kind x e f → item_of e ≡ Some x
 clash-item Wr x e f h = writes-item x e h.0
 clash-item Rw x e f h = reads-item x e h.0
 clash-item Ww x e f h = writes-item x e h.0

@@ -109,7 +109,7 @@ gives_held limit n old None line plain short within e = tt
 gives_held limit n old (Some xs) line plain short within e =
     (plain, short, ap (λ h. h ++ xs) (held_splits n old.held line within e) ∙ append_assoc line (10 ∷ drop n old.held) xs)
 
-spends_none : (reads : ℕ) (told : Option (List ℕ)) → Spends reads told reads told
+pub spends_none : (reads : ℕ) (told : Option (List ℕ)) → Spends reads told reads told
 spends_none reads None = tt
 spends_none reads (Some xs) = omega arith
 

@@ -17,7 +17,8 @@ use Rattle.sgt_notation.specs.declared.fault.NotationFault.{NotationFault}
 use Rattle.sgt_notation.proofs.OneSpelling.{HasNot, apart, decimal-one_line, small-tx}
 use Rattle.sgt_notation.proofs.EventParts.{access-one, access-without, tx-one, update-one, update-without, visit-one, visit-without}
 use Rattle.sgt_notation.proofs.Pairs.{IsOne}
-use Rattle.sgt_notation.proofs.Short.{name-short, tx-short, value-short}
+use Rattle.sgt_notation.proofs.Short.{tx-short, value-short}
+use Rattle.sgt_names.proofs.Stored.{name-length}
 
 pub event-one : IsOne IsEventLine event_text
 event-one (One (Gather t s)) f h g e = absurd h
@@ -65,7 +66,7 @@ site-short : (s : ℕ) → IsSite s → length (decimal s) ≤ 2
 site-short s h = length-decimal-le 2 s (lit< tt) (omega (arith, h)) (omega (arith, h))
 
 access-short : (a : ℕ × (ℕ × Name)) → IsAccess a → length (access_text a) ≤ 31
-access-short a h = simp length-append (omega (arith, tx-short a.0 h.0, site-short a.1.0 h.1.0, name-short a.1.1 h.1.1))
+access-short a h = simp length-append (omega (arith, tx-short a.0 h.0, site-short a.1.0 h.1.0, name-length a.1.1 h.1.1))
 
 update-short : (u : (ℕ × (ℕ × Name)) × ℕ) → IsUpdate u → length (update_text u) ≤ 52
 update-short u h =

@@ -33,12 +33,12 @@ name-within [] h = absurd h
 name-within (c ∷ cs) h =
     (name_byte-low c (or_left (is_small_letter c || (nat_le 48 c && nat_le c 57)) (c == 95) (or_left (is_small_letter c) (nat_le 48 c && nat_le c 57) h.0)), bytes-within 15 cs h.1 (omega (arith, h.2)))
 
-searched-names : IsSearched Name IsName
+pub searched-names : IsSearched Name IsName
 searched-names = searched-where (IsWithin 128 16) IsName (searched-lists 128 16) decidable-name name-within
 
 -- ---- numbers
 
-searched-txs : IsSearched ℕ IsTx
+pub searched-txs : IsSearched ℕ IsTx
 searched-txs =
     searched-where (λ n. n < 2 ^ 32) IsTx (searched-below (2 ^ 32))
     (λ n. elim (decidable-most 1 n) [
@@ -98,7 +98,7 @@ searched-entries Q each = entry-found Q each
 
 -- ---- lines
 
-searched-holdings : IsSearched Holding IsHolding
+pub searched-holdings : IsSearched Holding IsHolding
 searched-holdings =
     searched-made (λ p. IsName p.0 × IsValue p.1) IsHolding (λ (p : Name × ℕ). record { item = p.0; value = p.1 }) (searched-both IsName IsValue searched-names (searched-below (2 ^ 64)))
     (λ p h. (h.0, h.1)) (λ h is. ((h.item, h.value), (is.0, is.1), refl))

@@ -10,6 +10,7 @@ use Rattle.sgt_notation.specs.Spelling.{assignment, operation, line_text, HasNoL
 use Rattle.sgt_notation.specs.declared.SectionLine.{SectionLine}
 use Rattle.sgt_notation.specs.declared.SectionLine.TheVariants.{Site, Initial, Logged, Final, End}
 use Rattle.sgt_notation.proofs.OneSpelling.{line-one_line}
+use Rattle.sgt_names.proofs.Stored.{name-length}
 
 pub tx-short : (n : ℕ) → IsTx n → length (decimal n) ≤ 10
 tx-short n h = length-decimal-le 10 n (lit< tt) (omega (arith, h.1)) (omega (arith, h.1))
@@ -17,15 +18,11 @@ tx-short n h = length-decimal-le 10 n (lit< tt) (omega (arith, h.1)) (omega (ari
 pub value-short : (n : ℕ) → IsValue n → length (decimal n) ≤ 20
 value-short n h = length-decimal-le 20 n (lit< tt) (omega (arith, h)) h
 
-pub name-short : (x : Name) → IsName x → length x ≤ 16
-name-short [] h = absurd h
-name-short (c ∷ cs) h = omega (arith, h.2)
-
 operation-short : (tx : ℕ) (x : Name) (v : ℕ) → IsTx tx × IsName x × IsValue v → length (operation tx x v) ≤ 49
-operation-short tx x v h = simp length-append (omega (arith, tx-short tx h.0, name-short x h.1, value-short v h.2))
+operation-short tx x v h = simp length-append (omega (arith, tx-short tx h.0, name-length x h.1, value-short v h.2))
 
 assignment-short : (h : Holding) → IsHolding h → length (assignment h.item h.value) ≤ 37
-assignment-short h is = simp length-append (omega (arith, name-short h.item is.0, value-short h.value is.1))
+assignment-short h is = simp length-append (omega (arith, name-length h.item is.0, value-short h.value is.1))
 
 behind : (word text : List ℕ) (n : ℕ) → length word ≤ 6 → length text ≤ n → n ≤ 44 → length (word ++ text) ≤ 50
 behind word text n small short all = simp length-append (omega arith)

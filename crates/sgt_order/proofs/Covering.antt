@@ -14,10 +14,11 @@ use Rattle.sgt_order.specs.declared.row.Row.{Row}
 use Rattle.sgt_order.specs.private.Parts.{Lists}
 use Rattle.sgt_order.specs.private.Rows.{HasBit, IsOpenRow, Covers, RowsCover}
 use Rattle.sgt_order.specs.private.Search.{Marked, IsFrom, IsListed}
-use Rattle.sgt_order.proofs.Lists.{get_set_same, get_set_other, get_push_cases, get_take_next}
+use Rattle.sgt_order.proofs.Lists.{get_push_cases, get_take_next}
 use Rattle.sgt_order.proofs.Handles.{same_handle}
 use Rattle.sgt_order.proofs.Nodes.{got_window}
 use Rattle.sgt_order.proofs.Numbers.{AreNumbers, are_numbers}
+use Rattle.sgt_names.proofs.Elements.{get-slice_set_same, get-slice_set_other}
 
 -- the words after a bit of one of them was set
 module _ (words : List ℕ) (at : ℕ) where
@@ -100,7 +101,7 @@ rows_change rows k old new over e at from kept set covers j row got wide n f is 
     elim (cases_eq j k) [
       | inl same ↦
           let within : k < length rows = slice_get_within rows k old at in
-          let one : new ≡ row = same_Some new row (sym (get_set_same rows k new within) ∙ subst (λ m. slice_get (slice_set rows k new) m ≡ Some row) same got) in
+          let one : new ≡ row = same_Some new row (sym (get-slice_set_same rows k new within) ∙ subst (λ m. slice_get (slice_set rows k new) m ≡ Some row) same got) in
           let opened = subst IsOpenRow (sym one) wide in
           subst (λ (r : Row). HasBit r.words.items f.to.index) one (
           elim (get_push_cases over e f n is) [
@@ -108,7 +109,7 @@ rows_change rows k old new over e at from kept set covers j row got wide n f is 
             | inr last ↦ subst (λ (x : Edge). HasBit new.words.items x.to.index) last.1 (set opened)
           ])
       | inr other ↦
-          let had = sym (get_set_other rows k j new other) ∙ got in
+          let had = sym (get-slice_set_other rows k j new other) ∙ got in
           elim (get_push_cases over e f n is) [
             | inl early ↦ covers j row had wide n f early leads
             | inr last ↦ absurd (other (sym leads ∙ (ap (λ (x : Edge). x.from.index) (sym last.1) ∙ from)))
@@ -136,9 +137,9 @@ pub rows_put : (rows : List Row) (k : ℕ) (new : Row) (over : List Edge) → k 
 rows_put rows k new over within covered covers j row got wide n f is leads =
     elim (cases_eq j k) [
       | inl same ↦
-          let one : new ≡ row = same_Some new row (sym (get_set_same rows k new within) ∙ subst (λ m. slice_get (slice_set rows k new) m ≡ Some row) same got) in
+          let one : new ≡ row = same_Some new row (sym (get-slice_set_same rows k new within) ∙ subst (λ m. slice_get (slice_set rows k new) m ≡ Some row) same got) in
           subst (λ (r : Row). HasBit r.words.items f.to.index) one (covered (subst IsOpenRow (sym one) wide) n f is (leads ∙ same))
-      | inr other ↦ covers j row (sym (get_set_other rows k j new other) ∙ got) wide n f is leads
+      | inr other ↦ covers j row (sym (get-slice_set_other rows k j new other) ∙ got) wide n f is leads
     ]
 
 -- the edges with these numbers are those from the node

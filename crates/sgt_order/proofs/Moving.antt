@@ -15,8 +15,8 @@ use Rattle.sgt_order.specs.Graph.{placed}
 use Rattle.sgt_order.specs.private.Parts.{TellsPlaces}
 use Rattle.sgt_order.specs.private.Search.{AreAmong, BeginsAt, Has, is_marked}
 use Rattle.sgt_order.specs.private.Growth.{Renumbered, Widened}
-use Rattle.sgt_order.proofs.Lists.{get_set_same, get_set_other}
 use Rattle.sgt_order.proofs.Marking.{not-not, marked_from_test}
+use Rattle.sgt_names.proofs.Elements.{get-slice_set_same, get-slice_set_other}
 
 -- where no member in front of a place passes, the front stays
 pub placed_front : {A : Type 0} (p : A → Bool) (xs : List A) (n : ℕ) (a : A) → ((k : ℕ) (x : A) → k < n → slice_get xs k ≡ Some x → p x ≡ false) → placed p xs a ≡ take n xs ++ placed p (drop n xs) a
@@ -108,9 +108,9 @@ tells_told first old new a b tells told front once members h node got p =
 pub among_next : (members : List Handle) (n : ℕ) (h : Handle) (marks : List (Option Edge)) → slice_get members n ≡ Some h → h.index < length marks → AreAmong (drop n members) marks → AreAmong (drop (n + 1) members) (slice_set marks h.index None)
 among_next members n h marks at within among k e has =
     elim (cases_eq k h.index) [
-      | inl same ↦ absurd (none-some e (same_Some None (Some e) (sym (get_set_same marks h.index None within) ∙ (ap (slice_get (slice_set marks h.index None)) (sym same) ∙ has))))
+      | inl same ↦ absurd (none-some e (same_Some None (Some e) (sym (get-slice_set_same marks h.index None within) ∙ (ap (slice_get (slice_set marks h.index None)) (sym same) ∙ has))))
       | inr other ↦
-          let x = among k e (sym (get_set_other marks h.index k None other) ∙ has) in
+          let x = among k e (sym (get-slice_set_other marks h.index k None other) ∙ has) in
           let there = Contains_at (drop n members) x.0 x.1 in
           let stands = sym (slice_get-drop members n there.0) ∙ there.1 in
           elim (cases_lt n (n + there.0)) [

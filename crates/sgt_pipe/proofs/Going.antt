@@ -5,14 +5,8 @@ use Rattle.std.specs.Io.KnownBytes.{Appends, Consumes}
 use Rattle.sgt_names.specs.Device.{AppendsOrForgets, KeepsOrForgets}
 use Rattle.sgt_notation.specs.Lines.{Leaves}
 use Rattle.sgt_pipe.specs.Ends.{Hears, LosesReader, LosesWriter, Speaks}
-
-consumes_none : (told : Option (List ℕ)) → Consumes told told []
-consumes_none None = tt
-consumes_none (Some xs) = refl
-
-appends_none : (told : Option (List ℕ)) → Appends told told []
-appends_none None = tt
-appends_none (Some xs) = sym (append-nil xs)
+use Rattle.sgt_names.proofs.Elements.{consumes_none, appends_none}
+use Rattle.sgt_names.proofs.Devices.{appends_on}
 
 consumes_on : (a b c : Option (List ℕ)) (xs ys : List ℕ) → Consumes a b xs → Consumes b c ys → Consumes a c (xs ++ ys)
 consumes_on None b c xs ys p q = tt
@@ -30,12 +24,6 @@ leaves_none : (a b : Option (List ℕ)) → KeepsOrForgets a b → Leaves a [] b
 leaves_none None b k = tt
 leaves_none (Some us) None k = tt
 leaves_none (Some us) (Some bs) k = sym k
-
-appends_then : (a b c : Option (List ℕ)) (xs ys : List ℕ) → Appends a b xs → Appends b c ys → Appends a c (xs ++ ys)
-appends_then None b c xs ys p q = tt
-appends_then (Some us) None c xs ys p q = absurd p
-appends_then (Some us) (Some bs) None xs ys p q = absurd q
-appends_then (Some us) (Some bs) (Some cs) xs ys p q = q ∙ (ap (λ (ts : List ℕ). ts ++ ys) p ∙ append_assoc us xs ys)
 
 -- nothing was given, nothing was written
 pub hears_none : (told : Option (List ℕ)) (given : List ℕ) (n : ℕ) → Hears told told given given n n
@@ -65,7 +53,7 @@ pub speaks_then : (a b c : Option (List ℕ)) (f g h : List ℕ) (k m n : ℕ) �
 speaks_then a b c f g h k m n p q = record {
   bytes = p.bytes ++ q.bytes;
   wrote = q.wrote ∙ (ap (λ (ts : List ℕ). ts ++ q.bytes) p.wrote ∙ append_assoc f p.bytes q.bytes);
-  put = appends_then a b c p.bytes q.bytes p.put q.put;
+  put = appends_on a b c p.bytes q.bytes p.put q.put;
   quiet = q.quiet ∙ p.quiet;
 }
 

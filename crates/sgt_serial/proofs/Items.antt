@@ -22,6 +22,8 @@ use Rattle.sgt_names.specs.declared.entry.Holding.{Holding}
 use Rattle.sgt_names.proofs.Places.{AllPairs_at, AllPairs-tail}
 use Rattle.sgt_cert.specs.Parts.{ComesBefore}
 use Rattle.sgt_serial.specs.private.Values.{IsRising}
+use Rattle.sgt_audit.proofs.SiteStates.{less-equal}
+use Rattle.sgt_names.proofs.Elements.{bytes_eq-other}
 
 -- how the bytes of two names compare
 abbrev name_cmp : Name → Name → Ordering
@@ -33,18 +35,12 @@ name_at hs i h at = slice_get-map (λ (g : Holding). g.item) hs i ∙ ap (option
 before : (hs : List Holding) → IsRising hs → (i j : ℕ) (g h : Holding) → i < j → slice_get hs i ≡ Some g → slice_get hs j ≡ Some h → name_cmp g.item h.item ≡ Less
 before hs rising i j g h lt at_i at_j = AllPairs_at ComesBefore (names hs) i j g.item h.item rising lt (name_at hs i g at_i) (name_at hs j h at_j)
 
-Less≢Equal : Less ≡ Equal → ⊥
-Less≢Equal e = cc
-
 Greater≢Equal : Greater ≡ Equal → ⊥
 Greater≢Equal e = cc
 
 -- what comes before a name is another name
 apart : (x y : Name) (o : Ordering) → name_cmp x y ≡ o → (o ≡ Equal → ⊥) → x ≢ y
 apart x y o e other same = other (sym e ∙ ap (name_cmp x) (sym same) ∙ tied_itself nat_list_cmp_total x)
-
-bytes_eq-other : (x y : Name) → x ≢ y → bytes_eq x y ≡ false
-bytes_eq-other x y other = elim (cases_Bool (bytes_eq x y)) [ inl hit ↦ absurd (other ((bytes_eq-Decides x y).0 hit)) | inr miss ↦ miss ]
 
 -- the value at the place of an item
 value_in-at : (hs : List Holding) → IsRising hs → (i : ℕ) (h : Holding) → slice_get hs i ≡ Some h → value_in hs h.item ≡ Some h.value
@@ -53,7 +49,7 @@ value_in-at (g ∷ hs) rising zero h at =
     let same = same_Some g h at in
     ap (λ b. cond b (Some g.value) (value_in hs h.item)) ((bytes_eq-Decides g.item h.item).1 (ap (λ (k : Holding). k.item) same)) ∙ ap (λ (k : Holding). Some k.value) same
 value_in-at (g ∷ hs) rising (suc i) h at =
-    let other = apart g.item h.item Less (before (g ∷ hs) rising 0 (suc i) g h (omega arith) refl at) Less≢Equal in
+    let other = apart g.item h.item Less (before (g ∷ hs) rising 0 (suc i) g h (omega arith) refl at) less-equal in
     ap (λ b. cond b (Some g.value) (value_in hs h.item)) (bytes_eq-other g.item h.item other) ∙ value_in-at hs (AllPairs-tail ComesBefore g.item (names hs) rising) i h at
 
 -- an item that stands nowhere has no value
@@ -82,7 +78,7 @@ searched hs rising x (Err i) within found =
     value_in-none hs x (λ j h at.
     let here = get_or_from_slice_get hs j h h at in
     elim (cases_lt j i) [
-      | inl low ↦ apart h.item x Less (ap (λ (k : Holding). name_cmp k.item x) (sym here) ∙ parts.0 j h (omega arith) low) Less≢Equal
+      | inl low ↦ apart h.item x Less (ap (λ (k : Holding). name_cmp k.item x) (sym here) ∙ parts.0 j h (omega arith) low) less-equal
       | inr high ↦ apart h.item x Greater (ap (λ (k : Holding). name_cmp k.item x) (sym here) ∙ parts.1 j h high (slice_get_within hs j h at)) Greater≢Equal
     ])
 
@@ -105,7 +101,7 @@ value_in-set (g ∷ hs) rising zero h v at y =
           rw (miss, miss_g) refl
     ]
 value_in-set (g ∷ hs) rising (suc i) h v at y =
-    let other = apart g.item h.item Less (before (g ∷ hs) rising 0 (suc i) g h (omega arith) refl at) Less≢Equal in
+    let other = apart g.item h.item Less (before (g ∷ hs) rising 0 (suc i) g h (omega arith) refl at) less-equal in
     let rest = value_in-set hs (AllPairs-tail ComesBefore g.item (names hs) rising) i h v at y in
     elim (cases_Bool (bytes_eq g.item y)) [
       | inl hit ↦

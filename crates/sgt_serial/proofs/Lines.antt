@@ -8,6 +8,7 @@ use Rattle.std.proofs.lemmas.List.Elements.{filter_map-append}
 use Rattle.sgt_names.proofs.Lists.{element_at, take_next}
 use Rattle.sgt_notation.specs.Spelling.{text_of_lines}
 use Rattle.sgt_serial.specs.private.Written.{with_lf}
+use Rattle.sgt_notation.proofs.Texts.{text-append}
 
 -- the line of one element more
 text_of_lines-next : {A : Type 0} (line : A → List ℕ) (xs : List A) (i : ℕ) (x : A) → slice_get xs i ≡ Some x
@@ -25,10 +26,6 @@ pub writes-line : {A : Type 0} (line : A → List ℕ) (xs : List A) (i : ℕ) (
 writes-line line xs i x within is before out new so_far wrote =
     wrote ∙ ap (λ bytes. bytes ++ with_lf (line x)) so_far ∙ append_assoc before (text_of_lines (map line (take i xs))) (with_lf (line x))
     ∙ ap (λ bytes. before ++ bytes) (sym (text_of_lines-next line xs i x (element_at xs i x within is)))
-
--- the lines of two lists
-pub text-append : (xs ys : List (List ℕ)) → text_of_lines (xs ++ ys) ≡ text_of_lines xs ++ text_of_lines ys
-text-append xs ys = flat_map-append with_lf xs ys
 
 -- the lines of what is picked
 module _ {A B : Type 0} (line : B → List ℕ) (pick : A → Option B) where

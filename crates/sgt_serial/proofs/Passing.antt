@@ -6,40 +6,7 @@ use Rattle.std.specs.Io.KnownBytes.{Appends}
 use Rattle.sgt_names.specs.Device.{AppendsOrForgets, WritesFront}
 use Rattle.sgt_names.proofs.Devices.{appends_on}
 use Rattle.sgt_serial.specs.private.Written.{PassesOn}
-
-appends_none : (held : Option (List ℕ)) → Appends held held []
-appends_none None = tt
-appends_none (Some xs) = sym (append-nil xs)
-
-forgets_on : (told mid new : Option (List ℕ)) (a b : List ℕ) → Appends told mid a → AppendsOrForgets mid new b → AppendsOrForgets told new (a ++ b)
-forgets_on None mid new a b first later = tt
-forgets_on (Some xs) None new a b first later = absurd first
-forgets_on (Some xs) (Some ys) None a b first later = tt
-forgets_on (Some xs) (Some ys) (Some zs) a b first later = rw (later, first) (append_assoc xs a b)
-
-take-behind : (xs ys : List ℕ) (n : ℕ) → take (length xs + n) (xs ++ ys) ≡ xs ++ take n ys
-take-behind [] ys n = let e : 0 + n ≡ n = omega arith in ap (λ m. take m ys) e
-take-behind (x ∷ xs) ys n =
-    let e : suc (length xs) + n ≡ suc (length xs + n) = omega arith in
-    ap (λ m. take m (x ∷ (xs ++ ys))) e ∙ ap (λ zs. x ∷ zs) (take-behind xs ys n)
-
--- a front of the bytes behind those that were written
-front-behind : (a b c : Option (List ℕ)) (wrote bytes : List ℕ) → Appends a b wrote → WritesFront b c bytes → WritesFront a c (wrote ++ bytes)
-front-behind a b c wrote bytes first later =
-    let n = later.0 in
-    let long = length-append wrote bytes in (
-      length wrote + n,
-      omega (arith, later.1, long),
-      subst (AppendsOrForgets a c) (sym (take-behind wrote bytes n)) (forgets_on a b c wrote (take n bytes) first later.2),
-    )
-
--- a front of some bytes is one of more
-front-more : (a c : Option (List ℕ)) (bytes more : List ℕ) → WritesFront a c bytes → WritesFront a c (bytes ++ more)
-front-more a c bytes more front =
-    let n = front.0 in
-    let long = length-append bytes more in
-    let within : take n (bytes ++ more) ≡ take n bytes = take-append-le n bytes more (omega (arith, front.1)) in
-    (n, omega (arith, front.1, long), subst (AppendsOrForgets a c) (sym within) front.2)
+use Rattle.sgt_names.proofs.Elements.{front-longer, appends_then, take-behind, appends_none, front-second}
 
 -- nothing is passed on
 pub nothing : (a : Option (List ℕ)) (held : List ℕ) → PassesOn a a held [] held
@@ -65,12 +32,12 @@ broken a b c held first mid second more whole one fails split =
     let e : one.0 ++ (mid ++ second) ≡ held ++ (first ++ second) =
     sym (append_assoc one.0 mid second) ∙ ap (λ xs. xs ++ second) (sym one.2) ∙ append_assoc held first second in
     let all : (held ++ (first ++ second)) ++ more ≡ held ++ whole = append_assoc held (first ++ second) more ∙ ap (λ xs. held ++ xs) (sym split) in
-    subst (WritesFront a c) all (front-more a c (held ++ (first ++ second)) more (subst (WritesFront a c) e (front-behind a b c one.0 (mid ++ second) one.1 fails)))
+    subst (WritesFront a c) all (front-longer a c (held ++ (first ++ second)) more (subst (WritesFront a c) e (front-second a b c one.0 (mid ++ second) one.1 fails)))
 
 -- the writer fails at the first bytes
 pub broken-first : (a c : Option (List ℕ)) (held first more whole : List ℕ) → WritesFront a c (held ++ first) → whole ≡ first ++ more → WritesFront a c (held ++ whole)
 broken-first a c held first more whole fails split =
-    subst (WritesFront a c) (append_assoc held first more ∙ ap (λ xs. held ++ xs) (sym split)) (front-more a c (held ++ first) more fails)
+    subst (WritesFront a c) (append_assoc held first more ∙ ap (λ xs. held ++ xs) (sym split)) (front-longer a c (held ++ first) more fails)
 
 -- of a whole text all was passed on but the rest
 abbrev pub IsPassed : (a b : Option (List ℕ)) → (held left rest whole : List ℕ) → Type 0
@@ -105,7 +72,7 @@ written-all a c d held bytes mid whole none e one wrote =
 -- or a front of it
 pub written-front : (a c d : Option (List ℕ)) (held bytes mid whole : List ℕ) → held ≡ [] → bytes ≡ whole → PassesOn a c held bytes mid → WritesFront c d mid → WritesFront a d whole
 written-front a c d held bytes mid whole none e one fails =
-    subst (WritesFront a d) (sym one.2 ∙ ap (λ xs. xs ++ bytes) none ∙ e) (front-behind a c d one.0 mid one.1 fails)
+    subst (WritesFront a d) (sym one.2 ∙ ap (λ xs. xs ++ bytes) none ∙ e) (front-second a c d one.0 mid one.1 fails)
 
 -- whatever the failure is
 pub on-err : {A E P : Type 0} (r : Result A E) → P → OnErr r P

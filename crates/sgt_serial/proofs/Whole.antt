@@ -8,7 +8,7 @@ use Rattle.sgt_cert.specs.declared.bundle.SiteLog.{SiteLog}
 use Rattle.sgt_serial.specs.declared.report.SiteValue.{SiteValue}
 use Rattle.sgt_serial.specs.Report.{run_of, finals_of, report_of}
 use Rattle.sgt_serial.specs.Text.{run_lines, final_line, report_text}
-use Rattle.sgt_serial.proofs.Lines.{text-append}
+use Rattle.sgt_notation.proofs.Texts.{text-append}
 
 abbrev pub text_of_runs : List SiteLog → List ℕ → List ℕ
 text_of_runs logs order = text_of_lines (flat_map run_lines (map (run_of logs) order))

@@ -7,8 +7,7 @@ use Rattle.sgt_notation.specs.Spelling.{text_of_lines}
 use Rattle.sgt_notation.specs.declared.event.SiteLine.{SiteLine}
 use Rattle.sgt_notation.specs.declared.fault.NotationFault.TheVariants.{NotALine, TooLong, Memory}
 use Rattle.sgt_input.specs.Sites.{TakesSite}
-use Rattle.sgt_input.proofs.Lines.{one-line}
-use Rattle.sgt_input.proofs.SiteLines.{empty_when, filled_when, map-push}
+use Rattle.sgt_input.proofs.SiteLines.{empty_when, filled_when}
 use Rattle.sgt_core.specs.Input.{IsBegun}
 use Rattle.sgt_core.proofs.OneInput.{took-site}
 use Rattle.sgt_pipe.specs.Fronts.{IsLineOf, IsPart}
@@ -22,6 +21,8 @@ use Rattle.sgt_serve.specs.Ended.{IsMisplaced}
 use Rattle.sgt_serve.specs.Talk.{AreAnswered, IsAnswered, IsTalk, Talk, asked_text, starting}
 use Rattle.sgt_serve.specs.private.Opening.{Asks, HasSites, OpensOn, ReadsFront, TakesNext}
 use Rattle.sgt_serve.proofs.Talks.{waited}
+use Rattle.sgt_names.proofs.Elements.{map-push}
+use Rattle.sgt_notation.proofs.Texts.{text-one_line}
 
 -- a talk that has its sites, and no turn
 abbrev pub opened : List SiteLine → Talk
@@ -74,7 +75,7 @@ site_more : (n : ℕ) (sites sites' : List SiteLine) (history : History) (held h
 site_more n sites sites' history held held' line h (l, is, number, text, more, left) = record {
   begun = (took-site (record { sites = sites; events = [] }) (record { sites = sites'; events = [] }) (take n held) refl refl (l, is, number, text, more) h.begun).0;
   given = h.given ∙ (ap (λ (t : List ℕ). text_of_lines (map site_text sites) ++ t) line.text
-      ∙ (sym (one-line (map site_text sites) (take n held) (drop (n + 1) held))
+      ∙ (sym (text-one_line (map site_text sites) (take n held) (drop (n + 1) held))
       ∙ (ap (λ (t : List ℕ). text_of_lines (map site_text sites ++ t ∷ []) ++ drop (n + 1) held) text
       ∙ (ap (λ (ts : List (List ℕ)). text_of_lines ts ++ drop (n + 1) held) (sym (map-push site_text sites l))
       ∙ (ap (λ (ss : List SiteLine). text_of_lines (map site_text ss) ++ drop (n + 1) held) (sym more)

@@ -7,7 +7,6 @@ use Rattle.std.proofs.lemmas.List.Elements.{All-push}
 use Rattle.sgt_notation.specs.Events.{site_text}
 use Rattle.sgt_notation.specs.Spelling.{text_of_lines}
 use Rattle.sgt_notation.specs.declared.event.SiteLine.{SiteLine}
-use Rattle.sgt_input.proofs.Lines.{text-append}
 use Rattle.sgt_core_model.specs.Core.{CoreState}
 use Rattle.sgt_core_machine.specs.Machine.{Parts}
 use Rattle.sgt_pipe.specs.Fronts.{IsLineOf, IsPart}
@@ -26,6 +25,7 @@ use Rattle.sgt_serve.specs.private.Turning.{Takes}
 use Rattle.sgt_serve.specs.private.Opening.{Asks}
 use Rattle.sgt_serve.specs.private.Talking.{Desk, Flushes, HasCome, HasOpened, HasStopped, HasTalk, SaysLast, SaysStop, TakesFront, desk}
 use Rattle.sgt_courses.proofs.Courses.{one_more}
+use Rattle.sgt_notation.proofs.Texts.{text-append}
 
 -- ---- one more turn
 

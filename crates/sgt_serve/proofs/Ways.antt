@@ -10,6 +10,7 @@ use Rattle.sgt_serve.specs.declared.stop.Stop.{Stop}
 use Rattle.sgt_serve.specs.declared.stop.Stop.TheVariants as stop
 use Rattle.sgt_serve.specs.Devices.{LeavesReader}
 use Rattle.sgt_serve.specs.private.Devices.{HearsOr, HearsSo, SpeaksOr, SpeaksSo}
+use Rattle.sgt_names.proofs.Elements.{none-unless_some}
 
 -- ---- a result
 
@@ -22,10 +23,6 @@ leaves_then (Err (fail.WriteFault l)) a b c f g h k m n reads p q = hears_then a
 leaves_then (Err fail.BundleFault) a b c f g h k m n reads p q = hears_then a b c f g h k m n p q
 
 -- ---- it goes on
-
-pub none_here : {A : Type 0} (o : Option A) → ((x : A) → o ≡ Some x → ⊥) → o ≡ None
-none_here None not = refl
-none_here (Some x) not = absurd (not x refl)
 
 pub hears_at : (o : Option Stop) (a b : Option (List ℕ)) (f g : List ℕ) (k m reads : ℕ) → ((s : Stop) → o ≡ Some s → ⊥) → HearsOr o a b f g k m reads → Hears a b f g k m
 hears_at None a b f g k m reads not p = p

@@ -11,13 +11,12 @@ use Rattle.sgt_names.specs.Limits.{max_sites}
 use Rattle.sgt_names.specs.Log.{names}
 use Rattle.sgt_names.specs.declared.entry.Holding.{Holding}
 use Rattle.sgt_names.specs.declared.entry.Label.{Label}
-use Rattle.sgt_names.proofs.Lists.{All-weaken}
+use Rattle.sgt_names.proofs.Lists.{All-weaken, map_at}
 use Rattle.sgt_names.proofs.Places.{AllPairs_at, AllPairs-from_at}
 use Rattle.sgt_site.specs.State.{AreItems, IsSite, SiteState}
 use Rattle.sgt_cert.specs.Parts.{ComesBefore, FitTogether, IsShapedLog, Parts}
 use Rattle.sgt_cert.specs.declared.bundle.SiteLog.{SiteLog}
 use Rattle.sgt_cert.specs.declared.certificate.Certificate.{Certificate}
-use Rattle.sgt_certifier.proofs.Ruling.{map_place}
 use Rattle.sgt_certifier.specs.Certifier.{certificate_of, serial}
 use Rattle.sgt_certifier.specs.History.{Replays}
 use Rattle.sgt_service_settle.specs.Settled.{Run, IsSettled, IsSiteSettled}
@@ -32,8 +31,8 @@ items-rise : (items : List Holding) → AreItems items → IsShapedLog (record {
 items-rise items are = record {
   room = are.room;
   rising = AllPairs-from_at ComesBefore (names items) (λ p q x y lt at_x at_y.
-      let g = map_place (λ (h : Holding). h.item) items p x at_x in
-      let h = map_place (λ (h : Holding). h.item) items q y at_y in
+      let g = map_at (λ (h : Holding). h.item) items p x at_x in
+      let h = map_at (λ (h : Holding). h.item) items q y at_y in
       let less = AllPairs_at (λ (a b : Holding). slice_cmp nat_cmp a.item b.item ≡ Less) items p q g.0 h.0 are.rising lt g.1 h.1 in
       subst (λ z. slice_cmp nat_cmp z y ≡ Less) g.2 (subst (λ z. slice_cmp nat_cmp g.0.item z ≡ Less) h.2 less));
   finals = refl;

@@ -22,6 +22,7 @@ use Rattle.sgt_service.specs.declared.input.Input.{Input}
 use Rattle.sgt_service.specs.Input.{Begins, HasPlace, IsBegun, IsPlaced, IsScriptOver, input_lines}
 use Rattle.sgt_service.proofs.SearchedScripts.{searched-scripts}
 use Rattle.sgt_input.proofs.SearchedSites.{searched-site_lines}
+use Rattle.sgt_names.proofs.Elements.{take-front, drop-front, length-take_within}
 
 -- ---- lines of sites
 
@@ -138,19 +139,6 @@ known-split xs n =
     decidable-as (λ p. record { parts = p.0; few = p.1.0; count = p.1.1 }) (λ s. (s.parts, (s.few, s.count)))
     (decidable-both (known-parts (take n xs) (drop n xs)) (decidable-both (decidable-most n max_sites) (decidable-most (length (drop n xs)) max_scripts)))
 
-front_of : {A : Type 0} (fs bs : List A) → take (length fs) (fs ++ bs) ≡ fs
-front_of [] bs = refl
-front_of (a ∷ fs) bs = ap (λ xs. a ∷ xs) (front_of fs bs)
-
-behind_of : {A : Type 0} (fs bs : List A) → drop (length fs) (fs ++ bs) ≡ bs
-behind_of [] bs = refl
-behind_of (a ∷ fs) bs = behind_of fs bs
-
-taken-long : {A : Type 0} (n : ℕ) (xs : List A) → n ≤ length xs → length (take n xs) ≡ n
-taken-long zero xs le = refl
-taken-long (suc n) [] le = absurd (omega (arith, le))
-taken-long (suc n) (x ∷ xs) le = ap suc (taken-long n xs (omega (arith, le)))
-
 begins-from : (xs : List (List ℕ)) (n : ℕ) → n ≤ length xs → Splits xs n → Begins xs
 begins-from xs n within s =
     let sites = s.parts.0 in
@@ -159,7 +147,7 @@ begins-from xs n within s =
     let count = s.count in
     let many = ap length sites.3 in
     let mapped = length-map sites.0 site_text in
-    let taken = taken-long n xs within in
+    let taken = length-take_within n xs within in
     let told = ap length scripts.2 in
     let texts = length-map scripts.0 script_text in (
       record { sites = sites.0; scripts = scripts.0 },
@@ -179,8 +167,8 @@ splits-of xs input is same =
     let bs = map script_text input.scripts in
     let n = length input.sites in
     let long : length fs ≡ n = length-map input.sites site_text in
-    let front : take n xs ≡ fs = ap (take n) same ∙ ap (λ k. take k (fs ++ bs)) (sym long) ∙ front_of fs bs in
-    let behind : drop n xs ≡ bs = ap (drop n) same ∙ ap (λ k. drop k (fs ++ bs)) (sym long) ∙ behind_of fs bs in
+    let front : take n xs ≡ fs = ap (take n) same ∙ ap (λ k. take k (fs ++ bs)) (sym long) ∙ take-front fs bs in
+    let behind : drop n xs ≡ bs = ap (drop n) same ∙ ap (λ k. drop k (fs ++ bs)) (sym long) ∙ drop-front fs bs in
     let told = ap length behind in
     let texts = length-map input.scripts script_text in
     let count = is.count in

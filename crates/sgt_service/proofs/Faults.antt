@@ -18,6 +18,7 @@ use Rattle.sgt_service_settle.specs.Fault.{IsUnsettled}
 use Rattle.sgt_service.specs.Bundle.{IsToldAlone}
 use Rattle.sgt_service.specs.Operations.{IsOfOperation}
 use Rattle.sgt_service.specs.Tries.{IsStopped}
+use Rattle.sgt_service_locks.proofs.Faults.{commit_of_call, withdraw_of_call}
 
 pub item_of_change : (names : List (List Name)) (s : ℕ) (x : Name) (f : ServiceFault) → RefusesItem names s x f → IsOfChange f
 item_of_change names s x (fault.Site site.UnknownItem) r = tt
@@ -40,12 +41,6 @@ begin_of_call f h = inl h
 
 pub operation_of_call : (f : ServiceFault) → IsOfOperation f → IsOfCall f
 operation_of_call f h = elim h [ inl read ↦ inr (inl read) | inr change ↦ inr (inr (inl change)) ]
-
-pub commit_of_call : (f : ServiceFault) → IsOfCommit f → IsOfCall f
-commit_of_call f h = inr (inr (inr (inl h)))
-
-pub withdraw_of_call : (f : ServiceFault) → IsOfWithdraw f → IsOfCall f
-withdraw_of_call f h = inr (inr (inr (inr h)))
 
 -- what the tickets tell, where there is no memory for the sites
 pub alone_told : {A : Type 0} (c : Kept) (dones : List Done) (told : Result A ServiceFault) (f : ServiceFault) → OnOk told (AreTickets c.state.rulings dones)

@@ -19,7 +19,7 @@ use Rattle.sgt_names.specs.declared.entry.Change.TheVariants as change
 use Rattle.sgt_names.proofs.Lists.{back_at, front_at, middle_at, option_cases}
 use Rattle.sgt_names.proofs.Places.{AllPairs_at}
 use Rattle.sgt_names.proofs.Ranged.{find_none}
-use Rattle.sgt_names.proofs.Touched.{here_false, here_true, is_here, place_total}
+use Rattle.sgt_names.proofs.Touched.{here_false, here_true, is_here, place_total, less_apart}
 use Rattle.sgt_notation.specs.declared.script.Op.{Op}
 use Rattle.sgt_notation.specs.declared.script.Op.TheVariants.{Read, Put, Add, Sum}
 use Rattle.sgt_service_agreement.specs.declared.counts.EntryCounts.{EntryCounts}
@@ -31,26 +31,20 @@ use Rattle.sgt_service.proofs.Sums.{capped_sums, capped_twice}
 
 -- ---- what a draft showed before one of its items was changed
 
-apart : (p q : Place) → place_cmp p q ≡ Less → p ≡ q → ⊥
-apart p q less same = absurd (
-    let e : place_cmp p p ≡ Less = subst (λ r. place_cmp p r ≡ Less) (sym same) less in
-    let t = tied_itself place_total p in
-    cc)
-
 abbrev Rises : Touch → Touch → Type 0
 Rises t u = place_cmp (place_of t) (place_of u) ≡ Less
 
 -- in a draft that rises the items in front of one are others, and so are those behind it
 front_apart : (front rest : List Touch) (t : Touch) → AreRising (front ++ t ∷ rest) → find (is_here (place_of t)) front ≡ None
 front_apart front rest t rising = find_none (is_here (place_of t)) front (λ m b at.
-    here_false (place_of t) b (apart (place_of b) (place_of t) (AllPairs_at Rises (front ++ t ∷ rest) m (length front) b t rising
+    here_false (place_of t) b (less_apart (place_of b) (place_of t) (AllPairs_at Rises (front ++ t ∷ rest) m (length front) b t rising
     (slice_get_within front m b at) (front_at front (t ∷ rest) m b at) (middle_at front t rest))))
 
 rest_apart : (front rest : List Touch) (t : Touch) → AreRising (front ++ t ∷ rest) → find (is_here (place_of t)) rest ≡ None
 rest_apart front rest t rising = find_none (is_here (place_of t)) rest (λ m b at.
     let before : Rises t b = AllPairs_at Rises (front ++ t ∷ rest) (length front) (length front + suc m) t b rising
     (omega arith) (middle_at front t rest) (back_at front (t ∷ rest) (suc m) ∙ at) in
-    here_false (place_of t) b (λ same. apart (place_of t) (place_of b) before (sym same)))
+    here_false (place_of t) b (λ same. less_apart (place_of t) (place_of b) before (sym same)))
 
 found : (there : Option Touch) (rest : List Touch) (t : Touch) → IfSome there (λ u. place_of u ≡ place_of t)
     → find (is_here (place_of t)) rest ≡ None → find (is_here (place_of t)) (option_to_list there ++ rest) ≡ there

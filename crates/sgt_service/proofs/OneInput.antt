@@ -20,8 +20,9 @@ use Rattle.sgt_service.specs.declared.input.Input.{Input}
 use Rattle.sgt_names.specs.Limits.{max_scripts}
 use Rattle.sgt_service.specs.Input.{Begins, IsBegun, IsPlaced, IsScriptOver, input_lines}
 use Rattle.sgt_input.specs.Sites.{TakesSite}
-use Rattle.sgt_input.proofs.SiteLines.{last-number, map-push, more-numbers}
+use Rattle.sgt_input.proofs.SiteLines.{last-number, more-numbers}
 use Rattle.sgt_service.specs.private.Taking.{Takes, TakesScript}
+use Rattle.sgt_names.proofs.Elements.{map-push}
 
 -- no script is spelled like a site
 op-no_site : (l : SiteLine) (op : Op) (rest : List ℕ) → site_text l ≡ op_text op ++ rest → ⊥

@@ -17,7 +17,7 @@ use Rattle.sgt_input.specs.Stopping.{IsTaken}
 use Rattle.sgt_input.proofs.Keeping.{spelled}
 use Rattle.sgt_input.proofs.SiteLines.{site-plain}
 use Rattle.sgt_input.proofs.Unreadable as any
-use Rattle.sgt_input.proofs.Unreadable.{AreInputs, IsPlain}
+use Rattle.sgt_input.proofs.Unreadable.{AreInputs, IsPlain, nonempty}
 use Rattle.sgt_service.proofs.DecidableInputs.{known-begins}
 use Rattle.sgt_input.proofs.ReadOrNot.{read-or_not}
 use Rattle.sgt_service.specs.declared.input.Input.{Input}
@@ -25,9 +25,6 @@ use Rattle.sgt_service.specs.Input.{Begins, FirstUnreadable, IsBegun, IsInput, I
 use Rattle.sgt_service.specs.Report.{IsAnswer, TellsUnreadable}
 use Rattle.sgt_service.specs.private.Taking.{HaveLines}
 use Rattle.sgt_service.proofs.OneInput.{scripts-plain, scripts-somewhere}
-
-nonempty : {A : Type 0} (x : A) (xs : List A) → x ∷ xs ≡ [] → ⊥
-nonempty x xs e = absurd cc
 
 -- ---- the lines that an input begins with
 

@@ -15,11 +15,12 @@ use Rattle.sgt_certifier.specs.declared.call.Decided.TheVariants.{Committed, Ref
 use Rattle.sgt_certifier.specs.declared.call.Call.TheVariants as call
 use Rattle.sgt_certifier.specs.declared.call.CertifierFault.{CertifierFault}
 use Rattle.sgt_certifier.specs.declared.call.CertifierFault.TheVariants as fault
-use Rattle.sgt_certifier.proofs.Members.{placed_self, cons_cases, nil_none}
+use Rattle.sgt_certifier.proofs.Members.{placed_self}
 use Rattle.sgt_certifier.proofs.Replaying.{no_step, active_under, replays-good}
 use Rattle.sgt_certifier.proofs.Installs.{none_noted}
 use Rattle.sgt_workers.specs.declared.ticket.Ending.TheVariants as ending
 use Rattle.sgt_service_locks.specs.Guarded.{decision_count, ticket_of, AwaitsInstalls, IsDecided}
+use Rattle.sgt_names.proofs.Elements.{contains-cases, contains-none}
 
 pub decided_step : (old new : Kept) (h : Handle) (edges : List Edge) (reply : Decided) → Adds old (call.Decide h edges reply) new
     → new.state.step ≡ Some (tx_under old.state h)
@@ -63,9 +64,9 @@ noted_awaits old new tx site items touched a w =
           let m : IsNoted (record old.state { installs = old.state.installs ++ one ∷ [] }) tx s = subst (λ (t : State). IsNoted t tx s) after n in
           elim (Contains-append_cases old.state.installs (one ∷ []) m.1 (m.0, m.2, m.3)) [
             | inl was ↦ w.unnoted s (omega (arith, above)) (was.0, m.1, was.1, was.2, m.4)
-            | inr last ↦ elim (cons_cases one [] m.1 last) [
+            | inr last ↦ elim (contains-cases one [] m.1 last) [
               | inl e ↦ let at : site ≡ s = ap (λ (x : Install). x.site) e ∙ m.4.1 in absurd (omega (arith, at, above))
-              | inr none ↦ nil_none m.1 none
+              | inr none ↦ contains-none m.1 none
             ]
           ];
       expected = λ s above. a.expected touched s (λ e. absurd (omega (arith, e, above))) (w.expected s (omega (arith, above)));

@@ -10,10 +10,9 @@ use Rattle.std.proofs.lemmas.Bool.{cases_eq, cases_lt}
 use Rattle.std.proofs.lemmas.Cmp.{nat_list_cmp_total, tied_itself}
 use Rattle.std.proofs.lemmas.Map.Lookups.{exact_bytes}
 use Rattle.std.proofs.lemmas.List.Elements.{Contains-get_or}
-use Rattle.sgt_names.proofs.Lists.{All-from_map, All-weaken, take_next}
+use Rattle.sgt_names.proofs.Lists.{All-from_map, All-weaken, take_next, map_at}
 use Rattle.sgt_names.proofs.Places.{AllPairs_at, AllPairs-from_at, Contains_at}
 use Rattle.sgt_names.proofs.Ranged.{searched}
-use Rattle.sgt_certifier.proofs.Ruling.{map_place}
 use Rattle.std.specs.Ordering.{nat_cmp}
 use Rattle.std.specs.Cmp.Lexicographic.{slice_cmp}
 use Rattle.sgt_names.specs.Name.{Name}
@@ -85,8 +84,8 @@ sites_long first (x ∷ rest) = ap suc (sites_long (suc first) rest)
 
 names-rise : (items : List Holding) → AreItems items → NamesRise (names items)
 names-rise items are = AllPairs-from_at (λ x y. slice_cmp nat_cmp x y ≡ Less) (names items) (λ p q x y lt at_x at_y.
-    let g = map_place (λ (h : Holding). h.item) items p x at_x in
-    let h = map_place (λ (h : Holding). h.item) items q y at_y in
+    let g = map_at (λ (h : Holding). h.item) items p x at_x in
+    let h = map_at (λ (h : Holding). h.item) items q y at_y in
     let less = AllPairs_at (λ (a b : Holding). slice_cmp nat_cmp a.item b.item ≡ Less) items p q g.0 h.0 are.rising lt g.1 h.1 in
     subst (λ z. slice_cmp nat_cmp z y ≡ Less) g.2 (subst (λ z. slice_cmp nat_cmp g.0.item z ≡ Less) h.2 less))
 

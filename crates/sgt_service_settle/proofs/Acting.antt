@@ -16,13 +16,13 @@ use Rattle.sgt_names.specs.declared.entry.Entry.{Entry}
 use Rattle.sgt_names.specs.declared.entry.Holding.{Holding}
 use Rattle.sgt_names.specs.declared.entry.Kind.{Kind}
 use Rattle.sgt_names.proofs.Places.{Contains_at, Contains-from_at}
-use Rattle.sgt_order.proofs.Lists.{get_set_same, get_set_other}
 use Rattle.sgt_service_settle.specs.declared.acts.Act.{Act}
 use Rattle.sgt_service_settle.specs.private.Words.{IsItemAt, At, Pushed}
 use Rattle.sgt_service_settle.specs.private.Acts.{actor, IsActOn, AreActs, AreByActor, IsSortedAt, AreBetween}
 use Rattle.sgt_service_settle.proofs.Lists.{before_or_here, push_contains, push_old, push_new}
 use Rattle.sgt_service_settle.proofs.Placing.{one_item, one_place}
-use Rattle.sgt_service_settle.proofs.Carrying.{clash_items}
+use Rattle.sgt_names.proofs.Elements.{get-slice_set_same, get-slice_set_other}
+use Rattle.sgt_notation.proofs.Texts.{clash_items}
 
 -- the rows have the operations before this place
 abbrev pub AreActsTo : List Holding → List Entry → ℕ → List (Vec Act Global) → Type 0
@@ -100,11 +100,11 @@ acts_all items log m acts whole old at x row item at_row a = (
 pub sorted_row : (acts : List (Vec Act Global)) (at : ℕ) (old row : Vec Act Global) → slice_get acts at ≡ Some old
     → IsPermutation old.items row.items → IsNonDecreasingBy actor row.items → IsSortedAt acts at (slice_set acts at row)
 sorted_row acts at old row here same sorted = record {
-  others = λ k other. get_set_other acts at k row other;
+  others = λ k other. get-slice_set_other acts at k row other;
   before = old;
   after = row;
   was = here;
-  now = get_set_same acts at row (slice_get_within acts at old here);
+  now = get-slice_set_same acts at row (slice_get_within acts at old here);
   same = same;
   sorted = sorted;
 }

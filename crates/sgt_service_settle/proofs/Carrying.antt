@@ -18,6 +18,8 @@ use Rattle.sgt_service_settle.specs.declared.carried.Rows.{Rows}
 use Rattle.sgt_service_settle.specs.declared.link.Cut.{Cut}
 use Rattle.sgt_service_settle.specs.private.Search.{IsMarked, InRows, LinksBy, AreEnds, Told}
 use Rattle.sgt_service_settle.specs.private.Index.{IsIn, IsDue, IsSided, AllSided, IsPlaceCarried, AreCarried, AreRows}
+use Rattle.sgt_notation.proofs.DecidableEntries.{reads-item, writes-item}
+use Rattle.sgt_notation.proofs.Texts.{clash_items}
 
 leads_map : (R S : ℕ → ℕ → Type 0) → ((a b : ℕ) → R a b → S a b) → (a b : ℕ) (between : List ℕ) → Leads R a between b → Leads S a between b
 leads_map R S to a b [] h = to a b h
@@ -66,31 +68,6 @@ place_carried index rows cut log p e forward backward are out back = (
 )
 
 -- ---- places and conflicts
-
-reads_item : (x : Name) (e : Entry) → Reads x e → item_of e ≡ Some x
-reads_item x (entry.Read tx y v) r = ap Some r
-reads_item x (entry.Write tx y v) r = absurd r
-reads_item x (entry.Add tx y v) r = absurd r
-reads_item x (entry.Want tx y v) r = absurd r
-reads_item x (entry.WantAdd tx y v) r = absurd r
-reads_item x (entry.Commit tx) r = absurd r
-reads_item x (entry.Refuse tx) r = absurd r
-reads_item x (entry.Withdraw tx) r = absurd r
-
-writes_item : (x : Name) (e : Entry) → Writes x e → item_of e ≡ Some x
-writes_item x (entry.Read tx y v) r = absurd r
-writes_item x (entry.Write tx y v) r = ap Some r
-writes_item x (entry.Add tx y v) r = ap Some r
-writes_item x (entry.Want tx y v) r = ap Some r
-writes_item x (entry.WantAdd tx y v) r = ap Some r
-writes_item x (entry.Commit tx) r = absurd r
-writes_item x (entry.Refuse tx) r = absurd r
-writes_item x (entry.Withdraw tx) r = absurd r
-
-pub clash_items : (kind : Kind) (x : Name) (e f : Entry) → Clash kind x e f → (item_of e ≡ Some x) × (item_of f ≡ Some x)
-clash_items Wr x e f h = (writes_item x e h.0, reads_item x f h.1)
-clash_items Rw x e f h = (reads_item x e h.0, writes_item x f h.1)
-clash_items Ww x e f h = (writes_item x e h.0, writes_item x f h.1)
 
 -- the walk under one cut is one under another that is the same
 recut : (index : Index) (cut : Cut) (site last a b : ℕ) → site ≡ cut.site → last ≡ cut.last → Reaches (LinksBy index.links.items (record { site = site; item = cut.item; last = last })) a b → Reaches (LinksBy index.links.items cut) a b

@@ -6,12 +6,13 @@ use Rattle.std.proofs.lemmas.Bool.{cases_Bool, cases_eq, true≢false}
 use Rattle.std.proofs.lemmas.Option.{same_Some, slice_get_within}
 use Rattle.std.proofs.lemmas.List.{length-set, length_push}
 use Rattle.sgt_names.proofs.Places.{All_at, slice_get-drop, slice_get-take_at}
-use Rattle.sgt_order.proofs.Lists.{get_set_same, get_set_other, get_push_cases, get_push_last}
-use Rattle.sgt_certifier.proofs.Members.{place_left, nil_none}
+use Rattle.sgt_order.proofs.Lists.{get_push_cases}
 use Rattle.sgt_service_settle.specs.declared.course.Course.{Course}
 use Rattle.sgt_service_settle.specs.declared.deeds.Deed.{Deed}
 use Rattle.sgt_service_settle.specs.private.Course.{IsCourse, IsReadAdded, IsChangeAdded}
 use Rattle.sgt_service_settle.proofs.Lists.{push_contains, push_old, push_new}
+use Rattle.sgt_names.proofs.Elements.{get-slice_set_same, get-slice_set_other, get-push_last, contains-none}
+use Rattle.sgt_names.proofs.Lists.{front_at}
 
 -- what holds of a part of a list holds at its places
 pub all_between : (J : Deed → Type 0) (xs : List Deed) (first end v : ℕ) (d : Deed) → All J (take (end - first) (drop first xs)) → first ≤ v → v < end → slice_get xs v ≡ Some d → J d
@@ -25,8 +26,8 @@ read_added done old d new is reads a =
     let same : new.changes.items ≡ old.changes.items = ap (λ (v : Vec Deed Global). v.items) a.changes in
     let written : new.written ≡ old.written = a.written in
     let within = slice_get_within old.reads.items d.version a.before a.was in
-    let here : slice_get new.reads.items d.version ≡ Some a.after = ap (λ rs. slice_get rs d.version) a.now ∙ get_set_same old.reads.items d.version a.after within in
-    let there : (v : ℕ) → (v ≡ d.version → ⊥) → slice_get new.reads.items v ≡ slice_get old.reads.items v = λ v other. ap (λ rs. slice_get rs v) a.now ∙ get_set_other old.reads.items d.version v a.after other in
+    let here : slice_get new.reads.items d.version ≡ Some a.after = ap (λ rs. slice_get rs d.version) a.now ∙ get-slice_set_same old.reads.items d.version a.after within in
+    let there : (v : ℕ) → (v ≡ d.version → ⊥) → slice_get new.reads.items v ≡ slice_get old.reads.items v = λ v other. ap (λ rs. slice_get rs v) a.now ∙ get-slice_set_other old.reads.items d.version v a.after other in
     let least : old.last_read ≤ new.last_read = elim a.last [
       | inl more ↦ let lt = more.0 in let is_new = more.1 in omega (arith, lt, is_new)
       | inr kept ↦ let is_old = kept.1 in omega (arith, is_old)
@@ -94,17 +95,17 @@ change_added done old d new is change version a =
         | inr last ↦ (subst (Contains (done ++ d ∷ [])) last.1 (push_new done d), ap (λ (x : Deed). x.read) (sym last.1) ∙ change, ap (λ (x : Deed). x.version) (sym last.1) ∙ (version ∙ sym last.0))
       ];
       changed = λ e has no_read. elim (push_contains done d e has) [
-        | inl before ↦ ap (λ xs. slice_get xs e.version) a.changes ∙ place_left old.changes.items (d ∷ []) e.version e (is.changed e before no_read)
+        | inl before ↦ ap (λ xs. slice_get xs e.version) a.changes ∙ front_at old.changes.items (d ∷ []) e.version e (is.changed e before no_read)
         | inr last ↦
-            let end : slice_get new.changes.items d.version ≡ Some d = ap (λ xs. slice_get xs d.version) a.changes ∙ (ap (slice_get (old.changes.items ++ d ∷ [])) version ∙ get_push_last old.changes.items d) in
+            let end : slice_get new.changes.items d.version ≡ Some d = ap (λ xs. slice_get xs d.version) a.changes ∙ (ap (slice_get (old.changes.items ++ d ∷ [])) version ∙ get-push_last old.changes.items d) in
             subst (λ (x : Deed). slice_get new.changes.items x.version ≡ Some x) last end
       ];
       reads = λ v row e at has. elim (get_push_cases old.reads.items a.none row v (ap (λ rs. slice_get rs v) (sym a.reads) ∙ at)) [
         | inl before ↦ let was = is.reads v row e before has in (push_old done d e was.0, was.1, was.2)
-        | inr last ↦ absurd (nil_none e (subst (λ xs. Contains xs e) (ap (λ (r : Vec Deed Global). r.items) (sym last.1) ∙ a.is_none) has))
+        | inr last ↦ absurd (contains-none e (subst (λ xs. Contains xs e) (ap (λ (r : Vec Deed Global). r.items) (sym last.1) ∙ a.is_none) has))
       ];
       read = λ e has read. elim (push_contains done d e has) [
-        | inl before ↦ let row = is.read e before read in (row.0, ap (λ rs. slice_get rs e.version) a.reads ∙ place_left old.reads.items (a.none ∷ []) e.version row.0 row.1, row.2)
+        | inl before ↦ let row = is.read e before read in (row.0, ap (λ rs. slice_get rs e.version) a.reads ∙ front_at old.reads.items (a.none ∷ []) e.version row.0 row.1, row.2)
         | inr last ↦ absurd (true≢false (sym read ∙ (ap (λ (x : Deed). x.read) (sym last) ∙ change)))
       ];
       added = λ v e le at. elim (cases_Bool d.increment) [

@@ -7,6 +7,7 @@ use Rattle.sgt_service_agreement.specs.declared.counts.EntryCounts.{EntryCounts}
 use Rattle.sgt_service_settle.specs.declared.index.Index.{Index}
 use Rattle.sgt_service_settle.specs.Settled.{IsCounted, AreCountedAt}
 use Rattle.sgt_service_settle.specs.private.Sites.{IsSiteFit, IsFitAt}
+use Rattle.sgt_certifier.proofs.Counting.{on-err}
 
 pub fit_at : (index : Index) (sites : List SiteState) (counts : List EntryCounts) (k site : ℕ) (s : SiteState) (c : EntryCounts) → slice_get sites k ≡ Some s → slice_get counts k ≡ Some c → site ≡ k → IsSiteFit index site c s → IsFitAt index sites counts k
 fit_at index sites counts k site s c here counted is_k fit t d there also =
@@ -23,8 +24,3 @@ counted_at sites counts k site s c here counted is_k are t d there also =
     subst (λ x. IsCounted x d t) is_k
     (subst (λ x. IsCounted site x t) (same_Some c d (sym counted ∙ also))
     (subst (IsCounted site c) (same_Some s t (sym here ∙ there)) are))
-
--- what holds, holds of a refusal
-pub on_err : {A B : Type 0} (o : Result A B) (P : Type 0) → P → OnErr o P
-on_err (Ok a) P h = tt
-on_err (Err e) P h = h

@@ -4,7 +4,7 @@ use Rattle.std.specs.Prelude.{slice_get}
 use Rattle.std.proofs.Math.Nat.{le-max_left, le-max_right}
 use Rattle.std.proofs.lemmas.Bool.{cases_Bool, cases_lt, true≢false}
 use Rattle.std.proofs.lemmas.Option.{same_Some, slice_get_within, slice_get_cases}
-use Rattle.sgt_names.proofs.Lists.{All_in}
+use Rattle.sgt_names.proofs.Lists.{All_in, within_at}
 use Rattle.sgt_names.proofs.Places.{Contains-from_at}
 use Rattle.sgt_order.specs.Graph.{Leads, Reaches}
 use Rattle.sgt_service_settle.specs.declared.course.Course.{Course}
@@ -15,9 +15,6 @@ use Rattle.sgt_service_settle.specs.private.Course.{IsCourse, Fits, AreFrontNote
 use Rattle.sgt_service_settle.specs.private.Joined.{IsHanded, GetsTo, Precedes, AreDeedsCarried, ComesTo, LeadsTo}
 use Rattle.sgt_service_settle.proofs.Lists.{push_contains}
 use Rattle.sgt_service_settle.proofs.Carrying.{reaches_map}
-
-get_at : {A : Type 0} (xs : List A) (k : ℕ) → k < length xs → (a : A) × (slice_get xs k ≡ Some a)
-get_at xs k low = elim (slice_get_cases xs k).1 [ inl some ↦ (some.0, some.2) | inr none ↦ let past = none.0 in absurd (omega (arith, low, past)) ]
 
 -- ---- over neighbours
 
@@ -53,7 +50,7 @@ module _ (G : ℕ → ℕ → Type 0) (join : (a b c : ℕ) → G a b → G b c 
               | inl zero ↦ absurd (omega (arith, early, zero))
               | inr turns ↦
                   let low = turns.0 in
-                  let b = get_at course.changes.items noted.first (omega (arith, low, within)) in
+                  let b = within_at course.changes.items noted.first (omega (arith, low, within)) in
                   let known = is.changes noted.first b.0 b.1 in
                   let version = known.2 in
                   let last = turn b.0 (noted.noted noted.first b.0 (omega arith) low b.1) in
@@ -98,7 +95,7 @@ module _ (G : ℕ → ℕ → Type 0) (join : (a b c : ℕ) → G a b → G b c 
               | inl whole ↦ absurd (omega (arith, late, whole, low))
               | inr end ↦
                   let next = end.next in
-                  let b = get_at course.changes.items end.last (omega (arith, next, late, low)) in
+                  let b = within_at course.changes.items end.last (omega (arith, next, late, low)) in
                   let known = is.changes end.last b.0 b.1 in
                   let version = known.2 in
                   let first = turn b.0 (noted.noted end.last b.0 end.from (omega (arith, next)) b.1) in
@@ -145,7 +142,7 @@ module _ (G : ℕ → ℕ → Type 0) (join : (a b c : ℕ) → G a b → G b c 
             let low = read_low d has read in
             elim (cases_lt d.version present) [
               | inl early ↦
-                  let b = get_at course.changes.items d.version early in
+                  let b = within_at course.changes.items d.version early in
                   let known = is.changes d.version b.0 b.1 in
                   let version = known.2 in
                   join d.tx b.0.tx t (from_read d b.0 has known.0 read known.1 (omega (arith, version))) (change_to_write J t turn follows b.0 known.0 known.1)
@@ -161,7 +158,7 @@ module _ (G : ℕ → ℕ → Type 0) (join : (a b c : ℕ) → G a b → G b c 
   to_increment_next J t turn follows d has none =
       let last_write : (v : ℕ) → v < course.written → (j : ℕ) × (b : Deed) × (suc j ≡ course.written) × (slice_get course.changes.items j ≡ Some b) = λ v low.
       let inside = is.written in
-      let b = get_at course.changes.items (course.written - 1) (omega (arith, low, inside)) in
+      let b = within_at course.changes.items (course.written - 1) (omega (arith, low, inside)) in
       (course.written - 1, b.0, omega (arith, low), b.1) in
       elim (cases_Bool d.read) [
         | inr change ↦
@@ -206,7 +203,7 @@ module _ (G : ℕ → ℕ → Type 0) (join : (a b c : ℕ) → G a b → G b c 
                           | inr most ↦ direct (omega (arith, top, most))
                           | inl less ↦
                               let low = read_low r.0 r.1 r.2 in
-                              let b = get_at course.changes.items d.version (omega (arith, less, r_version, low)) in
+                              let b = within_at course.changes.items d.version (omega (arith, less, r_version, low)) in
                               let known = is.changes d.version b.0 b.1 in
                               let version = known.2 in
                               let row = is.read r.0 r.1 r.2 in

@@ -10,9 +10,8 @@ use Rattle.sgt_names.specs.Entry.{tx_of}
 use Rattle.sgt_names.specs.declared.entry.Entry.{Entry}
 use Rattle.sgt_names.specs.declared.entry.Holding.{Holding}
 use Rattle.sgt_names.proofs.Places.{Contains_at, Contains-from_at, slice_get-drop, slice_get-take}
-use Rattle.sgt_names.proofs.Lists.{All-weaken}
+use Rattle.sgt_names.proofs.Lists.{All-weaken, within_at}
 use Rattle.sgt_order.specs.Graph.{Reaches}
-use Rattle.sgt_order.proofs.Lists.{get_set_other}
 use Rattle.sgt_service_settle.specs.declared.course.Course.{Course}
 use Rattle.sgt_service_settle.specs.declared.course.Marks.{Marks}
 use Rattle.sgt_service_settle.specs.declared.deeds.Deed.{Deed}
@@ -28,8 +27,10 @@ use Rattle.sgt_service_settle.specs.private.Course.{IsNoted, Follows}
 use Rattle.sgt_service_settle.specs.private.Joined.{AreItemLinks, IsHanded, Precedes, AreDeedsCarried, AreUnder, AreNoted, ComesTo, LeadsTo}
 use Rattle.sgt_service_settle.proofs.Rowing.{at_pushed}
 use Rattle.sgt_service_settle.proofs.Placing.{one_item, known_place}
-use Rattle.sgt_service_settle.proofs.Carrying.{clash_items, reaches_map}
+use Rattle.sgt_service_settle.proofs.Carrying.{reaches_map}
 use Rattle.sgt_service_settle.proofs.Tracking.{clash_read, clash_increment}
+use Rattle.sgt_names.proofs.Elements.{get-slice_set_other}
+use Rattle.sgt_notation.proofs.Texts.{clash_items}
 
 -- ---- marks
 
@@ -46,7 +47,7 @@ under_far marks new near far tx step which under a s at =
           let there : slice_get (slice_set marks far step) a ≡ Some s = ap (λ xs. slice_get xs a) (sym marked.1) ∙ at in
           elim (cases_eq a far) [
             | inl here ↦ let is : step ≡ s = get_set_at marks far step s (ap (slice_get (slice_set marks far step)) (sym here) ∙ there) in omega (arith, is)
-            | inr other ↦ under a s (sym (get_set_other marks far a step other) ∙ there)
+            | inr other ↦ under a s (sym (get-slice_set_other marks far a step other) ∙ there)
           ]
     ]
 
@@ -57,7 +58,7 @@ noted_far P marks new near far tx step which holds noted a at =
       | inr marked ↦
           elim (cases_eq a far) [
             | inl here ↦ subst P (sym here) (holds marked.0)
-            | inr other ↦ noted a (sym (get_set_other marks far a step other) ∙ (ap (λ xs. slice_get xs a) (sym marked.1) ∙ at))
+            | inr other ↦ noted a (sym (get-slice_set_other marks far a step other) ∙ (ap (λ xs. slice_get xs a) (sym marked.1) ∙ at))
           ]
     ]
 
@@ -138,9 +139,6 @@ handed_by_links index site items rows row at x last a b are here item h =
     let among = Contains_at index.links.items l known.0 in
     (among.0, l, among.1, h.2, h.3, record { site = known.1; item = is_item; early = h.4 })
 
-get_row : {A : Type 0} (xs : List A) (k : ℕ) → k < length xs → (a : A) × (slice_get xs k ≡ Some a)
-get_row xs k low = elim (Rattle.std.proofs.lemmas.Option.slice_get_cases xs k).1 [ inl some ↦ (some.0, some.2) | inr none ↦ let past = none.0 in absurd (omega (arith, low, past)) ]
-
 -- where the conflicts of each item's deeds are carried, those of the log are
 pub all_carried : (index : Index) (site : ℕ) (items : List Holding) (log : List Entry) (tracks : List Track) (rows : List (Vec Link Global)) → AreKnown items log → AreItemLinks index.links.items site items rows → length rows ≡ length items
     → AreTracks index.commits.items items log (length log) tracks → ((k : ℕ) (t : Track) (row : Vec Link Global) → slice_get tracks k ≡ Some t → slice_get rows k ≡ Some row → AreDeedsCarried row.items t.deeds.items) → AreCarried index site log
@@ -161,7 +159,7 @@ all_carried index site items log tracks rows known links long are carried kind x
       increments = clash_increment kind x c.e c.f c.clash;
       before = (are.each place.0 q.track q.at_track).ordered d e has q.deed c.before;
     } in
-    let row = get_row rows place.0 (omega (arith, within, long)) in
+    let row = within_at rows place.0 (omega (arith, within, long)) in
     let top = max m n in
     let R : ℕ → ℕ → Type 0 = LinksBy index.links.items (record { site = site; item = x; last = top }) in
     elim (carried place.0 q.track row.0 q.at_track row.1 d e has q.deed precedes) [

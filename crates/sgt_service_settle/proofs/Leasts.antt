@@ -2,9 +2,9 @@
 use Rattle.std.proofs.Common.{◌≡◌, ◌⊎◌, ◌≤◌, ℕ, List, [], ◌∷◌, ◌++◌, Option, Some, None, refl, sym, ap, ◌∙◌, subst, arith, inl, inr}
 use Rattle.std.specs.Prelude.{min}
 use Rattle.std.proofs.lemmas.Bool.{cases_lt}
-use Rattle.sgt_certifier.proofs.Members.{nil_none}
 use Rattle.sgt_service_settle.specs.private.Words.{lesser, IsLeastOf}
 use Rattle.sgt_service_settle.proofs.Lists.{push_contains, push_old, push_new}
+use Rattle.sgt_names.proofs.Elements.{contains-none}
 
 min_cases : (j k : ℕ) → (min j k ≡ j) ⊎ (min j k ≡ k)
 min_cases j k = elim (cases_lt j k) [ inl lt ↦ inl (omega arith) | inr le ↦ inr (omega arith) ]

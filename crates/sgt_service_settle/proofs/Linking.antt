@@ -7,7 +7,6 @@ use Rattle.sgt_names.proofs.Places.{Contains_at, Contains-from_at}
 use Rattle.sgt_arena.specs.declared.handle.Handle.{Handle}
 use Rattle.sgt_certifier.specs.Certifier.{Ruling}
 use Rattle.sgt_certifier.specs.declared.call.Call.{Call}
-use Rattle.sgt_certifier.proofs.Members.{nil_none}
 use Rattle.sgt_service_settle.specs.Told.{handed_in}
 use Rattle.sgt_service_settle.specs.declared.handed.Handed.{Handed}
 use Rattle.sgt_service_settle.specs.declared.link.Cut.{Cut}
@@ -16,7 +15,9 @@ use Rattle.sgt_service_settle.specs.declared.index.Index.{Index}
 use Rattle.sgt_service_settle.specs.private.Search.{LinksBy, AreEnds, Passes}
 use Rattle.sgt_service_settle.specs.private.Words.{AreBySite}
 use Rattle.sgt_service_settle.specs.private.Index.{Names, AreNamed, AreCommits, IsEnd, IsLinkOf, AreLinks, CarriesBy, IsIndex}
-use Rattle.sgt_service_settle.proofs.Lists.{take_on, push_contains, push_old, push_new}
+use Rattle.sgt_service_settle.proofs.Lists.{push_contains, push_old, push_new}
+use Rattle.sgt_names.proofs.Elements.{contains-none}
+use Rattle.sgt_names.proofs.Lists.{take_next}
 
 pub names_same : (windows : List (Vec ℕ Global)) (h : Handle) (a b : ℕ) → Names windows h a → Names windows h b → a ≡ b
 names_same windows h a b first second =
@@ -32,17 +33,17 @@ link_is windows commits h l m first second =
     λ i. record { from = from i; to = to i; label = label i; number = number i }
 
 pub links_none : (windows : List (Vec ℕ Global)) (commits : List (Option ℕ)) (handed : List Handed) → AreLinks windows commits (take 0 handed) []
-links_none windows commits handed l = (λ c. absurd (nil_none l c), λ k. absurd (nil_none k.0 k.1))
+links_none windows commits handed l = (λ c. absurd (contains-none l c), λ k. absurd (contains-none k.0 k.1))
 
 pub links_hit : (windows : List (Vec ℕ Global)) (commits : List (Option ℕ)) (handed : List Handed) (n : ℕ) (h : Handed) (links : List Link) (l : Link) → slice_get handed n ≡ Some h → IsLinkOf windows commits h l → AreLinks windows commits (take n handed) links → AreLinks windows commits (take (n + 1) handed) (links ++ l ∷ [])
 links_hit windows commits handed n h links l here is old m = (
   λ c. elim (push_contains links l m c) [
     | inl early ↦
         let k = (old m).0 early in
-        (k.0, subst (λ hs. Contains hs k.0) (sym (take_on handed n h here)) (push_old (take n handed) h k.0 k.1), k.2)
-    | inr last ↦ (h, subst (λ hs. Contains hs h) (sym (take_on handed n h here)) (push_new (take n handed) h), subst (IsLinkOf windows commits h) last is)
+        (k.0, subst (λ hs. Contains hs k.0) (sym (take_next handed n h here)) (push_old (take n handed) h k.0 k.1), k.2)
+    | inr last ↦ (h, subst (λ hs. Contains hs h) (sym (take_next handed n h here)) (push_new (take n handed) h), subst (IsLinkOf windows commits h) last is)
   ],
-  λ k. elim (push_contains (take n handed) h k.0 (subst (λ hs. Contains hs k.0) (take_on handed n h here) k.1)) [
+  λ k. elim (push_contains (take n handed) h k.0 (subst (λ hs. Contains hs k.0) (take_next handed n h here) k.1)) [
     | inl early ↦ push_old links l m ((old m).1 (k.0, early, k.2))
     | inr last ↦
         let mine : IsLinkOf windows commits h m = subst (λ x. IsLinkOf windows commits x m) (sym last) k.2 in
@@ -54,8 +55,8 @@ pub links_miss : (windows : List (Vec ℕ Global)) (commits : List (Option ℕ))
 links_miss windows commits handed n h links here none old m = (
   λ c.
       let k = (old m).0 c in
-      (k.0, subst (λ hs. Contains hs k.0) (sym (take_on handed n h here)) (push_old (take n handed) h k.0 k.1), k.2),
-  λ k. elim (push_contains (take n handed) h k.0 (subst (λ hs. Contains hs k.0) (take_on handed n h here) k.1)) [
+      (k.0, subst (λ hs. Contains hs k.0) (sym (take_next handed n h here)) (push_old (take n handed) h k.0 k.1), k.2),
+  λ k. elim (push_contains (take n handed) h k.0 (subst (λ hs. Contains hs k.0) (take_next handed n h here) k.1)) [
     | inl early ↦ (old m).1 (k.0, early, k.2)
     | inr last ↦ absurd (none m (subst (λ x. IsLinkOf windows commits x m) (sym last) k.2))
   ],

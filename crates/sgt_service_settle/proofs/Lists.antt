@@ -7,30 +7,15 @@ use Rattle.std.proofs.Math.Seq.{drop-cons}
 use Rattle.std.proofs.lemmas.Option.{slice_get-get_or, same_Some, slice_get_within}
 use Rattle.std.proofs.lemmas.Bool.{cases_lt}
 use Rattle.sgt_order.proofs.Lists.{get_take_next}
-use Rattle.sgt_certifier.proofs.Members.{cons_cases, cons_here, nil_none}
-
--- what was read at a place
-pub read : {A : Type 0} (xs : List A) (n : ℕ) (a : A) → n < length xs → a ≡ get_or xs n a → slice_get xs n ≡ Some a
-read xs n a low is = slice_get-get_or xs n a low ∙ ap Some (sym is)
-
-pub take_on : {A : Type 0} (xs : List A) (n : ℕ) (a : A) → slice_get xs n ≡ Some a → take (n + 1) xs ≡ take n xs ++ a ∷ []
-take_on xs n a at =
-    let low = slice_get_within xs n a at in
-    let same : get_or xs n a ≡ a = same_Some (get_or xs n a) a (sym (slice_get-get_or xs n a low) ∙ at) in
-    subst (λ b. take (n + 1) xs ≡ take n xs ++ b ∷ []) same (take_more xs n a low)
-
-pub drop_on : {A : Type 0} (xs : List A) (n : ℕ) (a : A) → slice_get xs n ≡ Some a → drop n xs ≡ a ∷ drop (n + 1) xs
-drop_on xs n a at =
-    let low = slice_get_within xs n a at in
-    let same : get_or xs n a ≡ a = same_Some (get_or xs n a) a (sym (slice_get-get_or xs n a low) ∙ at) in
-    let e : drop n xs ≡ get_or xs n a ∷ drop (n + 1) xs = rw add-one (drop-cons xs n a low) in
-    subst (λ b. drop n xs ≡ b ∷ drop (n + 1) xs) same e
+use Rattle.sgt_certifier.proofs.Members.{cons_here}
+use Rattle.sgt_names.proofs.Lists.{element_at, drop_next, take_next}
+use Rattle.sgt_names.proofs.Elements.{contains-cases, contains-none}
 
 pub push_contains : {A : Type 0} (xs : List A) (a b : A) → Contains (xs ++ a ∷ []) b → Contains xs b ⊎ (a ≡ b)
 push_contains xs a b c =
     elim (Contains-append_cases xs (a ∷ []) b c) [
       | inl old ↦ inl old
-      | inr last ↦ elim (cons_cases a [] b last) [ inl same ↦ inr same | inr none ↦ absurd (nil_none b none) ]
+      | inr last ↦ elim (contains-cases a [] b last) [ inl same ↦ inr same | inr none ↦ absurd (contains-none b none) ]
     ]
 
 pub push_old : {A : Type 0} (xs : List A) (a b : A) → Contains xs b → Contains (xs ++ a ∷ []) b

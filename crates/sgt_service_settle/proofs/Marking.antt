@@ -4,16 +4,12 @@ use Rattle.std.specs.Prelude.{slice_get, slice_set}
 use Rattle.std.proofs.lemmas.Bool.{cases_eq, cases_Bool}
 use Rattle.std.proofs.lemmas.List.{length_push}
 use Rattle.std.proofs.lemmas.Option.{same_Some, none-some, slice_get_within}
-use Rattle.sgt_order.proofs.Lists.{get_set_same, get_set_other, get_push_cases, get_push_last, get_take_next, get_take_more, get_take_last}
-use Rattle.sgt_certifier.proofs.Members.{place_left}
+use Rattle.sgt_order.proofs.Lists.{get_push_cases, get_take_next, get_take_more, get_take_last}
 use Rattle.sgt_service_settle.specs.declared.link.Arc.{Arc}
 use Rattle.sgt_service_settle.specs.declared.link.Cut.{Cut}
 use Rattle.sgt_service_settle.specs.private.Search.{On, IsMarked, unmarked, Marked, IsTarget, Passes}
-
-pub length_slice_set : {A : Type 0} (xs : List A) (k : ℕ) (a : A) → length (slice_set xs k a) ≡ length xs
-length_slice_set [] k a = refl
-length_slice_set (x ∷ xs) zero a = refl
-length_slice_set (x ∷ xs) (suc k) a = ap suc (length_slice_set xs k a)
+use Rattle.sgt_names.proofs.Elements.{length-slice_set, get-slice_set_same, get-slice_set_other, get-push_last}
+use Rattle.sgt_names.proofs.Lists.{front_at}
 
 pub unmarked_set : (marks : List Bool) (k : ℕ) → slice_get marks k ≡ Some false → unmarked (slice_set marks k true) + 1 ≡ unmarked marks
 unmarked_set [] k h = absurd cc
@@ -34,20 +30,20 @@ on_push xs a k o =
 
 pub mark_new : (marks : List Bool) (stack : List ℕ) (to : ℕ) → slice_get marks to ≡ Some false → Marked (λ k. k ≡ to) marks stack (slice_set marks to true) (stack ++ to ∷ [])
 mark_new marks stack to bare =
-    let set = get_set_same marks to true (slice_get_within marks to false bare) in
+    let set = get-slice_set_same marks to true (slice_get_within marks to false bare) in
     let here : (k : ℕ) → k ≡ to → IsMarked (slice_set marks to true) k = λ k same. subst (IsMarked (slice_set marks to true)) (sym same) set in
     record {
       kept = λ k h.
           elim (cases_eq k to) [
             | inl same ↦ here k same
-            | inr other ↦ get_set_other marks to k true other ∙ h
+            | inr other ↦ get-slice_set_other marks to k true other ∙ h
           ];
       fresh = λ k h.
           elim (cases_eq k to) [
-            | inl same ↦ inr (same, (length stack, get_push_last stack to ∙ ap Some (sym same)))
-            | inr other ↦ inl (sym (get_set_other marks to k true other) ∙ h)
+            | inl same ↦ inr (same, (length stack, get-push_last stack to ∙ ap Some (sym same)))
+            | inr other ↦ inl (sym (get-slice_set_other marks to k true other) ∙ h)
           ];
-      grew = λ k o. (o.0, place_left stack (to ∷ []) o.0 k o.1);
+      grew = λ k o. (o.0, front_at stack (to ∷ []) o.0 k o.1);
       known = λ k o.
           elim (on_push stack to k o) [
             | inl early ↦ inl early
@@ -55,7 +51,7 @@ mark_new marks stack to bare =
           ];
       done = here;
       size = omega (arith, unmarked_set marks to bare, length_push stack to);
-      long = length_slice_set marks to true;
+      long = length-slice_set marks to true;
     }
 
 pub mark_old : (marks : List Bool) (stack : List ℕ) (to : ℕ) → IsMarked marks to → Marked (λ k. k ≡ to) marks stack marks stack

@@ -6,17 +6,18 @@ use Rattle.std.proofs.lemmas.Option.{same_Some, none-some}
 use Rattle.std.proofs.lemmas.List.{length_push}
 use Rattle.sgt_arena.specs.declared.handle.Handle.{Handle}
 use Rattle.sgt_order.proofs.Handles.{same_handle}
-use Rattle.sgt_order.proofs.Lists.{get_push_cases, get_push_last}
+use Rattle.sgt_order.proofs.Lists.{get_push_cases}
 use Rattle.sgt_certifier.specs.declared.call.Decided.TheVariants.{Committed, Refused}
 use Rattle.sgt_certifier.specs.declared.call.Call.{Call}
 use Rattle.sgt_certifier.specs.declared.call.Call.TheVariants as call
 use Rattle.sgt_certifier.specs.Certifier.{State, opening}
 use Rattle.sgt_certifier.specs.History.{Serves, RunsFrom}
-use Rattle.sgt_certifier.proofs.Members.{nil_none, place_left}
 use Rattle.sgt_service_settle.specs.private.Words.{At, Pushed}
 use Rattle.sgt_service_settle.specs.private.Index.{AreNamed}
-use Rattle.sgt_service_settle.proofs.Lists.{take_on, drop_on, push_contains, push_old, push_new}
+use Rattle.sgt_service_settle.proofs.Lists.{push_contains, push_old, push_new}
 use Rattle.sgt_service_settle.proofs.Rowing.{at_pushed, pushed_old, pushed_last}
+use Rattle.sgt_names.proofs.Elements.{get-push_last, contains-none}
+use Rattle.sgt_names.proofs.Lists.{front_at, take_next, drop_next}
 
 -- the windows name what began in the calls that were seen, which lead to this state
 pub record IsNaming (seen : List Call) (s : State) (windows : List (Vec ℕ Global)) : Type 0 where
@@ -42,12 +43,12 @@ naming_none row none = record {
       | inl early ↦ absurd (none-some at.0 early)
       | inr last ↦ absurd (none-some tx (ap (λ xs. slice_get xs h.index) (sym none ∙ ap (λ v. v.items) last.1) ∙ at.2))
     ],
-    λ named. absurd (nil_none (call.Begin tx h) named),
+    λ named. absurd (contains-none (call.Begin tx h) named),
   );
 }
 
 pub runs_next : (s t : State) (calls : List Call) (n : ℕ) (c : Call) → slice_get calls n ≡ Some c → RunsFrom s (drop n calls) t → (next : State) × Serves s c next × RunsFrom next (drop (n + 1) calls) t
-runs_next s t calls n c at r = let on : RunsFrom s (c ∷ drop (n + 1) calls) t = subst (λ cs. RunsFrom s cs t) (drop_on calls n c at) r in on
+runs_next s t calls n c at r = let on : RunsFrom s (c ∷ drop (n + 1) calls) t = subst (λ cs. RunsFrom s cs t) (drop_next calls n c at) r in on
 
 pub begun_naming : (seen : List Call) (s next : State) (tx : ℕ) (h : Handle) (windows new : List (Vec ℕ Global)) (k : ℕ) → Serves s (call.Begin tx h) next → IsNaming seen s windows → k ≡ s.generation → Pushed windows k tx new → length new ≡ length windows → IsNaming (seen ++ call.Begin tx h ∷ []) next new
 begun_naming seen s next tx h windows new k serves n is_k p long =
@@ -98,7 +99,7 @@ closed_naming seen s next ranks windows row serves n none =
       window = omega (arith, begun, before);
       row = λ r at.
           let place : length windows ≡ next.generation = n.generations ∙ sym generation in
-          let same : row ≡ r = same_Some row r (sym (get_push_last windows row) ∙ (ap (slice_get (windows ++ row ∷ [])) place ∙ at)) in
+          let same : row ≡ r = same_Some row r (sym (get-push_last windows row) ∙ (ap (slice_get (windows ++ row ∷ [])) place ∙ at)) in
           let empty : length r.items ≡ 0 = ap length (sym (ap (λ v. v.items) same) ∙ none) in
           omega (arith, empty, begun, before);
       names = λ g m. (
@@ -107,7 +108,7 @@ closed_naming seen s next ranks windows row serves n none =
           | inr last ↦ absurd (none-some m (ap (λ xs. slice_get xs g.index) (sym none ∙ ap (λ v. v.items) last.1) ∙ at.2))
         ],
         λ named. elim (push_contains seen (call.Close ranks) (call.Begin m g) named) [
-          | inl old ↦ let at = (n.names g m).1 old in (at.0, place_left windows (row ∷ []) g.generation at.0 at.1, at.2)
+          | inl old ↦ let at = (n.names g m).1 old in (at.0, front_at windows (row ∷ []) g.generation at.0 at.1, at.2)
           | inr last ↦ absurd cc
         ],
       );
@@ -162,7 +163,7 @@ naming_begun history n windows new c tx h k i here is place p long =
     let step = runs_next i.now i.last history n c here i.rest in
     let serves : Serves i.now (call.Begin tx h) step.0 = subst (λ x. Serves i.now x step.0) is step.1 in
     let next = begun_naming (take n history) i.now step.0 tx h windows new k serves i.naming (omega (arith, place, i.naming.generations)) p long in
-    let longer : take (n + 1) history ≡ take n history ++ call.Begin tx h ∷ [] = take_on history n (call.Begin tx h) (here ∙ ap Some is) in
+    let longer : take (n + 1) history ≡ take n history ++ call.Begin tx h ∷ [] = take_next history n (call.Begin tx h) (here ∙ ap Some is) in
     record { now = step.0; last = i.last; rest = step.2; naming = subst (λ seen. IsNaming seen step.0 new) (sym longer) next }
 
 pub naming_closed : (history : List Call) (n : ℕ) (windows : List (Vec ℕ Global)) (row : Vec ℕ Global) (c : Call) (ranks : ℕ) → IsNamingOf history n windows → slice_get history n ≡ Some c → c ≡ call.Close ranks → row.items ≡ [] → IsNamingOf history (n + 1) (windows ++ row ∷ [])
@@ -170,14 +171,14 @@ naming_closed history n windows row c ranks i here is none =
     let step = runs_next i.now i.last history n c here i.rest in
     let serves : Serves i.now (call.Close ranks) step.0 = subst (λ x. Serves i.now x step.0) is step.1 in
     let next = closed_naming (take n history) i.now step.0 ranks windows row serves i.naming none in
-    let longer : take (n + 1) history ≡ take n history ++ call.Close ranks ∷ [] = take_on history n (call.Close ranks) (here ∙ ap Some is) in
+    let longer : take (n + 1) history ≡ take n history ++ call.Close ranks ∷ [] = take_next history n (call.Close ranks) (here ∙ ap Some is) in
     record { now = step.0; last = i.last; rest = step.2; naming = subst (λ seen. IsNaming seen step.0 (windows ++ row ∷ [])) (sym longer) next }
 
 pub naming_other : (history : List Call) (n : ℕ) (windows : List (Vec ℕ Global)) (c : Call) → IsNamingOf history n windows → slice_get history n ≡ Some c → ((tx : ℕ) (h : Handle) → c ≡ call.Begin tx h → ⊥) → ((ranks : ℕ) → c ≡ call.Close ranks → ⊥) → IsNamingOf history (n + 1) windows
 naming_other history n windows c i here begun closed =
     let step = runs_next i.now i.last history n c here i.rest in
     let next = other_naming (take n history) i.now step.0 c windows (other_of c begun closed) step.1 i.naming in
-    record { now = step.0; last = i.last; rest = step.2; naming = subst (λ seen. IsNaming seen step.0 windows) (sym (take_on history n c here)) next }
+    record { now = step.0; last = i.last; rest = step.2; naming = subst (λ seen. IsNaming seen step.0 windows) (sym (take_next history n c here)) next }
 
 pub naming_opens : (history : List Call) (s : State) (windows : List (Vec ℕ Global)) (row : Vec ℕ Global) → RunsFrom opening history s → windows ≡ [] ++ row ∷ [] → row.items ≡ [] → IsNamingOf history 0 windows
 naming_opens history s windows row runs is none = record {

@@ -15,7 +15,7 @@ use Rattle.sgt_names.specs.Entry.{item_of}
 use Rattle.sgt_names.specs.Ordered.{IsRisingBy, IsGapFor}
 use Rattle.sgt_names.specs.declared.entry.Entry.{Entry}
 use Rattle.sgt_names.specs.declared.entry.Holding.{Holding}
-use Rattle.sgt_names.proofs.Lists.{within_at}
+use Rattle.sgt_names.proofs.Lists.{within_at, map_at}
 use Rattle.sgt_names.proofs.Places.{All_at, AllPairs_at, Contains_at, Contains-from_at, slice_get-take, slice_get-take_at, slice_get-drop}
 use Rattle.sgt_service_settle.specs.private.Words.{IsItemAt}
 use Rattle.sgt_service_settle.specs.private.Acts.{AreKnown}
@@ -78,12 +78,6 @@ not_in_gap items x m n gap is =
           let tied : Greater ≡ Equal = sym more ∙ own in
           absurd cc
     ]
-
-map_at : {A B : Type 0} (f : A → B) (xs : List A) (n : ℕ) (y : B) → slice_get (map f xs) n ≡ Some y
-    → (x : A) × (slice_get xs n ≡ Some x) × (f x ≡ y)
-map_at f [] n y at = absurd cc
-map_at f (x ∷ xs) zero y at = (x, refl, same_Some (f x) y at)
-map_at f (x ∷ xs) (suc n) y at = map_at f xs n y at
 
 -- the item of an operation is there
 pub known_place : (items : List Holding) (log : List Entry) (n : ℕ) (e : Entry) (x : Name) → AreKnown items log

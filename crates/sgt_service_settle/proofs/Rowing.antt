@@ -5,21 +5,22 @@ use Rattle.std.specs.declared.alloc.Global.{Global}
 use Rattle.std.proofs.lemmas.Bool.{cases_eq}
 use Rattle.std.proofs.lemmas.Option.{same_Some, none-some, slice_get_within}
 use Rattle.std.proofs.Math.Seq.{take-append_seam}
-use Rattle.sgt_order.proofs.Lists.{get_set_same, get_set_other, get_push_cases, get_push_last, get_take_next, get_take_more, get_take_last}
-use Rattle.sgt_certifier.proofs.Members.{place_left}
+use Rattle.sgt_order.proofs.Lists.{get_push_cases, get_take_next, get_take_more, get_take_last}
 use Rattle.sgt_service_settle.specs.declared.link.Arc.{Arc}
 use Rattle.sgt_service_settle.specs.declared.link.Cut.{Cut}
 use Rattle.sgt_service_settle.specs.declared.link.Link.{Link}
 use Rattle.sgt_service_settle.specs.private.Words.{At, Pushed}
 use Rattle.sgt_service_settle.specs.private.Search.{InRows, Adds, Hold, LinksBy, Passes}
+use Rattle.sgt_names.proofs.Elements.{get-slice_set_same, get-slice_set_other, get-push_last}
+use Rattle.sgt_names.proofs.Lists.{front_at}
 
 pub pushed_row : {T : Type 0} (rows : List (Vec T Global)) (k : ℕ) (x : T) (old row : Vec T Global) → slice_get rows k ≡ Some old → row.items ≡ old.items ++ x ∷ [] → Pushed rows k x (slice_set rows k row)
 pushed_row rows k x old row here more = record {
-  others = λ j other. get_set_other rows k j row other;
+  others = λ j other. get-slice_set_other rows k j row other;
   before = old;
   after = row;
   was = here;
-  now = get_set_same rows k row (slice_get_within rows k old here);
+  now = get-slice_set_same rows k row (slice_get_within rows k old here);
   more = more;
 }
 
@@ -45,12 +46,12 @@ pushed_old rows k x new p j n y at =
       | inl same ↦
           let is : at.0 ≡ p.before = same_Some at.0 p.before (sym at.1 ∙ (ap (slice_get rows) same ∙ p.was)) in
           let was : slice_get p.before.items n ≡ Some y = ap (λ v. slice_get v.items n) (sym is) ∙ at.2 in
-          (p.after, ap (slice_get new) same ∙ p.now, ap (λ xs. slice_get xs n) p.more ∙ place_left p.before.items (x ∷ []) n y was)
+          (p.after, ap (slice_get new) same ∙ p.now, ap (λ xs. slice_get xs n) p.more ∙ front_at p.before.items (x ∷ []) n y was)
       | inr other ↦ (at.0, p.others j other ∙ at.1, at.2)
     ]
 
 pub pushed_last : {T : Type 0} (rows : List (Vec T Global)) (k : ℕ) (x : T) (new : List (Vec T Global)) (p : Pushed rows k x new) → At new k (length p.before.items) x
-pushed_last rows k x new p = (p.after, p.now, ap (λ xs. slice_get xs (length p.before.items)) p.more ∙ get_push_last p.before.items x)
+pushed_last rows k x new p = (p.after, p.now, ap (λ xs. slice_get xs (length p.before.items)) p.more ∙ get-push_last p.before.items x)
 
 -- ---- edges
 

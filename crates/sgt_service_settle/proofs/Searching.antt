@@ -5,13 +5,13 @@ use Rattle.std.specs.declared.alloc.Global.{Global}
 use Rattle.std.proofs.lemmas.Bool.{true≢false}
 use Rattle.std.proofs.lemmas.Option.{same_Some, none-some, slice_get_within}
 use Rattle.sgt_order.specs.Graph.{Leads, Reaches}
-use Rattle.sgt_certifier.proofs.Members.{place_left}
 use Rattle.sgt_order.proofs.Placed.{reaches-on}
 use Rattle.sgt_service_settle.specs.declared.link.Arc.{Arc}
 use Rattle.sgt_service_settle.specs.declared.link.Cut.{Cut}
 use Rattle.sgt_service_settle.specs.private.Search.{On, IsMarked, Marked, IsTarget, InRows, Told}
-use Rattle.sgt_order.proofs.Lists.{get_push_last}
 use Rattle.sgt_service_settle.proofs.Marking.{on_push}
+use Rattle.sgt_names.proofs.Elements.{empty-length, get-push_last}
+use Rattle.sgt_names.proofs.Lists.{front_at}
 
 pub record Searching (rows : List (Vec Arc Global)) (cut : Cut) (start : ℕ) (marks : List Bool) (stack : List ℕ) : Type 0 where
   pub sound : (k : ℕ) → IsMarked marks k → Reaches (InRows rows cut) start k
@@ -25,7 +25,7 @@ no_marks (suc n) (suc k) h = no_marks n k h
 
 pub search_next : (rows : List (Vec Arc Global)) (cut : Cut) (start at : ℕ) (row : Vec Arc Global) (marks new : List Bool) (stack rest now : List ℕ) → stack ≡ rest ++ at ∷ [] → slice_get rows at ≡ Some row → Marked (IsTarget row.items cut) marks rest new now → Searching rows cut start marks stack → Searching rows cut start new now
 search_next rows cut start at row marks new stack rest now is here m s =
-    let top : On stack at = subst (λ xs. On xs at) (sym is) (length rest, get_push_last rest at) in
+    let top : On stack at = subst (λ xs. On xs at) (sym is) (length rest, get-push_last rest at) in
     record {
       sound = λ k h.
           elim (m.fresh k h) [
@@ -40,7 +40,7 @@ search_next rows cut start at row marks new stack rest now is here m s =
       known = λ k o.
           elim (m.known k o) [
             | inl was ↦
-                elim (s.known k (subst (λ xs. On xs k) (sym is) (was.0, place_left rest (at ∷ []) was.0 k was.1))) [
+                elim (s.known k (subst (λ xs. On xs k) (sym is) (was.0, front_at rest (at ∷ []) was.0 k was.1))) [
                   | inl home ↦ inl home
                   | inr marked ↦ inr (m.kept k marked)
                 ]
@@ -83,11 +83,7 @@ search_end rows cut start marks stack is s k = (
 -- what is on the stack is a transaction's number
 pub within : (rows : List (Vec Arc Global)) (cut : Cut) (start at : ℕ) (marks : List Bool) (stack rest : List ℕ) → start < length rows → length marks ≡ length rows → stack ≡ rest ++ at ∷ [] → Searching rows cut start marks stack → at < length rows
 within rows cut start at marks stack rest first long is s =
-    elim (s.known at (subst (λ xs. On xs at) (sym is) (length rest, get_push_last rest at))) [
+    elim (s.known at (subst (λ xs. On xs at) (sym is) (length rest, get-push_last rest at))) [
       | inl home ↦ omega (arith, home, first)
       | inr marked ↦ omega (arith, long, slice_get_within marks at true marked)
     ]
-
-pub nil_from_length : {A : Type 0} (xs : List A) → length xs ≡ 0 → xs ≡ []
-nil_from_length [] h = refl
-nil_from_length (x ∷ xs) h = absurd (omega arith)

@@ -3,17 +3,18 @@ use Rattle.std.proofs.Common.{◌≡◌, ◌↔◌, ◌∙◌, ◌≤◌, ◌<�
 use Rattle.std.specs.Prelude.{slice_get}
 use Rattle.std.proofs.lemmas.Option.{same_Some}
 use Rattle.sgt_names.proofs.Places.{Contains_at, Contains-from_at}
-use Rattle.sgt_certifier.proofs.Members.{nil_none}
 use Rattle.sgt_service_settle.specs.declared.handed.Handed.{Handed}
 use Rattle.sgt_service_settle.specs.private.Words.{At, Pushed, AreBySite}
-use Rattle.sgt_service_settle.proofs.Lists.{take_on, push_contains, push_old, push_new}
+use Rattle.sgt_service_settle.proofs.Lists.{push_contains, push_old, push_new}
 use Rattle.sgt_service_settle.proofs.Rowing.{at_pushed, pushed_old, pushed_last}
+use Rattle.sgt_names.proofs.Elements.{contains-none}
+use Rattle.sgt_names.proofs.Lists.{take_next}
 
 pub sited_none : (handed : List Handed) (rows : List (Vec Handed Global)) → ((k n : ℕ) (h : Handed) → At rows k n h → ⊥)
     → AreBySite (take 0 handed) rows
 sited_none handed rows none = record {
   these = λ site n h there. absurd (none site n h there);
-  all = λ h has low. absurd (nil_none h has);
+  all = λ h has low. absurd (contains-none h has);
 }
 
 -- an edge of a site that is there, put at its place
@@ -21,7 +22,7 @@ pub sited_hit : (handed : List Handed) (n : ℕ) (h : Handed) (rows new : List (
     → Pushed rows h.edge.label.site h new → length new ≡ length rows → AreBySite (take n handed) rows → AreBySite (take (n + 1) handed) new
 sited_hit handed n h rows new here pushed long old =
     let site = h.edge.label.site in
-    let more = take_on handed n h here in
+    let more = take_next handed n h here in
     record {
       these = λ k m other there.
           elim (at_pushed rows site h new pushed k m other there) [
@@ -48,7 +49,7 @@ sited_hit handed n h rows new here pushed long old =
 pub sited_miss : (handed : List Handed) (n : ℕ) (h : Handed) (rows : List (Vec Handed Global)) → slice_get handed n ≡ Some h
     → length rows ≤ h.edge.label.site → AreBySite (take n handed) rows → AreBySite (take (n + 1) handed) rows
 sited_miss handed n h rows here past old =
-    let more = take_on handed n h here in
+    let more = take_next handed n h here in
     record {
       these = λ k m other there.
           let known = old.these k m other there in

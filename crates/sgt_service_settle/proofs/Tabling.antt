@@ -3,19 +3,20 @@ use Rattle.std.proofs.Common.{◌≡◌, ◌↔◌, ◌≤◌, ◌+◌, ℕ, Lis
 use Rattle.std.specs.Prelude.{slice_get}
 use Rattle.std.proofs.lemmas.Option.{same_Some, none-some}
 use Rattle.std.proofs.lemmas.List.{length_push, append-nil}
-use Rattle.sgt_order.proofs.Lists.{get_push_cases, get_push_last}
+use Rattle.sgt_order.proofs.Lists.{get_push_cases}
 use Rattle.sgt_certifier.specs.declared.call.Call.{Call}
 use Rattle.sgt_certifier.specs.declared.call.Call.TheVariants as call
 use Rattle.sgt_certifier.specs.declared.call.Decided.TheVariants as decided
 use Rattle.sgt_certifier.specs.Certifier.{Ruling, withdrawn}
 use Rattle.sgt_certifier.specs.Kept.{rulings_from, windows_after, ruling_of, tx_at}
 use Rattle.sgt_certifier.proofs.Certifying.{windows_few}
-use Rattle.sgt_certifier.proofs.Members.{place_left}
 use Rattle.sgt_workers.specs.declared.ticket.Ticket.{Ticket}
 use Rattle.sgt_service_settle.specs.Settled.{Tells}
 use Rattle.sgt_service_settle.specs.declared.decisions.Verdict.{Verdict}
 use Rattle.sgt_service_settle.specs.private.Tickets.{AreVerdicts, TellsVerdict, verdict_of}
 use Rattle.sgt_service_settle.proofs.Ticketing.{Rules, step_on}
+use Rattle.sgt_names.proofs.Elements.{get-push_last}
+use Rattle.sgt_names.proofs.Lists.{front_at}
 
 -- a verdict of the table, and the decision of its number
 pub record IsRuled (rulings : List Ruling) (n : ℕ) (v : Verdict) : Type 0 where
@@ -72,10 +73,10 @@ no_verdict before (call.Installed tx site items) is = refl
 ruled_push : (met : List Ruling) (verdicts : List Verdict) (r : Ruling) (v : Verdict) → length met ≡ length verdicts → ((t : Ticket) → Tells t r ↔ TellsVerdict t v) → AreRuled met verdicts → AreRuled (met ++ r ∷ []) (verdicts ++ v ∷ [])
 ruled_push met verdicts r v long tells old n w at =
     elim (get_push_cases verdicts v w n at) [
-      | inl early ↦ let was = old n w early in record { ruling = was.ruling; at = place_left met (r ∷ []) n was.ruling was.at; tells = was.tells }
+      | inl early ↦ let was = old n w early in record { ruling = was.ruling; at = front_at met (r ∷ []) n was.ruling was.at; tells = was.tells }
       | inr last ↦ record {
         ruling = r;
-        at = ap (slice_get (met ++ r ∷ [])) (last.0 ∙ sym long) ∙ get_push_last met r;
+        at = ap (slice_get (met ++ r ∷ [])) (last.0 ∙ sym long) ∙ get-push_last met r;
         tells = λ t. subst (λ x. Tells t r ↔ TellsVerdict t x) last.1 (tells t);
       }
     ]
@@ -111,7 +112,7 @@ pub tabled_are : (history : List Call) (n begun before : ℕ) (verdicts : List V
 tabled_are history n begun before verdicts table t v at =
     let r = table.ruled t.number v at in
     let place : slice_get (rulings_from 0 0 history) t.number ≡ Some r.ruling =
-    ap (λ xs. slice_get xs t.number) table.whole ∙ place_left table.met (rulings_from begun before (drop n history)) t.number r.ruling r.at in (
+    ap (λ xs. slice_get xs t.number) table.whole ∙ front_at table.met (rulings_from begun before (drop n history)) t.number r.ruling r.at in (
       λ good. (r.tells t).0 (subst (Tells t) (same_Some good.0 r.ruling (sym good.1 ∙ place)) good.2),
       λ told. (r.ruling, place, (r.tells t).1 told),
     )

@@ -6,17 +6,17 @@ use Rattle.std.proofs.lemmas.List.{append-nil}
 use Rattle.std.proofs.lemmas.List.Recursion.{is_count_by}
 use Rattle.std.proofs.lemmas.Bool.{cases_Bool, cases_eq, eqb-true, eq-eqb, ne_eqb}
 use Rattle.std.proofs.lemmas.Option.{same_Some, slice_get_within}
-use Rattle.sgt_order.proofs.Lists.{get_set_same, get_set_other}
-use Rattle.sgt_certifier.proofs.Members.{cons_here, cons_later}
+use Rattle.sgt_certifier.proofs.Members.{cons_here}
 use Rattle.sgt_workers.specs.declared.ticket.Ticket.{Ticket}
 use Rattle.sgt_workers.specs.declared.ticket.Done.{Done}
 use Rattle.sgt_service_settle.specs.Settled.{tickets_of, count_of}
 use Rattle.sgt_service_settle.specs.private.Tickets.{AreTallies}
-use Rattle.sgt_service_settle.proofs.Lists.{take_on}
+use Rattle.sgt_names.proofs.Elements.{get-slice_set_same, get-slice_set_other, contains-later}
+use Rattle.sgt_names.proofs.Lists.{take_next}
 
 pub tickets_on : (dones : List Done) (n : ℕ) (d : Done) → slice_get dones n ≡ Some d → tickets_of (take (n + 1) dones) ≡ tickets_of (take n dones) ++ d.tickets.items
 tickets_on dones n d at =
-    ap tickets_of (take_on dones n d at)
+    ap tickets_of (take_next dones n d at)
     ∙ (flat_map-append (λ (x : Done). x.tickets.items) (take n dones) (d ∷ []) ∙ ap (λ xs. tickets_of (take n dones) ++ xs) (append-nil d.tickets.items))
 
 -- a count, by recursion
@@ -46,7 +46,7 @@ unfolding counted
 counted_some p [] h = absurd (omega (arith, h))
 counted_some p (x ∷ xs) h = elim (cases_Bool (p x)) [
   | inl hit ↦ (x, cons_here x xs, hit)
-  | inr miss ↦ let less : 1 ≤ counted p xs = rw miss at h in let r = counted_some p xs less in (r.0, cons_later x xs r.0 r.1, r.2)
+  | inr miss ↦ let less : 1 ≤ counted p xs = rw miss at h in let r = counted_some p xs less in (r.0, contains-later x xs r.0 r.1, r.2)
 ]
 
 pub count_of-append : (number : ℕ) (ts us : List Ticket) → count_of number (ts ++ us) ≡ count_of number ts + count_of number us
@@ -85,13 +85,13 @@ pub tallies_hit : (tallies : List ℕ) (ts : List Ticket) (t : Ticket) (tally mo
 tallies_hit tallies ts t tally more here is are k found at =
     elim (cases_eq t.number k) [
       | inl same ↦
-          let known : more ≡ found = same_Some more found (sym (get_set_same tallies t.number more (slice_get_within tallies t.number tally here)) ∙ (ap (slice_get (slice_set tallies t.number more)) same ∙ at)) in
+          let known : more ≡ found = same_Some more found (sym (get-slice_set_same tallies t.number more (slice_get_within tallies t.number tally here)) ∙ (ap (slice_get (slice_set tallies t.number more)) same ∙ at)) in
           let was : tally ≡ min 2 (count_of t.number ts) = are t.number tally here in
           let old : count_of t.number ts ≡ count_of k ts = ap (λ j. count_of j ts) same in
           let now = count_hit k ts t same in
           omega (arith, known, is, was, old, now)
       | inr other ↦
-          let was = are k found (sym (get_set_other tallies t.number k more (λ e. other (sym e))) ∙ at) in
+          let was = are k found (sym (get-slice_set_other tallies t.number k more (λ e. other (sym e))) ∙ at) in
           let now = count_miss k ts t other in
           omega (arith, was, now)
     ]

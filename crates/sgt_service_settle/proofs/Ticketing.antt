@@ -9,13 +9,12 @@ use Rattle.sgt_certifier.specs.Certifier.{Ruling, withdrawn}
 use Rattle.sgt_certifier.specs.Kept.{rulings_from, windows_after, ruling_of, tx_at}
 use Rattle.std.proofs.lemmas.List.{length_push, append-nil, drop_all}
 use Rattle.std.proofs.lemmas.List.Recursion.{is_count_by}
-use Rattle.sgt_order.proofs.Lists.{get_push_last}
 use Rattle.sgt_certifier.proofs.Certifying.{rulings_split, windows_few}
-use Rattle.sgt_certifier.proofs.Members.{place_left}
 use Rattle.sgt_workers.specs.declared.ticket.Ticket.{Ticket}
 use Rattle.sgt_service_settle.specs.Settled.{Tells, IsGood}
 use Rattle.sgt_service_settle.specs.private.Tickets.{IsToldBy, is_decision}
-use Rattle.sgt_service_settle.proofs.Lists.{drop_on}
+use Rattle.sgt_names.proofs.Elements.{get-push_last}
+use Rattle.sgt_names.proofs.Lists.{front_at, drop_next}
 
 -- so many decisions were met, none of the ticket's number yet, and these are the rest
 pub record IsWalked (history : List Call) (n begun before number sought : ℕ) : Type 0 where
@@ -49,7 +48,7 @@ decision_rules before (call.Installed tx site items) is = absurd cc
 pub step_on : (history : List Call) (n begun before : ℕ) (met : List Ruling) (c : Call) → rulings_from 0 0 history ≡ met ++ rulings_from begun before (drop n history) → slice_get history n ≡ Some c → rulings_from 0 0 history ≡ (met ++ rulings_from 0 before (c ∷ [])) ++ rulings_from (windows_after begun before c).0 (windows_after begun before c).1 (drop (n + 1) history)
 step_on history n begun before met c whole at =
     let rest : rulings_from begun before (drop n history) ≡ rulings_from 0 before (c ∷ []) ++ rulings_from (windows_after begun before c).0 (windows_after begun before c).1 (drop (n + 1) history) =
-    ap (rulings_from begun before) (drop_on history n c at) ∙ rulings_split begun before c (drop (n + 1) history) in
+    ap (rulings_from begun before) (drop_next history n c at) ∙ rulings_split begun before c (drop (n + 1) history) in
     whole ∙ (ap (λ xs. met ++ xs) rest ∙ sym (append_assoc met (rulings_from 0 before (c ∷ [])) _))
 
 step_whole : (history : List Call) (n begun before number sought : ℕ) (c : Call) → IsWalked history n begun before number sought → slice_get history n ≡ Some c → (met : List Ruling) × (rulings_from 0 0 history ≡ (met ++ rulings_from 0 before (c ∷ [])) ++ rulings_from (windows_after begun before c).0 (windows_after begun before c).1 (drop (n + 1) history)) × (length met ≡ number)
@@ -75,8 +74,8 @@ walk_hit history n begun before number t c w at is hit =
     let rest = rulings_from (windows_after begun before c).0 (windows_after begun before c).1 (drop (n + 1) history) in
     let place : slice_get (rulings_from 0 0 history) t.number ≡ Some rule.0 =
     ap (λ xs. slice_get xs t.number) (step.1 ∙ ap (λ xs. (step.0 ++ xs) ++ rest) rule.1)
-    ∙ place_left (step.0 ++ rule.0 ∷ []) rest t.number rule.0
-    (ap (slice_get (step.0 ++ rule.0 ∷ [])) (sym hit ∙ sym step.2) ∙ get_push_last step.0 rule.0) in
+    ∙ front_at (step.0 ++ rule.0 ∷ []) rest t.number rule.0
+    (ap (slice_get (step.0 ++ rule.0 ∷ [])) (sym hit ∙ sym step.2) ∙ get-push_last step.0 rule.0) in
     let told = told_by t before c rule.0 rule.1 in (
       λ k. (rule.0, place, told.0 k),
       λ good. told.1 (subst (Tells t) (same_Some good.0 rule.0 (sym good.1 ∙ place)) good.2),

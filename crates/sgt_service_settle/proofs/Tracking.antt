@@ -15,8 +15,7 @@ use Rattle.sgt_names.specs.declared.entry.Entry.TheVariants as entry
 use Rattle.sgt_names.specs.declared.entry.Holding.{Holding}
 use Rattle.sgt_names.specs.declared.entry.Kind.{Kind}
 use Rattle.sgt_names.specs.declared.entry.Kind.TheVariants.{Wr, Rw, Ww}
-use Rattle.sgt_order.proofs.Lists.{get_set_same, get_set_other, get_push_cases}
-use Rattle.sgt_certifier.proofs.Members.{nil_none}
+use Rattle.sgt_order.proofs.Lists.{get_push_cases}
 use Rattle.sgt_service_settle.specs.Settled.{is_read}
 use Rattle.sgt_service_settle.specs.declared.deeds.Deed.{Deed}
 use Rattle.sgt_service_settle.specs.declared.deeds.Track.{Track}
@@ -25,6 +24,7 @@ use Rattle.sgt_service_settle.specs.private.Index.{IsIn}
 use Rattle.sgt_service_settle.specs.private.Deeds.{deed_of, IsBefore, IsTrack, AreTracks, AreBare}
 use Rattle.sgt_service_settle.proofs.Lists.{before_or_here, push_contains, push_old, push_new}
 use Rattle.sgt_service_settle.proofs.Placing.{one_place}
+use Rattle.sgt_names.proofs.Elements.{get-slice_set_same, get-slice_set_other, contains-none}
 
 -- ---- reads, increments and writes
 
@@ -122,8 +122,8 @@ pub tracks_next : (commits : List (Option ℕ)) (items : List Holding) (log : Li
     → t.deeds.items ≡ old.deeds.items ++ deed_of e number n old.version ∷ [] → (is_read e ≡ true → t.version ≡ old.version) → (is_read e ≡ false → t.version ≡ old.version + 1)
     → AreTracks commits items log n tracks → AreTracks commits items log (n + 1) new
 tracks_next commits items log n at number e y tracks new old t rising here item commit there was is_new more read change are =
-    let now : slice_get new at ≡ Some t = ap (λ ts. slice_get ts at) is_new ∙ get_set_same tracks at t (slice_get_within tracks at old was) in
-    let others : (k : ℕ) → k ≢ at → slice_get new k ≡ slice_get tracks k = λ k other. ap (λ ts. slice_get ts k) is_new ∙ get_set_other tracks at k t other in
+    let now : slice_get new at ≡ Some t = ap (λ ts. slice_get ts at) is_new ∙ get-slice_set_same tracks at t (slice_get_within tracks at old was) in
+    let others : (k : ℕ) → k ≢ at → slice_get new k ≡ slice_get tracks k = λ k other. ap (λ ts. slice_get ts k) is_new ∙ get-slice_set_other tracks at k t other in
     record {
       each = λ k u at_k. elim (cases_eq k at) [
         | inl same ↦

@@ -7,7 +7,6 @@ use Rattle.sgt_names.specs.Log.{Conflicts}
 use Rattle.sgt_names.specs.declared.entry.Entry.{Entry}
 use Rattle.sgt_names.specs.declared.entry.Holding.{Holding}
 use Rattle.sgt_names.specs.declared.entry.Label.{Label}
-use Rattle.sgt_certifier.proofs.Members.{nil_none}
 use Rattle.sgt_service_settle.specs.declared.handed.Handed.{Handed}
 use Rattle.sgt_service_settle.specs.declared.index.Index.{Index}
 use Rattle.sgt_service_settle.specs.declared.link.Link.{Link}
@@ -15,8 +14,10 @@ use Rattle.sgt_service_settle.specs.private.Words.{Pushed}
 use Rattle.sgt_service_settle.specs.private.Index.{IsLinkOf, IsLoggedBy}
 use Rattle.sgt_service_settle.specs.private.Sites.{AreLogged}
 use Rattle.sgt_service_settle.specs.private.Places.{IsShown, AreShown, IsTied, IsAdded, IsTieAdded, AreTied}
-use Rattle.sgt_service_settle.proofs.Lists.{take_on, push_contains, push_old, push_new}
+use Rattle.sgt_service_settle.proofs.Lists.{push_contains, push_old, push_new}
 use Rattle.sgt_service_settle.proofs.Rowing.{pushed_old, pushed_last}
+use Rattle.sgt_names.proofs.Elements.{contains-none}
+use Rattle.sgt_names.proofs.Lists.{take_next}
 
 -- these edges stand in the rows or among the others, which are some of them
 pub record AreTiedOf (index : Index) (edges : List Handed) (rows : List (Vec Link Global)) (others : List Handed) : Type 0 where
@@ -24,7 +25,7 @@ pub record AreTiedOf (index : Index) (edges : List Handed) (rows : List (Vec Lin
   pub some : (h : Handed) → Contains others h → Contains edges h
 
 pub tied_none : (index : Index) (edges : List Handed) (rows : List (Vec Link Global)) → AreTiedOf index (take 0 edges) rows []
-tied_none index edges rows = record { each = λ h has. absurd (nil_none h has); some = λ h has. absurd (nil_none h has) }
+tied_none index edges rows = record { each = λ h has. absurd (contains-none h has); some = λ h has. absurd (contains-none h has) }
 
 tied_kept : (index : Index) (rows new : List (Vec Link Global)) (k : ℕ) (l : Link) (h : Handed) → Pushed rows k l new → IsTied index rows h → IsTied index new h
 tied_kept index rows new k l h pushed is = (is.0, is.1, is.2, pushed_old rows k l new pushed is.0 is.1 is.2 is.3, is.4)
@@ -40,7 +41,7 @@ tie_added index items h l old new (Err e) is t = tt
 pub tied_hit : (index : Index) (items : List Holding) (edges others : List Handed) (n at : ℕ) (h : Handed) (rows new : List (Vec Link Global)) → slice_get edges n ≡ Some h → IsTieAdded index items h rows new at
     → AreTiedOf index (take n edges) rows others → AreTiedOf index (take (n + 1) edges) new others
 tied_hit index items edges others n at h rows new here tie are =
-    let more = take_on edges n h here in
+    let more = take_next edges n h here in
     let p = tie.added.pushed in
     record {
       each = λ g has. elim (push_contains (take n edges) h g (subst (λ hs. Contains hs g) more has)) [
@@ -54,7 +55,7 @@ tied_hit index items edges others n at h rows new here tie are =
 pub tied_miss : (index : Index) (edges others : List Handed) (n : ℕ) (h : Handed) (rows : List (Vec Link Global)) → slice_get edges n ≡ Some h → AreTiedOf index (take n edges) rows others
     → AreTiedOf index (take (n + 1) edges) rows (others ++ h ∷ [])
 tied_miss index edges others n h rows here are =
-    let more = take_on edges n h here in
+    let more = take_next edges n h here in
     record {
       each = λ g has. elim (push_contains (take n edges) h g (subst (λ hs. Contains hs g) more has)) [
         | inl early ↦ elim (are.each g early) [ inl tied ↦ inl tied | inr other ↦ inr (push_old others h g other) ]

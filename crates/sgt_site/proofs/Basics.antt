@@ -11,17 +11,11 @@ use Rattle.std.proofs.lemmas.Option.{same_Some}
 use Rattle.std.proofs.lemmas.Slice.Eq.{bytes_eq-Decides}
 use Rattle.sgt_names.specs.Name.{Name}
 use Rattle.sgt_names.proofs.Places.{Contains_at}
+use Rattle.sgt_names.proofs.Elements.{bytes_eq-other}
 
 -- a smaller name is another
 pub less_apart : (x y : Name) → slice_cmp nat_cmp x y ≡ Less → x ≡ y → ⊥
 less_apart x y less same = absurd (let tied : slice_cmp nat_cmp x y ≡ Equal = subst (λ z. slice_cmp nat_cmp x z ≡ Equal) same (tied_itself nat_list_cmp_total x) in cc)
-
--- and a test tells it apart
-pub apart_false : (x y : Name) → (x ≡ y → ⊥) → bytes_eq x y ≡ false
-apart_false x y apart = elim (cases_Bool (bytes_eq x y)) [
-  | inl hit ↦ absurd (apart ((bytes_eq-Decides x y).0 hit))
-  | inr miss ↦ miss
-]
 
 -- all that a list of one has
 pub is_single : {A : Type 0} (a b : A) → Contains (a ∷ []) b → b ≡ a

@@ -23,7 +23,8 @@ use Rattle.sgt_names.proofs.Rising.{items-rise, kept_is}
 use Rattle.sgt_site.specs.State.{change_entry, commit_block}
 use Rattle.sgt_site.specs.private.Cells.{ItemsRise, touch_in, change_in}
 use Rattle.sgt_site.proofs.Appends.{chosen_at, chosen_from, count_before}
-use Rattle.sgt_site.proofs.Basics.{less_apart, apart_false}
+use Rattle.sgt_site.proofs.Basics.{less_apart}
+use Rattle.sgt_names.proofs.Elements.{bytes_eq-other}
 
 pub part-rises : (n : ℕ) (part : List Touch) → All (λ t. t.site ≡ n) part → AreRising part → ItemsRise part
 part-rises n part here rising = AllPairs-from_at (λ (t u : Touch). slice_cmp nat_cmp t.item u.item ≡ Less) part (λ p q t u lt at_p at_q.
@@ -42,12 +43,12 @@ touch-found (u ∷ part) x t h = elim (cases_Bool (bytes_eq u.item x)) [
 -- and an item that is touched is found
 pub touch-there : (part : List Touch) (n : ℕ) (t : Touch) → ItemsRise part → slice_get part n ≡ Some t → touch_in part t.item ≡ Some t
 touch-there part n t rises at = find_first (λ (u : Touch). bytes_eq u.item t.item) part n t at ((bytes_eq-Decides t.item t.item).1 refl) (λ m u lt here.
-    apart_false u.item t.item (less_apart u.item t.item (AllPairs_at (λ (a b : Touch). slice_cmp nat_cmp a.item b.item ≡ Less) part m n u t rises lt here at)))
+    bytes_eq-other u.item t.item (less_apart u.item t.item (AllPairs_at (λ (a b : Touch). slice_cmp nat_cmp a.item b.item ≡ Less) part m n u t rises lt here at)))
 
 -- an item is not touched again behind its place
-touch-later : (t : Touch) (part : List Touch) (x : Name) → ItemsRise (t ∷ part) → bytes_eq t.item x ≡ true → touch_in part x ≡ None
+pub touch-later : (t : Touch) (part : List Touch) (x : Name) → ItemsRise (t ∷ part) → bytes_eq t.item x ≡ true → touch_in part x ≡ None
 touch-later t part x rises hit = find_none (λ (u : Touch). bytes_eq u.item x) part (λ m u here.
-    apart_false u.item x (λ same. less_apart t.item u.item (AllPairs_at (λ (a b : Touch). slice_cmp nat_cmp a.item b.item ≡ Less) (t ∷ part) 0 (suc m) t u rises (omega arith) refl here) ((bytes_eq-Decides t.item x).0 hit ∙ sym same)))
+    bytes_eq-other u.item x (λ same. less_apart t.item u.item (AllPairs_at (λ (a b : Touch). slice_cmp nat_cmp a.item b.item ≡ Less) (t ∷ part) 0 (suc m) t u rises (omega arith) refl here) ((bytes_eq-Decides t.item x).0 hit ∙ sym same)))
 
 -- what is chosen of a commit's block by the changes of an item
 module _ {B : Type 0} (f : Entry → Option B) (g : Change → Option B) (x : Name) (tx : ℕ)

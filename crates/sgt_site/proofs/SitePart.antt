@@ -11,7 +11,7 @@ use Rattle.sgt_names.specs.Draft.{Place, AreRising, at_site, kept_in, writing_in
 use Rattle.sgt_names.specs.declared.draft.Touch.{Touch}
 use Rattle.sgt_names.proofs.Lists.{Any_at, Any-from_at}
 use Rattle.sgt_names.proofs.Places.{AllPairs_at}
-use Rattle.sgt_names.proofs.Touched.{place_total}
+use Rattle.sgt_names.proofs.Touched.{place_total, less_apart, greater_apart}
 use Rattle.sgt_site.specs.State.{SiteState, KeepsReads}
 use Rattle.sgt_site.specs.Refused.{IsHere, MayPledge, RefusesPledge}
 use Rattle.sgt_site.specs.private.Cells.{KeepsItem}
@@ -52,12 +52,6 @@ module _ (s : SiteState) (tx : ℕ) (ts here : List Touch) (is : here ≡ at_sit
   refuses-whole DraftDiffers refused = (((subst Known again refused.0.0.0, refused.0.0.1), refused.0.1), λ same. refused.1 (subst Same (sym again) same))
 
 -- ---- a read that is kept
-
-less_apart : (p q : Place) → place_cmp p q ≡ Less → p ≡ q → ⊥
-less_apart p q less same = absurd (let e : place_cmp p p ≡ Less = subst (λ r. place_cmp p r ≡ Less) (sym same) less in let t = tied_itself place_total p in cc)
-
-greater_apart : (p q : Place) → place_cmp p q ≡ Greater → p ≡ q → ⊥
-greater_apart p q greater same = absurd (let e : place_cmp p p ≡ Greater = subst (λ r. place_cmp p r ≡ Greater) (sym same) greater in let t = tied_itself place_total p in cc)
 
 pub keeps-found : (ts : List Touch) (n : ℕ) (x : Name) (k : ℕ) (t : Touch) → AreRising ts → IsAt place_of ts (n, x) k → slice_get ts k ≡ Some t → IsSome t.seen ↔ KeepsItem ts n x
 keeps-found ts n x k t rising at here = (

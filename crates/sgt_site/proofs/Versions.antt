@@ -16,9 +16,7 @@ use Rattle.sgt_site.specs.State.{SiteState, IsSite, version_at}
 use Rattle.sgt_site.specs.private.Cells.{Contents, items_of, versions_of, CellsRise, IsAnswered, AreChanged}
 use Rattle.sgt_site.specs.private.Kept.{IsCell}
 use Rattle.sgt_site.proofs.Keeps.{found_version}
-
-rest : {A : Type 0} (P : A → Type 0) (x : A) (xs : List A) → All P (x ∷ xs) → All P xs
-rest P x xs all = All-from_at P xs (λ n a at. All_at P (x ∷ xs) (suc n) a all at)
+use Rattle.sgt_names.proofs.Elements.{All-tail}
 
 -- a slice that was lent, back in its list
 pub written-back : (items new : List ℕ) (n : ℕ) → n ≡ length new → take n (new ++ drop (length new) items) ≡ new
@@ -73,7 +71,7 @@ by_item : (s : SiteState) → IsSite s → (cells : List Contents) → All (IsCe
 by_item s site [] each = refl
 by_item s site (c ∷ cells) each =
     ap₂ (λ (v : ℕ) (vs : List ℕ). v ∷ vs) (found_version s site c (All_at (IsCell s.items s.installed s.entries) (c ∷ cells) 0 c each refl))
-    (by_item s site cells (rest (IsCell s.items s.installed s.entries) c cells each))
+    (by_item s site cells (All-tail (IsCell s.items s.installed s.entries) c cells each))
 
 by_holding : (es : List Entry) (hs : List Holding) → map (version_at es) (names hs) ≡ map (λ (h : Holding). version_at es h.item) hs
 by_holding es [] = refl

@@ -19,14 +19,10 @@ use Rattle.sgt_words.specs.Words.{Asks, Says, SaysTx, SaysWorkers, TellsPicture,
 use Rattle.sgt_words.specs.declared.choice.Choice.{Choice}
 use Rattle.sgt_words.specs.declared.choice.Choice.TheVariants.{Audit, AuditWith, Certify, Check, Draw, DrawWith, Explain, Replay, Rule, Run, Serial, Transaction}
 use Rattle.sgt_words.specs.private.Runs.{IsRunOf}
-
--- what holds of the value holds in other words
-pub on_some : {A : Type 0} (o : Option A) (P Q : A → Type 0) → ((x : A) → P x → Q x) → IfSome o P → IfSome o Q
-on_some (Some x) P Q so holds = so x holds
-on_some None P Q so holds = tt
+use Rattle.sgt_names.proofs.Elements.{some-weaker}
 
 pub on_found : {A E : Type 0} (r : Result (Option A) E) (P Q : A → Type 0) → ((x : A) → P x → Q x) → IfOk r (λ o. IfSome o P) → IfOk r (λ o. IfSome o Q)
-on_found (Ok o) P Q so holds = on_some o P Q so holds
+on_found (Ok o) P Q so holds = some-weaker o P Q so holds
 on_found (Err e) P Q so holds = tt
 
 -- `--workers` with a word that is no number of workers

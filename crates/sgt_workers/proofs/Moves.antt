@@ -13,6 +13,7 @@ use Rattle.sgt_workers.specs.declared.queue.Task.TheVariants.{Run, Stop}
 use Rattle.sgt_workers.specs.declared.queue.Hold.{Hold}
 use Rattle.sgt_workers.specs.Queue.{sender_of, newcomer, lender, spent_hold, with_job, with_stop, took, at_stop, joined, AreAll, AreOut, AreStops, Follows, Knows, Accounts, Kept, Takes}
 use Rattle.sgt_workers.proofs.Weights.{sum_set, sum_has, sum_only, weigh_more}
+use Rattle.sgt_names.proofs.Elements.{false-unless_true, or_cases, or_right}
 
 follows_low : (low top stops : ℕ) (ts : List Task) → Follows low top stops ts → low ≤ top
 follows_low low top stops [] f = omega (arith, f)
@@ -56,18 +57,6 @@ same_weight low views by v w at same sums weight =
 same_out : (views : List Hold) (by : ℕ) (v w : Hold) → get_elem? views by ≡ some v → w.lent ≡ v.lent → w.out ≡ v.out → AreOut views → AreOut (set views by w)
 same_out views by v w at lent out is =
     omega (arith, sum_set (λ (u : Hold). u.lent) views by v w at, sum_set (λ (u : Hold). u.out) views by v w at, lent, out, is)
-
-not_true : (b : Bool) → (b ≡ true → ⊥) → b ≡ false
-not_true true h = absurd (h refl)
-not_true false h = refl
-
-or_true : (a b : Bool) → (a || b) ≡ true → (a ≡ true) ⊎ (b ≡ true)
-or_true true b e = inl refl
-or_true false b e = inr e
-
-pub or_right : (a : Bool) → (a || true) ≡ true
-or_right true = refl
-or_right false = refl
 
 pub lender_more : (v : Hold) (n m : ℕ) → m ≡ n + 1 → lender 1 (lender n v) ≡ lender m v
 lender_more v n m e =
@@ -265,7 +254,7 @@ joins by v other w may lent items views h at apart there =
     let theirs : get_elem? views other ≡ some w = ⊎_elim (λ x. absurd (apart x.0)) (λ x. x.1) (at_set views by other both w there) in
     let mine = h.knows by v at in
     let its = h.knows other w theirs in
-    let away : w.sends ≡ false = not_true w.sends (λ p. apart ((its.sends p).0 ∙ sym (mine.sends may).0)) in
+    let away : w.sends ≡ false = false-unless_true w.sends (λ p. apart ((its.sends p).0 ∙ sym (mine.sends may).0)) in
     let none : w.out ≡ 0 = its.lends away in
     let F = Knows h.by h.low h.top h.stops in
     record {
@@ -285,7 +274,7 @@ joins by v other w may lent items views h at apart there =
         sends = mine.sends;
         filled = mine.filled;
         taken = All-append (λ n. n ≤ h.low) v.taken w.taken mine.taken its.taken;
-        stopped = λ p. ⊎_elim (λ (q : v.stopped ≡ true). mine.stopped q) (λ (q : w.stopped ≡ true). its.stopped q) (or_true v.stopped w.stopped p);
+        stopped = λ p. ⊎_elim (λ (q : v.stopped ≡ true). mine.stopped q) (λ (q : w.stopped ≡ true). its.stopped q) (or_cases v.stopped w.stopped p);
         lends = λ p. absurd (true≢false (sym may ∙ p));
         idle = λ p _. absurd (true≢false (sym may ∙ p));
       }) (λ i t _ f. h.knows i t f) j u e);
@@ -301,7 +290,7 @@ pub learns_all : (by : ℕ) (v : Hold) → v.sends ≡ true → v.out ≡ 0 → 
 learns_all by v may none stopped items views h at weight =
     let mine = h.knows by v at in
     let me = mine.sends may in
-    let away : (j : ℕ) (u : Hold) → j ≢ by → get_elem? views j ≡ some u → u.sends ≡ false = λ j u other e. not_true u.sends (λ p. other (((h.knows j u e).sends p).0 ∙ sym me.0)) in
+    let away : (j : ℕ) (u : Hold) → j ≢ by → get_elem? views j ≡ some u → u.sends ≡ false = λ j u other e. false-unless_true u.sends (λ p. other (((h.knows j u e).sends p).0 ∙ sym me.0)) in
     let outs : sum_by (λ (u : Hold). u.out) views ≡ v.out = sum_only (λ (u : Hold). u.out) views by v at (λ j u other e. (h.knows j u e).lends (away j u other e)) in
     let lents : sum_by (λ (u : Hold). u.lent) views ≡ 0 = omega (arith, h.out, outs, none) in
     let idle : (j : ℕ) (u : Hold) → j ≢ by → get_elem? views j ≡ some u → sum_by weight u.taken ≡ 0 = λ j u other e.

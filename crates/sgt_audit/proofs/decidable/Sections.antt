@@ -21,15 +21,12 @@ use Rattle.sgt_audit.specs.Reading.{Begun, open_lines, lines_read, IsBegun}
 use Rattle.sgt_audit.specs.private.Following.{Fits, FitsBetween, MayFollow, with_next}
 use Rattle.sgt_audit.proofs.MayFollow.{follow-decides, added-begun, added-lines, whole-sections, sections-whole, are-sections}
 use Rattle.sgt_audit.proofs.decidable.Entries.{WalksOf, decidable-walks}
+use Rattle.sgt_audit.proofs.Places.{next-sites}
+use Rattle.sgt_notation.proofs.Texts.{decidable-Less}
 
 decidable-empty : {A : Type 0} (xs : List A) → Decidable (xs ≡ [])
 decidable-empty [] = inl refl
 decidable-empty (x ∷ xs) = inr (λ e. cc)
-
-decidable-Less : (o : Ordering) → Decidable (o ≡ Less)
-decidable-Less Less = inl refl
-decidable-Less Equal = inr (λ e. cc)
-decidable-Less Greater = inr (λ e. cc)
 
 -- ---- one line more
 
@@ -73,10 +70,6 @@ none-begun c h = record {
   lines = refl;
 }
 
-same-sites : (b : Begun) (current : Option SiteLog) (line : SectionLine) → (with_next b current line).sites ≡ b.sites
-same-sites b None line = refl
-same-sites b (Some log) line = refl
-
 module _ (c : Certificate) (before : List SectionLine) (held : HasBegun c before) where
   -- in terms of what was read, and in terms of the certificate
   from_begun : (P : ℕ → List SectionLine → Type 0) → P held.begun.sites (lines_read held.begun) → P c.sites before
@@ -98,7 +91,7 @@ module _ (c : Certificate) (before : List SectionLine) (held : HasBegun c before
       record {
         begun = with_next b b.current line;
         is = added-begun b held.is line here b.current refl;
-        sites = same-sites b b.current line ∙ held.sites;
+        sites = next-sites b b.current line ∙ held.sites;
         lines = ap (λ (ls : List SectionLine). ls ++ line ∷ []) held.lines ∙ sym (added-lines b held.is line here b.current refl);
       }
 

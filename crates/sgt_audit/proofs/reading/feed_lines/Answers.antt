@@ -3,7 +3,8 @@ use Rattle.sgt_notation.specs.Lines.{most_left}
 use Rattle.sgt_audit.specs.private.Ending.{limit_of}
 use Rattle.sgt_audit.specs.Faults.{bytes_of}
 use Rattle.sgt_audit.proofs.Begun.{begun-held, eaten-there, held-fed, last-line, last-long, within-cut, within-end, within-line, within-long}
-use Rattle.sgt_audit.proofs.ReaderAtStage.{after-line, fault-line, stops-cut, stops-end, at-long, fault-met, spends_on}
+use Rattle.sgt_audit.proofs.ReaderAtStage.{after-line, fault-line, stops-cut, stops-end, at-long, spends_on}
+use Rattle.sgt_notation.proofs.Texts.{fault-met}
 use Rattle.sgt_audit.proofs.reading.feed_lines.Goals as goal
 
 pub lines-preserved : goal.lines-preserved

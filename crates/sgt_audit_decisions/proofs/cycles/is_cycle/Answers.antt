@@ -2,9 +2,10 @@ use Rattle.std.proofs.Common.{arith}
 use Rattle.std.proofs.lemmas.List.{nil_from_length}
 use Rattle.std.proofs.lemmas.Result.{IfOk-weaker}
 use Rattle.sgt_audit_decisions.proofs.Walks.{is-cycle, cycle-closed, cycle-long, cycle-apart, cycle-through, no-walk}
-use Rattle.sgt_audit_decisions.proofs.Loops.{answered-no, ne-false, ne-true, not-empty, empty, refuted}
+use Rattle.sgt_audit_decisions.proofs.Loops.{answered-no, ne-true, not-empty, empty, refuted}
 use Rattle.sgt_audit_decisions.proofs.cycles.is_cycle.Goals as goal
 use Rattle.sgt_audit_decisions.proofs.cycles.is_cycle.Goals.{then-ne-via-then-ne, then-ne-via-else-ne+then-is_empty, then-ne-via-else-ne+else-is_empty+then-not-lead_to_committed}
+use Rattle.sgt_names.proofs.Elements.{ne-same}
 
 pub returns-else-not-lead_to_committed : goal.returns-else-not-lead_to_committed
 returns-else-not-lead_to_committed c =
@@ -12,7 +13,7 @@ returns-else-not-lead_to_committed c =
     IfOk-weaker c.are_distinct.result _ _
     (λ answer both. (
       λ yes.
-          is-cycle _ _ _ _ c.in-Some.between.now c.in-Some.last.now whole (ne-false _ _ _ c.ne.ensures c.if-ne.false) (not-empty _ _ c.is_empty.ensures c.if-is_empty.false)
+          is-cycle _ _ _ _ c.in-Some.between.now c.in-Some.last.now whole (ne-same _ _ _ c.ne.ensures c.if-ne.false) (not-empty _ _ c.is_empty.ensures c.if-is_empty.false)
           (both.0 yes) (c.lead_to_committed.ensures.0 c.if-not-lead_to_committed.false),
       λ cycle. both.1 (cycle-apart _ _ _ _ c.in-Some.between.now c.in-Some.last.now whole cycle),
     ))

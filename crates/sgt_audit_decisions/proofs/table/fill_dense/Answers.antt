@@ -4,9 +4,10 @@ use Rattle.std.proofs.lemmas.List.{get_or_default}
 use Rattle.sgt_names.proofs.Places.{All_at}
 use Rattle.sgt_names.proofs.Lists.{element_at}
 use Rattle.sgt_cert.specs.Certificate.{decided_tx}
-use Rattle.sgt_audit_decisions.proofs.Loops.{answered-no, answered-yes, is_some-value, is_some-none}
+use Rattle.sgt_audit_decisions.proofs.Loops.{answered-no, answered-yes}
 use Rattle.sgt_audit_decisions.proofs.Tables.{told-as, none-entered, entered, decided-twice, whole-table, whole-once, empty-places, place-here, place-others}
 use Rattle.sgt_audit_decisions.specs.declared.table.Placed.{Placed}
+use Rattle.sgt_names.proofs.Elements.{is_some-some, is_some-none}
 use Rattle.sgt_audit_decisions.proofs.table.fill_dense.Goals as goal
 
 pub loop-number-init : goal.loop-number-init
@@ -28,7 +29,7 @@ returns-then-is_some-clause-once c =
     let room : decided_tx d < length c.args.places.now.items = All_at (λ d. decided_tx d < length c.args.places.now.items) c.args.decisions.now c.loop-number.number d c.requires.room at in
     let kept = c.loop-number.invariant.room in
     let lt : c.number-place.result < length xs = omega arith in
-    let had = is_some-value c.index.result.now (sym c.is_some.ensures ∙ c.if-is_some.true) in
+    let had = is_some-some c.index.result.now (sym c.is_some.ensures ∙ c.if-is_some.true) in
     answered-no (decided-twice c.args.decisions.now c.loop-number.number had.0 d (λ tx. get_or xs tx None) at
     (stands xs c.number-place.result (decided_tx d) c.index.result.now same lt c.index.ensures ∙ had.1)
     c.loop-number.invariant.first)

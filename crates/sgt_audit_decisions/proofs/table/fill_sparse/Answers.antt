@@ -2,9 +2,10 @@ use Rattle.std.proofs.Common.{ℕ, Some, sym, ap, ◌∙◌, cond}
 use Rattle.std.specs.Ordering.{nat_cmp, is_eq}
 use Rattle.std.specs.BTreeMap.{get}
 use Rattle.sgt_names.proofs.Lists.{element_at}
-use Rattle.sgt_audit_decisions.proofs.Loops.{answered-no, answered-yes, is_some-value, is_some-none}
+use Rattle.sgt_audit_decisions.proofs.Loops.{answered-no, answered-yes}
 use Rattle.sgt_audit_decisions.proofs.Tables.{told-as, none-entered, entered, decided-twice, whole-table, whole-once, empty-map, map-here, map-others}
 use Rattle.sgt_audit_decisions.specs.declared.table.Placed.{Placed}
+use Rattle.sgt_names.proofs.Elements.{is_some-some, is_some-none}
 use Rattle.sgt_audit_decisions.proofs.table.fill_sparse.Goals as goal
 
 pub loop-number-init : goal.loop-number-init
@@ -13,7 +14,7 @@ loop-number-init c = none-entered c.args.decisions.now (get nat_cmp c.args.place
 pub returns-then-is_some-clause-once : goal.returns-then-is_some-clause-once
 returns-then-is_some-clause-once c =
     let map = c.loop-number.places in
-    let had = is_some-value c.in_ok-insert.field-0 (sym c.is_some.ensures ∙ c.if-is_some.true) in
+    let had = is_some-some c.in_ok-insert.field-0 (sym c.is_some.ensures ∙ c.if-is_some.true) in
     answered-no (decided-twice c.args.decisions.now c.loop-number.number had.0 c.index-decisions-number.result (get nat_cmp map) (element_at _ _ _ c.loop-number-test.true c.index-decisions-number.is)
     (ap (get nat_cmp map) (sym c.tx.ensures) ∙ sym c.in_ok-insert.ensures.old ∙ had.1)
     c.loop-number.invariant)

@@ -1,6 +1,6 @@
 use Rattle.std.proofs.Common.{Err, ap, arith, refl}
-use Rattle.sgt_audit.proofs.ReaderAtStage.{fault-met}
 use Rattle.sgt_audit_workers.proofs.Reading.{spends-told}
+use Rattle.sgt_notation.proofs.Texts.{fault-met}
 use Rattle.sgt_audit_workers.proofs.cutting.next_line.Goals as goal
 
 pub returns-in-Err-ReadFault-clause-read_fault : goal.returns-in-Err-ReadFault-clause-read_fault

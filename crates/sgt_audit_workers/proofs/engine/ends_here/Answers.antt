@@ -4,7 +4,7 @@ use Rattle.sgt_audit_workers.specs.Reads.{reader}
 use Rattle.sgt_audit_workers.specs.declared.cutting.Stop.TheVariants as stop
 use Rattle.sgt_audit_workers.specs.private.Texts.{EndsHere, IsLeftIn}
 use Rattle.sgt_audit_workers.proofs.Comes.{open-comes}
-use Rattle.sgt_audit_workers.proofs.Given.{if_ok_both}
+use Rattle.sgt_names.proofs.Elements.{if_ok_both}
 use Rattle.sgt_audit_workers.proofs.engine.ends_here.Goals as goal
 
 pub returns-in-Open-clause-ends : goal.returns-in-Open-clause-ends

@@ -5,7 +5,8 @@ use Rattle.sgt_audit_workers.specs.declared.sections.Section.{Section}
 use Rattle.sgt_audit_workers.specs.private.Texts.{IsNextSection}
 use Rattle.sgt_audit_workers.specs.private.Working.{IsWithin, NextGoes}
 use Rattle.sgt_audit_workers.proofs.Answered.{goes-next}
-use Rattle.sgt_audit_workers.proofs.Given.{if_ok_both, if_ok_map}
+use Rattle.sgt_audit_workers.proofs.Given.{if_ok_map}
+use Rattle.sgt_names.proofs.Elements.{if_ok_both}
 use Rattle.sgt_audit_workers.proofs.engine.judge_next.Goals as goal
 
 pub returns-in-Some-clause-goes : goal.returns-in-Some-clause-goes

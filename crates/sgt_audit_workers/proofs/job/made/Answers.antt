@@ -1,5 +1,6 @@
 use Rattle.std.proofs.Common.{arith}
-use Rattle.sgt_audit_workers.proofs.Given.{if_ok_both, may-later}
+use Rattle.sgt_audit_workers.proofs.Given.{may-later}
+use Rattle.sgt_names.proofs.Elements.{if_ok_both}
 use Rattle.sgt_audit_workers.proofs.job.made.Goals as goal
 
 pub returns-in-None : goal.returns-in-None

@@ -4,10 +4,11 @@ use Rattle.std.proofs.lemmas.List.Elements.{Contains-append_cases, Contains-appe
 use Rattle.sgt_names.proofs.Lists.{element_at}
 use Rattle.sgt_certifier.specs.declared.install.Prepared.{Prepared}
 use Rattle.sgt_certifier.specs.Kept.{changed_at}
-use Rattle.sgt_certifier.proofs.Members.{cons_cases, cons_here, nil_none}
+use Rattle.sgt_certifier.proofs.Members.{cons_here}
 use Rattle.sgt_certifier.proofs.Changes.{listed, listed_next, listed_at}
 use Rattle.sgt_certifier.proofs.install.add_lists.Goals as goal
 use Rattle.sgt_certifier.proofs.install.add_lists.Goals.{then-is_changed+then-not-has_site+in_ok-items+in_ok-push, else-is_changed, else-is_changed-via-then-is_changed+else-not-has_site, else-is_changed-via-else-is_changed}
+use Rattle.sgt_names.proofs.Elements.{contains-cases, contains-none}
 
 pub loop-touch-preserved : goal.loop-touch-preserved
 loop-touch-preserved c =
@@ -24,9 +25,9 @@ loop-touch-preserved c =
           record {
             each = λ p m. elim (Contains-append_cases lists (one ∷ []) p (subst (λ xs. Contains xs p) is m)) [
               | inl was ↦ c.loop-touch.invariant.each p was
-              | inr last ↦ elim (cons_cases one [] p last) [
+              | inr last ↦ elim (contains-cases one [] p last) [
                 | inl e ↦ subst (λ (q : Prepared). q.items ≡ changed_at whole q.site) e refl
-                | inr none ↦ absurd (nil_none p none)
+                | inr none ↦ absurd (contains-none p none)
               ]
             ];
             kept = λ p m. subst (λ xs. Contains xs p) (sym is) (Contains-append_left lists (one ∷ []) p (c.loop-touch.invariant.kept p m));

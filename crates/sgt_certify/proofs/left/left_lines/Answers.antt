@@ -1,7 +1,8 @@
 use Rattle.std.proofs.Common.{ℕ, Contains, refl}
 use Rattle.std.proofs.lemmas.Result.{IfOk-weaker}
 use Rattle.sgt_certify_stuck.specs.Apart.{HasTx}
-use Rattle.sgt_certify.proofs.NextEnds.{lines-as, none-weaker, some-weaker}
+use Rattle.sgt_certify.proofs.NextEnds.{lines-as}
+use Rattle.sgt_names.proofs.Elements.{none-weaker, some-weaker}
 use Rattle.sgt_certify.proofs.left.left_lines.Goals as goal
 
 pub returns-clause-some : goal.returns-clause-some

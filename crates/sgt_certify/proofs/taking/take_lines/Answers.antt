@@ -1,7 +1,7 @@
 use Rattle.std.proofs.Common.{◌∙◌, [], ◌∷◌, ◌++◌, List, ℕ, ap, refl, arith, Err}
-use Rattle.sgt_audit.proofs.ReaderAtStage.{fault-met}
-use Rattle.sgt_certify.proofs.Taken.{nothing-taken, held-taken, line-taken, cut-taken, end-taken, long-taken, spends_on, spends-none}
+use Rattle.sgt_certify.proofs.Taken.{nothing-taken, held-taken, line-taken, cut-taken, end-taken, long-taken, spends_on}
 use Rattle.sgt_notation.specs.Lines.{Ahead}
+use Rattle.sgt_notation.proofs.Texts.{spends-none, fault-met}
 use Rattle.sgt_certify.proofs.taking.take_lines.Goals as goal
 
 pub lines-init : goal.lines-init

@@ -2,7 +2,8 @@ use Rattle.std.proofs.Common.{ℕ, List, ◌++◌, ◌∷◌, sym, ap, ◌∙◌
 use Rattle.std.proofs.lemmas.Result.{IfOk-weaker}
 use Rattle.sgt_certify_faults.specs.Faults.{IsFaultless}
 use Rattle.sgt_certify_logs.specs.Sound.{SpellsSoundLogs}
-use Rattle.sgt_certify_faults.proofs.ReadLines.{first-line, none-weaker}
+use Rattle.sgt_certify_faults.proofs.ReadLines.{first-line}
+use Rattle.sgt_names.proofs.Elements.{none-weaker}
 use Rattle.sgt_certify_faults.proofs.first.first_fault.Goals as goal
 
 pub returns-in_default-read_format-clause-found : goal.returns-in_default-read_format-clause-found

@@ -5,10 +5,10 @@ use Rattle.sgt_cert.specs.Valid.{IsValid}
 use Rattle.sgt_cert.specs.declared.certificate.Decision.{Decision}
 use Rattle.sgt_certify_logs.specs.Witness.{IsStuck}
 use Rattle.sgt_certify_greedy.specs.Decided.{IsUnpreceded}
-use Rattle.sgt_certify_greedy.proofs.Elements.{contains-none, none-long}
 use Rattle.sgt_certify_greedy.proofs.Decisions.{left-stuck, positive-length}
 use Rattle.sgt_certify_greedy.proofs.Knowing.{conflicts-ordered}
 use Rattle.sgt_certify_greedy.proofs.Validity.{committed-decided, valid-from}
+use Rattle.sgt_names.proofs.Elements.{contains-none, empty-length}
 use Rattle.sgt_certify_greedy.proofs.deciding.answer_by.Goals as goal
 
 pub returns-then-is_empty : goal.returns-then-is_empty
@@ -19,7 +19,7 @@ returns-then-is_empty c =
     let settled = c.in_ok-settled.ensures in
     let made = c.certificate_of-made.result in
     let none : c.in_ok-settled.settled.left.items ≡ [] =
-    sym c.as_slice-rest.ensures.value ∙ none-long c.as_slice-rest.result.now (eqb-true _ 0 (sym c.is_empty.ensures ∙ c.if-is_empty.true)) in
+    sym c.as_slice-rest.ensures.value ∙ empty-length c.as_slice-rest.result.now (eqb-true _ 0 (sym c.is_empty.ensures ∙ c.if-is_empty.true)) in
     let valid = valid-from sites c.requires.sound order order c.in_ok-settled.settled.decisions.items known.committed known.only known.ordered settled.1.each
     (λ t end.
     elim (settled.1.all t end) [

@@ -3,8 +3,9 @@ use Rattle.std.specs.Prelude.{slice_get}
 use Rattle.std.proofs.lemmas.Bool.{cases_eq}
 use Rattle.sgt_certify_greedy.specs.Pairs.{Leads}
 use Rattle.sgt_certify_greedy.specs.Sorted.{Among}
-use Rattle.sgt_certify_greedy.proofs.Elements.{contains-tail, without-fewer, without-has}
+use Rattle.sgt_certify_greedy.proofs.Elements.{without-fewer, without-has}
 use Rattle.sgt_certify_greedy.proofs.Rings.{chain-more, ring-closed}
+use Rattle.sgt_names.proofs.Elements.{contains-later}
 use Rattle.sgt_certify_greedy.proofs.sorting.cycle_in.Goals as goal
 
 pub back-init : goal.back-init
@@ -53,7 +54,7 @@ back-preserved c =
             | inl same ↦ inl (subst (λ (w : List ℕ). Contains w t) (sym items) (0, omega arith, sym same))
             | inr other ↦
                 elim (c.back.invariant.met t has) [
-                  | inl met ↦ inl (subst (λ (w : List ℕ). Contains w t) (sym items) (contains-tail before c.back.walk.items t met))
+                  | inl met ↦ inl (subst (λ (w : List ℕ). Contains w t) (sym items) (contains-later before c.back.walk.items t met))
                   | inr unmet ↦ inr (subst (λ (w : List ℕ). Contains w t) (sym c.take_out-in-back.ensures) (without-has before c.back.unmet.items t unmet other))
                 ]
           ];

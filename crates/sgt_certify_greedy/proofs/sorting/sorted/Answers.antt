@@ -3,8 +3,9 @@ use Rattle.std.proofs.lemmas.Bool.{eqb-true}
 use Rattle.sgt_certify_greedy.specs.Pairs.{Leads}
 use Rattle.sgt_certify_greedy.specs.Sorted.{Among}
 use Rattle.sgt_certify_greedy.proofs.Rings.{ring-as}
-use Rattle.sgt_certify_greedy.proofs.Elements.{none-long, without-fewer}
+use Rattle.sgt_certify_greedy.proofs.Elements.{without-fewer}
 use Rattle.sgt_certify_greedy.proofs.Placing.{IsPlacing, all-placed, next-placed, none-placed}
+use Rattle.sgt_names.proofs.Elements.{empty-length}
 use Rattle.sgt_certify_greedy.proofs.sorting.sorted.Goals as goal
 
 pub placing-init : goal.placing-init
@@ -26,7 +27,7 @@ placing-preserved c =
 pub returns-then-is_empty : goal.returns-then-is_empty
 returns-then-is_empty c =
     all-placed (Leads c.args.pairs.now) c.args.txs.now c.placing.left.items c.placing.order.items c.placing.invariant
-    (sym c.as_slice-rest.ensures.value ∙ none-long c.as_slice-rest.result.now (eqb-true _ 0 (sym c.is_empty.ensures ∙ c.if-is_empty.true)))
+    (sym c.as_slice-rest.ensures.value ∙ empty-length c.as_slice-rest.result.now (eqb-true _ 0 (sym c.is_empty.ensures ∙ c.if-is_empty.true)))
 
 pub cycle_in-requires-clause-led : goal.cycle_in-requires-clause-led
 cycle_in-requires-clause-led c =

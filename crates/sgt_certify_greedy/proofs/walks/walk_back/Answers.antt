@@ -7,8 +7,8 @@ use Rattle.sgt_cert.specs.declared.certificate.Step.{Step}
 use Rattle.sgt_certify_greedy.specs.declared.walks.Reached.{Reached}
 use Rattle.sgt_certify_greedy.specs.Pairs.{Leads}
 use Rattle.sgt_certify_greedy.specs.Walks.{IsPath, IsReached}
-use Rattle.sgt_certify_greedy.proofs.Elements.{contains-cases, contains-none}
 use Rattle.sgt_certify_greedy.proofs.Walking.{no-round, round-from}
+use Rattle.sgt_names.proofs.Elements.{contains-cases, contains-none}
 use Rattle.sgt_certify_greedy.proofs.walks.walk_back.Goals as goal
 
 only-one : (tx t : ℕ) → Contains (tx ∷ []) t → t ≡ tx

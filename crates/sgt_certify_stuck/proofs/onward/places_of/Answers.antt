@@ -6,7 +6,7 @@ use Rattle.std.proofs.lemmas.Bool.{cases_eq}
 use Rattle.std.proofs.lemmas.Option.{same_Some, slice_get_within}
 use Rattle.sgt_names.proofs.Lists.{element_at}
 use Rattle.sgt_names.proofs.Places.{Contains_at}
-use Rattle.sgt_certify_stuck.proofs.Elements.{other-key}
+use Rattle.sgt_names.proofs.Elements.{nat_cmp-other}
 use Rattle.sgt_certify_stuck.proofs.onward.places_of.Goals as goal
 
 pub loop-place-preserved : goal.loop-place-preserved
@@ -23,7 +23,7 @@ loop-place-preserved c =
                 let here : i ≡ n = same_Some i n (sym stands ∙ ap (λ u. get nat_cmp c.insert.new.self u) (sym same) ∙ updates.1) in
                 (omega (arith, here), ap (slice_get order) here ∙ at ∙ ap Some same, λ j lt within at_j. absurd (omega (arith, here, lt, within)))
             | inr ne ↦
-                let before = c.loop-place.invariant.last t i (sym (updates.2 t (other-key tx t ne)) ∙ stands) in
+                let before = c.loop-place.invariant.last t i (sym (updates.2 t (nat_cmp-other tx t ne)) ∙ stands) in
                 let lt = before.0 in (
                   omega (arith, lt),
                   before.1,
@@ -44,7 +44,7 @@ loop-place-preserved c =
                   | inr other ↦ omega (arith, lt, other)
                 ] in
                 let found = c.loop-place.invariant.all k t earlier at_k in
-                (found.0, updates.2 t (other-key tx t ne) ∙ found.1)
+                (found.0, updates.2 t (nat_cmp-other tx t ne) ∙ found.1)
           ];
     }
 

@@ -5,9 +5,10 @@ use Rattle.std.proofs.lemmas.Bool.{cases_eq, true≢false}
 use Rattle.sgt_names.proofs.Lists.{element_at}
 use Rattle.sgt_names.proofs.Places.{Contains-from_at}
 use Rattle.sgt_certify_stuck.specs.Apart.{HasTx}
-use Rattle.sgt_certify_stuck.proofs.Elements.{at_more, each-in, cond-true, other-key}
+use Rattle.sgt_certify_stuck.proofs.Elements.{at_more, each-in, cond-true}
 use Rattle.sgt_certify_stuck.proofs.sets.others_of.Goals as goal
 use Rattle.sgt_certify_stuck.proofs.sets.others_of.Goals.{then-not-contains+in_ok-insert, else-not-contains}
+use Rattle.sgt_names.proofs.Elements.{nat_cmp-other}
 
 pub loop-tx-preserved : goal.loop-tx-preserved
 loop-tx-preserved c =
@@ -24,7 +25,7 @@ loop-tx-preserved c =
                 subst (Contains c.args.txs.now) same (Contains-from_at c.args.txs.now c.loop-tx.tx-index c.tx-item.result at),
                 subst (λ (u : ℕ). contains nat_cmp c.args.met.now u ≡ false) same (sym c.contains.ensures ∙ w.if-not-contains.true),
               )
-              | inr ne ↦ c.loop-tx.invariant.only t (sym (w.in_ok-insert.ensures.updates.2 t (other-key c.tx-item.result t ne))
+              | inr ne ↦ c.loop-tx.invariant.only t (sym (w.in_ok-insert.ensures.updates.2 t (nat_cmp-other c.tx-item.result t ne))
                   ∙ subst (λ (s : BTreeSet ℕ). HasTx s t) w.set-is has)
             ];
       }

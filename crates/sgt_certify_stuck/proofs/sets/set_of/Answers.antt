@@ -3,7 +3,8 @@ use Rattle.std.proofs.lemmas.Bool.{cases_eq}
 use Rattle.sgt_names.proofs.Lists.{element_at}
 use Rattle.sgt_names.proofs.Places.{Contains-from_at}
 use Rattle.sgt_certify_stuck.specs.Apart.{HasTx}
-use Rattle.sgt_certify_stuck.proofs.Elements.{at_more, each-in, other-key, cond-true}
+use Rattle.sgt_certify_stuck.proofs.Elements.{at_more, each-in, cond-true}
+use Rattle.sgt_names.proofs.Elements.{nat_cmp-other}
 use Rattle.sgt_certify_stuck.proofs.sets.set_of.Goals as goal
 
 pub loop-tx-preserved : goal.loop-tx-preserved
@@ -16,7 +17,7 @@ loop-tx-preserved c =
       only = λ t has.
           elim (cases_eq c.tx-item.result t) [
             | inl same ↦ subst (Contains c.args.txs.now) same (Contains-from_at c.args.txs.now c.loop-tx.tx-index c.tx-item.result at)
-            | inr ne ↦ c.loop-tx.invariant.only t (sym (updates.2 t (other-key c.tx-item.result t ne)) ∙ has)
+            | inr ne ↦ c.loop-tx.invariant.only t (sym (updates.2 t (nat_cmp-other c.tx-item.result t ne)) ∙ has)
           ];
     }
 

@@ -1,5 +1,6 @@
 use Rattle.std.proofs.lemmas.Result.{on_ok_weaker}
-use Rattle.sgt_check.proofs.Pushing.{five, put-ok, three}
+use Rattle.sgt_check.proofs.Pushing.{five, three}
+use Rattle.sgt_names.proofs.Elements.{ok-taken}
 use Rattle.sgt_check.proofs.cycle.push_step.Goals as goal
 
 pub returns : goal.returns
@@ -7,4 +8,4 @@ returns c = on_ok_weaker c.extend_from_slice-3.result (λ e.
     three _ _ _ _ _ _ _ c.in_ok-push_ends.ensures c.in_ok-push_versions.ensures
     (five _ _ _ _ _ _ _ _ _ _ _ c.in_ok-extend_from_slice.ensures.items c.in_ok-push_line_number.ensures c.in_ok-extend_from_slice-2.ensures.items
     c.in_ok-push_line_number-2.ensures e))
-    (put-ok c.extend_from_slice-3.result _ _ _ c.extend_from_slice-3.ensures.items)
+    (ok-taken c.extend_from_slice-3.result _ _ _ c.extend_from_slice-3.ensures.items)

@@ -1,7 +1,8 @@
 use Rattle.std.proofs.Common.{ℕ, List, ◌≡◌, ◌-◌, length, subst, OnOk, ◌++◌}
 use Rattle.std.proofs.lemmas.Result.{on_ok_weaker}
 use Rattle.sgt_check.specs.Text.{counts_text}
-use Rattle.sgt_check.proofs.Pushing.{five, put-ok}
+use Rattle.sgt_check.proofs.Pushing.{five}
+use Rattle.sgt_names.proofs.Elements.{ok-taken}
 use Rattle.sgt_check.proofs.yes.push_counts.Goals as goal
 
 pub returns : goal.returns
@@ -11,4 +12,4 @@ returns c =
     (on_ok_weaker c.extend_from_slice-3.result (λ e.
     five _ _ _ _ _ _ _ _ _ _ _ c.in_ok-extend_from_slice.ensures.items c.in_ok-push_number.ensures.ok c.in_ok-extend_from_slice-2.ensures.items
     c.in_ok-push_number-2.ensures.ok e)
-    (put-ok c.extend_from_slice-3.result _ _ _ c.extend_from_slice-3.ensures.items))
+    (ok-taken c.extend_from_slice-3.result _ _ _ c.extend_from_slice-3.ensures.items))

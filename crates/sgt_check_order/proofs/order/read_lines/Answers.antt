@@ -3,7 +3,8 @@ use Rattle.std.specs.Prelude.{IfSome}
 use Rattle.sgt_history.specs.History.{closed_of}
 use Rattle.sgt_notation.specs.Lines.{Ahead}
 use Rattle.sgt_check_order.specs.Told.{IsRead, IsTaken}
-use Rattle.sgt_check_order.proofs.Going.{ends, goes-line, goes-none, is-first-line, spends-none, spends_on, stops, stops-cut}
+use Rattle.sgt_check_order.proofs.Going.{ends, goes-line, goes-none, is-first-line, stops, stops-cut}
+use Rattle.sgt_notation.proofs.Texts.{spends-none, spends_on}
 use Rattle.sgt_check_order.proofs.order.read_lines.Goals as goal
 
 pub lines-init : goal.lines-init

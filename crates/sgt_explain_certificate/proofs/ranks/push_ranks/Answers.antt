@@ -1,5 +1,5 @@
 use Rattle.sgt_explain_lines.proofs.Numbering.{on-ok}
-use Rattle.sgt_explain_certificate.proofs.Behind.{four-parts}
+use Rattle.sgt_names.proofs.Elements.{four-parts}
 use Rattle.sgt_explain_certificate.proofs.ranks.push_ranks.Goals as goal
 
 pub returns : goal.returns

@@ -3,17 +3,17 @@ use Rattle.std.proofs.lemmas.Bool.{true≢false}
 use Rattle.sgt_explain_lines.proofs.Numbering.{on-ok}
 use Rattle.sgt_explain_dealings.specs.declared.dealings.Own.{Own}
 use Rattle.sgt_explain_dealings.specs.Dealings.{IsOwnIn}
-use Rattle.sgt_explain_dealings.proofs.Behind.{str-ok}
 use Rattle.sgt_explain_dealings.proofs.Pairing.{tells-dealings, tells-none, tells-own}
 use Rattle.sgt_explain_dealings.proofs.Standing.{own-in, own-plain}
+use Rattle.sgt_names.proofs.Elements.{ok-taken}
 use Rattle.sgt_explain_dealings.proofs.dealings.push_dealings.Goals as goal
 
 pub returns-then-has_none-clause-told : goal.returns-then-has_none-clause-told
-returns-then-has_none-clause-told c = on-ok c.push_str.result _ _ (λ e. inl e) (str-ok c.push_str.result _ _ _ c.push_str.ensures.bytes)
+returns-then-has_none-clause-told c = on-ok c.push_str.result _ _ (λ e. inl e) (ok-taken c.push_str.result _ _ _ c.push_str.ensures.bytes)
 
 pub returns-then-has_none-clause-all : goal.returns-then-has_none-clause-all
 returns-then-has_none-clause-all c = on-ok c.push_str.result _ _ (λ e lines h. tells-none c.args.tx lines c.in_ok-own.own.items _ _ (c.has_none.ensures.0 c.if-has_none.true) (c.in_ok-own.ensures.all lines h) e)
-    (str-ok c.push_str.result _ _ _ c.push_str.ensures.bytes)
+    (ok-taken c.push_str.result _ _ _ c.push_str.ensures.bytes)
 
 pub returns-clause-told : goal.returns-clause-told
 returns-clause-told c =

@@ -6,7 +6,7 @@ use Rattle.sgt_explain_lines.proofs.Numbering.{on-ok}
 use Rattle.sgt_explain_lines.specs.declared.section.Logged.{Logged}
 use Rattle.sgt_explain_decisions.specs.Ends.{HasEnd, IsFirstUnended, TellsPlace, not_ended_head}
 use Rattle.sgt_explain_decisions.specs.Placed.{IsUndecided}
-use Rattle.sgt_explain_decisions.proofs.Behind.{two-parts}
+use Rattle.sgt_names.proofs.Elements.{two-parts}
 use Rattle.sgt_explain_decisions.proofs.ends.push_not_ended.Goals as goal
 
 pub returns : goal.returns

@@ -1,6 +1,6 @@
 use Rattle.std.proofs.Common.{refl}
 use Rattle.sgt_explain_lines.proofs.Numbering.{on-ok}
-use Rattle.sgt_explain_decisions.proofs.Behind.{two-parts}
+use Rattle.sgt_names.proofs.Elements.{two-parts}
 use Rattle.sgt_explain_decisions.proofs.ends.push_place.Goals as goal
 
 pub returns : goal.returns

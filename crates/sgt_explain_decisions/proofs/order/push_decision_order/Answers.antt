@@ -3,8 +3,8 @@ use Rattle.sgt_names.specs.Entry.{tx_of}
 use Rattle.sgt_explain_lines.proofs.Numbering.{on-ok}
 use Rattle.sgt_explain_decisions.specs.Placed.{IsFirstOn}
 use Rattle.sgt_explain_decisions.specs.Decided.{IsNotLater, IsFirstLater}
-use Rattle.sgt_explain_decisions.proofs.Behind.{three-parts}
 use Rattle.sgt_explain_decisions.proofs.Besides.{first-unique}
+use Rattle.sgt_names.proofs.Elements.{three-parts}
 use Rattle.sgt_explain_decisions.proofs.order.push_decision_order.Goals as goal
 
 pub returns-in_default-decided_later : goal.returns-in_default-decided_later

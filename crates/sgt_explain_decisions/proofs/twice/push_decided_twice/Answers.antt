@@ -1,8 +1,8 @@
 use Rattle.std.proofs.Common.{sym, subst}
 use Rattle.sgt_explain_lines.proofs.Numbering.{on-ok}
 use Rattle.sgt_explain_decisions.specs.Placed.{ArePlaced}
-use Rattle.sgt_explain_decisions.proofs.Behind.{two-parts}
 use Rattle.sgt_explain_decisions.proofs.Doubling.{twice-none}
+use Rattle.sgt_names.proofs.Elements.{two-parts}
 use Rattle.sgt_explain_decisions.proofs.twice.push_decided_twice.Goals as goal
 
 pub returns-in_default-clause-twice : goal.returns-in_default-clause-twice

@@ -1,5 +1,5 @@
 use Rattle.sgt_explain_lines.proofs.Numbering.{on-ok}
-use Rattle.sgt_explain_decisions.proofs.Behind.{two-parts}
+use Rattle.sgt_names.proofs.Elements.{two-parts}
 use Rattle.sgt_explain_decisions.proofs.twice.push_two.Goals as goal
 
 pub returns : goal.returns

@@ -1,7 +1,8 @@
 use Rattle.std.proofs.Common.{◌≡◌, List, All, sym, subst}
 use Rattle.sgt_cert.specs.declared.certificate.Step.{Step}
 use Rattle.sgt_explain_decisions.specs.Walks.{MayBePassed, LeadsTo, AreApart, IsFirstAgain}
-use Rattle.sgt_explain_decisions.proofs.Walking.{is-cycle, ne-same}
+use Rattle.sgt_explain_decisions.proofs.Walking.{is-cycle}
+use Rattle.sgt_names.proofs.Elements.{ne-same}
 use Rattle.sgt_explain_decisions.proofs.walks.flaw_of.Goals as goal
 
 pub returns-in-Some-2-clause-some : goal.returns-in-Some-2-clause-some

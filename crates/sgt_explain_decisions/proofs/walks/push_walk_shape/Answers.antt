@@ -3,7 +3,7 @@ use Rattle.std.specs.Prelude.{string_bytes}
 use Rattle.sgt_explain_lines.proofs.Numbering.{on-ok}
 use Rattle.sgt_explain_decisions.specs.Placed.{ArePlaced}
 use Rattle.sgt_explain_decisions.specs.Walks.{walk_shape_head, walk_shape_rule}
-use Rattle.sgt_explain_decisions.proofs.Behind.{three-parts, str-ok}
+use Rattle.sgt_names.proofs.Elements.{ok-taken, three-parts}
 use Rattle.sgt_explain_decisions.proofs.walks.push_walk_shape.Goals as goal
 
 pub returns : goal.returns
@@ -19,4 +19,4 @@ returns c = λ flawed.
       told.1,
       three-parts (string_bytes c.args.out.now) _ _ (walk_shape_head f.number f.tx) told.0 walk_shape_rule _ c.in_ok-push_walk_head.ensures told.2 e,
     ))
-    (str-ok c.push_str.result _ _ _ c.push_str.ensures.bytes)
+    (ok-taken c.push_str.result _ _ _ c.push_str.ensures.bytes)

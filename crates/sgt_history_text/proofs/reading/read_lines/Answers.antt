@@ -2,7 +2,8 @@ use Rattle.std.proofs.Common.{◌∙◌, ap, refl, sym, subst, arith, Some, None
 use Rattle.sgt_notation.specs.Lines.{Ahead}
 use Rattle.sgt_history_text.specs.Built.{IsTaken}
 use Rattle.sgt_history_text.specs.Reading.{IsStop}
-use Rattle.sgt_history_text.proofs.Going.{goes-none, goes-line, stops-end, stops-line, stops-cut, stops-long, spends_on, spends-none}
+use Rattle.sgt_history_text.proofs.Going.{goes-none, goes-line, stops-end, stops-line, stops-cut, stops-long}
+use Rattle.sgt_notation.proofs.Texts.{spends_on, spends-none}
 use Rattle.sgt_history_text.proofs.reading.read_lines.Goals as goal
 
 pub lines-init : goal.lines-init

@@ -3,9 +3,9 @@ use Rattle.std.proofs.lemmas.Option.{slice_get-get_or}
 use Rattle.sgt_names.proofs.Lists.{element_at}
 use Rattle.sgt_arena.specs.declared.handle.Handle.{Handle}
 use Rattle.sgt_order.specs.private.Search.{IsMarked}
-use Rattle.sgt_order.proofs.Marking.{is_some-some}
 use Rattle.sgt_order.proofs.search.note_members.Goals as goal
 use Rattle.sgt_order.proofs.search.note_members.Goals.{then-is_some, else-is_some}
+use Rattle.sgt_names.proofs.Elements.{is_some-some}
 
 pub loop-handle-preserved : goal.loop-handle-preserved
 loop-handle-preserved c =

@@ -4,11 +4,11 @@ use Rattle.std.proofs.lemmas.Option.{slice_get-get_or}
 use Rattle.sgt_names.proofs.Lists.{element_at}
 use Rattle.sgt_arena.specs.declared.handle.Handle.{Handle}
 use Rattle.sgt_order.proofs.Lists.{rest_at, rest_long}
-use Rattle.sgt_order.proofs.Marking.{is_some-none, is_some-some}
 use Rattle.sgt_order.proofs.Nodes.{placed_within}
 use Rattle.sgt_order.proofs.Spreading.{Spreading, spread_skip, spread_next, spread_all}
 use Rattle.sgt_order.proofs.search.spread_over.Goals as goal
 use Rattle.sgt_order.proofs.search.spread_over.Goals.{then-is_some, else-is_some}
+use Rattle.sgt_names.proofs.Elements.{is_some-none, is_some-some}
 
 pub note_members-requires-clause-within : goal.note_members-requires-clause-within
 note_members-requires-clause-within c p h at =

@@ -4,8 +4,8 @@ use Rattle.sgt_notation.specs.Spelling.{text_of_lines}
 use Rattle.sgt_serial.specs.Report.{reads_of, writes_of, run_of}
 use Rattle.sgt_serial.specs.Text.{operation_line, change_line, run_lines}
 use Rattle.sgt_serial.specs.private.Written.{PassesOn, with_lf}
-use Rattle.sgt_serial.proofs.Lines.{text-append}
 use Rattle.sgt_serial.proofs.Passing.{on-err, broken, broken-first, joined}
+use Rattle.sgt_notation.proofs.Texts.{text-append}
 use Rattle.sgt_serial.proofs.written.write_run.Goals as goal
 
 pub returns-in_err-write_head-clause-err : goal.returns-in_err-write_head-clause-err

@@ -5,8 +5,8 @@ use Rattle.sgt_notation.specs.Spelling.{text_of_lines}
 use Rattle.std.specs.List.{flat_map}
 use Rattle.sgt_serial.specs.Report.{run_of}
 use Rattle.sgt_serial.specs.Text.{run_lines}
-use Rattle.sgt_serial.proofs.Lines.{text-append}
 use Rattle.sgt_serial.proofs.Passing.{on-err, passes-none, passes-more, passes-all, passes-front}
+use Rattle.sgt_notation.proofs.Texts.{text-append}
 use Rattle.sgt_serial.proofs.written.write_runs.Goals as goal
 
 pub loop-tx-init : goal.loop-tx-init

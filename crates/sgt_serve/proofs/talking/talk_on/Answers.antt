@@ -1,7 +1,8 @@
 use Rattle.std.proofs.Common.{arith, ◌∙◌, refl}
 use Rattle.sgt_pipe.proofs.Going.{hears_none, hears_then, speaks_none, speaks_then}
 use Rattle.sgt_serve.proofs.Stops.{comes_at}
-use Rattle.sgt_serve.proofs.Ways.{hears_at, none_here, speaks_at}
+use Rattle.sgt_serve.proofs.Ways.{hears_at, speaks_at}
+use Rattle.sgt_names.proofs.Elements.{none-unless_some}
 use Rattle.sgt_serve.proofs.talking.talk_on.Goals as goal
 
 pub lines-init : goal.lines-init
@@ -21,4 +22,4 @@ lines-preserved g c = record {
 }
 
 pub lines-smaller : goal.lines-smaller
-lines-smaller g c = omega (arith, c.go_on.ensures.falls (none_here _ c.in_default.not-Some))
+lines-smaller g c = omega (arith, c.go_on.ensures.falls (none-unless_some _ c.in_default.not-Some))

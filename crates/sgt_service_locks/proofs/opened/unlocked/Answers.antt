@@ -1,5 +1,6 @@
 use Rattle.std.proofs.Common.{◌∙◌, sym}
-use Rattle.sgt_workers.proofs.Lists.{if_ok_both, zip_length}
+use Rattle.sgt_workers.proofs.Lists.{zip_length}
+use Rattle.sgt_names.proofs.Elements.{if_ok_both}
 use Rattle.sgt_service_locks.proofs.opened.unlocked.Goals as goal
 
 pub returns : goal.returns

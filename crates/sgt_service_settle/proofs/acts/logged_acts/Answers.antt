@@ -1,11 +1,11 @@
 use Rattle.std.proofs.Common.{◌≡◌, ◌∙◌, ◌+◌, ap, sym, subst, arith, length}
 use Rattle.sgt_names.specs.declared.entry.Entry.{Entry as AnEntry}
 use Rattle.std.proofs.lemmas.Option.{none-some}
-use Rattle.sgt_service_settle.proofs.Lists.{read}
 use Rattle.sgt_service_settle.proofs.Rowing.{written_back}
 use Rattle.sgt_service_settle.proofs.Acting.{AreActsTo, acts_none, acts_next, acts_skip, acts_all}
 use Rattle.sgt_service_settle.proofs.acts.logged_acts.Goals as goal
 use Rattle.sgt_service_settle.proofs.acts.logged_acts.Goals.{in-Some+in_ok-push_at, in_default}
+use Rattle.sgt_names.proofs.Lists.{element_at}
 
 pub loop-place-init : goal.loop-place-init
 loop-place-init c = record { long = c.in_ok-acts.ensures.long; acts = acts_none c.args.items.now c.args.log.now c.in_ok-acts.acts.items c.in_ok-acts.ensures.none }
@@ -22,7 +22,7 @@ loop-place-preserved c =
     let log = c.args.log.now in
     let m = c.loop-place.place in
     let e : AnEntry = c.index-log-place.result in
-    let here = read log m e c.loop-place-test.true c.index-log-place.is in
+    let here = element_at log m e c.loop-place-test.true c.index-log-place.is in
     elim c.match-place_in.branch [
       | in-Some+in_ok-push_at w ↦
           let old = c.loop-place.acts in

@@ -5,15 +5,16 @@ use Rattle.sgt_names.specs.Entry.{tx_of}
 use Rattle.sgt_names.specs.declared.entry.Entry.{Entry as AnEntry}
 use Rattle.sgt_service_settle.specs.private.Search.{IsMarked}
 use Rattle.sgt_service_settle.specs.private.Index.{IsDue, IsSided}
-use Rattle.sgt_service_settle.proofs.Lists.{read, before_or_here}
+use Rattle.sgt_service_settle.proofs.Lists.{before_or_here}
 use Rattle.sgt_service_settle.proofs.carried.all_sided.Goals as goal
 use Rattle.sgt_service_settle.proofs.carried.all_sided.Goals.{else-is_due-via-then-is_due+else-not-is_sided, else-is_due-via-else-is_due}
+use Rattle.sgt_names.proofs.Lists.{element_at}
 
 pub loop-at-preserved : goal.loop-at-preserved
 loop-at-preserved c q f low at due =
     let e : AnEntry = c.args.entry.now in
     let seen : AnEntry = c.index-log-at.result in
-    let here = read c.args.log.now c.loop-at.at seen c.loop-at-test.true c.index-log-at.is in
+    let here = element_at c.args.log.now c.loop-at.at seen c.loop-at-test.true c.index-log-at.is in
     elim (before_or_here c.args.log.now c.loop-at.at q seen f here at low) [
       | inl early ↦ c.loop-at.invariant q f early at due
       | inr last ↦

@@ -6,11 +6,12 @@ use Rattle.sgt_names.specs.declared.entry.Entry.{Entry as AnEntry}
 use Rattle.sgt_names.specs.Name.{Name}
 use Rattle.sgt_service_settle.specs.declared.link.Cut.{Cut as ACut}
 use Rattle.sgt_service_settle.specs.private.Index.{IsIn, IsPlaceCarried}
-use Rattle.sgt_service_settle.proofs.Lists.{read, before_or_here}
+use Rattle.sgt_service_settle.proofs.Lists.{before_or_here}
 use Rattle.sgt_service_settle.proofs.Rowing.{written_back}
 use Rattle.sgt_service_settle.proofs.Carrying.{carried_place, places_carried}
 use Rattle.sgt_service_settle.proofs.carried.are_carried.Goals as goal
 use Rattle.sgt_service_settle.proofs.carried.are_carried.Goals.{in-Some+in_ok-carried+else-not-carried, in_default}
+use Rattle.sgt_names.proofs.Lists.{element_at}
 
 pub is_place_carried-requires-clause-commit : goal.is_place_carried-requires-clause-commit
 is_place_carried-requires-clause-commit c =
@@ -21,7 +22,7 @@ is_place_carried-requires-clause-commit c =
 pub returns-then-not-carried : goal.returns-then-not-carried
 returns-then-not-carried c =
     let index = c.args.index.now in
-    let here = read c.args.log.now c.loop-place.place c.index-log-place.result c.loop-place-test.true c.index-log-place.is in
+    let here = element_at c.args.log.now c.loop-place.place c.index-log-place.result c.loop-place-test.true c.index-log-place.is in
     let k = (c.cut_at.ensures c.in-Some.cut).0 c.in-Some.is in
     let mine : IsIn index.commits.items (tx_of c.index-log-place.result) c.in-Some.cut.last =
     subst (λ xs. IsIn xs (tx_of c.index-log-place.result) c.in-Some.cut.last) c.as_slice.ensures.value k.1 in (
@@ -34,7 +35,7 @@ loop-place-preserved c =
     let index = c.args.index.now in
     let n = c.loop-place.place in
     let seen : AnEntry = c.index-log-place.result in
-    let here = read c.args.log.now n seen c.loop-place-test.true c.index-log-place.is in
+    let here = element_at c.args.log.now n seen c.loop-place-test.true c.index-log-place.is in
     let cut_of : (m : ℕ) (e : AnEntry) (x : Name) → seen ≡ e → item_of e ≡ Some x → IsIn index.commits.items (tx_of e) m → c.cut_at.result ≡ Some (record { site = c.args.site; item = x; last = m }) = λ m e x same item commit.
     (c.cut_at.ensures (record { site = c.args.site; item = x; last = m })).1
     (ap item_of same ∙ item, subst (λ xs. IsIn xs (tx_of seen) m) (sym c.as_slice.ensures.value) (subst (λ y. IsIn index.commits.items (tx_of y) m) (sym same) commit), refl) in

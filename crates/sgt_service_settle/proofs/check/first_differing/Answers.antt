@@ -4,8 +4,8 @@ use Rattle.std.proofs.lemmas.Bool.{true≢false}
 use Rattle.sgt_service_settle.specs.Settled.{IsSiteSettled}
 use Rattle.sgt_service_settle.specs.declared.handed.Handed.{Handed as AHanded}
 use Rattle.sgt_service_settle.specs.private.Words.{IsLeastOf}
-use Rattle.sgt_service_settle.proofs.Fitting.{on_err}
 use Rattle.sgt_service_settle.proofs.Settling.{fit_settled, settled_counted, settled_fit, beyond_found}
+use Rattle.sgt_certifier.proofs.Counting.{on-err}
 use Rattle.sgt_service_settle.proofs.check.first_differing.Goals as goal
 
 pub first_unfit-requires-clause-paired : goal.first_unfit-requires-clause-paired
@@ -15,7 +15,7 @@ pub first_unfit-requires-clause-there : goal.first_unfit-requires-clause-there
 first_unfit-requires-clause-there c = c.in_ok-index.ensures.long
 
 pub returns-in_err-tables-clause-err : goal.returns-in_err-tables-clause-err
-returns-in_err-tables-clause-err c = on_err c.from_residual-in_err-tables.result _ (0, c.has_first_counts.ensures.0 c.if-not-has_first_counts.false, λ k lt. absurd (omega (arith, lt)))
+returns-in_err-tables-clause-err c = on-err c.from_residual-in_err-tables.result _ (0, c.has_first_counts.ensures.0 c.if-not-has_first_counts.false, λ k lt. absurd (omega (arith, lt)))
 
 pub returns-in-Some-clause-ok : goal.returns-in-Some-clause-ok
 returns-in-Some-clause-ok c =
@@ -55,11 +55,11 @@ returns-then-not-has_first_counts-clause-ok c =
     )
 
 pub returns-in_err-index-clause-err : goal.returns-in_err-index-clause-err
-returns-in_err-index-clause-err c = on_err c.from_residual.result _ (0, c.has_first_counts.ensures.0 c.if-not-has_first_counts.false, λ k lt. absurd (omega (arith, lt)))
+returns-in_err-index-clause-err c = on-err c.from_residual.result _ (0, c.has_first_counts.ensures.0 c.if-not-has_first_counts.false, λ k lt. absurd (omega (arith, lt)))
 
 pub returns-in_err-unfit-clause-err : goal.returns-in_err-unfit-clause-err
 returns-in_err-unfit-clause-err c =
     let history = c.args.certifier.now.history in
     let rulings = c.args.certifier.now.state.rulings in
     let at = c.in_err-unfit.ensures.err in
-    on_err c.from_residual-in_err-unfit.result _ (at.0, at.2, λ k lt. fit_settled history rulings c.in_ok-index.index c.args.sites.now c.args.counts.now k c.in_ok-index.ensures.index c.requires.counts (omega (arith, lt, at.1)) (at.3 k lt))
+    on-err c.from_residual-in_err-unfit.result _ (at.0, at.2, λ k lt. fit_settled history rulings c.in_ok-index.index c.args.sites.now c.args.counts.now k c.in_ok-index.ensures.index c.requires.counts (omega (arith, lt, at.1)) (at.3 k lt))

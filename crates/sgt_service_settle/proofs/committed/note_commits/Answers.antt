@@ -1,10 +1,10 @@
 use Rattle.std.proofs.Common.{◌∙◌, Some, sym, ap, arith}
 use Rattle.std.proofs.lemmas.Option.{slice_get_within, same_Some}
 use Rattle.sgt_cert.specs.Certificate.{IsCommitted}
-use Rattle.sgt_service_settle.proofs.Lists.{read}
 use Rattle.sgt_service_settle.proofs.Committing.{noted_next, noted_other}
 use Rattle.sgt_service_settle.proofs.committed.note_commits.Goals as goal
 use Rattle.sgt_service_settle.proofs.committed.note_commits.Goals.{in-Commit, in_default}
+use Rattle.sgt_names.proofs.Lists.{element_at}
 
 pub loop-number-init : goal.loop-number-init
 loop-number-init c tx number = (λ is. absurd (c.requires.empty tx number is), λ known. absurd (omega (arith, known.0)))
@@ -13,7 +13,7 @@ pub loop-number-preserved : goal.loop-number-preserved
 loop-number-preserved c =
     let decisions = c.args.decisions.now in
     let n = c.loop-number.number in
-    let here = read decisions n c.index-decisions-number.result c.loop-number-test.true c.index-decisions-number.is in
+    let here = element_at decisions n c.index-decisions-number.result c.loop-number-test.true c.index-decisions-number.is in
     elim c.match-decision.branch [
       | in-Commit w ↦
           let known : IsCommitted decisions n w.in-Commit.tx w.in-Commit.rank = here ∙ ap Some w.in-Commit.is in

@@ -1,13 +1,13 @@
 use Rattle.std.proofs.Common.{◌∙◌, ◌<◌, sym, arith}
 use Rattle.std.proofs.lemmas.Bool.{true≢false}
-use Rattle.sgt_service_settle.proofs.Lists.{read}
 use Rattle.sgt_service_settle.proofs.Ticketing.{walk_hit, walk_decided, walk_on, walk_ends}
 use Rattle.sgt_service_settle.proofs.decisions.is_good_in.Goals as goal
 use Rattle.sgt_service_settle.proofs.decisions.is_good_in.Goals.{then-is_decision+else-number-ticket, else-is_decision}
+use Rattle.sgt_names.proofs.Lists.{element_at}
 
 pub returns-then-number-ticket : goal.returns-then-number-ticket
 returns-then-number-ticket c =
-    let here = read c.args.history.now c.loop-call.call-index c.call-item.result c.loop-call-test.true c.call-item.is in
+    let here = element_at c.args.history.now c.loop-call.call-index c.call-item.result c.loop-call-test.true c.call-item.is in
     let k = walk_hit c.args.history.now c.loop-call.call-index c.loop-call.begun c.loop-call.before c.loop-call.number c.args.ticket c.call-item.result c.loop-call.invariant here (sym c.is_decision.ensures ∙ c.if-is_decision.true) c.if-number-ticket.true in
     (λ told. k.0 (c.tells.ensures.0 told), λ good. c.tells.ensures.1 (k.1 good))
 
@@ -16,7 +16,7 @@ loop-call-preserved c =
     let history = c.args.history.now in
     let n = c.loop-call.call-index in
     let one = c.call-item.result in
-    let here = read history n one c.loop-call-test.true c.call-item.is in
+    let here = element_at history n one c.loop-call-test.true c.call-item.is in
     rw c.windows_after.ensures (
     elim c.if-is_decision.branch [
       | then-is_decision+else-number-ticket w ↦

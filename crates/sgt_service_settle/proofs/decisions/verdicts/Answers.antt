@@ -1,15 +1,15 @@
 use Rattle.std.proofs.Common.{◌∙◌, sym}
-use Rattle.sgt_service_settle.proofs.Lists.{read}
 use Rattle.sgt_service_settle.proofs.Tabling.{tabled_verdict, tabled_on, tabled_are}
 use Rattle.sgt_service_settle.proofs.decisions.verdicts.Goals as goal
 use Rattle.sgt_service_settle.proofs.decisions.verdicts.Goals.{in-Some+else-is_err, in_default}
+use Rattle.sgt_names.proofs.Lists.{element_at}
 
 pub loop-call-preserved : goal.loop-call-preserved
 loop-call-preserved c =
     let history = c.args.history.now in
     let n = c.loop-call.call-index in
     let one = c.call-item.result in
-    let here = read history n one c.loop-call-test.true c.call-item.is in
+    let here = element_at history n one c.loop-call-test.true c.call-item.is in
     rw c.windows_after.ensures (
     elim c.match-verdict_of.branch [
       | in-Some+else-is_err w ↦

@@ -5,10 +5,10 @@ use Rattle.std.proofs.lemmas.Option.{none-some, same_Some}
 use Rattle.sgt_names.specs.declared.entry.Entry.{Entry as AnEntry}
 use Rattle.sgt_service_settle.specs.private.Words.{IsItemAt}
 use Rattle.sgt_service_settle.specs.private.Deeds.{AreTracks}
-use Rattle.sgt_service_settle.proofs.Lists.{read}
 use Rattle.sgt_service_settle.proofs.Tracking.{tracks_next, tracks_skip}
 use Rattle.sgt_service_settle.proofs.deeds.tracks_of.Goals as goal
 use Rattle.sgt_service_settle.proofs.deeds.tracks_of.Goals.{in-Some+in-Some-place_near+in_ok-add, in-Some+in_default-place_near, in_default}
+use Rattle.sgt_names.proofs.Lists.{element_at}
 
 pub index_mut-requires : goal.index_mut-requires
 index_mut-requires c =
@@ -20,7 +20,7 @@ add-requires c =
     let at = c.in-Some-place_near.at in
     let within = ((c.place_near.ensures at).0 c.in-Some-place_near.is).within in
     let low : at < length c.loop-place.tracks.items = omega (arith, within, c.loop-place.invariant.long) in
-    let here = read c.loop-place.tracks.items at c.index_mut.result.now low c.index_mut.ensures.value in
+    let here = element_at c.loop-place.tracks.items at c.index_mut.result.now low c.index_mut.ensures.value in
     let few = (c.loop-place.invariant.tracks.each at c.index_mut.result.now here).few in
     omega (arith, few, c.loop-place-test.true, c.well_formed)
 
@@ -31,7 +31,7 @@ loop-place-preserved c =
     let log = c.args.log.now in
     let n = c.loop-place.place in
     let e : AnEntry = c.index-log-place.result in
-    let here = read log n e c.loop-place-test.true c.index-log-place.is in
+    let here = element_at log n e c.loop-place-test.true c.index-log-place.is in
     let old = c.loop-place.tracks.items in
     let inv = c.loop-place.invariant in
     elim c.match-cut_at.branch [
@@ -43,7 +43,7 @@ loop-place-preserved c =
           let within = item.within in
           let before = w.index_mut.result.now in
           let after = w.add.new.track in
-          let was = read old at before (omega (arith, within, inv.long)) w.index_mut.ensures.value in
+          let was = element_at old at before (omega (arith, within, inv.long)) w.index_mut.ensures.value in
           record {
             long = rw w.tracks-is (length-set old at after ∙ inv.long);
             tracks = rw w.tracks-is (tracks_next commits items log n at cut.last e cut.item old (slice_set old at after) before after c.requires here k.0 k.1 item was refl w.in_ok-add.ensures.deeds w.in_ok-add.ensures.read w.in_ok-add.ensures.change inv.tracks);

@@ -1,8 +1,8 @@
 use Rattle.std.proofs.Common.{◌≡◌, ◌<◌, List, sym, subst, arith, length, Some, Contains}
 use Rattle.std.specs.Prelude.{◌↔◌, slice_get}
 use Rattle.sgt_service_settle.specs.declared.handed.Handed.{Handed as AHanded}
-use Rattle.sgt_service_settle.proofs.Lists.{read}
 use Rattle.sgt_service_settle.proofs.Siting.{sited_row}
+use Rattle.sgt_names.proofs.Lists.{element_at}
 use Rattle.sgt_service_settle.proofs.index.edges_at.Goals as goal
 
 pub returns : goal.returns
@@ -11,6 +11,6 @@ returns c h =
     let rows = index.sited.items in
     let place : c.number-place.result ≡ c.args.site = c.number-place.ensures.is in
     let low : c.number-place.result < length rows = omega (arith, place, c.requires.there) in
-    let here = read rows c.number-place.result c.index.result.now low c.index.ensures in
+    let here = element_at rows c.number-place.result c.index.result.now low c.index.ensures in
     let row = sited_row index.handed.items rows c.args.site c.index.result.now c.requires.paired.sited c.requires.there (subst (λ k. slice_get rows k ≡ Some c.index.result.now) place here) h in
     subst (λ (hs : List AHanded). Contains hs h ↔ (Contains index.handed.items h × (h.edge.label.site ≡ c.args.site))) (sym c.as_slice.ensures.value) row

@@ -5,14 +5,14 @@ use Rattle.std.proofs.lemmas.Option.{same_Some, slice_get_within}
 use Rattle.sgt_service_settle.specs.declared.deeds.Track.{Track as ATrack}
 use Rattle.sgt_service_settle.specs.declared.link.Link.{Link as ALink}
 use Rattle.sgt_service_settle.specs.private.Joined.{AreDeedsCarried}
-use Rattle.sgt_service_settle.proofs.Lists.{read}
+use Rattle.sgt_names.proofs.Lists.{element_at}
 use Rattle.sgt_service_settle.proofs.joined.are_joined.Goals as goal
 
 pub is_item_joined-requires-clause-sound : goal.is_item_joined-requires-clause-sound
 is_item_joined-requires-clause-sound c d has =
     let tracks = c.args.tracks.now in
     let track = c.index-tracks-at.result in
-    let here = read tracks c.loop-at.at track c.loop-at-test.true c.index-tracks-at.is in
+    let here = element_at tracks c.loop-at.at track c.loop-at-test.true c.index-tracks-at.is in
     c.requires.sound c.loop-at.at track d here (subst (λ xs. Contains xs d) (c.as_slice-deeds.ensures.value ∙ ap (λ (t : ATrack). t.deeds.items) (sym c.index-tracks-at.is)) has)
 
 pub loop-at-preserved : goal.loop-at-preserved
@@ -28,8 +28,8 @@ loop-at-preserved c = record {
         let own : Vec ALink Global = c.index-rows-at.result in
         let same : at ≡ k = omega (arith, late, low) in
         let in_rows : at < length rows = omega (arith, c.loop-at-test.true, c.requires.long) in
-        let is_t : track ≡ t = same_Some track t (sym (read tracks at track c.loop-at-test.true c.index-tracks-at.is) ∙ (ap (slice_get tracks) same ∙ at_t)) in
-        let is_row : own ≡ row = same_Some own row (sym (read rows at own in_rows c.index-rows-at.is) ∙ (ap (slice_get rows) same ∙ at_row)) in
+        let is_t : track ≡ t = same_Some track t (sym (element_at tracks at track c.loop-at-test.true c.index-tracks-at.is) ∙ (ap (slice_get tracks) same ∙ at_t)) in
+        let is_row : own ≡ row = same_Some own row (sym (element_at rows at own in_rows c.index-rows-at.is) ∙ (ap (slice_get rows) same ∙ at_row)) in
         let known = c.in_ok-joined.ensures.carried c.if-not-joined.false in
         let in_row : AreDeedsCarried own.items c.as_slice-deeds.result.now = subst (λ ls. AreDeedsCarried ls c.as_slice-deeds.result.now) c.as_slice.ensures.value known in
         let both : AreDeedsCarried own.items track.deeds.items = subst (λ xs. AreDeedsCarried own.items xs) (c.as_slice-deeds.ensures.value ∙ ap (λ (u : ATrack). u.deeds.items) (sym c.index-tracks-at.is)) in_row in

@@ -3,13 +3,14 @@ use Rattle.std.proofs.lemmas.Bool.{true≢false}
 use Rattle.std.proofs.lemmas.Option.{slice_get_within}
 use Rattle.sgt_names.specs.Entry.{Clash}
 use Rattle.sgt_service_settle.specs.declared.acts.Act.{Act as AnAct}
-use Rattle.sgt_service_settle.proofs.Lists.{read, before_or_here}
+use Rattle.sgt_service_settle.proofs.Lists.{before_or_here}
+use Rattle.sgt_names.proofs.Lists.{element_at}
 use Rattle.sgt_service_settle.proofs.logged.are_between.Goals as goal
 
 pub returns-then-is_followed : goal.returns-then-is_followed
 returns-then-is_followed c =
     let k = c.is_followed.ensures.0 c.if-is_followed.true in
-    let here = read c.args.from.now c.loop-first.first-index c.first-item.result c.loop-first-test.true c.first-item.is in (
+    let here = element_at c.args.from.now c.loop-first.first-index c.first-item.result c.loop-first-test.true c.first-item.is in (
       λ told. record { n = c.loop-first.first-index; m = k.0; a = c.first-item.result; b = k.1; first = here; second = k.2; before = k.3; clash = k.4 },
       λ x. refl,
     )
@@ -17,7 +18,7 @@ returns-then-is_followed c =
 pub loop-first-preserved : goal.loop-first-preserved
 loop-first-preserved c n m a b low first second lt clash =
     let seen : AnAct = c.first-item.result in
-    let here = read c.args.from.now c.loop-first.first-index seen c.loop-first-test.true c.first-item.is in
+    let here = element_at c.args.from.now c.loop-first.first-index seen c.loop-first-test.true c.first-item.is in
     elim (before_or_here c.args.from.now c.loop-first.first-index n seen a here first low) [
       | inl early ↦ c.loop-first.invariant n m a b early first second lt clash
       | inr last ↦

@@ -3,10 +3,10 @@ use Rattle.std.proofs.lemmas.Bool.{true≢false, eqb-true, eqb-false}
 use Rattle.std.proofs.lemmas.Option.{none-some}
 use Rattle.std.specs.List.Sorted.{IsNonDecreasingBy}
 use Rattle.sgt_service_settle.specs.private.Acts.{actor}
-use Rattle.sgt_service_settle.proofs.Lists.{read}
-use Rattle.sgt_service_settle.proofs.Carrying.{clash_items}
 use Rattle.sgt_service_settle.proofs.Placing.{known_place}
 use Rattle.sgt_service_settle.proofs.Acting.{between_conflicts}
+use Rattle.sgt_names.proofs.Lists.{element_at}
+use Rattle.sgt_notation.proofs.Texts.{clash_items}
 use Rattle.sgt_service_settle.proofs.logged.is_between.Goals as goal
 
 pub returns-then-eq-clause-told : goal.returns-then-eq-clause-told
@@ -36,25 +36,25 @@ index_mut-requires c = let within = ((c.place_near.ensures c.in-Some.at).0 c.in-
 pub start_of-first-requires : goal.start_of-first-requires
 start_of-first-requires c =
     let within = ((c.place_near.ensures c.in-Some.at).0 c.in-Some.is).within in
-    let here = read c.args.acts.now c.in-Some.at c.index-acts-at.result (omega (arith, within, c.requires.long)) c.index-acts-at.is in
+    let here = element_at c.args.acts.now c.in-Some.at c.index-acts-at.result (omega (arith, within, c.requires.long)) c.index-acts-at.is in
     subst (IsNonDecreasingBy actor) (sym c.as_slice-row.ensures.value) (c.requires.sorted c.in-Some.at c.index-acts-at.result here)
 
 pub start_of-second-requires : goal.start_of-second-requires
 start_of-second-requires c =
     let within = ((c.place_near.ensures c.in-Some.at).0 c.in-Some.is).within in
-    let here = read c.args.acts.now c.in-Some.at c.index-acts-at.result (omega (arith, within, c.requires.long)) c.index-acts-at.is in
+    let here = element_at c.args.acts.now c.in-Some.at c.index-acts-at.result (omega (arith, within, c.requires.long)) c.index-acts-at.is in
     subst (IsNonDecreasingBy actor) (sym c.as_slice-row.ensures.value) (c.requires.sorted c.in-Some.at c.index-acts-at.result here)
 
 pub acts_from-requires-clause-sorted : goal.acts_from-requires-clause-sorted
 acts_from-requires-clause-sorted c =
     let within = ((c.place_near.ensures c.in-Some.at).0 c.in-Some.is).within in
-    let here = read c.args.acts.now c.in-Some.at c.index-acts-at.result (omega (arith, within, c.requires.long)) c.index-acts-at.is in
+    let here = element_at c.args.acts.now c.in-Some.at c.index-acts-at.result (omega (arith, within, c.requires.long)) c.index-acts-at.is in
     subst (IsNonDecreasingBy actor) (sym c.as_slice-row.ensures.value) (c.requires.sorted c.in-Some.at c.index-acts-at.result here)
 
 pub acts_from-requires-2-clause-sorted : goal.acts_from-requires-2-clause-sorted
 acts_from-requires-2-clause-sorted c =
     let within = ((c.place_near.ensures c.in-Some.at).0 c.in-Some.is).within in
-    let here = read c.args.acts.now c.in-Some.at c.index-acts-at.result (omega (arith, within, c.requires.long)) c.index-acts-at.is in
+    let here = element_at c.args.acts.now c.in-Some.at c.index-acts-at.result (omega (arith, within, c.requires.long)) c.index-acts-at.is in
     subst (IsNonDecreasingBy actor) (sym c.as_slice-row.ensures.value) (c.requires.sorted c.in-Some.at c.index-acts-at.result here)
 
 pub returns-clause-told : goal.returns-clause-told
@@ -62,7 +62,7 @@ returns-clause-told c log known are =
     let item = (c.place_near.ensures c.in-Some.at).0 c.in-Some.is in
     let within = item.within in
     let row = c.index-acts-at.result in
-    let here = read c.args.acts.now c.in-Some.at row (omega (arith, within, c.requires.long)) c.index-acts-at.is in
+    let here = element_at c.args.acts.now c.in-Some.at row (omega (arith, within, c.requires.long)) c.index-acts-at.is in
     let apart : c.args.from ≢ c.args.to = eqb-false _ _ (sym c.eq.ensures ∙ c.if-eq.false) in
     let firsts = rw c.as_slice-row.ensures.value at c.acts_from.ensures in
     let seconds = rw c.as_slice-row.ensures.value at c.acts_from-2.ensures in

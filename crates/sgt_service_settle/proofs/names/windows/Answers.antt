@@ -3,11 +3,11 @@ use Rattle.std.proofs.lemmas.List.{take_all}
 use Rattle.sgt_certifier.specs.History.{Replays}
 use Rattle.sgt_service_settle.specs.private.Index.{AreNamed}
 use Rattle.sgt_service_settle.specs.private.Words.{Pushed}
-use Rattle.sgt_service_settle.proofs.Lists.{read}
 use Rattle.sgt_service_settle.proofs.Rowing.{written_back}
 use Rattle.sgt_service_settle.proofs.Naming.{IsNamingOf, naming_begun, naming_closed, naming_other, naming_opens}
 use Rattle.sgt_service_settle.proofs.names.windows.Goals as goal
 use Rattle.sgt_service_settle.proofs.names.windows.Goals.{in-Begin+in_ok-push_at-in-Begin, in-Close+in_ok-push-in-Close, in_default}
+use Rattle.sgt_names.proofs.Lists.{element_at}
 
 pub loop-call-init : goal.loop-call-init
 loop-call-init c =
@@ -18,7 +18,7 @@ pub loop-call-preserved : goal.loop-call-preserved
 loop-call-preserved c =
     let history = c.history-history.result.now in
     let n = c.loop-call.call-index in
-    let here = read history n c.call-item.result c.loop-call-test.true c.call-item.is in
+    let here = element_at history n c.call-item.result c.loop-call-test.true c.call-item.is in
     elim c.match-call.branch [
       | in-Begin+in_ok-push_at-in-Begin w ↦
           let rows = w.push_at.new.rows in

@@ -2,11 +2,11 @@ use Rattle.std.proofs.Common.{◌≡◌, ◌+◌, ◌∙◌, ap, sym, length, ta
 use Rattle.std.proofs.lemmas.List.{take_all}
 use Rattle.sgt_service_settle.specs.declared.handed.Handed.{Handed as AHanded}
 use Rattle.sgt_service_settle.specs.private.Words.{Pushed, AreBySite}
-use Rattle.sgt_service_settle.proofs.Lists.{read}
 use Rattle.sgt_service_settle.proofs.Rowing.{written_back}
 use Rattle.sgt_service_settle.proofs.Siting.{sited_none, sited_hit, sited_miss}
 use Rattle.sgt_service_settle.proofs.rows.by_site.Goals as goal
 use Rattle.sgt_service_settle.proofs.rows.by_site.Goals.{then-site-sites+in_ok-push_at, else-site-sites}
+use Rattle.sgt_names.proofs.Lists.{element_at}
 
 pub loop-one-init : goal.loop-one-init
 loop-one-init c = record { long = c.in_ok-rows.ensures.long; sited = sited_none c.args.handed.now c.in_ok-rows.rows.items c.in_ok-rows.ensures.none }
@@ -19,7 +19,7 @@ loop-one-preserved c =
     let handed = c.args.handed.now in
     let n = c.loop-one.one-index in
     let one : AHanded = c.one-item.result in
-    let here = read handed n one c.loop-one-test.true c.one-item.is in
+    let here = element_at handed n one c.loop-one-test.true c.one-item.is in
     let inv = c.loop-one.invariant in
     elim c.if-site-sites.branch [
       | then-site-sites+in_ok-push_at w ↦

@@ -2,8 +2,8 @@ use Rattle.std.proofs.Common.{◌≡◌, ◌+◌, ◌∙◌, ◌<◌, ap, sym, l
 use Rattle.std.proofs.lemmas.List.{take_all}
 use Rattle.sgt_service_settle.specs.declared.link.Link.{Link as Member}
 use Rattle.sgt_service_settle.specs.private.Search.{Hold, LinksBy}
-use Rattle.sgt_service_settle.proofs.Lists.{read}
 use Rattle.sgt_service_settle.proofs.Rowing.{adds_row, leaving_next, leaving_none, written_back}
+use Rattle.sgt_names.proofs.Lists.{element_at}
 use Rattle.sgt_service_settle.proofs.rows.leaving.Goals as goal
 
 pub loop-link-init : goal.loop-link-init
@@ -12,7 +12,7 @@ loop-link-init c = record { long = c.in_ok-rows.ensures.long; hold = leaving_non
 pub push_at-requires : goal.push_at-requires
 push_at-requires c =
     let e : Member = c.link-item.result in
-    let at = read c.args.links.now c.loop-link.link-index c.link-item.result c.loop-link-test.true c.link-item.is in
+    let at = element_at c.args.links.now c.loop-link.link-index c.link-item.result c.loop-link-test.true c.link-item.is in
     let ends = c.requires c.loop-link.link-index e at in
     let low : e.from < c.args.all = ends.0 in
     let long : length c.as_mut_slice.result.now ≡ c.args.all = ap length c.as_mut_slice.ensures.value ∙ c.loop-link.invariant.long in
@@ -21,7 +21,7 @@ push_at-requires c =
 pub loop-link-preserved : goal.loop-link-preserved
 loop-link-preserved c =
     let e : Member = c.link-item.result in
-    let at = read c.args.links.now c.loop-link.link-index c.link-item.result c.loop-link-test.true c.link-item.is in
+    let at = element_at c.args.links.now c.loop-link.link-index c.link-item.result c.loop-link-test.true c.link-item.is in
     let long : length c.as_mut_slice.result.now ≡ c.args.all = ap length c.as_mut_slice.ensures.value ∙ c.loop-link.invariant.long in
     let same : length c.push_at.new.rows ≡ length c.as_mut_slice.result.now = c.push_at.auto.rows in
     let fits : c.loop-link.rows.len ≡ length c.push_at.new.rows = omega (arith, c.loop-link.rows.ok.0, c.loop-link.invariant.long, same, long) in

@@ -3,10 +3,10 @@ use Rattle.std.proofs.lemmas.List.{append-nil, take_all}
 use Rattle.std.proofs.lemmas.Option.{slice_get-get_or}
 use Rattle.sgt_workers.specs.declared.ticket.Ticket.{Ticket as ATicket}
 use Rattle.sgt_service_settle.specs.private.Tickets.{AreTallies}
-use Rattle.sgt_service_settle.proofs.Lists.{read, take_on}
 use Rattle.sgt_service_settle.proofs.Tallying.{tallies_hit, tallies_miss}
 use Rattle.sgt_service_settle.proofs.tallies.add_tickets.Goals as goal
 use Rattle.sgt_service_settle.proofs.tallies.add_tickets.Goals.{then-number-tallies, else-number-tallies}
+use Rattle.sgt_names.proofs.Lists.{element_at, take_next}
 
 pub loop-ticket-init : goal.loop-ticket-init
 loop-ticket-init c seen old = subst (AreTallies c.args.tallies.now) (sym (append-nil seen)) old
@@ -16,8 +16,8 @@ loop-ticket-preserved c seen old =
     let tickets = c.args.tickets.now in
     let n = c.loop-ticket.ticket-index in
     let t : ATicket = c.ticket-item.result in
-    let here = read tickets n t c.loop-ticket-test.true c.ticket-item.is in
-    let longer = ap (λ xs. seen ++ xs) (take_on tickets n t here) ∙ sym (append_assoc seen (take n tickets) (t ∷ [])) in
+    let here = element_at tickets n t c.loop-ticket-test.true c.ticket-item.is in
+    let longer = ap (λ xs. seen ++ xs) (take_next tickets n t here) ∙ sym (append_assoc seen (take n tickets) (t ∷ [])) in
     let was = c.loop-ticket.invariant seen old in
     elim c.if-number-tallies.branch [
       | then-number-tallies w ↦

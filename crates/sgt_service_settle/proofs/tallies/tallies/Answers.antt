@@ -2,16 +2,16 @@ use Rattle.std.proofs.Common.{◌≡◌, ◌+◌, sym, ap, subst, take, arith, l
 use Rattle.std.proofs.lemmas.List.{take_all}
 use Rattle.sgt_service_settle.specs.Settled.{tickets_of}
 use Rattle.sgt_service_settle.specs.private.Tickets.{AreTallies}
-use Rattle.sgt_service_settle.proofs.Lists.{read}
 use Rattle.sgt_service_settle.proofs.Rowing.{written_back}
 use Rattle.sgt_service_settle.proofs.Tallying.{tickets_on}
+use Rattle.sgt_names.proofs.Lists.{element_at}
 use Rattle.sgt_service_settle.proofs.tallies.tallies.Goals as goal
 
 pub loop-done-preserved : goal.loop-done-preserved
 loop-done-preserved c =
     let dones = c.args.dones.now in
     let n = c.loop-done.done-index in
-    let here = read dones n c.done-item.result c.loop-done-test.true c.done-item.is in
+    let here = element_at dones n c.done-item.result c.loop-done-test.true c.done-item.is in
     let old = c.loop-done.tallies in
     let new = c.add_tickets.new.tallies in
     let same : length new ≡ length c.as_mut_slice.result.now = c.add_tickets.auto.tallies in

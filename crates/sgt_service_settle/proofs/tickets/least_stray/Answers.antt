@@ -4,18 +4,18 @@ use Rattle.std.proofs.lemmas.List.{take_all}
 use Rattle.sgt_workers.specs.declared.ticket.Ticket.{Ticket as ATicket}
 use Rattle.sgt_service_settle.specs.private.Words.{IsLeastOf, lesser}
 use Rattle.sgt_service_settle.specs.private.Tickets.{IsStray}
-use Rattle.sgt_service_settle.proofs.Lists.{read, take_on}
 use Rattle.sgt_service_settle.proofs.Leasts.{least_hit, least_miss}
 use Rattle.sgt_service_settle.proofs.tickets.least_stray.Goals as goal
 use Rattle.sgt_service_settle.proofs.tickets.least_stray.Goals.{then-not-is_good, else-not-is_good}
+use Rattle.sgt_names.proofs.Lists.{element_at, take_next}
 
 pub loop-ticket-preserved : goal.loop-ticket-preserved
 loop-ticket-preserved c seen old =
     let tickets = c.args.tickets.now in
     let n = c.loop-ticket.ticket-index in
     let one : ATicket = c.ticket-item.result in
-    let here = read tickets n one c.loop-ticket-test.true c.ticket-item.is in
-    let longer : seen ++ take (n + 1) tickets ≡ (seen ++ take n tickets) ++ one ∷ [] = ap (λ xs. seen ++ xs) (take_on tickets n one here) ∙ sym (append_assoc seen (take n tickets) (one ∷ [])) in
+    let here = element_at tickets n one c.loop-ticket-test.true c.ticket-item.is in
+    let longer : seen ++ take (n + 1) tickets ≡ (seen ++ take n tickets) ++ one ∷ [] = ap (λ xs. seen ++ xs) (take_next tickets n one here) ∙ sym (append_assoc seen (take n tickets) (one ∷ [])) in
     elim c.if-not-is_good.branch [
       | then-not-is_good w ↦
           rw w.least-is (rw w.lesser.ensures (subst (λ xs. IsLeastOf (λ (t : ATicket). t.number) (IsStray c.args.history.now) xs (Some (lesser c.loop-ticket.least one.number))) (sym longer)

@@ -5,12 +5,12 @@ use Rattle.sgt_names.specs.declared.entry.Label.{Label as ALabel}
 use Rattle.sgt_service_settle.specs.declared.handed.Handed.{Handed as AHanded}
 use Rattle.sgt_service_settle.specs.declared.link.Link.{Link as ALink}
 use Rattle.sgt_service_settle.specs.private.Joined.{AreItemLinks}
-use Rattle.sgt_service_settle.proofs.Lists.{read}
 use Rattle.sgt_service_settle.proofs.Rowing.{written_back}
 use Rattle.sgt_service_settle.proofs.Joining.{item_links_next}
 use Rattle.sgt_service_settle.proofs.Tying.{AreTiedOf, tied_none, tied_hit, tied_miss, tied_all}
 use Rattle.sgt_service_settle.proofs.ties.ties_at.Goals as goal
 use Rattle.sgt_service_settle.proofs.ties.ties_at.Goals.{in-Some, in-None+in_ok-push-in-None}
+use Rattle.sgt_names.proofs.Lists.{element_at}
 
 pub loop-one-init : goal.loop-one-init
 loop-one-init c = record {
@@ -26,7 +26,7 @@ loop-one-preserved c =
     let edges = c.edges_at-edges.result.now in
     let n = c.loop-one.one-index in
     let one : AHanded = c.one-item.result in
-    let here = read edges n one c.loop-one-test.true c.one-item.is in
+    let here = element_at edges n one c.loop-one-test.true c.one-item.is in
     let known = (c.edges_at-edges.ensures one).0 (Contains-from_at edges n one here) in
     let inv = c.loop-one.invariant in
     let old = c.loop-one.rows in

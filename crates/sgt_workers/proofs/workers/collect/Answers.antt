@@ -11,7 +11,7 @@ use Rattle.sgt_workers.specs.Queue.{IsEnded}
 use Rattle.sgt_workers.specs.declared.ticket.Done.{Done}
 use Rattle.sgt_workers.specs.declared.queue.Hold.{Hold}
 use Rattle.sgt_workers.specs.declared.worker.Report.{Report}
-use Rattle.sgt_workers.proofs.Moves.{or_right}
+use Rattle.sgt_names.proofs.Elements.{or_right}
 use Rattle.sgt_workers.proofs.workers.collect.Goals as goal
 
 pub join-requires : goal.join-requires

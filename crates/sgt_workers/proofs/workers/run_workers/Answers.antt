@@ -1,7 +1,8 @@
 use Rattle.std.proofs.Common.{◌∙◌, IfOk, sym, subst, arith, slice_index_or}
 use Rattle.sgt_workers.specs.Answers.{IsReport}
 use Rattle.sgt_workers.specs.declared.worker.Kit.{Kit}
-use Rattle.sgt_workers.proofs.Lists.{zip_by, if_ok_both}
+use Rattle.sgt_workers.proofs.Lists.{zip_by}
+use Rattle.sgt_names.proofs.Elements.{if_ok_both}
 use Rattle.sgt_workers.proofs.workers.run_workers.Goals as goal
 
 pub returns-clause-keeps : goal.returns-clause-keeps

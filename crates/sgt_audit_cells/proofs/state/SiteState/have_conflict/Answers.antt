@@ -3,17 +3,17 @@ use Rattle.std.proofs.lemmas.Bool.{false≢true}
 use Rattle.sgt_names.specs.Log.{names}
 use Rattle.sgt_audit_cells.specs.Tracks.{IsNumberOf}
 use Rattle.sgt_audit_cells.proofs.Clashing.{clash-decides, conflict-listed, undecided-first, undecided-second}
-use Rattle.sgt_audit_cells.proofs.Entering.{not-some}
 use Rattle.sgt_audit_cells.proofs.Tracking.{record-of}
+use Rattle.sgt_names.proofs.Elements.{none-unless_some}
 use Rattle.sgt_audit_cells.proofs.state.SiteState.have_conflict.Goals as goal
 
 pub returns-in_default : goal.returns-in_default
 returns-in_default c ds items entries a b t from to apart =
-    (λ h. absurd (false≢true h), λ k. absurd (undecided-first ds items entries c.args.self.now t c.args.kind c.args.item.now a b (subst (IsNumberOf ds a) (not-some c.args.from c.in_default.not-Some) from) k))
+    (λ h. absurd (false≢true h), λ k. absurd (undecided-first ds items entries c.args.self.now t c.args.kind c.args.item.now a b (subst (IsNumberOf ds a) (none-unless_some c.args.from c.in_default.not-Some) from) k))
 
 pub returns-in_default-to : goal.returns-in_default-to
 returns-in_default-to c ds items entries a b t from to apart =
-    (λ h. absurd (false≢true h), λ k. absurd (undecided-second ds items entries c.args.self.now t c.args.kind c.args.item.now a b (subst (IsNumberOf ds b) (not-some c.args.to c.in_default-to.not-Some) to) k))
+    (λ h. absurd (false≢true h), λ k. absurd (undecided-second ds items entries c.args.self.now t c.args.kind c.args.item.now a b (subst (IsNumberOf ds b) (none-unless_some c.args.to c.in_default-to.not-Some) to) k))
 
 pub returns-in-Some-place_of : goal.returns-in-Some-place_of
 returns-in-Some-place_of c ds items entries a b t from to apart =

@@ -2,12 +2,12 @@ use Rattle.std.proofs.Common.{refl, subst}
 use Rattle.sgt_names.specs.Entry.{tx_of}
 use Rattle.sgt_audit_cells.specs.Tracks.{IsNumberOf}
 use Rattle.sgt_audit_cells.proofs.Tracking.{record-of, undecided-new}
-use Rattle.sgt_audit_cells.proofs.Entering.{not-some}
+use Rattle.sgt_names.proofs.Elements.{none-unless_some}
 use Rattle.sgt_audit_cells.proofs.state.SiteState.is_first.Goals as goal
 
 pub returns-in_default : goal.returns-in_default
 returns-in_default c ds items entries x t at on number =
-    let none = subst (IsNumberOf ds (tx_of c.args.entry.now)) (not-some c.args.number c.in_default.not-Some) number in
+    let none = subst (IsNumberOf ds (tx_of c.args.entry.now)) (none-unless_some c.args.number c.in_default.not-Some) number in
     (λ h. undecided-new ds items entries c.args.self.now t c.args.entry.now none, λ all. refl)
 
 pub returns : goal.returns

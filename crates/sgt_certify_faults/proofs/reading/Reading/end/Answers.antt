@@ -5,10 +5,11 @@ use Rattle.std.proofs.lemmas.Option.{none-some}
 use Rattle.sgt_cert.specs.Text.{AreSections}
 use Rattle.sgt_audit.specs.Reading.{lines_read}
 use Rattle.sgt_audit.proofs.Places.{no-open, open-log}
-use Rattle.sgt_audit_decisions.proofs.Loops.{empty, is_some-none, is_some-value, not-empty, refuted}
+use Rattle.sgt_audit_decisions.proofs.Loops.{empty, not-empty, refuted}
 use Rattle.sgt_certify_faults.proofs.Broken.{end-broken, own-sections, some-sections}
 use Rattle.sgt_certify_faults.proofs.reading.Reading.end.Goals as goal
 use Rattle.sgt_certify_faults.proofs.reading.Reading.end.Goals.{else-is_empty-2-via-then-is_empty-2+then-is_none+else-self-gt0, else-is_empty-2-via-then-is_empty-2+else-is_none, else-is_empty-2-via-else-is_empty-2}
+use Rattle.sgt_names.proofs.Elements.{is_some-none, is_some-some}
 
 pub returns-then-self-gt0-clause-none : goal.returns-then-self-gt0-clause-none
 returns-then-self-gt0-clause-none c b sites begun place =
@@ -27,7 +28,7 @@ returns-clause-some c b second sites begun place =
     elim c.else-is_empty-2.branch [
       | else-is_empty-2-via-then-is_empty-2+then-is_none+else-self-gt0 w ↦ absurd (omega (arith, w.if-self-gt0.false, s.1, place.whole))
       | else-is_empty-2-via-then-is_empty-2+else-is_none w ↦
-          let o = is_some-value p.current (w.is_none.ensures ∙ ap not w.if-is_none.false) in
+          let o = is_some-some p.current (w.is_none.ensures ∙ ap not w.if-is_none.false) in
           let log = open-log b p begun place o.0 o.1 in
           none-some log.0 (sym s.0 ∙ log.1)
       | else-is_empty-2-via-else-is_empty-2 w ↦

@@ -1,7 +1,6 @@
 use Rattle.std.proofs.Common.{List, Option, Some, length, refl, sym, ◌∙◌, arith, subst, ap}
 use Rattle.std.specs.Prelude.{slice_get, true}
 use Rattle.std.proofs.lemmas.Option.{slice_get_within}
-use Rattle.sgt_order.proofs.Lists.{get_set_same}
 use Rattle.sgt_notation.specs.declared.event.Event.TheVariants.{Read}
 use Rattle.sgt_core_model.specs.declared.reply.Reply.{Reply}
 use Rattle.sgt_core_machine.specs.declared.machine.Running.{Running}
@@ -13,6 +12,7 @@ use Rattle.sgt_core_machine.proofs.Refusing.{refused_goes}
 use Rattle.sgt_core_machine.proofs.Finding.{err_of, ok_by, item_inside}
 use Rattle.sgt_core_machine.proofs.Reading.{found_goes, no_room_goes, unread_goes, unseen_there, read_goes, must_find}
 use Rattle.sgt_core_machine.proofs.Unrefused.{may_read}
+use Rattle.sgt_names.proofs.Elements.{get-slice_set_same}
 use Rattle.sgt_core_machine.proofs.machine.Machine.read.Goals as goal
 
 pub returns-in-Err : goal.returns-in-Err
@@ -67,14 +67,14 @@ keep_at-requires c =
     let room : HasRoomAt m.table c.room_at.new.table.items c.in-Ok.slot = ok_by c.room_at.result (sym c.is_err.ensures.value ∙ c.if-is_err.false) c.room_at.ensures.ok in
     let q : Running = record room.before { draft = record { touched = room.before.draft.touched; has_room = true } } in (
       q,
-      ap (λ ts. slice_get ts c.in-Ok.slot) room.is ∙ get_set_same m.table c.in-Ok.slot (Some q) (slice_get_within m.table c.in-Ok.slot _ room.was),
+      ap (λ ts. slice_get ts c.in-Ok.slot) room.is ∙ get-slice_set_same m.table c.in-Ok.slot (Some q) (slice_get_within m.table c.in-Ok.slot _ room.was),
       refl,
       unseen_there m s.0 s.1 c.args.tx _ c.args.site c.args.item h (c.in-Ok.ensures.closed s.0 s.1) (c.in-Ok.ensures.known s.0 s.1) none c.room_at.new.table.items room,
     )
 
 pub look_at-requires-2 : goal.look_at-requires-2
 look_at-requires-2 c =
-    let lt = slice_get_within c.keep_at.new.table.items c.in-Ok.slot _ (ap (λ ts. slice_get ts c.in-Ok.slot) c.keep_at.ensures.is ∙ get_set_same c.room_at.new.table.items c.in-Ok.slot (Some c.keep_at.ensures.after) (slice_get_within c.room_at.new.table.items c.in-Ok.slot _ c.keep_at.ensures.was)) in
+    let lt = slice_get_within c.keep_at.new.table.items c.in-Ok.slot _ (ap (λ ts. slice_get ts c.in-Ok.slot) c.keep_at.ensures.is ∙ get-slice_set_same c.room_at.new.table.items c.in-Ok.slot (Some c.keep_at.ensures.after) (slice_get_within c.room_at.new.table.items c.in-Ok.slot _ c.keep_at.ensures.was)) in
     omega (arith, lt, ap length c.as_slice-2.ensures.value)
 
 pub returns : goal.returns
@@ -84,7 +84,7 @@ returns c = λ d s.
     let at = ap (λ t. slice_get t c.in-Ok.slot) c.as_slice.ensures.value ∙ h.1.1 in
     let none = sym c.in_default.is ∙ c.look_at.ensures _ at in
     let room = ok_by c.room_at.result (sym c.is_err.ensures.value ∙ c.if-is_err.false) c.room_at.ensures.ok in
-    let after = ap (λ ts. slice_get ts c.in-Ok.slot) c.keep_at.ensures.is ∙ get_set_same c.room_at.new.table.items c.in-Ok.slot (Some c.keep_at.ensures.after) (slice_get_within c.room_at.new.table.items c.in-Ok.slot _ c.keep_at.ensures.was) in
+    let after = ap (λ ts. slice_get ts c.in-Ok.slot) c.keep_at.ensures.is ∙ get-slice_set_same c.room_at.new.table.items c.in-Ok.slot (Some c.keep_at.ensures.after) (slice_get_within c.room_at.new.table.items c.in-Ok.slot _ c.keep_at.ensures.was) in
     let at_last = ap (λ t. slice_get t c.in-Ok.slot) c.as_slice-2.ensures.value ∙ after in
     read_goes m d s c.args.tx _ c.args.site c.args.item h (c.in-Ok.ensures.closed d s) (c.in-Ok.ensures.known d s) none c.room_at.new.table.items room c.in-Ok-read_at.seen c.read_at.new.places.items c.in-Ok-read_at.ensures.ok c.keep_at.new.table.items c.keep_at.ensures
     c.in-Some-look_at.value (sym c.in-Some-look_at.is ∙ c.look_at-2.ensures _ at_last)
@@ -98,7 +98,7 @@ unreachable-requires-in-None c =
     let at = ap (λ t. slice_get t c.in-Ok.slot) c.as_slice.ensures.value ∙ h.1.1 in
     let none = sym c.in_default.is ∙ c.look_at.ensures _ at in
     let room = ok_by c.room_at.result (sym c.is_err.ensures.value ∙ c.if-is_err.false) c.room_at.ensures.ok in
-    let after = ap (λ ts. slice_get ts c.in-Ok.slot) c.keep_at.ensures.is ∙ get_set_same c.room_at.new.table.items c.in-Ok.slot (Some c.keep_at.ensures.after) (slice_get_within c.room_at.new.table.items c.in-Ok.slot _ c.keep_at.ensures.was) in
+    let after = ap (λ ts. slice_get ts c.in-Ok.slot) c.keep_at.ensures.is ∙ get-slice_set_same c.room_at.new.table.items c.in-Ok.slot (Some c.keep_at.ensures.after) (slice_get_within c.room_at.new.table.items c.in-Ok.slot _ c.keep_at.ensures.was) in
     let at_last = ap (λ t. slice_get t c.in-Ok.slot) c.as_slice-2.ensures.value ∙ after in
     (must_find m d s c.args.tx _ c.args.site c.args.item h (c.in-Ok.ensures.closed d s) (c.in-Ok.ensures.known d s) none c.room_at.new.table.items room c.in-Ok-read_at.seen c.read_at.new.places.items c.in-Ok-read_at.ensures.ok c.keep_at.new.table.items c.keep_at.ensures
     (sym c.in-None.is ∙ c.look_at-2.ensures _ at_last))

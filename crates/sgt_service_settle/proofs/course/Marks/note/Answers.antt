@@ -2,8 +2,8 @@ use Rattle.std.proofs.Common.{refl, arith}
 use Rattle.sgt_names.proofs.Places.{Contains-from_at}
 use Rattle.sgt_service_settle.specs.declared.link.Link.{Link as ALink}
 use Rattle.sgt_service_settle.specs.private.Joined.{IsHanded}
-use Rattle.sgt_service_settle.proofs.Lists.{read}
 use Rattle.sgt_service_settle.proofs.Joining.{under_far, noted_far, none_noted}
+use Rattle.sgt_names.proofs.Lists.{element_at}
 use Rattle.sgt_service_settle.proofs.course.Marks.note.Goals as goal
 
 pub loop-link-init : goal.loop-link-init
@@ -19,7 +19,7 @@ loop-link-preserved c =
     let d = c.args.deed.now in
     let old = c.loop-link.self in
     let link : ALink = c.link-item.result in
-    let has = Contains-from_at links c.loop-link.link-index link (read links c.loop-link.link-index link c.loop-link-test.true c.link-item.is) in
+    let has = Contains-from_at links c.loop-link.link-index link (element_at links c.loop-link.link-index link c.loop-link-test.true c.link-item.is) in
     let inv = c.loop-link.invariant in
     let early = c.if-link-deed.false in
     record {
