@@ -1,5 +1,4 @@
 pub mod Found
-pub mod Keys
 pub mod Loops
 pub mod Grouping
 pub mod MetRanks

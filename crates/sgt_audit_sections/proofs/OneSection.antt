@@ -67,9 +67,6 @@ cut-rest rest l n front = sym (take-append-drop n rest) ∙ ap (λ (t : List ℕ
 
 -- ---- a line that is too long
 
-within-front : (l more bytes : List ℕ) (limit : ℕ) → bytes ≡ l ++ 10 ∷ more → HasNoLf (take (limit + 1) bytes) → length l < limit + 1 → ⊥
-within-front l more bytes limit is front lt = lf-within l more (limit + 1) lt (recursion_from_All (λ b. b ≢ 10) (take (limit + 1) (l ++ 10 ∷ more)) (subst (λ (t : List ℕ). HasNoLf (take (limit + 1) t)) is front))
-
 -- what stands before it has no LF
 pub longer-front : (rest left : List ℕ) → HasNoLf rest → IsLongerThan max_line left → IsLongerThan max_line (rest ++ left)
 longer-front rest left one long = (

@@ -2,5 +2,4 @@ pub mod Decisions
 pub mod Cycles
 pub mod Stuck
 pub mod Inserted
-pub mod Operations
 pub mod Round

@@ -5,4 +5,3 @@ pub mod PlayedLines
 pub mod Running
 pub mod SearchedEvents
 pub mod Unreadable
-pub mod Writing

@@ -1,3 +1,2 @@
-pub mod Behind
 pub mod Giving
 pub mod Refusing

@@ -1,4 +1,3 @@
-pub mod Behind
 pub mod Owning
 pub mod Pairing
 pub mod Standing

@@ -1,4 +1,3 @@
-pub mod Setting
 pub mod Placing
 pub mod Deciders
 pub mod Rows

@@ -23,22 +23,6 @@ use Rattle.sgt_notation.proofs.Texts.{decidable-Less}
 
 -- ---- what stands in lines of sections
 
-abbrev of-holding : (Holding → Type 0) → SectionLine → Type 0
-of-holding Q (Initial h) = Q h
-of-holding Q _ = ⊥
-
-abbrev of-tx : (ℕ → Type 0) → SectionLine → Type 0
-of-tx Q (Logged (Commit tx)) = Q tx
-of-tx Q _ = ⊥
-
-    back : (l : SectionLine) → IsLine l → of-holding Q l → (h : Holding) × IsHolding h × Q h
-    back (Initial h) is q = (h, is, q)
-    back _ is q = absurd q
-
-    back : (l : SectionLine) → IsLine l → of-tx Q l → (tx : ℕ) × IsTx tx × Q tx
-    back (Logged (Commit tx)) is q = (tx, is, q)
-    back _ is q = absurd q
-
 pub searched-sites : IsSearched ℕ IsSite
 searched-sites = searched-below max_sites
 

@@ -1,5 +1,5 @@
 -- Small facts of lists, options, results and truth values that several crates need.
-use Rattle.std.proofs.Common.{length-append, arith, subst, sym, take, length, ◌∷◌, refl, Some, None, ap, map, Bool, true, false, ◌≢◌, inl, inr, suc, All, ◌-◌, ◌∙◌, zero, ◌<◌, set, ◌⊎◌, Contains, slice_get, IfNone, Result, Ok, Err, OnOk, ◌≤◌, append_assoc, slice_set, ℕ, ◌+◌, List, ◌++◌, Option, ◌≡◌}
+use Rattle.std.proofs.Common.{[], length-append, arith, subst, sym, take, length, ◌∷◌, refl, Some, None, ap, map, Bool, true, false, ◌≢◌, inl, inr, suc, All, ◌-◌, ◌∙◌, zero, ◌<◌, set, ◌⊎◌, Contains, slice_get, IfNone, Result, Ok, Err, OnOk, ◌≤◌, append_assoc, slice_set, ℕ, ◌+◌, List, ◌++◌, Option, ◌≡◌}
 use Rattle.std.proofs.lemmas.Bool.{cases_Bool, cases_order, true≢false, cases_eq, ne_eqb}
 use Rattle.std.proofs.lemmas.List.{take-append-le, append-nil}
 use Rattle.std.proofs.lemmas.Option.{same_Some, slice_get-map}

@@ -71,9 +71,6 @@ parts_rise ps rise all = AllPairs-from_recursion Rises (touched_in ps) (rise_by 
 is_equal : (m n : ℕ) → m ≡ n → (m == n) ≡ true
 is_equal m n same = grind (arith, nat_tests)
 
-equal_is : (m n : ℕ) → (m == n) ≡ true → m ≡ n
-equal_is m n same = grind (arith, nat_tests)
-
 less_apart : (m n : ℕ) → nat_cmp m n ≡ Less → m ≡ n → ⊥
 less_apart m n less same = absurd (let e : nat_cmp m m ≡ Less = subst (λ k. nat_cmp m k ≡ Less) (sym same) less in let t = tied_itself nat_cmp_total m in cc)
 

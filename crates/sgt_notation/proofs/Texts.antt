@@ -1,5 +1,5 @@
 -- Small facts of texts, entries and readers that several crates need.
-use Rattle.std.proofs.Common.{length-append, ◌-◌, IfSome, None, length, ◌≤◌, sym, refl, ◌≢◌, ◌≡◌, ℕ, ◌+◌, List, ◌∷◌, ◌++◌, ap, ◌∙◌, append_assoc, Option, subst, arith, inl, inr, Some}
+use Rattle.std.proofs.Common.{[], length-append, ◌-◌, IfSome, None, length, ◌≤◌, sym, refl, ◌≢◌, ◌≡◌, ℕ, ◌+◌, List, ◌∷◌, ◌++◌, ap, ◌∙◌, append_assoc, Option, subst, arith, inl, inr, Some}
 use Rattle.std.proofs.lemmas.List.{append-nil}
 use Rattle.std.proofs.lemmas.List.Elements.{recursion_from_All}
 use Rattle.std.specs.declared.cmp.Ordering.{Ordering}

@@ -1,7 +1,0 @@
--- Two texts written one behind the other.
-use Rattle.std.proofs.Common.{◌≡◌, ℕ, suc, ◌+◌, List, [], ◌∷◌, ◌++◌, length, take, Option, Some, None, sym, ap, ◌∙◌, subst, arith, append_assoc, length-append}
-use Rattle.std.proofs.lemmas.List.{take-append-le}
-use Rattle.std.specs.Prelude.{Result, Ok, Err, OnErr}
-use Rattle.std.specs.Io.KnownBytes.{Appends}
-use Rattle.sgt_names.specs.Device.{AppendsOrForgets, WritesFront}
-use Rattle.sgt_names.proofs.Elements.{front-longer, appends_then, take-behind, front-second, front-tried}

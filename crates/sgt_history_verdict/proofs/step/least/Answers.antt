@@ -1,1 +1,0 @@
-use Rattle.sgt_history_verdict.proofs.step.least.Goals as goal
