@@ -10,10 +10,12 @@ use Rattle.sgt_cert.specs.declared.bundle.SiteLog.{SiteLog}
 
 steps-within : (sites : ℕ) (d : Decision) → IsDecision sites d → HasStepsWithin sites d
 steps-within sites (Commit tx rank) is = tt
-steps-within sites (Refuse tx walk) is = All-weaken (IsStep sites) (λ step. step.label.site < sites) walk (λ step s. s.1) is.1
+steps-within sites (Refuse tx walk) is =
+    All-weaken (IsStep sites) (λ step. step.label.site < sites) walk (λ step s. s.1) is.1
 steps-within sites (Withdraw tx) is = tt
 
-pub fit-together : (c : Certificate) (logs : List SiteLog) → IsCertificate c → IsShaped c.sites logs → FitTogether (record { certificate = c; sites = logs })
+pub fit-together : (c : Certificate) (logs : List SiteLog) → IsCertificate c → IsShaped c.sites logs
+    → FitTogether (record { certificate = c; sites = logs })
 fit-together c logs is shaped = record {
   shape = shaped;
   steps = All-weaken (IsDecision c.sites) (HasStepsWithin c.sites) c.decisions (steps-within c.sites) is.2;

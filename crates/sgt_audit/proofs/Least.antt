@@ -23,7 +23,8 @@ use Rattle.sgt_audit.specs.private.Judging.{IsLegalRead, ContinuesLog, HasOpen, 
 use Rattle.sgt_audit.proofs.FaultNumbers.{number-one}
 
 -- the rule of number n is kept too
-pub kept-next : (rule : Fault → Type 0) (n : ℕ) (f : Fault) → fault_number f ≡ n → KeptBelow rule n → rule f → KeptBelow rule (n + 1)
+pub kept-next : (rule : Fault → Type 0) (n : ℕ) (f : Fault) → fault_number f ≡ n → KeptBelow rule n → rule f
+    → KeptBelow rule (n + 1)
 kept-next rule n f is kept r g lt =
     elim (cases_order (fault_number g) n) [
       | inl same ↦ subst rule (sym (number-one g f (same ∙ sym is))) r
@@ -32,7 +33,8 @@ kept-next rule n f is kept r g lt =
     ]
 
 -- it is the least that is broken
-pub least-at : (rule : Fault → Type 0) (n : ℕ) (f : Fault) → fault_number f ≡ n → KeptBelow rule n → (rule f → ⊥) → Breaks rule f
+pub least-at : (rule : Fault → Type 0) (n : ℕ) (f : Fault) → fault_number f ≡ n → KeptBelow rule n → (rule f → ⊥)
+    → Breaks rule f
 least-at rule n f is kept broken = record { broken = broken; least = λ g lt. kept g (omega arith) }
 
 -- ---- what no line of its kind can break
@@ -103,7 +105,10 @@ site-7 c before k _ lt = tt
 
 -- ---- an entry
 
-module _ (c : Certificate) (ds : List Decision) (before : List SectionLine) (e : Entry) (log : SiteLog) (items : List Holding) (entries : List Entry) (same : c.decisions ≡ ds) (o : HasOpen before log) (items-are : items ≡ log.items) (entries-are : entries ≡ log.entries) (begins : Begins c.sites (before ++ Logged e ∷ [])) where
+module _ (c : Certificate) (ds : List Decision) (before : List SectionLine) (e : Entry) (log : SiteLog)
+    (items : List Holding) (entries : List Entry) (same : c.decisions ≡ ds) (o : HasOpen before log)
+    (items-are : items ≡ log.items) (entries-are : entries ≡ log.entries)
+    (begins : Begins c.sites (before ++ Logged e ∷ [])) where
   at_items : items_in before ≡ items
   at_items = o.items ∙ sym items-are
 
@@ -117,7 +122,9 @@ module _ (c : Certificate) (ds : List Decision) (before : List SectionLine) (e :
   upto-8 = kept-next rule 7 fault.Section refl (logged-7 c before e) begins
 
   pub item-broken : (ForSome (item_of e) (Contains (names items)) → ⊥) → Breaks rule fault.Item
-  item-broken miss = least-at rule 8 fault.Item refl upto-8 (λ r. miss (subst (λ items. ForSome (item_of e) (Contains (names items))) at_items r))
+  item-broken miss =
+      least-at rule 8 fault.Item refl upto-8
+      (λ r. miss (subst (λ items. ForSome (item_of e) (Contains (names items))) at_items r))
 
   abbrev FirstIn : List Entry → Type 0
   FirstIn entries = All (λ f. (x : Name) → Repeats x f e → ⊥) entries
@@ -131,7 +138,8 @@ module _ (c : Certificate) (ds : List Decision) (before : List SectionLine) (e :
   abbrev InOrderIn : List Decision → List Entry → Type 0
   InOrderIn ds entries = All (λ f. EndInOrder ds f e) entries
 
-  legal-keeps : (e : Entry) → IsLegalRead (items_in before) (entries_in before) e → Keeps c before (Logged e) fault.ReadValue
+  legal-keeps : (e : Entry) → IsLegalRead (items_in before) (entries_in before) e
+      → Keeps c before (Logged e) fault.ReadValue
   legal-keeps (entry.Read tx x v) h = h
   legal-keeps (entry.Write tx x v) h = tt
   legal-keeps (entry.Add tx x v) h = tt
@@ -141,7 +149,8 @@ module _ (c : Certificate) (ds : List Decision) (before : List SectionLine) (e :
   legal-keeps (entry.Refuse tx) h = tt
   legal-keeps (entry.Withdraw tx) h = tt
 
-  keeps-legal : (e : Entry) → Keeps c before (Logged e) fault.ReadValue → IsLegalRead (items_in before) (entries_in before) e
+  keeps-legal : (e : Entry) → Keeps c before (Logged e) fault.ReadValue
+      → IsLegalRead (items_in before) (entries_in before) e
   keeps-legal (entry.Read tx x v) h = h
   keeps-legal (entry.Write tx x v) h = tt
   keeps-legal (entry.Add tx x v) h = tt
@@ -156,7 +165,8 @@ module _ (c : Certificate) (ds : List Decision) (before : List SectionLine) (e :
 
   module _ (known : ForSome (item_of e) (Contains (names items))) where
     upto-9 : KeptBelow rule 9
-    upto-9 = kept-next rule 8 fault.Item refl upto-8 (subst (λ items. ForSome (item_of e) (Contains (names items))) (sym at_items) known)
+    upto-9 = kept-next rule 8 fault.Item refl upto-8 (subst (λ items. ForSome (item_of e) (Contains (names items)))
+        (sym at_items) known)
 
     pub twice-broken : (FirstIn entries → ⊥) → Breaks rule fault.Twice
     twice-broken miss = least-at rule 9 fault.Twice refl upto-9 (λ r. miss (subst FirstIn at_entries r))
@@ -166,44 +176,66 @@ module _ (c : Certificate) (ds : List Decision) (before : List SectionLine) (e :
       upto-10 = kept-next rule 9 fault.Twice refl upto-9 (subst FirstIn (sym at_entries) first)
 
       pub value-broken : (IsLegalRead items entries e → ⊥) → Breaks rule fault.ReadValue
-      value-broken miss = least-at rule 10 fault.ReadValue refl upto-10 (λ r. miss (legal-at (items_in before) items (entries_in before) entries at_items at_entries (keeps-legal e r)))
+      value-broken miss =
+          least-at rule 10 fault.ReadValue refl upto-10
+          (λ r. miss (legal-at (items_in before) items (entries_in before) entries at_items at_entries
+          (keeps-legal e r)))
 
       module _ (legal : IsLegalRead items entries e) where
         upto-11 : KeptBelow rule 11
-        upto-11 = kept-next rule 10 fault.ReadValue refl upto-10 (legal-keeps e (legal-at items (items_in before) entries (entries_in before) (sym at_items) (sym at_entries) legal))
+        upto-11 =
+            kept-next rule 10 fault.ReadValue refl upto-10
+            (legal-keeps e (legal-at items (items_in before) entries (entries_in before) (sym at_items)
+            (sym at_entries) legal))
 
         pub rank-broken : (RisesIn ds entries → ⊥) → Breaks rule fault.RankOrder
-        rank-broken miss = least-at rule 11 fault.RankOrder refl upto-11 (λ r. miss (subst (λ ds. RisesIn ds entries) same (subst (RisesIn c.decisions) at_entries r)))
+        rank-broken miss =
+            least-at rule 11 fault.RankOrder refl upto-11
+            (λ r. miss (subst (λ ds. RisesIn ds entries) same (subst (RisesIn c.decisions) at_entries r)))
 
         module _ (rises : RisesIn ds entries) where
           upto-12 : KeptBelow rule 12
-          upto-12 = kept-next rule 11 fault.RankOrder refl upto-11 (subst (RisesIn c.decisions) (sym at_entries) (subst (λ ds. RisesIn ds entries) (sym same) rises))
+          upto-12 =
+              kept-next rule 11 fault.RankOrder refl upto-11
+              (subst (RisesIn c.decisions) (sym at_entries) (subst (λ ds. RisesIn ds entries) (sym same) rises))
 
           pub block-broken : (ContinuesLog log (Logged e) → ⊥) → Breaks rule fault.Block
-          block-broken miss = least-at rule 12 fault.Block refl upto-12 (λ r. miss (λ f none at. r f (o.entry_last f none at)))
+          block-broken miss =
+              least-at rule 12 fault.Block refl upto-12 (λ r. miss (λ f none at. r f (o.entry_last f none at)))
 
           module _ (goes : ContinuesLog log (Logged e)) where
             upto-13 : KeptBelow rule 13
             upto-13 = kept-next rule 12 fault.Block refl upto-12 (λ f last. goes f (o.last f last).0 (o.last f last).1)
 
             pub end-broken : (ActiveIn ds entries → ⊥) → Breaks rule fault.End
-            end-broken miss = least-at rule 13 fault.End refl upto-13 (λ r. miss (subst (λ ds. ActiveIn ds entries) same (subst (ActiveIn c.decisions) at_entries r)))
+            end-broken miss =
+                least-at rule 13 fault.End refl upto-13
+                (λ r. miss (subst (λ ds. ActiveIn ds entries) same (subst (ActiveIn c.decisions) at_entries r)))
 
             module _ (active : ActiveIn ds entries) where
               upto-14 : KeptBelow rule 14
-              upto-14 = kept-next rule 13 fault.End refl upto-13 (subst (ActiveIn c.decisions) (sym at_entries) (subst (λ ds. ActiveIn ds entries) (sym same) active))
+              upto-14 =
+                  kept-next rule 13 fault.End refl upto-13
+                  (subst (ActiveIn c.decisions) (sym at_entries) (subst (λ ds. ActiveIn ds entries) (sym same) active))
 
               pub order-broken : (InOrderIn ds entries → ⊥) → Breaks rule fault.DecisionOrder
-              order-broken miss = least-at rule 14 fault.DecisionOrder refl upto-14 (λ r. miss (subst (λ ds. InOrderIn ds entries) same (subst (InOrderIn c.decisions) at_entries r)))
+              order-broken miss =
+                  least-at rule 14 fault.DecisionOrder refl upto-14
+                  (λ r. miss (subst (λ ds. InOrderIn ds entries) same (subst (InOrderIn c.decisions) at_entries r)))
 
               pub entry-kept : InOrderIn ds entries → KeptBelow rule 17
               entry-kept ordered =
-                  let upto-15 = kept-next rule 14 fault.DecisionOrder refl upto-14 (subst (InOrderIn c.decisions) (sym at_entries) (subst (λ ds. InOrderIn ds entries) (sym same) ordered)) in
+                  let upto-15 =
+                      kept-next rule 14 fault.DecisionOrder refl upto-14
+                      (subst (InOrderIn c.decisions) (sym at_entries)
+                      (subst (λ ds. InOrderIn ds entries) (sym same) ordered)) in
                   kept-next rule 16 fault.Final refl (kept-next rule 15 fault.NotEnded refl upto-15 tt) tt
 
 -- ---- a final value, and the end
 
-module _ (c : Certificate) (before : List SectionLine) (h : Holding) (log : SiteLog) (items : List Holding) (entries : List Entry) (o : HasOpen before log) (items-are : items ≡ log.items) (entries-are : entries ≡ log.entries) (begins : Begins c.sites (before ++ Final h ∷ [])) where
+module _ (c : Certificate) (before : List SectionLine) (h : Holding) (log : SiteLog) (items : List Holding)
+    (entries : List Entry) (o : HasOpen before log) (items-are : items ≡ log.items)
+    (entries-are : entries ≡ log.entries) (begins : Begins c.sites (before ++ Final h ∷ [])) where
   final_items : items_in before ≡ items
   final_items = o.items ∙ sym items-are
 
@@ -216,12 +248,15 @@ module _ (c : Certificate) (before : List SectionLine) (h : Holding) (log : Site
   final-12 : KeptBelow final_rule 12
   final-12 =
       let upto-8 = kept-next final_rule 7 fault.Section refl (final-7 c before h) begins in
-      kept-next final_rule 11 fault.RankOrder refl (kept-next final_rule 10 fault.ReadValue refl (kept-next final_rule 9 fault.Twice refl (kept-next final_rule 8 fault.Item refl upto-8 tt) tt) tt) tt
+      kept-next final_rule 11 fault.RankOrder refl
+          (kept-next final_rule 10 fault.ReadValue refl
+          (kept-next final_rule 9 fault.Twice refl (kept-next final_rule 8 fault.Item refl upto-8 tt) tt) tt) tt
 
   module _ (goes : ContinuesLog log (Final h)) where
     final-15 : KeptBelow final_rule 15
     final-15 =
-        let upto-13 = kept-next final_rule 12 fault.Block refl final-12 (λ f last. goes f (o.last f last).0 (o.last f last).1) in
+        let upto-13 =
+            kept-next final_rule 12 fault.Block refl final-12 (λ f last. goes f (o.last f last).0 (o.last f last).1) in
         kept-next final_rule 14 fault.DecisionOrder refl (kept-next final_rule 13 fault.End refl upto-13 tt) tt
 
     pub final-ended : (AllEnded entries → ⊥) → Breaks final_rule fault.NotEnded
@@ -240,7 +275,8 @@ module _ (c : Certificate) (before : List SectionLine) (h : Holding) (log : Site
       pub final-kept : value_at items entries h.item ≡ Some h.value → KeptBelow final_rule 17
       final-kept value = kept-next final_rule 16 fault.Final refl final-16 (value-is ∙ value)
 
-module _ (c : Certificate) (before : List SectionLine) (log : SiteLog) (entries : List Entry) (o : HasOpen before log) (entries-are : entries ≡ log.entries) (begins : Begins c.sites (before ++ End ∷ [])) where
+module _ (c : Certificate) (before : List SectionLine) (log : SiteLog) (entries : List Entry) (o : HasOpen before log)
+    (entries-are : entries ≡ log.entries) (begins : Begins c.sites (before ++ End ∷ [])) where
   end_entries : entries_in before ≡ entries
   end_entries = o.entries ∙ sym entries-are
 
@@ -250,19 +286,24 @@ module _ (c : Certificate) (before : List SectionLine) (log : SiteLog) (entries 
   end-12 : KeptBelow end_rule 12
   end-12 =
       let upto-8 = kept-next end_rule 7 fault.Section refl (end-7 c before) begins in
-      kept-next end_rule 11 fault.RankOrder refl (kept-next end_rule 10 fault.ReadValue refl (kept-next end_rule 9 fault.Twice refl (kept-next end_rule 8 fault.Item refl upto-8 tt) tt) tt) tt
+      kept-next end_rule 11 fault.RankOrder refl
+          (kept-next end_rule 10 fault.ReadValue refl
+          (kept-next end_rule 9 fault.Twice refl (kept-next end_rule 8 fault.Item refl upto-8 tt) tt) tt) tt
 
   module _ (goes : ContinuesLog log End) where
     end-15 : KeptBelow end_rule 15
     end-15 =
-        let upto-13 = kept-next end_rule 12 fault.Block refl end-12 (λ f last. goes f (o.last f last).0 (o.last f last).1) in
+        let upto-13 =
+            kept-next end_rule 12 fault.Block refl end-12 (λ f last. goes f (o.last f last).0 (o.last f last).1) in
         kept-next end_rule 14 fault.DecisionOrder refl (kept-next end_rule 13 fault.End refl upto-13 tt) tt
 
     pub end-ended : (AllEnded entries → ⊥) → Breaks end_rule fault.NotEnded
     end-ended miss = least-at end_rule 15 fault.NotEnded refl end-15 (λ r. miss (subst AllEnded end_entries r))
 
     pub end-kept : AllEnded entries → KeptBelow end_rule 17
-    end-kept ended = kept-next end_rule 16 fault.Final refl (kept-next end_rule 15 fault.NotEnded refl end-15 (subst AllEnded (sym end_entries) ended)) tt
+    end-kept ended =
+        kept-next end_rule 16 fault.Final refl
+        (kept-next end_rule 15 fault.NotEnded refl end-15 (subst AllEnded (sym end_entries) ended)) tt
 
 -- ---- an item, and a site
 
@@ -270,10 +311,16 @@ module _ (c : Certificate) (before : List SectionLine) (log : SiteLog) (entries 
 abbrev pub IsClosed : List SectionLine → Type 0
 IsClosed lines = (e : Entry) → last_or None lines ≡ Some (Logged e) → ⊥
 
-pub site-kept : (c : Certificate) (before : List SectionLine) (k : ℕ) → IsClosed before → Begins c.sites (before ++ Site k ∷ []) → KeptBelow (Keeps c before (Site k)) 17
+pub site-kept : (c : Certificate) (before : List SectionLine) (k : ℕ) → IsClosed before
+    → Begins c.sites (before ++ Site k ∷ []) → KeptBelow (Keeps c before (Site k)) 17
 site-kept c before k closed begins =
     let rule = Keeps c before (Site k) in
     let upto-8 = kept-next rule 7 fault.Section refl (site-7 c before k) begins in
-    let upto-12 = kept-next rule 11 fault.RankOrder refl (kept-next rule 10 fault.ReadValue refl (kept-next rule 9 fault.Twice refl (kept-next rule 8 fault.Item refl upto-8 tt) tt) tt) tt in
+    let upto-12 =
+        kept-next rule 11 fault.RankOrder refl
+        (kept-next rule 10 fault.ReadValue refl
+        (kept-next rule 9 fault.Twice refl (kept-next rule 8 fault.Item refl upto-8 tt) tt) tt) tt in
     let upto-13 = kept-next rule 12 fault.Block refl upto-12 (λ f last is_open. absurd (closed f last)) in
-    kept-next rule 16 fault.Final refl (kept-next rule 15 fault.NotEnded refl (kept-next rule 14 fault.DecisionOrder refl (kept-next rule 13 fault.End refl upto-13 tt) tt) tt) tt
+    kept-next rule 16 fault.Final refl
+        (kept-next rule 15 fault.NotEnded refl
+        (kept-next rule 14 fault.DecisionOrder refl (kept-next rule 13 fault.End refl upto-13 tt) tt) tt) tt

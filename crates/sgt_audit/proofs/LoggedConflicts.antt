@@ -28,7 +28,8 @@ use Rattle.sgt_audit.proofs.Places.{same_whole}
 
 -- ---- one more log is whole
 
-module _ (ds : List Decision) (whole : List SiteLog) (log : SiteLog) (here : List Edge) (are : AreStepsAt ds (length whole) here) where
+module _ (ds : List Decision) (whole : List SiteLog) (log : SiteLog) (here : List Edge)
+    (are : AreStepsAt ds (length whole) here) where
   abbrev Holds : List SiteLog → Edge → Type 0
   Holds logs e = (log : SiteLog) → slice_get logs e.step.label.site ≡ Some log → IsMet log.entries e
 
@@ -37,34 +38,44 @@ module _ (ds : List Decision) (whole : List SiteLog) (log : SiteLog) (here : Lis
       let has = Contains-from_at (edges_in ds) n e at in
       elim (get_cases whole log e.step.label.site l found) [
         | inl old ↦ All_at (Holds whole) (edges_in ds) n e before at l old
-        | inr new ↦ subst (λ (g : SiteLog). IsMet g.entries e) new.1 (All_in (IsMet log.entries) here e now ((are e).1 (has, new.0)))
+        | inr new ↦ subst (λ (g : SiteLog). IsMet g.entries e) new.1
+            (All_in (IsMet log.entries) here e now ((are e).1 (has, new.0)))
       ])
 
   met-front : AreMet (edges_in ds) (whole ++ log ∷ []) → AreMet (edges_in ds) whole
-  met-front all = All-from_at (Holds whole) (edges_in ds) (λ n e at l found. All_at (Holds (whole ++ log ∷ [])) (edges_in ds) n e all at l (front_at whole (log ∷ []) e.step.label.site l found))
+  met-front all =
+      All-from_at (Holds whole) (edges_in ds)
+      (λ n e at l found. All_at (Holds (whole ++ log ∷ [])) (edges_in ds) n e all at l
+      (front_at whole (log ∷ []) e.step.label.site l found))
 
   met-here : AreMet (edges_in ds) (whole ++ log ∷ []) → All (IsMet log.entries) here
   met-here all = All-from_at (IsMet log.entries) here (λ n e at.
       let both = (are e).0 (Contains-from_at here n e at) in
-      All_in (Holds (whole ++ log ∷ [])) (edges_in ds) e all both.0 log (ap (slice_get (whole ++ log ∷ [])) both.1 ∙ middle_at whole log []))
+      All_in (Holds (whole ++ log ∷ [])) (edges_in ds) e all both.0 log (ap (slice_get (whole ++ log ∷ [])) both.1
+          ∙ middle_at whole log []))
 
 pub none-met : (ds : List Decision) (w : Walks) → AreStepsOf ds w.steps → w.met ≡ true → MeansMet ds [] w
 none-met ds w steps met = record {
   steps = steps;
-  met = (λ h. All-from_at (λ (e : Edge). (log : SiteLog) → slice_get [] e.step.label.site ≡ Some log → IsMet log.entries e) (edges_in ds) (λ n e at log found. absurd (none-some log found)), λ h. met);
+  met = (λ h. All-from_at (λ (e : Edge). (log : SiteLog) → slice_get [] e.step.label.site ≡ Some log
+      → IsMet log.entries e) (edges_in ds) (λ n e at log found. absurd (none-some log found)), λ h. met);
 }
 
 -- ---- one more line
 
 -- the open log is whole with the end of its section
-module _ (ds : List Decision) (b : Begun) (s : SiteState) (old new : Walks) (here : List Edge) (are : (site : ℕ) → s.section - 1 ≡ site → AreStepsAt ds site here) (same : new.steps ≡ old.steps) (is : MeansMet ds b.whole old) where
+module _ (ds : List Decision) (b : Begun) (s : SiteState) (old new : Walks) (here : List Edge) (are : (site : ℕ)
+    → s.section - 1 ≡ site → AreStepsAt ds site here) (same : new.steps ≡ old.steps) (is : MeansMet ds b.whole old)
+    where
   section-at : (log : SiteLog) → TracksCurrent ds (length b.whole) (Some log) s → AreStepsAt ds (length b.whole) here
   section-at log t = let n = t.0 in are (length b.whole) (omega arith)
 
   steps-same : AreStepsOf ds new.steps
   steps-same = subst (AreStepsOf ds) (sym same) is.steps
 
-  pub met-ended : (o : Option SiteLog) → MayFollow b o End → TracksCurrent ds (length b.whole) o s → new.met ≡ old.met → ((log : SiteLog) → TracksOpen ds log.items log.entries s → All (IsMet log.entries) here) → MeansMet ds (with_next b o End).whole new
+  pub met-ended : (o : Option SiteLog) → MayFollow b o End → TracksCurrent ds (length b.whole) o s → new.met ≡ old.met
+      → ((log : SiteLog) → TracksOpen ds log.items log.entries s → All (IsMet log.entries) here)
+      → MeansMet ds (with_next b o End).whole new
   met-ended None fits t met all = absurd fits
   met-ended (Some log) fits t met all =
       let at = section-at log t in
@@ -76,7 +87,9 @@ module _ (ds : List Decision) (b : Begun) (s : SiteState) (old new : Walks) (her
         );
       }
 
-  pub met-missed : (o : Option SiteLog) → MayFollow b o End → TracksCurrent ds (length b.whole) o s → new.met ≡ false → ((log : SiteLog) → TracksOpen ds log.items log.entries s → All (IsMet log.entries) here → ⊥) → MeansMet ds (with_next b o End).whole new
+  pub met-missed : (o : Option SiteLog) → MayFollow b o End → TracksCurrent ds (length b.whole) o s → new.met ≡ false
+      → ((log : SiteLog) → TracksOpen ds log.items log.entries s → All (IsMet log.entries) here → ⊥)
+      → MeansMet ds (with_next b o End).whole new
   met-missed None fits t met miss = absurd fits
   met-missed (Some log) fits t met miss =
       let at = section-at log t in
@@ -90,14 +103,16 @@ module _ (ds : List Decision) (b : Begun) (s : SiteState) (old new : Walks) (her
 abbrev IsThere : List SiteLog → Edge → Type 0
 IsThere logs e = (log : SiteLog) × (slice_get logs e.step.label.site ≡ Some log) × IsMet log.entries e
 
-walk-logged : (logs : List SiteLog) (a : ℕ) (walk : List Step) → ((e : Edge) → Contains (edges_from a walk) e → IsThere logs e) → AreLogged logs a walk
+walk-logged : (logs : List SiteLog) (a : ℕ) (walk : List Step)
+    → ((e : Edge) → Contains (edges_from a walk) e → IsThere logs e) → AreLogged logs a walk
 walk-logged logs a [] all = tt
 walk-logged logs a (s ∷ walk) all = (
   all (record { from = a; step = s }) (cons-first (record { from = a; step = s }) (edges_from s.to walk)),
   walk-logged logs s.to walk (λ e has. all e (cons-rest (record { from = a; step = s }) (edges_from s.to walk) e has)),
 )
 
-logged-there : (logs : List SiteLog) (a : ℕ) (walk : List Step) → AreLogged logs a walk → (e : Edge) → Contains (edges_from a walk) e → IsThere logs e
+logged-there : (logs : List SiteLog) (a : ℕ) (walk : List Step) → AreLogged logs a walk → (e : Edge)
+    → Contains (edges_from a walk) e → IsThere logs e
 logged-there logs a [] logged e has = absurd (omega (arith, has.1))
 logged-there logs a (s ∷ walk) logged e has =
     elim (cons-cases (record { from = a; step = s }) (edges_from s.to walk) e has) [
@@ -105,15 +120,19 @@ logged-there logs a (s ∷ walk) logged e has =
       | inr rest ↦ logged-there logs s.to walk logged.1 e rest
     ]
 
-pub walks-decide : (c : Certificate) (logs : List SiteLog) (w : Walks) → IsCertificate c → length logs ≡ c.sites → MeansMet c.decisions logs w
+pub walks-decide : (c : Certificate) (logs : List SiteLog) (w : Walks) → IsCertificate c → length logs ≡ c.sites
+    → MeansMet c.decisions logs w
     → IsTrue w.met ↔ ((tx : ℕ) (walk : List Step) → Contains c.decisions (Refuse tx walk) → AreLogged logs tx walk)
 walks-decide c logs w spelled each is = (
   λ h tx walk here. walk-logged logs tx walk (λ e has.
       let there = edge-there c.decisions tx walk e here has in
-      let within = All_in (λ (f : Edge). f.step.label.site < c.sites) (edges_in c.decisions) e (certificate-within c spelled) there in
+      let within = All_in (λ (f : Edge). f.step.label.site < c.sites) (edges_in c.decisions) e
+          (certificate-within c spelled) there in
       let log = within_at logs e.step.label.site (omega arith) in
-      (log.0, log.1, All_in (λ (f : Edge). (l : SiteLog) → slice_get logs f.step.label.site ≡ Some l → IsMet l.entries f) (edges_in c.decisions) e (is.met.0 h) there log.0 log.1)),
-  λ walks. is.met.1 (All-from_at (λ (f : Edge). (l : SiteLog) → slice_get logs f.step.label.site ≡ Some l → IsMet l.entries f) (edges_in c.decisions) (λ n e at log found.
+      (log.0, log.1, All_in (λ (f : Edge). (l : SiteLog) → slice_get logs f.step.label.site ≡ Some l
+          → IsMet l.entries f) (edges_in c.decisions) e (is.met.0 h) there log.0 log.1)),
+  λ walks. is.met.1 (All-from_at (λ (f : Edge). (l : SiteLog) → slice_get logs f.step.label.site ≡ Some l
+      → IsMet l.entries f) (edges_in c.decisions) (λ n e at log found.
       let by = edge-found c.decisions e (Contains-from_at (edges_in c.decisions) n e at) in
       let there = logged-there logs by.0 by.1 (walks by.0 by.1 by.2) e by.3 in
       subst (λ (l : SiteLog). IsMet l.entries e) (same_Some there.0 log (sym there.1 ∙ found)) there.2)),
@@ -121,16 +140,22 @@ walks-decide c logs w spelled each is = (
 
 -- ---- the steps of all walks, without what is kept of them
 
-pub met-walks : (c : Certificate) (logs : List SiteLog) → IsCertificate c → length logs ≡ c.sites → AreMet (edges_in c.decisions) logs
+pub met-walks : (c : Certificate) (logs : List SiteLog) → IsCertificate c → length logs ≡ c.sites
+    → AreMet (edges_in c.decisions) logs
     → (tx : ℕ) (walk : List Step) → Contains c.decisions (Refuse tx walk) → AreLogged logs tx walk
 met-walks c logs spelled each met tx walk here = walk-logged logs tx walk (λ e has.
     let there = edge-there c.decisions tx walk e here has in
-    let within = All_in (λ (f : Edge). f.step.label.site < c.sites) (edges_in c.decisions) e (certificate-within c spelled) there in
+    let within = All_in (λ (f : Edge). f.step.label.site < c.sites) (edges_in c.decisions) e
+        (certificate-within c spelled) there in
     let log = within_at logs e.step.label.site (omega arith) in
-    (log.0, log.1, All_in (λ (f : Edge). (l : SiteLog) → slice_get logs f.step.label.site ≡ Some l → IsMet l.entries f) (edges_in c.decisions) e met there log.0 log.1))
+    (log.0, log.1, All_in (λ (f : Edge). (l : SiteLog) → slice_get logs f.step.label.site ≡ Some l
+        → IsMet l.entries f) (edges_in c.decisions) e met there log.0 log.1))
 
-pub walks-met : (c : Certificate) (logs : List SiteLog) → ((tx : ℕ) (walk : List Step) → Contains c.decisions (Refuse tx walk) → AreLogged logs tx walk) → AreMet (edges_in c.decisions) logs
-walks-met c logs walks = All-from_at (λ (f : Edge). (l : SiteLog) → slice_get logs f.step.label.site ≡ Some l → IsMet l.entries f) (edges_in c.decisions) (λ n e at log found.
+pub walks-met : (c : Certificate) (logs : List SiteLog)
+    → ((tx : ℕ) (walk : List Step) → Contains c.decisions (Refuse tx walk) → AreLogged logs tx walk)
+    → AreMet (edges_in c.decisions) logs
+walks-met c logs walks = All-from_at (λ (f : Edge). (l : SiteLog) → slice_get logs f.step.label.site ≡ Some l
+    → IsMet l.entries f) (edges_in c.decisions) (λ n e at log found.
     let by = edge-found c.decisions e (Contains-from_at (edges_in c.decisions) n e at) in
     let there = logged-there logs by.0 by.1 (walks by.0 by.1 by.2) e by.3 in
     subst (λ (l : SiteLog). IsMet l.entries e) (same_Some there.0 log (sym there.1 ∙ found)) there.2)

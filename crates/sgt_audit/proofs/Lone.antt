@@ -52,9 +52,13 @@ kept-7 c before (Final h) = final-7 c before h
 kept-7 c before End = end-7 c before
 
 -- what is kept stands behind one more line
-pub next-stands : (c : Certificate) (b : Begun) (line : SectionLine) (old new : Alone) → StandsAlone c b old → Begins b.sites (lines_read b ++ line ∷ []) → KeptBelow (Keeps c (lines_read b) line) 17
-    → ((a : Begun) → IsBegun a → MayFollow a a.current line → IsPlace a old.place → IsPlace (with_next a a.current line) new.place)
-    → ((a : Begun) → IsDecidedOnce c.decisions → IsBegun a → MayFollow a a.current line → AdmitsLine c.decisions a.current line → Tracks c.decisions a old.state → Tracks c.decisions (with_next a a.current line) new.state)
+pub next-stands : (c : Certificate) (b : Begun) (line : SectionLine) (old new : Alone) → StandsAlone c b old
+    → Begins b.sites (lines_read b ++ line ∷ []) → KeptBelow (Keeps c (lines_read b) line) 17
+    → ((a : Begun) → IsBegun a → MayFollow a a.current line → IsPlace a old.place
+        → IsPlace (with_next a a.current line) new.place)
+    → ((a : Begun) → IsDecidedOnce c.decisions → IsBegun a → MayFollow a a.current line
+        → AdmitsLine c.decisions a.current line → Tracks c.decisions a old.state
+        → Tracks c.decisions (with_next a a.current line) new.state)
     → StandsAlone c (with_next b b.current line) new
 next-stands c b line old new s begins kept place state = record {
   once = s.once;
@@ -66,7 +70,8 @@ next-stands c b line old new s begins kept place state = record {
 }
 
 -- whether the steps are conflicts, with the last line
-pub last-meets : (edges : List Edge) (o : Option SiteLog) (met : Bool) → ((log : SiteLog) → o ≡ Some log → IsTrue met ↔ All (IsMet log.entries) edges) → MeetsSteps edges o End met
+pub last-meets : (edges : List Edge) (o : Option SiteLog) (met : Bool)
+    → ((log : SiteLog) → o ≡ Some log → IsTrue met ↔ All (IsMet log.entries) edges) → MeetsSteps edges o End met
 last-meets edges (Some log) met h = h log refl
 last-meets edges None met h = tt
 
@@ -80,7 +85,8 @@ module _ (ds : List Decision) (log : SiteLog) (is : IsOpenLog log) where
   first = record { sites = 2; whole = []; current = Some log }
 
   first-begun : IsBegun first
-  first-begun = record { some = omega arith; few = omega arith; logs = λ n d within. absurd (omega arith); room = (omega arith, is) }
+  first-begun = record { some = omega arith; few = omega arith; logs = λ n d within. absurd (omega arith); room =
+      (omega arith, is) }
 
   pub first-begins : (line : SectionLine) → Fits log line → Begins 2 (lines_read first ++ line ∷ [])
   first-begins line fits = (follow-decides first first-begun line true (λ h. fits, λ h. refl)).0 refl
@@ -99,7 +105,8 @@ module _ (ds : List Decision) (log : SiteLog) (is : IsOpenLog log) where
       let one : length (log ∷ []) ≡ length logs = ap length whole.1 in
       absurd (omega (arith, one, len))
 
-  pub not-walk : (line : SectionLine) (found : Option Fault) → Fits log line → JudgedLine (Keeps two (lines_read first) line) found → found ≢ Some fault.WalkStep
+  pub not-walk : (line : SectionLine) (found : Option Fault) → Fits log line
+      → JudgedLine (Keeps two (lines_read first) line) found → found ≢ Some fault.WalkStep
   not-walk line found fits judged same =
       let breaks = subst (JudgedLine (Keeps two (lines_read first) line)) same judged in
       breaks.broken (walks-hold line fits)

@@ -35,17 +35,24 @@ kept_bundle k b = record { certificate = k.certificate; sites = b.whole }
 abbrev pub IsBundleOf : Kept → List ℕ → Begun → Type 0
 IsBundleOf k bytes b = IfSome k.sections (λ s. s ≡ b) × Spells bytes (kept_bundle k b) × IsValid (kept_bundle k b)
 
-module _ (k : Kept) (b : Begun) (before : List SectionLine) (h : Holds k b before) (all : AreSections k.certificate.sites before) (bytes : List ℕ) (text : bytes ≡ text_of_lines (lines_so_far (complete k.second k.certificate before))) where
+module _ (k : Kept) (b : Begun) (before : List SectionLine) (h : Holds k b before)
+    (all : AreSections k.certificate.sites before) (bytes : List ℕ)
+    (text : bytes ≡ text_of_lines (lines_so_far (complete k.second k.certificate before))) where
   same-bundle : bundle_of bytes k.second k.certificate before h.means.kept all text ≡ kept_bundle k b
-  same-bundle = ap (λ logs. record { certificate = k.certificate; sites = logs }) (sym (sections-whole b all.0 (all.2 ∙ h.means.lines)).1)
+  same-bundle =
+      ap (λ logs. record { certificate = k.certificate; sites = logs })
+      (sym (sections-whole b all.0 (all.2 ∙ h.means.lines)).1)
 
   kept-spelled : Spells bytes (kept_bundle k b)
-  kept-spelled = subst (Spells bytes) same-bundle (spells-bundle bytes k.second k.certificate before h.means.kept all text)
+  kept-spelled =
+      subst (Spells bytes) same-bundle (spells-bundle bytes k.second k.certificate before h.means.kept all text)
 
   kept-valid : IsValid (kept_bundle k b)
   kept-valid = subst IsValid same-bundle (valid-bundle bytes k.second k.certificate before h.means.kept all text)
 
-whole-stage : (k : Kept) (b : Begun) (before : List SectionLine) (s : Stage) (bytes : List ℕ) → Holds k b before → IsStageOf k.second k.certificate before s → IsComplete s → bytes ≡ text_of_lines (lines_so_far s) → IsBundleOf k bytes b
+whole-stage : (k : Kept) (b : Begun) (before : List SectionLine) (s : Stage) (bytes : List ℕ) → Holds k b before
+    → IsStageOf k.second k.certificate before s → IsComplete s → bytes ≡ text_of_lines (lines_so_far s)
+    → IsBundleOf k bytes b
 whole-stage k b before s bytes h (inl here) done text = absurd (subst IsComplete here.0 done)
 whole-stage k b before s bytes h (inr all) done text =
     let same = text ∙ ap (λ s. text_of_lines (lines_so_far s)) all.0 in
@@ -73,7 +80,8 @@ none-kept (Some s) some none = none-some s (sym none)
 pub kept-fit : (k : Kept) (bytes : List ℕ) (b : Begun) → IsBundleOf k bytes b → FitTogether (kept_bundle k b)
 kept-fit k bytes b is = fit-together k.certificate b.whole is.1.certificate is.1.shape
 
-pub kept-verdict : (k : Kept) (bytes : List ℕ) → IsJudged (Ok k) bytes → IsVerdict bytes (yes_of k.certificate.decisions)
+pub kept-verdict : (k : Kept) (bytes : List ℕ) → IsJudged (Ok k) bytes
+    → IsVerdict bytes (yes_of k.certificate.decisions)
 kept-verdict k bytes j = let b = judged-bundle k bytes j in (kept_bundle k b.0, b.1.1, b.1.2, refl)
 
 -- a yes says the headline
@@ -84,18 +92,24 @@ verdict-headline bytes (Yes committed refused withdrawn) (b, spelled, valid, cou
   serial = valid-agrees b valid;
   once = valid.once;
   ranks = valid.ranks;
-  ranked = All-from_at (λ (log : SiteLog). IsRanked b.certificate.decisions log.entries) b.sites (λ n log at. (All_at (IsValidLog b.certificate.decisions) b.sites n log valid.logs at).ranked);
+  ranked = All-from_at (λ (log : SiteLog). IsRanked b.certificate.decisions log.entries) b.sites
+      (λ n log at. (All_at (IsValidLog b.certificate.decisions) b.sites n log valid.logs at).ranked);
   cycles = valid.cycles;
 }
 verdict-headline bytes (No line f) first = tt
 
-pub told-map : (P Q : List ℕ → Type 0) (told : Option (List ℕ)) → ((bytes : List ℕ) → P bytes → Q bytes) → IfSome told P → IfSome told Q
+pub told-map : (P Q : List ℕ → Type 0) (told : Option (List ℕ)) → ((bytes : List ℕ) → P bytes → Q bytes)
+    → IfSome told P → IfSome told Q
 told-map P Q None f h = tt
 told-map P Q (Some bytes) f h = f bytes h
 
 -- two verdicts on one text are one
 pub verdict-one : (bytes : List ℕ) (v w : Verdict) → IsVerdict bytes v → IsVerdict bytes w → v ≡ w
-verdict-one bytes (Yes a b c) (Yes d e f) (p, spelled, valid, counts) (q, spells, holds, others) = counts ∙ ap (λ (p : Parts). yes_of p.certificate.decisions) (bundle-one bytes p q spelled spells) ∙ sym others
-verdict-one bytes (Yes a b c) (No n f) (p, spelled, valid, counts) first = absurd (first_fault-excluded bytes n f first (valid-no_fault bytes p spelled valid))
-verdict-one bytes (No n f) (Yes a b c) first (p, spelled, valid, counts) = absurd (first_fault-excluded bytes n f first (valid-no_fault bytes p spelled valid))
-verdict-one bytes (No m f) (No n g) first other = let same = first_fault-one bytes m n f g first other in ap₂ (λ n f. No n f) same.0 same.1
+verdict-one bytes (Yes a b c) (Yes d e f) (p, spelled, valid, counts) (q, spells, holds, others) = counts
+    ∙ ap (λ (p : Parts). yes_of p.certificate.decisions) (bundle-one bytes p q spelled spells) ∙ sym others
+verdict-one bytes (Yes a b c) (No n f) (p, spelled, valid, counts) first =
+    absurd (first_fault-excluded bytes n f first (valid-no_fault bytes p spelled valid))
+verdict-one bytes (No n f) (Yes a b c) first (p, spelled, valid, counts) =
+    absurd (first_fault-excluded bytes n f first (valid-no_fault bytes p spelled valid))
+verdict-one bytes (No m f) (No n g) first other = let same = first_fault-one bytes m n f g first other in
+    ap₂ (λ n f. No n f) same.0 same.1

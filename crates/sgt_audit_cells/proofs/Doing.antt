@@ -26,7 +26,8 @@ IsNew e f = (y : Name) → Repeats y f e → ⊥
 each-new : (entries : List Entry) (e f : Entry) → All (IsNew e) entries → Contains entries f → IsNew e f
 each-new entries e f all here = let at = Contains_at entries f here in All_at (IsNew e) entries at.0 f all at.1
 
-pub all-new : (entries : List Entry) (e : Entry) → ((f : Entry) → Contains entries f → IsNew e f) → All (IsNew e) entries
+pub all-new : (entries : List Entry) (e : Entry) → ((f : Entry) → Contains entries f → IsNew e f)
+    → All (IsNew e) entries
 all-new entries e h = All-from_at (IsNew e) entries (λ n f at. h f (Contains-from_at entries n f at))
 
 -- ---- deeds
@@ -82,49 +83,60 @@ adds-is (Refuse t) = refl
 adds-is (Withdraw t) = refl
 
 -- both read the item, or both change it
-repeats : (f e : Entry) (x : Name) → item_of f ≡ Some x → item_of e ≡ Some x → changes (deed_of f) ≡ changes (deed_of e) → (Reads x f × Reads x e) ⊎ (Writes x f × Writes x e)
+repeats : (f e : Entry) (x : Name) → item_of f ≡ Some x → item_of e ≡ Some x
+    → changes (deed_of f) ≡ changes (deed_of e) → (Reads x f × Reads x e) ⊎ (Writes x f × Writes x e)
 repeats f e x on_f on_e same =
     elim (cases_Bool (changes (deed_of e))) [
       | inl change ↦ inr (deed-written f x on_f (same ∙ change), deed-written e x on_e change)
       | inr none ↦ inl (deed-read f x on_f (same ∙ none), deed-read e x on_e none)
     ]
 
-repeated : (f e : Entry) (y : Name) → (Reads y f × Reads y e) ⊎ (Writes y f × Writes y e) → (item_of f ≡ Some y) × (item_of e ≡ Some y) × (changes (deed_of f) ≡ changes (deed_of e))
+repeated : (f e : Entry) (y : Name) → (Reads y f × Reads y e) ⊎ (Writes y f × Writes y e)
+    → (item_of f ≡ Some y) × (item_of e ≡ Some y) × (changes (deed_of f) ≡ changes (deed_of e))
 repeated f e y (inl reads) = let p = read-read f y reads.0 in let q = read-read e y reads.1 in (p.0, q.0, p.1 ∙ sym q.1)
-repeated f e y (inr writes) = let p = change-written f y writes.0 in let q = change-written e y writes.1 in (p.0, q.0, p.1 ∙ sym q.1)
+repeated f e y (inr writes) = let p = change-written f y writes.0 in let q = change-written e y writes.1 in
+    (p.0, q.0, p.1 ∙ sym q.1)
 
-module _ (ns : List Name) (entries : List Entry) (acts : List Act) (i : ℕ) (x : Name) (at : slice_get ns i ≡ Some x) where
-  pub first-decides : (e : Entry) → item_of e ≡ Some x → AreActs ns entries (tx_of e) acts → (Any (IsOf i (changes (deed_of e))) acts → ⊥) ↔ All (IsNew e) entries
+module _ (ns : List Name) (entries : List Entry) (acts : List Act) (i : ℕ) (x : Name) (at : slice_get ns i ≡ Some x)
+    where
+  pub first-decides : (e : Entry) → item_of e ≡ Some x → AreActs ns entries (tx_of e) acts
+      → (Any (IsOf i (changes (deed_of e))) acts → ⊥) ↔ All (IsNew e) entries
   first-decides e on is = (
     λ miss. all-new entries e (λ f in_it y r.
         let place = Contains_at entries f in_it in
         let both = repeated f e y r.1 in
         let name : y ≡ x = same_Some y x (sym both.1 ∙ on) in
         let c : Act = act place.0 i f in
-        let has = (is c).1 (record { entry = f; name = x; here = place.1; of = r.0; item = at; on = both.0 ∙ ap Some name; deed = refl }) in
+        let has =
+            (is c).1 (record { entry = f; name = x; here = place.1; of = r.0; item = at; on = both.0
+            ∙ ap Some name; deed = refl }) in
         let there = Contains_at acts c has in
         miss (Any-from_at (IsOf i (changes (deed_of e))) acts there.0 c there.1 (refl, both.2))),
     λ all has.
         let found = Any_at (IsOf i (changes (deed_of e))) acts has in
         let w = (is found.1).0 (Contains-from_at acts found.0 found.1 found.2) in
         let name : w.name ≡ x = same_Some w.name x (sym w.item ∙ ap (slice_get ns) found.3.0 ∙ at) in
-        each-new entries e w.entry all (Contains-from_at entries found.1.at w.entry w.here) x (w.of, repeats w.entry e x (w.on ∙ ap Some name) on (ap changes (sym w.deed) ∙ found.3.1)),
+        each-new entries e w.entry all (Contains-from_at entries found.1.at w.entry w.here) x (w.of,
+            repeats w.entry e x (w.on ∙ ap Some name) on (ap changes (sym w.deed) ∙ found.3.1)),
   )
 
 pub not-decides : (b : Bool) (P Q : Type 0) → IsTrue b ↔ P → (P → ⊥) ↔ Q → IsTrue (not b) ↔ Q
 not-decides true P Q p q = (λ h. absurd (false≢true h), λ r. absurd (q.1 r (p.0 refl)))
 not-decides false P Q p q = (λ h. q.0 (λ r. false≢true (p.1 r)), λ r. refl)
 
-pub or-decides : (a b : Bool) (P Q R : Type 0) → IsTrue a ↔ P → IsTrue b ↔ Q → (P → R) → (Q → R) → (R → P ⊎ Q) → IsTrue (a || b) ↔ R
+pub or-decides : (a b : Bool) (P Q R : Type 0) → IsTrue a ↔ P → IsTrue b ↔ Q → (P → R) → (Q → R) → (R → P ⊎ Q)
+    → IsTrue (a || b) ↔ R
 or-decides true b P Q R p q left right both = (λ _. left (p.0 refl), λ _. refl)
-or-decides false b P Q R p q left right both = (λ h. right (q.0 h), λ r. elim (both r) [ inl h ↦ absurd (false≢true (p.1 h)) | inr h ↦ q.1 h ])
+or-decides false b P Q R p q left right both =
+    (λ h. right (q.0 h), λ r. elim (both r) [ inl h ↦ absurd (false≢true (p.1 h)) | inr h ↦ q.1 h ])
 
 -- ---- one more entry
 
 abbrev pub Apart : Name → Name → Type 0
 Apart x y = x ≢ y
 
-place-one : (ns : List Name) (i j : ℕ) (x y : Name) → AllPairs Apart ns → slice_get ns i ≡ Some x → slice_get ns j ≡ Some y → x ≡ y → i ≡ j
+place-one : (ns : List Name) (i j : ℕ) (x y : Name) → AllPairs Apart ns → slice_get ns i ≡ Some x
+    → slice_get ns j ≡ Some y → x ≡ y → i ≡ j
 place-one ns i j x y apart at_i at_j same =
     elim (cases_order i j) [
       | inl eq ↦ eq
@@ -146,56 +158,72 @@ module _ (entries : List Entry) (tx : ℕ) (e : Entry) (Does : Entry → Type 0)
   pub did-back : (tx_of e ≡ tx → Does e → ⊥) → Did (entries ++ e ∷ []) tx Does → Did entries tx Does
   did-back other d = elim (did-cases d) [ inl old ↦ old | inr new ↦ absurd (other new.0 new.1) ]
 
-  pub did-left : {P : Type 0} → (tx_of e ≡ tx → Does e → ⊥) → P ↔ Did entries tx Does → P ↔ Did (entries ++ e ∷ []) tx Does
+  pub did-left : {P : Type 0} → (tx_of e ≡ tx → Does e → ⊥) → P ↔ Did entries tx Does
+      → P ↔ Did (entries ++ e ∷ []) tx Does
   did-left other before = (λ h. did-more (before.0 h), λ d. before.1 (did-back other d))
 
 -- ---- operations
 
 module _ {A : Type 0} where
-  pub get_cases : (xs : List A) (y : A) (n : ℕ) (a : A) → slice_get (xs ++ y ∷ []) n ≡ Some a → (slice_get xs n ≡ Some a) ⊎ ((n ≡ length xs) × (y ≡ a))
+  pub get_cases : (xs : List A) (y : A) (n : ℕ) (a : A) → slice_get (xs ++ y ∷ []) n ≡ Some a
+      → (slice_get xs n ≡ Some a) ⊎ ((n ≡ length xs) × (y ≡ a))
   get_cases [] y zero a h = inr (refl, same_Some y a h)
   get_cases [] y (suc n) a h = absurd (none-some a h)
   get_cases (x ∷ xs) y zero a h = inl h
-  get_cases (x ∷ xs) y (suc n) a h = elim (get_cases xs y n a h) [ inl old ↦ inl old | inr new ↦ inr (ap suc new.0, new.1) ]
+  get_cases (x ∷ xs) y (suc n) a h =
+      elim (get_cases xs y n a h) [ inl old ↦ inl old | inr new ↦ inr (ap suc new.0, new.1) ]
 
 abbrev made : ℕ → Deed → ℕ → Act
 made i d n = record { place = i; deed = d; at = n }
 
 module _ (ns : List Name) (entries : List Entry) (tx : ℕ) (e : Entry) where
   act-more : (a : Act) → IsAct ns entries tx a → IsAct ns (entries ++ e ∷ []) tx a
-  act-more a w = record { entry = w.entry; name = w.name; here = front_at entries (e ∷ []) a.at w.entry w.here; of = w.of; item = w.item; on = w.on; deed = w.deed }
+  act-more a w = record { entry = w.entry; name = w.name; here = front_at entries (e ∷ []) a.at w.entry w.here; of =
+      w.of; item = w.item; on = w.on; deed = w.deed }
 
   -- it stands for the new entry
   abbrev IsLast : Act → Type 0
-  IsLast a = (a.at ≡ length entries) × (tx_of e ≡ tx) × ((x : Name) × (slice_get ns a.place ≡ Some x) × (item_of e ≡ Some x)) × (a.deed ≡ deed_of e)
+  IsLast a = (a.at ≡ length entries) × (tx_of e ≡ tx)
+      × ((x : Name) × (slice_get ns a.place ≡ Some x) × (item_of e ≡ Some x)) × (a.deed ≡ deed_of e)
 
   act-cases : (a : Act) → IsAct ns (entries ++ e ∷ []) tx a → IsAct ns entries tx a ⊎ IsLast a
   act-cases a w =
       elim (get_cases entries e a.at w.entry w.here) [
-        | inl old ↦ inl (record { entry = w.entry; name = w.name; here = old; of = w.of; item = w.item; on = w.on; deed = w.deed })
-        | inr new ↦ inr (new.0, ap tx_of new.1 ∙ w.of, (w.name, w.item, ap item_of new.1 ∙ w.on), w.deed ∙ ap deed_of (sym new.1))
+        | inl old ↦ inl (record { entry = w.entry; name = w.name; here = old; of = w.of; item = w.item; on =
+            w.on; deed = w.deed })
+        | inr new ↦ inr (new.0, ap tx_of new.1 ∙ w.of, (w.name, w.item, ap item_of new.1 ∙ w.on), w.deed
+            ∙ ap deed_of (sym new.1))
       ]
 
-  same-acts : (acts : List Act) → ((a : Act) → IsLast a → ⊥) → AreActs ns entries tx acts → AreActs ns (entries ++ e ∷ []) tx acts
-  same-acts acts none is a = (λ has. act-more a ((is a).0 has), λ w. elim (act-cases a w) [ inl old ↦ (is a).1 old | inr new ↦ absurd (none a new) ])
+  same-acts : (acts : List Act) → ((a : Act) → IsLast a → ⊥) → AreActs ns entries tx acts
+      → AreActs ns (entries ++ e ∷ []) tx acts
+  same-acts acts none is a =
+      (λ has. act-more a ((is a).0 has), λ w. elim (act-cases a w) [ inl old ↦ (is a).1 old
+      | inr new ↦ absurd (none a new) ])
 
-  pub acts-left : (acts : List Act) → (tx_of e ≡ tx → ⊥) → AreActs ns entries tx acts → AreActs ns (entries ++ e ∷ []) tx acts
+  pub acts-left : (acts : List Act) → (tx_of e ≡ tx → ⊥) → AreActs ns entries tx acts
+      → AreActs ns (entries ++ e ∷ []) tx acts
   acts-left acts other is = same-acts acts (λ a new. other new.1) is
 
-  pub acts-ended : (acts : List Act) → item_of e ≡ None → AreActs ns entries tx acts → AreActs ns (entries ++ e ∷ []) tx acts
+  pub acts-ended : (acts : List Act) → item_of e ≡ None → AreActs ns entries tx acts
+      → AreActs ns (entries ++ e ∷ []) tx acts
   acts-ended acts none is = same-acts acts (λ a new. none-some new.2.0 (sym none ∙ new.2.2)) is
 
-  pub acts-entered : (acts : List Act) (i : ℕ) (x : Name) → AllPairs Apart ns → AreActs ns entries tx acts → tx_of e ≡ tx → slice_get ns i ≡ Some x → item_of e ≡ Some x → AreActs ns (entries ++ e ∷ []) tx (acts ++ act (length entries) i e ∷ [])
+  pub acts-entered : (acts : List Act) (i : ℕ) (x : Name) → AllPairs Apart ns → AreActs ns entries tx acts
+      → tx_of e ≡ tx → slice_get ns i ≡ Some x → item_of e ≡ Some x
+      → AreActs ns (entries ++ e ∷ []) tx (acts ++ act (length entries) i e ∷ [])
   acts-entered acts i x apart is of at on a = (
     λ has. elim (Contains-push_cases acts c a has) [
       | inl old ↦ act-more a ((is a).0 old)
-      | inr new ↦ subst (IsAct ns (entries ++ e ∷ []) tx) new (record { entry = e; name = x; here = middle_at entries e []; of = of; item = at; on = on; deed = refl })
+      | inr new ↦ subst (IsAct ns (entries ++ e ∷ []) tx) new (record { entry = e; name = x; here =
+          middle_at entries e []; of = of; item = at; on = on; deed = refl })
     ],
     λ w. elim (act-cases a w) [
       | inl old ↦ Contains-append_left acts (c ∷ []) a ((is a).1 old)
       | inr new ↦
           let place = place-one ns i a.place x new.2.0 apart at new.2.1 (same_Some x new.2.0 (sym on ∙ new.2.2)) in
-          let same : c ≡ a = ap (λ p. made p (deed_of e) (length entries)) place ∙ ap (λ n. made a.place (deed_of e) n) (sym new.0) ∙ ap (λ d. made a.place d a.at) (sym new.3) in
+          let same : c ≡ a = ap (λ p. made p (deed_of e) (length entries)) place
+              ∙ ap (λ n. made a.place (deed_of e) n) (sym new.0) ∙ ap (λ d. made a.place d a.at) (sym new.3) in
           subst (Contains (acts ++ c ∷ [])) same (Contains-push acts c)
     ],
   )
@@ -203,14 +231,18 @@ module _ (ns : List Name) (entries : List Entry) (tx : ℕ) (e : Entry) where
       c : Act
       c = act (length entries) i e
 
-  pub acts-next : (acts : List Act) (place : Option ℕ) → AllPairs Apart ns → AreActs ns entries tx acts → tx_of e ≡ tx → IsPlaceOf ns e place → AreActs ns (entries ++ e ∷ []) tx (acts ++ option_to_list (option_map (λ i. act (length entries) i e) place))
-  acts-next acts None apart is of on = subst (AreActs ns (entries ++ e ∷ []) tx) (sym (append-nil acts)) (acts-ended acts on is)
+  pub acts-next : (acts : List Act) (place : Option ℕ) → AllPairs Apart ns → AreActs ns entries tx acts → tx_of e ≡ tx
+      → IsPlaceOf ns e place
+      → AreActs ns (entries ++ e ∷ []) tx (acts ++ option_to_list (option_map (λ i. act (length entries) i e) place))
+  acts-next acts None apart is of on =
+      subst (AreActs ns (entries ++ e ∷ []) tx) (sym (append-nil acts)) (acts-ended acts on is)
   acts-next acts (Some i) apart is of on = acts-entered acts i on.0 apart is of on.1 on.2
 
 -- ---- a record
 
 -- an entry of another transaction
-pub record-left : (ns : List Name) (entries : List Entry) (tx : ℕ) (r : Record) (e : Entry) → (tx_of e ≡ tx → ⊥) → IsRecord ns entries tx r → IsRecord ns (entries ++ e ∷ []) tx r
+pub record-left : (ns : List Name) (entries : List Entry) (tx : ℕ) (r : Record) (e : Entry) → (tx_of e ≡ tx → ⊥)
+    → IsRecord ns entries tx r → IsRecord ns (entries ++ e ∷ []) tx r
 record-left ns entries tx r e other is = record {
   touched = did-left entries tx e (λ f. Unit {0}) (λ of does. other of) is.touched;
   ended = did-left entries tx e IsEnd (λ of does. other of) is.ended;
@@ -218,14 +250,19 @@ record-left ns entries tx r e other is = record {
 }
 
 -- its next entry
-pub record-entered : (ns : List Name) (entries : List Entry) (tx : ℕ) (old new : Record) (e : Entry) (place : Option ℕ) (ends : Bool) → AllPairs Apart ns → tx_of e ≡ tx → IsPlaceOf ns e place → IsTrue ends ↔ IsEnd e
-    → IsRecord ns entries tx old → IsTouched (option_to_list (option_map (λ i. act (length entries) i e) place)) ends old new → IsRecord ns (entries ++ e ∷ []) tx new
+pub record-entered : (ns : List Name) (entries : List Entry) (tx : ℕ) (old new : Record) (e : Entry)
+    (place : Option ℕ) (ends : Bool) → AllPairs Apart ns → tx_of e ≡ tx → IsPlaceOf ns e place → IsTrue ends ↔ IsEnd e
+    → IsRecord ns entries tx old
+        → IsTouched (option_to_list (option_map (λ i. act (length entries) i e) place)) ends old new
+        → IsRecord ns (entries ++ e ∷ []) tx new
 record-entered ns entries tx old new e place ends apart of on ending is to = record {
   touched = (λ _. (e, Contains-push entries e, of, tt), λ _. to.touched);
   ended = subst (λ b. IsTrue b ↔ Did (entries ++ e ∷ []) tx IsEnd) (sym to.end)
-      (or-decides old.ended ends (Did entries tx IsEnd) (IsEnd e) (Did (entries ++ e ∷ []) tx IsEnd) is.ended ending (did-more entries tx e IsEnd) (λ h. (e, Contains-push entries e, of, h))
+      (or-decides old.ended ends (Did entries tx IsEnd) (IsEnd e) (Did (entries ++ e ∷ []) tx IsEnd) is.ended ending
+          (did-more entries tx e IsEnd) (λ h. (e, Contains-push entries e, of, h))
       (λ d. elim (did-cases entries tx e IsEnd d) [ inl before ↦ inl before | inr now ↦ inr now.1 ]));
-  acts = subst (AreActs ns (entries ++ e ∷ []) tx) (sym to.did) (acts-next ns entries tx e old.acts place apart is.acts of on);
+  acts = subst (AreActs ns (entries ++ e ∷ []) tx) (sym to.did)
+      (acts-next ns entries tx e old.acts place apart is.acts of on);
 }
 
 no-entry : (f : Entry) → Contains [] f → ⊥
@@ -247,5 +284,6 @@ pub record-renamed : (ns more : List Name) (tx : ℕ) (r : Record) → IsRecord 
 record-renamed ns more tx r is = record {
   touched = is.touched;
   ended = is.ended;
-  acts = λ a. (λ h. let w = (is.acts a).0 h in absurd (none-some w.entry w.here), λ w. absurd (none-some w.entry w.here));
+  acts = λ a. (λ h. let w = (is.acts a).0 h in absurd (none-some w.entry w.here),
+      λ w. absurd (none-some w.entry w.here));
 }

@@ -25,7 +25,8 @@ module _ {A : Type 0} where
   get-last [] y = refl
   get-last (x ∷ xs) y = get-last xs y
 
-  pub pushed-cases : (xs : List A) (y a : A) (i : ℕ) → slice_get (xs ++ y ∷ []) i ≡ Some a → (slice_get xs i ≡ Some a) ⊎ ((i ≡ length xs) × (y ≡ a))
+  pub pushed-cases : (xs : List A) (y a : A) (i : ℕ) → slice_get (xs ++ y ∷ []) i ≡ Some a
+      → (slice_get xs i ≡ Some a) ⊎ ((i ≡ length xs) × (y ≡ a))
   pushed-cases [] y a zero h = inr (refl, same_Some y a h)
   pushed-cases [] y a (suc i) h = absurd (none-some a h)
   pushed-cases (x ∷ xs) y a zero h = inl h
@@ -36,7 +37,8 @@ module _ {A : Type 0} where
       ]
 
   pub any-pushed : (P : A → Type 0) (xs : List A) (y : A) → Any P xs → Any P (xs ++ y ∷ [])
-  any-pushed P xs y any = let a = Any_at P xs any in Any-from_at P (xs ++ y ∷ []) a.0 a.1 (get-pushed xs y a.1 a.0 a.2) a.3
+  any-pushed P xs y any = let a = Any_at P xs any in
+      Any-from_at P (xs ++ y ∷ []) a.0 a.1 (get-pushed xs y a.1 a.0 a.2) a.3
 
   pub any-last : (P : A → Type 0) (xs : List A) (y : A) → P y → Any P (xs ++ y ∷ [])
   any-last P xs y p = Any-from_at P (xs ++ y ∷ []) (length xs) y (get-last xs y) p
@@ -67,25 +69,32 @@ module _ (nodes : List Node) (are : AreLinked nodes) where
         | inl none ↦ ap (behind (chain_by f nodes)) none ∙ sym (ap (behind (chain_by g nodes)) none)
         | inr some ↦
             let early = are i some.0 some.1 in
-            ap (behind (chain_by f nodes)) some.1 ∙ ap (λ acts. acts ++ some.0.act ∷ []) (most-same f g some.0.before (omega (arith, early, lf)) (omega (arith, early, lg)))
+            ap (behind (chain_by f nodes)) some.1
+                ∙ ap (λ acts. acts ++ some.0.act ∷ []) (most-same f g some.0.before (omega (arith, early, lf))
+                (omega (arith, early, lg)))
             ∙ sym (ap (behind (chain_by g nodes)) some.1)
       ]
 
-  pub chain-at : (i : ℕ) (n : Node) → slice_get nodes i ≡ Some n → chain nodes (suc i) ≡ chain nodes n.before ++ n.act ∷ []
+  pub chain-at : (i : ℕ) (n : Node) → slice_get nodes i ≡ Some n
+      → chain nodes (suc i) ≡ chain nodes n.before ++ n.act ∷ []
   chain-at i n at =
       let early = are i n at in
-      ap (behind (chain_by i nodes)) at ∙ ap (λ acts. acts ++ n.act ∷ []) (most-same i n.before n.before early (omega arith))
+      ap (behind (chain_by i nodes)) at
+          ∙ ap (λ acts. acts ++ n.act ∷ []) (most-same i n.before n.before early (omega arith))
 
   -- one step back
-  pub any-step : (P : Act → Type 0) (at i : ℕ) (n : Node) → slice_get nodes i ≡ Some n → at ≡ suc i → (P n.act → ⊥) → Any P (chain nodes at) ↔ Any P (chain nodes n.before)
+  pub any-step : (P : Act → Type 0) (at i : ℕ) (n : Node) → slice_get nodes i ≡ Some n → at ≡ suc i → (P n.act → ⊥)
+      → Any P (chain nodes at) ↔ Any P (chain nodes n.before)
   any-step P at i n here is not =
       let same : chain nodes at ≡ chain nodes n.before ++ n.act ∷ [] = ap (chain nodes) is ∙ chain-at i n here in (
         λ any. any-cases P (chain nodes n.before) n.act (subst (Any P) same any) not,
         λ any. subst (Any P) (sym same) (any-pushed P (chain nodes n.before) n.act any),
       )
 
-  pub any-here : (P : Act → Type 0) (at i : ℕ) (n : Node) → slice_get nodes i ≡ Some n → at ≡ suc i → P n.act → Any P (chain nodes at)
-  any-here P at i n here is p = subst (Any P) (sym (ap (chain nodes) is ∙ chain-at i n here)) (any-last P (chain nodes n.before) n.act p)
+  pub any-here : (P : Act → Type 0) (at i : ℕ) (n : Node) → slice_get nodes i ≡ Some n → at ≡ suc i → P n.act
+      → Any P (chain nodes at)
+  any-here P at i n here is p =
+      subst (Any P) (sym (ap (chain nodes) is ∙ chain-at i n here)) (any-last P (chain nodes n.before) n.act p)
 
   module _ (x : Node) (early : x.before ≤ length nodes) where
     pushed-by : (f k : ℕ) → k ≤ length nodes → chain_by f (nodes ++ x ∷ []) k ≡ chain_by f nodes k
@@ -94,7 +103,8 @@ module _ (nodes : List Node) (are : AreLinked nodes) where
     pushed-by (suc f) (suc i) le =
         let there = some-at nodes i (omega (arith, le)) in
         let before = are i there.0 there.1 in
-        ap (behind (chain_by f (nodes ++ x ∷ []))) (get-pushed nodes x there.0 i there.1) ∙ ap (λ acts. acts ++ there.0.act ∷ []) (pushed-by f there.0.before (omega (arith, before, le)))
+        ap (behind (chain_by f (nodes ++ x ∷ []))) (get-pushed nodes x there.0 i there.1)
+            ∙ ap (λ acts. acts ++ there.0.act ∷ []) (pushed-by f there.0.before (omega (arith, before, le)))
         ∙ sym (ap (behind (chain_by f nodes)) there.1)
 
     pub chain-pushed : (k : ℕ) → k ≤ length nodes → chain (nodes ++ x ∷ []) k ≡ chain nodes k
@@ -104,35 +114,43 @@ module _ (nodes : List Node) (are : AreLinked nodes) where
     linked-pushed i n at =
         elim (pushed-cases nodes x n i at) [
           | inl before ↦ are i n before
-          | inr last ↦ let eq = ap (λ (m : Node). m.before) last.1 in let place = last.0 in omega (arith, early, eq, place)
+          | inr last ↦ let eq = ap (λ (m : Node). m.before) last.1 in let place = last.0 in
+              omega (arith, early, eq, place)
         ]
 
 -- one more is linked behind what stands at its place
-pub chain-last : (nodes : List Node) (are : AreLinked nodes) (x : Node) → x.before ≤ length nodes → chain (nodes ++ x ∷ []) (suc (length nodes)) ≡ chain nodes x.before ++ x.act ∷ []
+pub chain-last : (nodes : List Node) (are : AreLinked nodes) (x : Node) → x.before ≤ length nodes
+    → chain (nodes ++ x ∷ []) (suc (length nodes)) ≡ chain nodes x.before ++ x.act ∷ []
 chain-last nodes are x early =
-    chain-at (nodes ++ x ∷ []) (linked-pushed nodes are x early) (length nodes) x (get-last nodes x) ∙ ap (λ acts. acts ++ x.act ∷ []) (chain-pushed nodes are x early x.before early)
+    chain-at (nodes ++ x ∷ []) (linked-pushed nodes are x early) (length nodes) x (get-last nodes x)
+        ∙ ap (λ acts. acts ++ x.act ∷ []) (chain-pushed nodes are x early x.before early)
 
 -- ---- the records
 
-map-same : {A B : Type 0} (f g : A → B) (xs : List A) → ((i : ℕ) (a : A) → slice_get xs i ≡ Some a → f a ≡ g a) → map f xs ≡ map g xs
+map-same : {A B : Type 0} (f g : A → B) (xs : List A) → ((i : ℕ) (a : A) → slice_get xs i ≡ Some a → f a ≡ g a)
+    → map f xs ≡ map g xs
 map-same f g [] same = refl
 map-same f g (x ∷ xs) same = ap₂ (λ y ys. y ∷ ys) (same 0 x refl) (map-same f g xs (λ i a at. same (suc i) a at))
 
 abbrev told : Bool → Bool → List Act → Record
 told here ended acts = record { touched = here; ended = here && ended; acts = acts }
 
-module _ (stamp : ℕ) (nodes more : List Node) (slots : List Slot) (within : AreWithin stamp (length nodes) slots) (others : (k : ℕ) → k ≤ length nodes → chain more k ≡ chain nodes k) where
+module _ (stamp : ℕ) (nodes more : List Node) (slots : List Slot) (within : AreWithin stamp (length nodes) slots)
+    (others : (k : ℕ) → k ≤ length nodes → chain more k ≡ chain nodes k) where
   pub records-same : records_of stamp more slots ≡ records_of stamp nodes slots
   records-same = map-same (record_of stamp more) (record_of stamp nodes) slots (λ i s at.
       let le = All_at (λ (s : Slot). last_here stamp s ≤ length nodes) slots i s within at in
       ap (told (s.stamp == stamp) s.ended) (others (last_here stamp s) le))
 
-module _ (stamp : ℕ) (nodes : List Node) (slots : List Slot) (now : List Record) (view : records_of stamp nodes slots ≡ now) (n : ℕ) where
+module _ (stamp : ℕ) (nodes : List Node) (slots : List Slot) (now : List Record)
+    (view : records_of stamp nodes slots ≡ now) (n : ℕ) where
   -- the record of a slot
   pub record-at : (s : Slot) → slice_get slots n ≡ Some s → slice_get now n ≡ Some (record_of stamp nodes s)
-  record-at s at = ap (λ rs. slice_get rs n) (sym view) ∙ slice_get-map (record_of stamp nodes) slots n ∙ ap (option_map (record_of stamp nodes)) at
+  record-at s at = ap (λ rs. slice_get rs n) (sym view) ∙ slice_get-map (record_of stamp nodes) slots n
+      ∙ ap (option_map (record_of stamp nodes)) at
 
-  pub record-is : (s : Slot) (r : Record) → slice_get slots n ≡ Some s → slice_get now n ≡ Some r → record_of stamp nodes s ≡ r
+  pub record-is : (s : Slot) (r : Record) → slice_get slots n ≡ Some s → slice_get now n ≡ Some r
+      → record_of stamp nodes s ≡ r
   record-is s r at there = same_Some (record_of stamp nodes s) r (sym (record-at s at) ∙ there)
 
   pub record-within : (r : Record) → slice_get now n ≡ Some r → n < length slots
@@ -146,15 +164,18 @@ abbrev cleared : List Node → Slot → Bool → Record
 cleared nodes s here = record { touched = here; ended = here && s.ended; acts = chain nodes (cond here s.last 0) }
 
 pub record-fresh : (stamp : ℕ) (nodes : List Node) (s : Slot) → s.stamp < stamp → record_of stamp nodes s ≡ no_record
-record-fresh stamp nodes s early = ap (cleared nodes s) (ne_eqb s.stamp stamp (λ same. absurd (omega (arith, early, same))))
+record-fresh stamp nodes s early =
+    ap (cleared nodes s) (ne_eqb s.stamp stamp (λ same. absurd (omega (arith, early, same))))
 
 -- where its slot has this stamp
-pub record-now : (stamp : ℕ) (nodes : List Node) (s : Slot) → s.stamp ≡ stamp → record_of stamp nodes s ≡ told true s.ended (chain nodes s.last)
+pub record-now : (stamp : ℕ) (nodes : List Node) (s : Slot) → s.stamp ≡ stamp
+    → record_of stamp nodes s ≡ told true s.ended (chain nodes s.last)
 record-now stamp nodes s same = ap (cleared nodes s) (eq-eqb s.stamp stamp same)
 
 -- ---- a loop that goes back
 
-module _ (nodes : List Node) (are : AreLinked nodes) (at : ℕ) (n : Node) (within : at ≤ length nodes) (some : 0 < at) (there : slice_get nodes (at - 1) ≡ Some n) where
+module _ (nodes : List Node) (are : AreLinked nodes) (at : ℕ) (n : Node) (within : at ≤ length nodes) (some : 0 < at)
+    (there : slice_get nodes (at - 1) ≡ Some n) where
   pub back-early : n.before < at
   back-early = let early = are (at - 1) n there in omega (arith, early, some)
 
@@ -168,7 +189,8 @@ module _ (nodes : List Node) (are : AreLinked nodes) (at : ℕ) (n : Node) (with
   back-here P p = any-here nodes are P at (at - 1) n there (omega (arith, some)) p
 
 pub back-end : (nodes : List Node) (at : ℕ) (P : Act → Type 0) → at ≤ 0 → Any P (chain nodes at) → ⊥
-back-end nodes at P none any = none-of-none P (subst (λ k. Any P (chain nodes k)) (let zero_at : at ≡ 0 = omega (arith, none) in zero_at) any)
+back-end nodes at P none any =
+    none-of-none P (subst (λ k. Any P (chain nodes k)) (let zero_at : at ≡ 0 = omega (arith, none) in zero_at) any)
 
 pub both-ways : {P Q R : Type 0} → P ↔ Q → Q ↔ R → P ↔ R
 both-ways a b = (λ p. b.0 (a.0 p), λ r. a.1 (b.1 r))

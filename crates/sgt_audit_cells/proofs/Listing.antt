@@ -24,15 +24,19 @@ use Rattle.sgt_names.proofs.Elements.{map-push}
 
 -- ---- values
 
-value_in-more : (items more : List Holding) (x : Name) (v : ℕ) → value_in items x ≡ Some v → value_in (items ++ more) x ≡ Some v
+value_in-more : (items more : List Holding) (x : Name) (v : ℕ) → value_in items x ≡ Some v
+    → value_in (items ++ more) x ≡ Some v
 value_in-more [] more x v h = absurd (none-some v h)
 value_in-more (i ∷ items) more x v h =
     elim (cases_Bool (bytes_eq i.item x)) [
-      | inl hit ↦ ap (λ b. cond b (Some i.value) (value_in (items ++ more) x)) hit ∙ sym (ap (λ b. cond b (Some i.value) (value_in items x)) hit) ∙ h
-      | inr miss ↦ ap (λ b. cond b (Some i.value) (value_in (items ++ more) x)) miss ∙ value_in-more items more x v (sym (ap (λ b. cond b (Some i.value) (value_in items x)) miss) ∙ h)
+      | inl hit ↦ ap (λ b. cond b (Some i.value) (value_in (items ++ more) x)) hit
+          ∙ sym (ap (λ b. cond b (Some i.value) (value_in items x)) hit) ∙ h
+      | inr miss ↦ ap (λ b. cond b (Some i.value) (value_in (items ++ more) x)) miss
+          ∙ value_in-more items more x v (sym (ap (λ b. cond b (Some i.value) (value_in items x)) miss) ∙ h)
     ]
 
-value_in-new : (items : List Holding) (h : Holding) → AllByRecursion (λ x. x ≢ h.item) (names items) → value_in (items ++ h ∷ []) h.item ≡ Some h.value
+value_in-new : (items : List Holding) (h : Holding) → AllByRecursion (λ x. x ≢ h.item) (names items)
+    → value_in (items ++ h ∷ []) h.item ≡ Some h.value
 value_in-new [] h new = ap (λ b. cond b (Some h.value) None) ((bytes_eq-Decides h.item h.item).1 refl)
 value_in-new (i ∷ items) h new =
     elim (cases_Bool (bytes_eq i.item h.item)) [
@@ -48,7 +52,8 @@ fresh h = record { name = h.item; value = h.value; reader = None; writer = None;
 
 module _ (ds : List Decision) (items : List Holding) (h : Holding) where
   old-cell : (c : Cell) → IsCell ds items [] c → IsCell ds (items ++ h ∷ []) [] c
-  old-cell c is = record { value = value_in-more items (h ∷ []) c.name c.value is.value; reader = is.reader; writer = is.writer; adder = is.adder }
+  old-cell c is = record { value = value_in-more items (h ∷ []) c.name c.value is.value; reader = is.reader; writer =
+      is.writer; adder = is.adder }
 
   new-cell : All (λ x. x ≢ h.item) (names items) → IsCell ds (items ++ h ∷ []) [] (fresh h)
   new-cell new = record {
@@ -58,22 +63,29 @@ module _ (ds : List Decision) (items : List Holding) (h : Holding) where
     adder = λ f r here has. no-entry f here;
   }
 
-  more-cells : (cells : List Cell) → All (λ x. x ≢ h.item) (names items) → AreCells ds items [] cells → AreCells ds (items ++ h ∷ []) [] (cells ++ fresh h ∷ [])
+  more-cells : (cells : List Cell) → All (λ x. x ≢ h.item) (names items) → AreCells ds items [] cells
+      → AreCells ds (items ++ h ∷ []) [] (cells ++ fresh h ∷ [])
   more-cells cells new are = record {
-    names = map-push (λ (c : Cell). c.name) cells (fresh h) ∙ ap (λ ns. ns ++ h.item ∷ []) are.names ∙ sym (map-push (λ (i : Holding). i.item) items h);
-    each = All-from_at (IsCell ds (items ++ h ∷ []) []) (cells ++ fresh h ∷ []) (λ k c at. elim (Contains-push_cases cells (fresh h) c (Contains-from_at (cells ++ fresh h ∷ []) k c at)) [
-      | inl old ↦ let place = Contains_at cells c old in old-cell c (All_at (IsCell ds items []) cells place.0 c are.each place.1)
+    names = map-push (λ (c : Cell). c.name) cells (fresh h) ∙ ap (λ ns. ns ++ h.item ∷ []) are.names
+        ∙ sym (map-push (λ (i : Holding). i.item) items h);
+    each = All-from_at (IsCell ds (items ++ h ∷ []) []) (cells ++ fresh h ∷ [])
+        (λ k c at. elim (Contains-push_cases cells (fresh h) c (Contains-from_at (cells ++ fresh h ∷ []) k c at)) [
+      | inl old ↦ let place = Contains_at cells c old in
+          old-cell c (All_at (IsCell ds items []) cells place.0 c are.each place.1)
       | inr now ↦ subst (IsCell ds (items ++ h ∷ []) []) now (new-cell new)
     ]);
   }
 
-  pub listed : (old new : SiteState) → All (λ x. x ≢ h.item) (names items) → TracksOpen ds items [] old → new.cells.items ≡ old.cells.items ++ fresh h ∷ []
-      → new.records ≡ old.records → new.count ≡ old.count → new.live ≡ old.live → new.last_end ≡ old.last_end → TracksOpen ds (items ++ h ∷ []) [] new
+  pub listed : (old new : SiteState) → All (λ x. x ≢ h.item) (names items) → TracksOpen ds items [] old
+      → new.cells.items ≡ old.cells.items ++ fresh h ∷ []
+      → new.records ≡ old.records → new.count ≡ old.count → new.live ≡ old.live → new.last_end ≡ old.last_end
+          → TracksOpen ds (items ++ h ∷ []) [] new
   listed old new apart t cells records count live order = record {
     cells = subst (AreCells ds (items ++ h ∷ []) []) (sym cells) (more-cells old.cells.items apart t.cells);
     many = ap length records ∙ t.many;
     records = λ k d r at_k at_r.
-        record-renamed (names items) (names (items ++ h ∷ [])) (decided_tx d) r (t.records k d r at_k (ap (λ rs. slice_get rs k) (sym records) ∙ at_r));
+        record-renamed (names items) (names (items ++ h ∷ [])) (decided_tx d) r
+            (t.records k d r at_k (ap (λ rs. slice_get rs k) (sym records) ∙ at_r));
     live = live ∙ t.live ∙ ap live_among (sym records);
     count = count ∙ t.count;
     order = subst (IsGreatest (EndsBy ds) []) (sym order) t.order;

@@ -22,24 +22,28 @@ pub live-few : (rs : List Record) → live_among rs ≤ length rs
 live-few [] = omega arith
 live-few (x ∷ xs) = let rest = live-few xs in let one = one_if-few (is_live x) in omega (arith, rest, one)
 
-pub live-fewer : (rs : List Record) (n : ℕ) (r : Record) → slice_get rs n ≡ Some r → is_live r ≡ false → live_among rs < length rs
+pub live-fewer : (rs : List Record) (n : ℕ) (r : Record) → slice_get rs n ≡ Some r → is_live r ≡ false
+    → live_among rs < length rs
 live-fewer [] n r h not = absurd (none-some r h)
 live-fewer (x ∷ xs) zero r h not =
     let rest = live-few xs in
     let none : one_if (is_live x) ≡ 0 = ap (λ (y : Record). one_if (is_live y)) (same_Some x r h) ∙ ap one_if not in
     omega (arith, rest, none)
-live-fewer (x ∷ xs) (suc n) r h not = let rest = live-fewer xs n r h not in let one = one_if-few (is_live x) in omega (arith, rest, one)
+live-fewer (x ∷ xs) (suc n) r h not = let rest = live-fewer xs n r h not in let one = one_if-few (is_live x) in
+    omega (arith, rest, one)
 
 not-one : (b : Bool) → one_if b ≡ 0 → b ≡ false
 not-one true h = absurd (omega (arith, h))
 not-one false h = refl
 
-pub live-none : (rs : List Record) (n : ℕ) (r : Record) → live_among rs ≡ 0 → slice_get rs n ≡ Some r → is_live r ≡ false
+pub live-none : (rs : List Record) (n : ℕ) (r : Record) → live_among rs ≡ 0 → slice_get rs n ≡ Some r
+    → is_live r ≡ false
 live-none [] n r none h = absurd (none-some r h)
 live-none (x ∷ xs) zero r none h = ap is_live (sym (same_Some x r h)) ∙ not-one (is_live x) (omega (arith, none))
 live-none (x ∷ xs) (suc n) r none h = live-none xs n r (omega (arith, none)) h
 
-pub none-live : (rs : List Record) → ((n : ℕ) (r : Record) → slice_get rs n ≡ Some r → is_live r ≡ false) → live_among rs ≡ 0
+pub none-live : (rs : List Record) → ((n : ℕ) (r : Record) → slice_get rs n ≡ Some r → is_live r ≡ false)
+    → live_among rs ≡ 0
 none-live [] h = refl
 none-live (x ∷ xs) h =
     let rest = none-live xs (λ n r at. h (suc n) r at) in

@@ -28,12 +28,15 @@ use Rattle.sgt_audit_cells.proofs.Ranked.{greatest-left, greatest-raised, ranked
 use Rattle.sgt_names.proofs.Elements.{false-unless_true, bytes_eq-other}
 
 -- what the entry does to the value of an item
-value-push : (items : List Holding) (entries : List Entry) (e : Entry) (x : Name) (u : ℕ) → value_at items entries x ≡ Some u → value_at items (entries ++ e ∷ []) x ≡ value_after (Some u) (e ∷ []) x
+value-push : (items : List Holding) (entries : List Entry) (e : Entry) (x : Name) (u : ℕ)
+    → value_at items entries x ≡ Some u → value_at items (entries ++ e ∷ []) x ≡ value_after (Some u) (e ∷ []) x
 value-push items entries e x u is =
-    ap (fold value_with (value_in items x)) (filter_map-append (change_of x) entries (e ∷ [])) ∙ fold-append value_with (value_in items x) (filter_map (change_of x) entries) (cons_option (change_of x e) [])
+    ap (fold value_with (value_in items x)) (filter_map-append (change_of x) entries (e ∷ []))
+        ∙ fold-append value_with (value_in items x) (filter_map (change_of x) entries) (cons_option (change_of x e) [])
     ∙ ap (λ o. value_after o (e ∷ []) x) is
 
-value-changed : (x : Name) (e : Entry) (u : ℕ) (o : Option Change) → change_of x e ≡ o → value_after (Some u) (e ∷ []) x ≡ fold value_with (Some u) (cons_option o [])
+value-changed : (x : Name) (e : Entry) (u : ℕ) (o : Option Change) → change_of x e ≡ o
+    → value_after (Some u) (e ∷ []) x ≡ fold value_with (Some u) (cons_option o [])
 value-changed x e u o is = ap (λ p. fold value_with (Some u) (cons_option p [])) is
 
 same_bytes : (x y : Name) → x ≡ y → bytes_eq x y ≡ true
@@ -41,8 +44,10 @@ same_bytes x y e = (bytes_eq-Decides x y).1 e
 
 -- an entry on another item, or an end
 change-none : (x : Name) (e : Entry) → (item_of e ≡ Some x → ⊥) → change_of x e ≡ None
-change-none x (Write tx y v) other = ap (λ b. cond b (Some (change.Put v)) None) (bytes_eq-other y x (λ eq. other (ap Some eq)))
-change-none x (Add tx y v) other = ap (λ b. cond b (Some (change.Add v)) None) (bytes_eq-other y x (λ eq. other (ap Some eq)))
+change-none x (Write tx y v) other =
+    ap (λ b. cond b (Some (change.Put v)) None) (bytes_eq-other y x (λ eq. other (ap Some eq)))
+change-none x (Add tx y v) other =
+    ap (λ b. cond b (Some (change.Add v)) None) (bytes_eq-other y x (λ eq. other (ap Some eq)))
 change-none x (Read tx y v) other = refl
 change-none x (Want tx y v) other = refl
 change-none x (WantAdd tx y v) other = refl
@@ -64,39 +69,52 @@ increments-none x (Add tx y v) other w = other (ap Some w)
 increments-none x (WantAdd tx y v) other w = other (ap Some w)
 increments-none x _ other w = w
 
-module _ (ds : List Decision) (items : List Holding) (entries : List Entry) (c : Cell) (is : IsCell ds items entries c) where
+module _ (ds : List Decision) (items : List Holding) (entries : List Entry) (c : Cell)
+    (is : IsCell ds items entries c) where
   value-left : (e : Entry) → change_of c.name e ≡ None → value_at items (entries ++ e ∷ []) c.name ≡ Some c.value
   value-left e silent = value-push items entries e c.name c.value is.value ∙ value-changed c.name e c.value None silent
 
-  value-is : (e : Entry) (d : Change) → change_of c.name e ≡ Some d → value_at items (entries ++ e ∷ []) c.name ≡ value_with (Some c.value) d
+  value-is : (e : Entry) (d : Change) → change_of c.name e ≡ Some d
+      → value_at items (entries ++ e ∷ []) c.name ≡ value_with (Some c.value) d
   value-is e d does = value-push items entries e c.name c.value is.value ∙ value-changed c.name e c.value (Some d) does
 
-  reader-left : (e : Entry) → (Reads c.name e → ⊥) → IsGreatest (IsRankedWith ds (Reads c.name)) (entries ++ e ∷ []) c.reader
+  reader-left : (e : Entry) → (Reads c.name e → ⊥)
+      → IsGreatest (IsRankedWith ds (Reads c.name)) (entries ++ e ∷ []) c.reader
   reader-left e not = greatest-left (IsRankedWith ds (Reads c.name)) entries c.reader e (λ r has. not has.0) is.reader
 
-  writer-left : (e : Entry) → (Puts c.name e → ⊥) → IsGreatest (IsRankedWith ds (Puts c.name)) (entries ++ e ∷ []) c.writer
+  writer-left : (e : Entry) → (Puts c.name e → ⊥)
+      → IsGreatest (IsRankedWith ds (Puts c.name)) (entries ++ e ∷ []) c.writer
   writer-left e not = greatest-left (IsRankedWith ds (Puts c.name)) entries c.writer e (λ r has. not has.0) is.writer
 
-  adder-left : (e : Entry) → (Increments c.name e → ⊥) → IsGreatest (IsRankedWith ds (Increments c.name)) (entries ++ e ∷ []) c.adder
+  adder-left : (e : Entry) → (Increments c.name e → ⊥)
+      → IsGreatest (IsRankedWith ds (Increments c.name)) (entries ++ e ∷ []) c.adder
   adder-left e not = greatest-left (IsRankedWith ds (Increments c.name)) entries c.adder e (λ r has. not has.0) is.adder
 
   module _ (rank : Option ℕ) (once : IsDecidedOnce ds) where
-    writer-raised : (e : Entry) → Puts c.name e → IsRankOf ds (tx_of e) rank → IsGreatest (IsRankedWith ds (Puts c.name)) (entries ++ e ∷ []) (raised c.writer rank)
-    writer-raised e does by = greatest-raised (IsRankedWith ds (Puts c.name)) entries c.writer rank e (ranked-only ds (Puts c.name) e rank once does by) is.writer
+    writer-raised : (e : Entry) → Puts c.name e → IsRankOf ds (tx_of e) rank
+        → IsGreatest (IsRankedWith ds (Puts c.name)) (entries ++ e ∷ []) (raised c.writer rank)
+    writer-raised e does by =
+        greatest-raised (IsRankedWith ds (Puts c.name)) entries c.writer rank e
+        (ranked-only ds (Puts c.name) e rank once does by) is.writer
 
-    adder-raised : (e : Entry) → Increments c.name e → IsRankOf ds (tx_of e) rank → IsGreatest (IsRankedWith ds (Increments c.name)) (entries ++ e ∷ []) (raised c.adder rank)
-    adder-raised e does by = greatest-raised (IsRankedWith ds (Increments c.name)) entries c.adder rank e (ranked-only ds (Increments c.name) e rank once does by) is.adder
+    adder-raised : (e : Entry) → Increments c.name e → IsRankOf ds (tx_of e) rank
+        → IsGreatest (IsRankedWith ds (Increments c.name)) (entries ++ e ∷ []) (raised c.adder rank)
+    adder-raised e does by = greatest-raised (IsRankedWith ds (Increments c.name)) entries c.adder rank e
+        (ranked-only ds (Increments c.name) e rank once does by) is.adder
 
   -- the cell after an entry on its item
-  pub noted-cell : (e : Entry) (rank : Option ℕ) → IsDecidedOnce ds → item_of e ≡ Some c.name → IsRankOf ds (tx_of e) rank → IsCell ds items (entries ++ e ∷ []) (noted c e rank)
+  pub noted-cell : (e : Entry) (rank : Option ℕ) → IsDecidedOnce ds → item_of e ≡ Some c.name
+      → IsRankOf ds (tx_of e) rank → IsCell ds items (entries ++ e ∷ []) (noted c e rank)
   noted-cell (Read tx y v) rank once on by = record {
     value = value-left (Read tx y v) refl;
-    reader = greatest-raised (IsRankedWith ds (Reads c.name)) entries c.reader rank (Read tx y v) (ranked-only ds (Reads c.name) (Read tx y v) rank once (same-name y c.name on) by) is.reader;
+    reader = greatest-raised (IsRankedWith ds (Reads c.name)) entries c.reader rank (Read tx y v)
+        (ranked-only ds (Reads c.name) (Read tx y v) rank once (same-name y c.name on) by) is.reader;
     writer = writer-left (Read tx y v) (λ w. w);
     adder = adder-left (Read tx y v) (λ w. w);
   }
   noted-cell (Write tx y v) rank once on by = record {
-    value = value-is (Write tx y v) (change.Put v) (ap (λ b. cond b (Some (change.Put v)) None) (same_bytes y c.name (same-name y c.name on)));
+    value = value-is (Write tx y v) (change.Put v)
+        (ap (λ b. cond b (Some (change.Put v)) None) (same_bytes y c.name (same-name y c.name on)));
     reader = reader-left (Write tx y v) (λ r. r);
     writer = writer-raised rank once (Write tx y v) (same-name y c.name on) by;
     adder = adder-left (Write tx y v) (λ w. w);
@@ -108,7 +126,8 @@ module _ (ds : List Decision) (items : List Holding) (entries : List Entry) (c :
     adder = adder-left (Want tx y v) (λ w. w);
   }
   noted-cell (Add tx y v) rank once on by = record {
-    value = value-is (Add tx y v) (change.Add v) (ap (λ b. cond b (Some (change.Add v)) None) (same_bytes y c.name (same-name y c.name on)));
+    value = value-is (Add tx y v) (change.Add v)
+        (ap (λ b. cond b (Some (change.Add v)) None) (same_bytes y c.name (same-name y c.name on)));
     reader = reader-left (Add tx y v) (λ r. r);
     writer = writer-left (Add tx y v) (λ w. w);
     adder = adder-raised rank once (Add tx y v) (same-name y c.name on) by;
@@ -136,27 +155,37 @@ abbrev Apart : Name → Name → Type 0
 Apart x y = x ≢ y
 
 -- the cells after one more entry, which changes the cell of its item alone
-module _ (ds : List Decision) (items : List Holding) (entries : List Entry) (cells : List Cell) (place : ℕ) (v d : Cell) (e : Entry) (lt : place < length cells) (is : AreCells ds items entries cells) (apart : AllPairs Apart (names items))
-    (on : item_of e ≡ Some (get_or cells place d).name) (same : v.name ≡ (get_or cells place d).name) (new : IsCell ds items (entries ++ e ∷ []) v) where
+module _ (ds : List Decision) (items : List Holding) (entries : List Entry) (cells : List Cell) (place : ℕ)
+    (v d : Cell) (e : Entry) (lt : place < length cells) (is : AreCells ds items entries cells)
+    (apart : AllPairs Apart (names items))
+    (on : item_of e ≡ Some (get_or cells place d).name) (same : v.name ≡ (get_or cells place d).name)
+        (new : IsCell ds items (entries ++ e ∷ []) v) where
   name-at : (k : ℕ) (f : Cell) → k < length cells → slice_get (names items) k ≡ Some (get_or cells k f).name
-  name-at k f less = ap (λ ns. slice_get ns k) (sym is.names) ∙ slice_get-map (λ (c : Cell). c.name) cells k ∙ ap (option_map (λ (c : Cell). c.name)) (slice_get-get_or cells k f less)
+  name-at k f less = ap (λ ns. slice_get ns k) (sym is.names) ∙ slice_get-map (λ (c : Cell). c.name) cells k
+      ∙ ap (option_map (λ (c : Cell). c.name)) (slice_get-get_or cells k f less)
 
   elsewhere : (k : ℕ) (f : Cell) → k < length cells → k ≢ place → item_of e ≡ Some (get_or cells k f).name → ⊥
   elsewhere k f less other here =
-      let equal : (get_or cells place d).name ≡ (get_or cells k f).name = same_Some (get_or cells place d).name (get_or cells k f).name (sym on ∙ here) in
+      let equal : (get_or cells place d).name ≡ (get_or cells k f).name =
+          same_Some (get_or cells place d).name (get_or cells k f).name (sym on ∙ here) in
       elim (cases_order k place) [
         | inl eq ↦ other eq
-        | inr (inl lower) ↦ AllPairs_at Apart (names items) k place (get_or cells k f).name (get_or cells place d).name apart lower (name-at k f less) (name-at place d lt) (sym equal)
-        | inr (inr higher) ↦ AllPairs_at Apart (names items) place k (get_or cells place d).name (get_or cells k f).name apart higher (name-at place d lt) (name-at k f less) equal
+        | inr (inl lower) ↦ AllPairs_at Apart (names items) k place (get_or cells k f).name
+            (get_or cells place d).name apart lower (name-at k f less) (name-at place d lt) (sym equal)
+        | inr (inr higher) ↦ AllPairs_at Apart (names items) place k (get_or cells place d).name
+            (get_or cells k f).name apart higher (name-at place d lt) (name-at k f less) equal
       ]
 
-  each-cell : (k : ℕ) (f : Cell) → k < length (set cells place v) → IsCell ds items (entries ++ e ∷ []) (get_or (set cells place v) k f)
+  each-cell : (k : ℕ) (f : Cell) → k < length (set cells place v)
+      → IsCell ds items (entries ++ e ∷ []) (get_or (set cells place v) k f)
   each-cell k f less =
       elim (cases_eq k place) [
-        | inl eq ↦ subst (λ n. IsCell ds items (entries ++ e ∷ []) (get_or (set cells place v) n f)) (sym eq) (subst (IsCell ds items (entries ++ e ∷ [])) (sym (get_or-set_same cells place v f lt)) new)
+        | inl eq ↦ subst (λ n. IsCell ds items (entries ++ e ∷ []) (get_or (set cells place v) n f)) (sym eq)
+            (subst (IsCell ds items (entries ++ e ∷ [])) (sym (get_or-set_same cells place v f lt)) new)
         | inr other ↦
             let within : k < length cells = subst (λ n. k < n) (length-set cells place v) less in
-            subst (IsCell ds items (entries ++ e ∷ [])) (sym (get_or-set_other cells place k v f other)) (other-cell ds items entries (get_or cells k f) (is.each k f within) e (elsewhere k f within other))
+            subst (IsCell ds items (entries ++ e ∷ [])) (sym (get_or-set_other cells place k v f other))
+                (other-cell ds items entries (get_or cells k f) (is.each k f within) e (elsewhere k f within other))
       ]
 
   pub cells-entered : AreCells ds items (entries ++ e ∷ []) (set cells place v)

@@ -19,10 +19,13 @@ use Rattle.sgt_audit_cells.specs.declared.cell.Cell.{Cell}
 use Rattle.sgt_audit_cells.specs.Cells.{IsGreatest, IsRankedWith, Puts, Increments, IsCell, IsRankOf}
 use Rattle.sgt_audit_cells.specs.private.Noted.{IsUpTo, Passes, raised}
 
-pub one-rank : (ds : List Decision) (m n tx r s : ℕ) → IsDecidedOnce ds → IsCommitted ds m tx r → IsCommitted ds n tx s → r ≡ s
-one-rank ds m n tx r s once a b = same_Some r s (sym (rank_of-committed ds m tx r once a) ∙ rank_of-committed ds n tx s once b)
+pub one-rank : (ds : List Decision) (m n tx r s : ℕ) → IsDecidedOnce ds → IsCommitted ds m tx r
+    → IsCommitted ds n tx s → r ≡ s
+one-rank ds m n tx r s once a b = same_Some r s (sym (rank_of-committed ds m tx r once a)
+    ∙ rank_of-committed ds n tx s once b)
 
-pub one-of_rank : (ds : List Decision) (m n t u r : ℕ) → AreRanks (ranks ds) → IsCommitted ds m t r → IsCommitted ds n u r → t ≡ u
+pub one-of_rank : (ds : List Decision) (m n t u r : ℕ) → AreRanks (ranks ds) → IsCommitted ds m t r
+    → IsCommitted ds n u r → t ≡ u
 one-of_rank ds m n t u r are a b =
     elim (of_rank ds r are.apart) [
       | inl none ↦ absurd (none.none m t a)
@@ -46,7 +49,8 @@ IsOnly P None = (r : ℕ) → P r → ⊥
 IsOnly P (Some s) = P s × ((r : ℕ) → P r → r ≡ s)
 
 -- an entry that has none leaves the greatest
-pub greatest-left : (Has : Entry → ℕ → Type 0) (entries : List Entry) (top : Option ℕ) (e : Entry) → ((r : ℕ) → Has e r → ⊥) → IsGreatest Has entries top → IsGreatest Has (entries ++ e ∷ []) top
+pub greatest-left : (Has : Entry → ℕ → Type 0) (entries : List Entry) (top : Option ℕ) (e : Entry)
+    → ((r : ℕ) → Has e r → ⊥) → IsGreatest Has entries top → IsGreatest Has (entries ++ e ∷ []) top
 greatest-left Has entries None e not is = λ f r here has.
     elim (Contains-push_cases entries e f here) [
       | inl old ↦ is f r old has
@@ -62,7 +66,8 @@ greatest-left Has entries (Some t) e not (met, most) = (
 )
 
 -- one that has one raises it
-pub greatest-raised : (Has : Entry → ℕ → Type 0) (entries : List Entry) (top rank : Option ℕ) (e : Entry) → IsOnly (Has e) rank → IsGreatest Has entries top → IsGreatest Has (entries ++ e ∷ []) (raised top rank)
+pub greatest-raised : (Has : Entry → ℕ → Type 0) (entries : List Entry) (top rank : Option ℕ) (e : Entry)
+    → IsOnly (Has e) rank → IsGreatest Has entries top → IsGreatest Has (entries ++ e ∷ []) (raised top rank)
 greatest-raised Has entries top None e none is = greatest-left Has entries top e none is
 greatest-raised Has entries None (Some s) e (has_s, only) is = (
   (e, Contains-push entries e, has_s),
@@ -86,31 +91,39 @@ greatest-raised Has entries (Some t) (Some s) e (has_s, only) (met, most) = (
         elim (cases_order t s) [
           | inl same ↦ (e, Contains-push entries e, subst (Has e) (omega arith) has_s)
           | inr (inl less) ↦ (e, Contains-push entries e, subst (Has e) (omega arith) has_s)
-          | inr (inr more) ↦ (met.0, Contains-append_left entries (e ∷ []) met.0 met.1, subst (Has met.0) (omega arith) met.2)
+          | inr (inr more) ↦ (met.0, Contains-append_left entries (e ∷ []) met.0 met.1,
+              subst (Has met.0) (omega arith) met.2)
         ]
 
 -- ---- ranks
 
 -- the rank of an entry that does it
-pub ranked-only : (ds : List Decision) (Does : Entry → Type 0) (e : Entry) (rank : Option ℕ) → IsDecidedOnce ds → Does e → IsRankOf ds (tx_of e) rank → IsOnly (IsRankedWith ds Does e) rank
+pub ranked-only : (ds : List Decision) (Does : Entry → Type 0) (e : Entry) (rank : Option ℕ) → IsDecidedOnce ds
+    → Does e → IsRankOf ds (tx_of e) rank → IsOnly (IsRankedWith ds Does e) rank
 ranked-only ds Does e None once does none = λ r has. none r has.1
-ranked-only ds Does e (Some s) once does by = ((does, by), λ r has. one-rank ds has.1.0 by.0 (tx_of e) r s once has.1.1 by.1)
+ranked-only ds Does e (Some s) once does by =
+    ((does, by), λ r has. one-rank ds has.1.0 by.0 (tx_of e) r s once has.1.1 by.1)
 
-module _ (ds : List Decision) (entries : List Entry) (once : IsDecidedOnce ds) (are : AreRanks (ranks ds)) (e : Entry) (n s : ℕ) (by : IsCommitted ds n (tx_of e) s) where
+module _ (ds : List Decision) (entries : List Entry) (once : IsDecidedOnce ds) (are : AreRanks (ranks ds)) (e : Entry)
+    (n s : ℕ) (by : IsCommitted ds n (tx_of e) s) where
   -- each entry that does it, of another committed transaction, is of smaller rank
   abbrev pub AllBelow : (Entry → Type 0) → Type 0
-  AllBelow Does = (f : Entry) (m r : ℕ) → Contains entries f → Does f → tx_of f ≢ tx_of e → IsCommitted ds m (tx_of f) r → r < s
+  AllBelow Does = (f : Entry) (m r : ℕ) → Contains entries f → Does f → tx_of f ≢ tx_of e
+      → IsCommitted ds m (tx_of f) r → r < s
 
-  pub up_to-below : (Does : Entry → Type 0) (top : Option ℕ) → IsGreatest (IsRankedWith ds Does) entries top → IsUpTo s top → AllBelow Does
+  pub up_to-below : (Does : Entry → Type 0) (top : Option ℕ) → IsGreatest (IsRankedWith ds Does) entries top
+      → IsUpTo s top → AllBelow Does
   up_to-below Does top is up = λ f m r here does apart at.
       let le = (up_to-all (IsRankedWith ds Does) entries top s is).0 up f r here (does, (m, at)) in
       elim (cases_order r s) [
-        | inl same ↦ absurd (apart (one-of_rank ds m n (tx_of f) (tx_of e) s are (subst (IsCommitted ds m (tx_of f)) same at) by))
+        | inl same ↦ absurd
+            (apart (one-of_rank ds m n (tx_of f) (tx_of e) s are (subst (IsCommitted ds m (tx_of f)) same at) by))
         | inr (inl less) ↦ less
         | inr (inr more) ↦ absurd (omega arith)
       ]
 
-  pub below-up_to : (Does : Entry → Type 0) (top : Option ℕ) → IsGreatest (IsRankedWith ds Does) entries top → AllBelow Does → IsUpTo s top
+  pub below-up_to : (Does : Entry → Type 0) (top : Option ℕ) → IsGreatest (IsRankedWith ds Does) entries top
+      → AllBelow Does → IsUpTo s top
   below-up_to Does None is below = tt
   below-up_to Does (Some t) (met, most) below =
       elim (cases_order t s) [
@@ -118,7 +131,10 @@ module _ (ds : List Decision) (entries : List Entry) (once : IsDecidedOnce ds) (
         | inr (inl less) ↦ omega arith
         | inr (inr more) ↦
             let has = met.2 in
-            let lt = below met.0 has.1.0 t met.1 has.0 (λ same. absurd (let eq = one-rank ds has.1.0 n (tx_of e) t s once (subst (λ tx. IsCommitted ds has.1.0 tx t) same has.1.1) by in omega arith)) has.1.1 in
+            let lt = below met.0 has.1.0 t met.1 has.0
+                (λ same. absurd (let eq =
+                one-rank ds has.1.0 n (tx_of e) t s once (subst (λ tx. IsCommitted ds has.1.0 tx t) same has.1.1)
+                by in omega arith)) has.1.1 in
             absurd (omega arith)
       ]
 
@@ -126,10 +142,12 @@ module _ (ds : List Decision) (entries : List Entry) (once : IsDecidedOnce ds) (
 abbrev Rises : List Decision → Entry → Entry → Type 0
 Rises ds e f = RiseInRank ds f e
 
-each-is : (ds : List Decision) (entries : List Entry) (e f : Entry) → All (Rises ds e) entries → Contains entries f → RiseInRank ds f e
+each-is : (ds : List Decision) (entries : List Entry) (e f : Entry) → All (Rises ds e) entries → Contains entries f
+    → RiseInRank ds f e
 each-is ds entries e f all here = let at = Contains_at entries f here in All_at (Rises ds e) entries at.0 f all at.1
 
-pub all-are : (ds : List Decision) (entries : List Entry) (e : Entry) → ((f : Entry) → Contains entries f → RiseInRank ds f e) → All (Rises ds e) entries
+pub all-are : (ds : List Decision) (entries : List Entry) (e : Entry)
+    → ((f : Entry) → Contains entries f → RiseInRank ds f e) → All (Rises ds e) entries
 all-are ds entries e h = All-from_at (Rises ds e) entries (λ n f at. h f (Contains-from_at entries n f at))
 
 pub same-name : (x y : Name) → Some x ≡ Some y → x ≡ y
@@ -168,9 +186,11 @@ increments-writes x _ a = absurd a
 
 -- ---- the cell decides the rule
 
-module _ (ds : List Decision) (items : List Holding) (entries : List Entry) (c : Cell) (once : IsDecidedOnce ds) (are : AreRanks (ranks ds)) (is : IsCell ds items entries c) where
+module _ (ds : List Decision) (items : List Holding) (entries : List Entry) (c : Cell) (once : IsDecidedOnce ds)
+    (are : AreRanks (ranks ds)) (is : IsCell ds items entries c) where
   -- a read: the writers and the incrementers before it
-  read-decides : (tx : ℕ) (v n s : ℕ) → IsCommitted ds n tx s → (IsUpTo s c.writer × IsUpTo s c.adder) ↔ All (Rises ds (Read tx c.name v)) entries
+  read-decides : (tx : ℕ) (v n s : ℕ) → IsCommitted ds n tx s → (IsUpTo s c.writer × IsUpTo s c.adder)
+      ↔ All (Rises ds (Read tx c.name v)) entries
   read-decides tx v n s by =
       let e = Read tx c.name v in (
         λ up. all-are ds entries e (λ f here. elim [
@@ -178,39 +198,59 @@ module _ (ds : List Decision) (items : List Holding) (entries : List Entry) (c :
               let w = subst (λ y. Writes y f) (sym clash.1) clash.0 in
               let eq = one-rank ds j n tx t s once at_j by in
               elim (writes-cases c.name f w) [
-                | inl puts ↦ let lt = up_to-below ds entries once are e n s by (Puts c.name) c.writer is.writer up.0 f i r here puts apart at_i in omega arith
-                | inr adds ↦ let lt = up_to-below ds entries once are e n s by (Increments c.name) c.adder is.adder up.1 f i r here adds apart at_i in omega arith
+                | inl puts ↦ let lt =
+                    up_to-below ds entries once are e n s by (Puts c.name) c.writer is.writer up.0 f i r here puts
+                    apart at_i in omega arith
+                | inr adds ↦ let lt =
+                    up_to-below ds entries once are e n s by (Increments c.name) c.adder is.adder up.1 f i r here adds
+                    apart at_i in omega arith
               ]
           | Rw ↦ λ x i j r t clash. absurd clash.1
           | Ww ↦ λ x i j r t clash. absurd clash.1
         ]),
         λ all. (
-          below-up_to ds entries once are e n s by (Puts c.name) c.writer is.writer (λ f i r here w apart at_i. each-is ds entries e f all here Wr c.name i n r s (puts-writes c.name f w, refl) apart at_i by),
-          below-up_to ds entries once are e n s by (Increments c.name) c.adder is.adder (λ f i r here w apart at_i. each-is ds entries e f all here Wr c.name i n r s (increments-writes c.name f w, refl) apart at_i by),
+          below-up_to ds entries once are e n s by (Puts c.name) c.writer is.writer
+              (λ f i r here w apart at_i. each-is ds entries e f all here Wr c.name i n r s (puts-writes c.name f w,
+              refl) apart at_i by),
+          below-up_to ds entries once are e n s by (Increments c.name) c.adder is.adder
+              (λ f i r here w apart at_i. each-is ds entries e f all here Wr c.name i n r s
+              (increments-writes c.name f w, refl) apart at_i by),
         ),
       )
 
-  module _ (e : Entry) (n s : ℕ) (by : IsCommitted ds n (tx_of e) s) (writes : Writes c.name e) (alone : (x : Name) → Writes x e → x ≡ c.name) (no_read : (x : Name) → Reads x e → ⊥) where
+  module _ (e : Entry) (n s : ℕ) (by : IsCommitted ds n (tx_of e) s) (writes : Writes c.name e) (alone : (x : Name)
+      → Writes x e → x ≡ c.name) (no_read : (x : Name) → Reads x e → ⊥) where
     -- a write: the readers, the writers and the incrementers before it
-    put-decides : (IsIncrement e → ⊥) → (IsUpTo s c.reader × IsUpTo s c.writer × IsUpTo s c.adder) ↔ All (Rises ds e) entries
+    put-decides : (IsIncrement e → ⊥) → (IsUpTo s c.reader × IsUpTo s c.writer × IsUpTo s c.adder)
+        ↔ All (Rises ds e) entries
     put-decides plain = (
       λ up. all-are ds entries e (λ f here. elim [
         | Wr ↦ λ x i j r t clash. absurd (no_read x clash.1)
         | Rw ↦ λ x i j r t clash apart at_i at_j. let d = subst (λ y. Reads y f) (alone x clash.1) clash.0 in
-            let lt = up_to-below ds entries once are e n s by (Reads c.name) c.reader is.reader up.0 f i r here d apart at_i in
+            let lt = up_to-below ds entries once are e n s by (Reads c.name) c.reader is.reader up.0 f i r here d
+                apart at_i in
             let eq = one-rank ds j n (tx_of e) t s once at_j by in omega arith
         | Ww ↦ λ x i j r t clash apart at_i at_j.
             let d = subst (λ y. Writes y f) (alone x clash.1) clash.0 in
             let eq = one-rank ds j n (tx_of e) t s once at_j by in
             elim (writes-cases c.name f d) [
-              | inl puts ↦ let lt = up_to-below ds entries once are e n s by (Puts c.name) c.writer is.writer up.1 f i r here puts apart at_i in omega arith
-              | inr adds ↦ let lt = up_to-below ds entries once are e n s by (Increments c.name) c.adder is.adder up.2 f i r here adds apart at_i in omega arith
+              | inl puts ↦ let lt =
+                  up_to-below ds entries once are e n s by (Puts c.name) c.writer is.writer up.1 f i r here puts apart
+                  at_i in omega arith
+              | inr adds ↦ let lt =
+                  up_to-below ds entries once are e n s by (Increments c.name) c.adder is.adder up.2 f i r here adds
+                  apart at_i in omega arith
             ]
       ]),
       λ all. (
-        below-up_to ds entries once are e n s by (Reads c.name) c.reader is.reader (λ f i r here d apart at_i. each-is ds entries e f all here Rw c.name i n r s (d, writes) apart at_i by),
-        below-up_to ds entries once are e n s by (Puts c.name) c.writer is.writer (λ f i r here d apart at_i. each-is ds entries e f all here Ww c.name i n r s (puts-writes c.name f d, writes, λ p q. plain q) apart at_i by),
-        below-up_to ds entries once are e n s by (Increments c.name) c.adder is.adder (λ f i r here d apart at_i. each-is ds entries e f all here Ww c.name i n r s (increments-writes c.name f d, writes, λ p q. plain q) apart at_i by),
+        below-up_to ds entries once are e n s by (Reads c.name) c.reader is.reader
+            (λ f i r here d apart at_i. each-is ds entries e f all here Rw c.name i n r s (d, writes) apart at_i by),
+        below-up_to ds entries once are e n s by (Puts c.name) c.writer is.writer
+            (λ f i r here d apart at_i. each-is ds entries e f all here Ww c.name i n r s (puts-writes c.name f d,
+            writes, λ p q. plain q) apart at_i by),
+        below-up_to ds entries once are e n s by (Increments c.name) c.adder is.adder
+            (λ f i r here d apart at_i. each-is ds entries e f all here Ww c.name i n r s
+            (increments-writes c.name f d, writes, λ p q. plain q) apart at_i by),
       ),
     )
 
@@ -220,26 +260,41 @@ module _ (ds : List Decision) (items : List Holding) (entries : List Entry) (c :
       λ up. all-are ds entries e (λ f here. elim [
         | Wr ↦ λ x i j r t clash. absurd (no_read x clash.1)
         | Rw ↦ λ x i j r t clash apart at_i at_j. let d = subst (λ y. Reads y f) (alone x clash.1) clash.0 in
-            let lt = up_to-below ds entries once are e n s by (Reads c.name) c.reader is.reader up.0 f i r here d apart at_i in
+            let lt = up_to-below ds entries once are e n s by (Reads c.name) c.reader is.reader up.0 f i r here d
+                apart at_i in
             let eq = one-rank ds j n (tx_of e) t s once at_j by in omega arith
         | Ww ↦ λ x i j r t clash apart at_i at_j.
             let d = subst (λ y. Writes y f) (alone x clash.1) clash.0 in
             let eq = one-rank ds j n (tx_of e) t s once at_j by in
-            let lt = up_to-below ds entries once are e n s by (Puts c.name) c.writer is.writer up.1 f i r here (writes-puts c.name f d (λ p. clash.2 p adds)) apart at_i in omega arith
+            let lt = up_to-below ds entries once are e n s by (Puts c.name) c.writer is.writer up.1 f i r here
+                (writes-puts c.name f d (λ p. clash.2 p adds)) apart at_i in omega arith
       ]),
       λ all. (
-        below-up_to ds entries once are e n s by (Reads c.name) c.reader is.reader (λ f i r here d apart at_i. each-is ds entries e f all here Rw c.name i n r s (d, writes) apart at_i by),
-        below-up_to ds entries once are e n s by (Puts c.name) c.writer is.writer (λ f i r here d apart at_i. each-is ds entries e f all here Ww c.name i n r s (puts-writes c.name f d, writes, λ p q. puts-plain c.name f d p) apart at_i by),
+        below-up_to ds entries once are e n s by (Reads c.name) c.reader is.reader
+            (λ f i r here d apart at_i. each-is ds entries e f all here Rw c.name i n r s (d, writes) apart at_i by),
+        below-up_to ds entries once are e n s by (Puts c.name) c.writer is.writer
+            (λ f i r here d apart at_i. each-is ds entries e f all here Ww c.name i n r s (puts-writes c.name f d,
+            writes, λ p q. puts-plain c.name f d p) apart at_i by),
       ),
     )
 
-  pub passes-decides : (e : Entry) (rank : Option ℕ) → item_of e ≡ Some c.name → IsRankOf ds (tx_of e) rank → Passes c e rank ↔ All (Rises ds e) entries
-  passes-decides e None on none = (λ up. all-are ds entries e (λ f here k x i j r t clash apart at_i at_j. absurd (none t (j, at_j))), λ all. tt)
-  passes-decides (Read tx x v) (Some s) on (n, by) = subst (λ y. (IsUpTo s c.writer × IsUpTo s c.adder) ↔ All (Rises ds (Read tx y v)) entries) (sym (same-name x c.name on)) (read-decides tx v n s by)
-  passes-decides (Write tx x v) (Some s) on (n, by) = put-decides (Write tx x v) n s by (same-name x c.name on) (λ y w. sym w ∙ same-name x c.name on) (λ y r. r) (λ is. true≢false (sym is))
-  passes-decides (Want tx x v) (Some s) on (n, by) = put-decides (Want tx x v) n s by (same-name x c.name on) (λ y w. sym w ∙ same-name x c.name on) (λ y r. r) (λ is. true≢false (sym is))
-  passes-decides (Add tx x v) (Some s) on (n, by) = add-decides (Add tx x v) n s by (same-name x c.name on) (λ y w. sym w ∙ same-name x c.name on) (λ y r. r) refl
-  passes-decides (WantAdd tx x v) (Some s) on (n, by) = add-decides (WantAdd tx x v) n s by (same-name x c.name on) (λ y w. sym w ∙ same-name x c.name on) (λ y r. r) refl
+  pub passes-decides : (e : Entry) (rank : Option ℕ) → item_of e ≡ Some c.name → IsRankOf ds (tx_of e) rank
+      → Passes c e rank ↔ All (Rises ds e) entries
+  passes-decides e None on none =
+      (λ up. all-are ds entries e (λ f here k x i j r t clash apart at_i at_j. absurd (none t (j, at_j))), λ all. tt)
+  passes-decides (Read tx x v) (Some s) on (n, by) =
+      subst (λ y. (IsUpTo s c.writer × IsUpTo s c.adder) ↔ All (Rises ds (Read tx y v)) entries)
+      (sym (same-name x c.name on)) (read-decides tx v n s by)
+  passes-decides (Write tx x v) (Some s) on (n, by) =
+      put-decides (Write tx x v) n s by (same-name x c.name on) (λ y w. sym w ∙ same-name x c.name on) (λ y r. r)
+      (λ is. true≢false (sym is))
+  passes-decides (Want tx x v) (Some s) on (n, by) =
+      put-decides (Want tx x v) n s by (same-name x c.name on) (λ y w. sym w ∙ same-name x c.name on) (λ y r. r)
+      (λ is. true≢false (sym is))
+  passes-decides (Add tx x v) (Some s) on (n, by) =
+      add-decides (Add tx x v) n s by (same-name x c.name on) (λ y w. sym w ∙ same-name x c.name on) (λ y r. r) refl
+  passes-decides (WantAdd tx x v) (Some s) on (n, by) =
+      add-decides (WantAdd tx x v) n s by (same-name x c.name on) (λ y w. sym w ∙ same-name x c.name on) (λ y r. r) refl
   passes-decides (Commit tx) (Some s) on by = absurd cc
   passes-decides (Refuse tx) (Some s) on by = absurd cc
   passes-decides (Withdraw tx) (Some s) on by = absurd cc

@@ -23,10 +23,13 @@ module _ (words : List ℕ) (at : ℕ) (within : at / 64 < length words) where
   abbrev word : ℕ
   word = bit_or (get_or words (at / 64) 0) (1 * 2 ^ (at % 64) % 2 ^ 64)
 
-  word_changed : (i : ℕ) → i / 64 ≡ at / 64 → get_or (slice_set words (at / 64) word) (i / 64) 0 ≡ bit_or (get_or words (i / 64) 0) (1 * 2 ^ (at % 64) % 2 ^ 64)
+  word_changed : (i : ℕ) → i / 64 ≡ at / 64
+      → get_or (slice_set words (at / 64) word) (i / 64) 0 ≡ bit_or (get_or words (i / 64) 0)
+      (1 * 2 ^ (at % 64) % 2 ^ 64)
   word_changed i same = rw same (get_or-set_same words (at / 64) word 0 within)
 
-  word_same : (i : ℕ) → (i / 64 ≡ at / 64 → ⊥) → get_or (slice_set words (at / 64) word) (i / 64) 0 ≡ get_or words (i / 64) 0
+  word_same : (i : ℕ) → (i / 64 ≡ at / 64 → ⊥)
+      → get_or (slice_set words (at / 64) word) (i / 64) 0 ≡ get_or words (i / 64) 0
   word_same i other = get_or-set_other words (at / 64) (i / 64) word 0 other
 
   bit_kept : (i : ℕ) → HasBit words i → HasBit (slice_set words (at / 64) word) i
@@ -42,7 +45,8 @@ module _ (words : List ℕ) (at : ℕ) (within : at / 64 < length words) where
 
   bit_new : HasBit (slice_set words (at / 64) word) at
   unfolding HasBit
-  bit_new = ap (λ w. bit_at w (at % 64)) (word_changed at refl) ∙ bit_at_set_same w64 (get_or words (at / 64) 0) (at % 64) (omega arith)
+  bit_new = ap (λ w. bit_at w (at % 64)) (word_changed at refl)
+      ∙ bit_at_set_same w64 (get_or words (at / 64) 0) (at % 64) (omega arith)
 
   bit_none : (i : ℕ) → HasBit (slice_set words (at / 64) word) i → HasBit words i ⊎ (i ≡ at)
   unfolding HasBit
@@ -74,8 +78,12 @@ unfolding HasBit
 zero_bits n i has =
     let none = bit_at-zero (i % 64) in
     elim (cases_lt (i / 64) n) [
-      | inl within ↦ absurd (let word = ap (λ w. bit_at w (i % 64)) (get_or-replicate n (i / 64) 0 0 within) in omega (arith, has, none, word))
-      | inr past ↦ absurd (let word = ap (λ w. bit_at w (i % 64)) (get_or_past (replicate n 0) (i / 64) 0 (omega (arith, past, length-replicate {A = ℕ} n 0))) in omega (arith, has, none, word))
+      | inl within ↦ absurd (let word = ap (λ w. bit_at w (i % 64)) (get_or-replicate n (i / 64) 0 0 within) in
+          omega (arith, has, none, word))
+      | inr past ↦ absurd (let word =
+          ap (λ w. bit_at w (i % 64))
+          (get_or_past (replicate n 0) (i / 64) 0 (omega (arith, past, length-replicate {A = ℕ} n 0))) in
+          omega (arith, has, none, word))
     ]
 
 -- no words have a bit past their end
@@ -89,12 +97,14 @@ pub zero_words : (words : List ℕ) (n : ℕ) → words ≡ replicate n 0 → (i
 zero_words words n zeros i has = zero_bits n i (subst (λ ws. HasBit ws i) zeros has)
 
 -- a row with no bits shows nothing
-pub blank : (row : Row) → ((i : ℕ) → HasBit row.reads.items i → ⊥) → ((i : ℕ) → HasBit row.changes.items i → ⊥) → (change : Bool) (place : ℕ) → HasMark row change place → ⊥
+pub blank : (row : Row) → ((i : ℕ) → HasBit row.reads.items i → ⊥) → ((i : ℕ) → HasBit row.changes.items i → ⊥)
+    → (change : Bool) (place : ℕ) → HasMark row change place → ⊥
 blank row reads changes false place has = reads place has
 blank row reads changes true place has = changes place has
 
 -- what it shows does not hang on its node
-pub renamed : (row : Row) (last : ℕ) (change : Bool) (place : ℕ) → HasMark row change place ↔ HasMark (record { upto = last; reads = row.reads; changes = row.changes }) change place
+pub renamed : (row : Row) (last : ℕ) (change : Bool) (place : ℕ)
+    → HasMark row change place ↔ HasMark (record { upto = last; reads = row.reads; changes = row.changes }) change place
 renamed row last false place = (λ h. h, λ h. h)
 renamed row last true place = (λ h. h, λ h. h)
 
@@ -109,10 +119,13 @@ any-either P xs y any =
     ]
 
 -- what is linked from a node: its act, and what is linked in front of it
-pub any-split : (nodes : List Node) (are : AreLinked nodes) (at : ℕ) (n : Node) → 0 < at → slice_get nodes (at - 1) ≡ Some n → (P : Act → Type 0) → Any P (chain nodes at) ↔ (P n.act ⊎ Any P (chain nodes n.before))
+pub any-split : (nodes : List Node) (are : AreLinked nodes) (at : ℕ) (n : Node) → 0 < at
+    → slice_get nodes (at - 1) ≡ Some n → (P : Act → Type 0)
+    → Any P (chain nodes at) ↔ (P n.act ⊎ Any P (chain nodes n.before))
 any-split nodes are at n some there P =
     let is : at ≡ suc (at - 1) = omega (arith, some) in
-    let same : chain nodes at ≡ chain nodes n.before ++ n.act ∷ [] = ap (chain nodes) is ∙ chain-at nodes are (at - 1) n there in (
+    let same : chain nodes at ≡ chain nodes n.before ++ n.act ∷ [] = ap (chain nodes) is
+        ∙ chain-at nodes are (at - 1) n there in (
       λ any. any-either P (chain nodes n.before) n.act (subst (Any P) same any),
       λ either.
           elim either [
@@ -122,7 +135,8 @@ any-split nodes are at n some there P =
     )
 
 -- of all, the one goes over from the others to those that are marked
-pub moved : {All Old New Others One Rest : Type 0} → All ↔ (Old ⊎ Others) → New ↔ (Old ⊎ One) → Others ↔ (One ⊎ Rest) → All ↔ (New ⊎ Rest)
+pub moved : {All Old New Others One Rest : Type 0} → All ↔ (Old ⊎ Others) → New ↔ (Old ⊎ One) → Others ↔ (One ⊎ Rest)
+    → All ↔ (New ⊎ Rest)
 moved all set split = (
   λ any.
       elim (all.0 any) [
@@ -188,7 +202,8 @@ module _ (nodes : List Node) (rows : List Row) (are : AreRows nodes rows) where
       elim (cases_eq i n) [
         | inl same ↦
             let old = some-at rows n within in
-            subst (IsRowOf nodes) (same_Some row r (sym (set-at rows n row old.0 old.1) ∙ ap (slice_get (slice_set rows n row)) (sym same) ∙ at)) is
+            subst (IsRowOf nodes) (same_Some row r (sym (set-at rows n row old.0 old.1)
+                ∙ ap (slice_get (slice_set rows n row)) (sym same) ∙ at)) is
         | inr apart ↦ are i r (sym (set-other rows n i row apart) ∙ at)
       ]
 
@@ -200,10 +215,12 @@ module _ (nodes : List Node) (rows : List Row) (are : AreRows nodes rows) where
       ]
 
   -- where what is linked from each node stays
-  pub rows-kept : (more : List Node) → length nodes ≤ length more → ((k : ℕ) → k ≤ length nodes → chain more k ≡ chain nodes k) → AreRows more rows
+  pub rows-kept : (more : List Node) → length nodes ≤ length more
+      → ((k : ℕ) → k ≤ length nodes → chain more k ≡ chain nodes k) → AreRows more rows
   rows-kept more long others i row at =
       let is = are i row at in
       let early = is.0 in (
         omega (arith, early, long),
-        λ place change. subst (λ (acts : List Act). Any (IsOf place change) acts ↔ HasMark row change place) (sym (others row.upto early)) (is.1 place change),
+        λ place change. subst (λ (acts : List Act). Any (IsOf place change) acts ↔ HasMark row change place)
+            (sym (others row.upto early)) (is.1 place change),
       )

@@ -33,7 +33,8 @@ Increments x (Add tx y v) = y ≡ x
 Increments x (WantAdd tx y v) = y ≡ x
 Increments x _ = ⊥
 
--- the cell is what these entries make of its item: its value, and the greatest rank of a committed reader, writer, incrementer
+-- the cell is what these entries make of its item: its value, and the greatest rank of a committed reader, writer,
+-- incrementer
 pub record IsCell (ds : List Decision) (items : List Holding) (entries : List Entry) (c : Cell) : Type 0 where
   pub value : value_at items entries c.name ≡ Some c.value
   pub reader : IsGreatest (IsRankedWith ds (Reads c.name)) entries c.reader
@@ -41,7 +42,8 @@ pub record IsCell (ds : List Decision) (items : List Holding) (entries : List En
   pub adder : IsGreatest (IsRankedWith ds (Increments c.name)) entries c.adder
 
 -- the cells are those of the site, in the order of its items
-pub record AreCells (ds : List Decision) (items : List Holding) (entries : List Entry) (cells : List Cell) : Type 0 where
+pub record AreCells (ds : List Decision) (items : List Holding) (entries : List Entry) (cells : List Cell) : Type 0
+    where
   pub names : map (λ c. c.name) cells ≡ names items
   pub each : All (IsCell ds items entries) cells
 

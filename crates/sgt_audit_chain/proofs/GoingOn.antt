@@ -17,7 +17,8 @@ use Rattle.sgt_audit_chain.specs.Break.{BreaksHere, site_line}
 use Rattle.sgt_audit_chain.specs.Chain.{initial_of}
 
 -- one more that is the same
-pub front-next : {A : Type 0} (xs ys : List A) (n : ℕ) (a : A) → take n xs ≡ take n ys → slice_get xs n ≡ Some a → slice_get ys n ≡ Some a → take (n + 1) xs ≡ take (n + 1) ys
+pub front-next : {A : Type 0} (xs ys : List A) (n : ℕ) (a : A) → take n xs ≡ take n ys → slice_get xs n ≡ Some a
+    → slice_get ys n ≡ Some a → take (n + 1) xs ≡ take (n + 1) ys
 front-next xs ys n a same here there =
     ap (λ k. take k xs) (add-one n) ∙ take-next xs n a here ∙ ap (λ zs. zs ++ a ∷ []) same
     ∙ sym (take-next ys n a there) ∙ ap (λ k. take k ys) (sym (add-one n))
@@ -37,10 +38,14 @@ holding-same h k both = elim (cases_Bool (bytes_eq h.item k.item)) [
 ]
 
 pub holding-other : (h k : Holding) → (bytes_eq h.item k.item && nat_eq h.value k.value) ≡ false → h ≢ k
-holding-other h k not same = true≢false (sym (both_true ((bytes_eq-Decides h.item k.item).1 (ap (λ (h : Holding). h.item) same)) (eq-eqb h.value k.value (ap (λ (h : Holding). h.value) same))) ∙ not)
+holding-other h k not same =
+    true≢false
+    (sym (both_true ((bytes_eq-Decides h.item k.item).1 (ap (λ (h : Holding). h.item) same))
+    (eq-eqb h.value k.value (ap (λ (h : Holding). h.value) same))) ∙ not)
 
 -- the line behind one more section
-pub line-next : (logs : List SiteLog) (n : ℕ) (log : SiteLog) → slice_get logs n ≡ Some log → site_line logs (n + 1) ≡ site_line logs n + length (section_lines (length (take n logs)) log)
+pub line-next : (logs : List SiteLog) (n : ℕ) (log : SiteLog) → slice_get logs n ≡ Some log
+    → site_line logs (n + 1) ≡ site_line logs n + length (section_lines (length (take n logs)) log)
 line-next logs n log at =
     let before = take n logs in
     let here = section_lines (0 + length before) log in
@@ -53,15 +58,19 @@ line-next logs n log at =
     omega (arith, all, more, last, same)
 
 -- the items of a site and what was left of it
-pub breaks-at : (items left : Option (List Holding)) (xs ys : List Holding) (here place : ℕ) → items ≡ Some xs → left ≡ Some ys → take place xs ≡ take place ys → slice_get xs place ≢ slice_get ys place → BreaksHere items left here (here + place + 1)
+pub breaks-at : (items left : Option (List Holding)) (xs ys : List Holding) (here place : ℕ) → items ≡ Some xs
+    → left ≡ Some ys → take place xs ≡ take place ys → slice_get xs place ≢ slice_get ys place
+    → BreaksHere items left here (here + place + 1)
 breaks-at items left xs ys here place are was same other =
     subst (λ o. BreaksHere o left here (here + place + 1)) (sym are)
     (subst (λ o. BreaksHere (Some xs) o here (here + place + 1)) (sym was) (place, same, other, refl))
 
-pub missing-at : (items left : Option (List Holding)) (ys : List Holding) (here : ℕ) → items ≡ None → left ≡ Some ys → BreaksHere items left here here
+pub missing-at : (items left : Option (List Holding)) (ys : List Holding) (here : ℕ) → items ≡ None → left ≡ Some ys
+    → BreaksHere items left here here
 missing-at items left ys here are was =
     subst (λ o. BreaksHere o left here here) (sym are) (subst (λ o. BreaksHere None o here here) (sym was) refl)
 
 -- the items of a site
-pub items-at : (logs : List SiteLog) (n : ℕ) (log : SiteLog) → slice_get logs n ≡ Some log → slice_get (map initial_of logs) n ≡ Some log.items
+pub items-at : (logs : List SiteLog) (n : ℕ) (log : SiteLog) → slice_get logs n ≡ Some log
+    → slice_get (map initial_of logs) n ≡ Some log.items
 items-at logs n log at = slice_get-map initial_of logs n ∙ ap (option_map initial_of) at

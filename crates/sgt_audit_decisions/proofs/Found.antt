@@ -12,7 +12,8 @@ use Rattle.sgt_cert.specs.declared.certificate.Decision.TheVariants.{Commit, Ref
 use Rattle.sgt_audit_decisions.specs.Decided.{Decides, IsFound, IsRulingOn}
 use Rattle.sgt_audit_decisions.specs.declared.decided.Ruling.{Ruling}
 
-module _ (ds : List Decision) (tx n : ℕ) (d : Decision) (at : slice_get ds n ≡ Some d) (of : decided_tx d ≡ tx) (only : (m : ℕ) → Decides ds m tx → m ≡ n) where
+module _ (ds : List Decision) (tx n : ℕ) (d : Decision) (at : slice_get ds n ≡ Some d) (of : decided_tx d ≡ tx)
+    (only : (m : ℕ) → Decides ds m tx → m ≡ n) where
   pub the-commit : (m rank : ℕ) → IsCommitted ds m tx rank → (m ≡ n) × (d ≡ Commit tx rank)
   the-commit m rank by =
       let e = only m (Commit tx rank, by, refl) in
@@ -26,21 +27,30 @@ module _ (ds : List Decision) (tx n : ℕ) (d : Decision) (at : slice_get ds n �
   pub committed-late : (number : ℕ) → number ≤ n → ((m rank : ℕ) × (m < number) × IsCommitted ds m tx rank) → ⊥
   committed-late number le (m, rank, lt, by) = let e = (the-commit m rank by).0 in omega arith
 
-  pub suiting-found : (e : Entry) (b : Bool) (o : Option ℕ) → tx_of e ≡ tx → IsTrue b ↔ Suits e d → (IsTrue b → o ≡ Some n) → (b ≡ false → o ≡ None) → IsFound (IsDecided ds e) o
-  suiting-found e true o same suits told untold = subst (IsFound (IsDecided ds e)) (sym (told refl)) (d, at, of ∙ sym same, suits.0 refl)
-  suiting-found e false o same suits told untold = subst (IsFound (IsDecided ds e)) (sym (untold refl)) (λ m by. false≢true (suits.1 (the-suiting e same m by)))
+  pub suiting-found : (e : Entry) (b : Bool) (o : Option ℕ) → tx_of e ≡ tx → IsTrue b ↔ Suits e d
+      → (IsTrue b → o ≡ Some n) → (b ≡ false → o ≡ None) → IsFound (IsDecided ds e) o
+  suiting-found e true o same suits told untold = subst (IsFound (IsDecided ds e)) (sym (told refl)) (d, at, of
+      ∙ sym same, suits.0 refl)
+  suiting-found e false o same suits told untold =
+      subst (IsFound (IsDecided ds e)) (sym (untold refl)) (λ m by. false≢true (suits.1 (the-suiting e same m by)))
 
 module _ (ds : List Decision) (tx n : ℕ) where
-  pub rank-found : (d : Decision) (o : Option ℕ) → slice_get ds n ≡ Some d → decided_tx d ≡ tx → ((m : ℕ) → Decides ds m tx → m ≡ n) → o ≡ rank_in d → IsFound (λ rank. (m : ℕ) × IsCommitted ds m tx rank) o
-  rank-found (Commit i k) o at of only is = subst (IsFound (λ rank. (m : ℕ) × IsCommitted ds m tx rank)) (sym is) (n, at ∙ ap (λ j. Some (Commit j k)) of)
+  pub rank-found : (d : Decision) (o : Option ℕ) → slice_get ds n ≡ Some d → decided_tx d ≡ tx
+      → ((m : ℕ) → Decides ds m tx → m ≡ n) → o ≡ rank_in d → IsFound (λ rank. (m : ℕ) × IsCommitted ds m tx rank) o
+  rank-found (Commit i k) o at of only is = subst (IsFound (λ rank. (m : ℕ) × IsCommitted ds m tx rank)) (sym is) (n,
+      at ∙ ap (λ j. Some (Commit j k)) of)
   rank-found (Refuse i walk) o at of only is =
-      subst (IsFound (λ rank. (m : ℕ) × IsCommitted ds m tx rank)) (sym is) (λ rank by. let one = (the-commit ds tx n (Refuse i walk) at of only by.0 rank by.1).1 in absurd cc)
+      subst (IsFound (λ rank. (m : ℕ) × IsCommitted ds m tx rank)) (sym is) (λ rank by. let one =
+          (the-commit ds tx n (Refuse i walk) at of only by.0 rank by.1).1 in absurd cc)
   rank-found (Withdraw i) o at of only is =
-      subst (IsFound (λ rank. (m : ℕ) × IsCommitted ds m tx rank)) (sym is) (λ rank by. let one = (the-commit ds tx n (Withdraw i) at of only by.0 rank by.1).1 in absurd cc)
+      subst (IsFound (λ rank. (m : ℕ) × IsCommitted ds m tx rank)) (sym is) (λ rank by. let one =
+          (the-commit ds tx n (Withdraw i) at of only by.0 rank by.1).1 in absurd cc)
 
-  pub commits-before : (d : Decision) (r : Bool) (number : ℕ) → slice_get ds n ≡ Some d → decided_tx d ≡ tx → ((m : ℕ) → Decides ds m tx → m ≡ n) → n < number → r ≡ is_commit d
+  pub commits-before : (d : Decision) (r : Bool) (number : ℕ) → slice_get ds n ≡ Some d → decided_tx d ≡ tx
+      → ((m : ℕ) → Decides ds m tx → m ≡ n) → n < number → r ≡ is_commit d
       → IsTrue r ↔ ((m rank : ℕ) × (m < number) × IsCommitted ds m tx rank)
-  commits-before (Commit i rank) r number at of only lt is = (λ _. (n, rank, lt, at ∙ ap (λ j. Some (Commit j rank)) of), λ _. is)
+  commits-before (Commit i rank) r number at of only lt is =
+      (λ _. (n, rank, lt, at ∙ ap (λ j. Some (Commit j rank)) of), λ _. is)
   commits-before (Refuse i walk) r number at of only lt is = (
     λ yes. absurd (true≢false (sym yes ∙ is)),
     λ (m, rank, less, by). let one = (the-commit ds tx n (Refuse i walk) at of only m rank by).1 in absurd cc,
@@ -51,7 +61,8 @@ module _ (ds : List Decision) (tx n : ℕ) where
   )
 
 -- a transaction in no decision
-pub no-ruling : (ds : List Decision) (e : Entry) (r : Ruling) → ((number : ℕ) → Decides ds number (tx_of e) → ⊥) → r ≡ record { number = None; rank = None; suiting = None } → IsRulingOn ds e r
+pub no-ruling : (ds : List Decision) (e : Entry) (r : Ruling) → ((number : ℕ) → Decides ds number (tx_of e) → ⊥)
+    → r ≡ record { number = None; rank = None; suiting = None } → IsRulingOn ds e r
 no-ruling ds e r none is = subst (IsRulingOn ds e) (sym is) (record {
   number = none;
   rank = λ rank by. none by.0 (Commit (tx_of e) rank, by.1, refl);

@@ -15,7 +15,8 @@ answered-no never = (λ e. absurd (false≢true e), λ p. absurd (never p))
 pub answered-yes : {P : Type 0} → P → IsTrue true ↔ P
 answered-yes p = (λ _. p, λ _. refl)
 
-pub all-through : {X : Type 0} (P : X → Type 0) (xs : List X) (i : ℕ) → length xs ≤ i → All P (take i xs) → IsTrue true ↔ All P xs
+pub all-through : {X : Type 0} (P : X → Type 0) (xs : List X) (i : ℕ) → length xs ≤ i → All P (take i xs)
+    → IsTrue true ↔ All P xs
 all-through P xs i le all = answered-yes (All-whole P xs i le all)
 
 -- ---- what tests of numbers tell
@@ -24,7 +25,8 @@ pub ne-true : (a b : ℕ) (r : Bool) → r ≡ not (a == b) → r ≡ true → a
 ne-true a b r is hit same = true≢false (sym hit ∙ is ∙ ap not (eq-eqb a b same))
 
 pub not-empty : (n : ℕ) (r : Bool) → r ≡ (n == 0) → r ≡ false → 1 ≤ n
-not-empty n r is miss = elim (cases_eq n 0) [ inl none ↦ absurd (true≢false (sym (eq-eqb n 0 none) ∙ sym is ∙ miss)) | inr some ↦ omega arith ]
+not-empty n r is miss = elim (cases_eq n 0) [ inl none ↦ absurd (true≢false (sym (eq-eqb n 0 none) ∙ sym is ∙ miss))
+    | inr some ↦ omega arith ]
 
 pub empty : (n : ℕ) (r : Bool) → r ≡ (n == 0) → r ≡ true → n ≡ 0
 empty n r is hit = eqb-true n 0 (sym is ∙ hit)

@@ -47,7 +47,8 @@ module _ (rs : List ℕ) (n r : ℕ) (met : List Bool) (so_far : AreMet rs n met
     room = length-set met r true ∙ so_far.room;
     below = λ k a lt at_k.
         elim (cases_eq k n) [
-          | inl last ↦ let one : a ≡ r = same_Some a r (sym at_k ∙ ap (slice_get rs) last ∙ at) in let room = so_far.room in omega arith
+          | inl last ↦ let one : a ≡ r = same_Some a r (sym at_k ∙ ap (slice_get rs) last ∙ at) in let room =
+              so_far.room in omega arith
           | inr ne ↦ so_far.below k a (omega arith) at_k
         ];
     apart = λ p q a b lt before at_p at_q e.
@@ -70,6 +71,7 @@ module _ (rs : List ℕ) (n r : ℕ) (met : List Bool) (so_far : AreMet rs n met
     listed = λ a hit.
         elim (cases_eq a r) [
           | inl same ↦ (n, omega arith, at ∙ ap Some (sym same))
-          | inr ne ↦ let had = so_far.listed a (sym (get_or-set_other met r a true false ne) ∙ hit) in (had.0, omega (arith, had.1), had.2)
+          | inr ne ↦ let had = so_far.listed a (sym (get_or-set_other met r a true false ne) ∙ hit) in
+              (had.0, omega (arith, had.1), had.2)
         ];
   }

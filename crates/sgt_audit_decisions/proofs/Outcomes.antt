@@ -40,5 +40,7 @@ suits-same (entry.Withdraw tx) (Commit i rank) = (λ h. h, λ h. h)
 suits-same (entry.Withdraw tx) (Refuse i walk) = (λ h. h, λ h. h)
 suits-same (entry.Withdraw tx) (Withdraw i) = (λ h. h, λ h. h)
 
-pub suits-by : (e : Entry) (d : Decision) (o : Outcome) (b : Type 0) → outcome_of d ≡ o → b ↔ SuitsWith e o → b ↔ Suits e d
-suits-by e d o b is h = let w = subst (λ o. b ↔ SuitsWith e o) (sym is) h in let s = suits-same e d in (λ x. s.0 (w.0 x), λ y. w.1 (s.1 y))
+pub suits-by : (e : Entry) (d : Decision) (o : Outcome) (b : Type 0) → outcome_of d ≡ o → b ↔ SuitsWith e o
+    → b ↔ Suits e d
+suits-by e d o b is h = let w = subst (λ o. b ↔ SuitsWith e o) (sym is) h in let s = suits-same e d in
+    (λ x. s.0 (w.0 x), λ y. w.1 (s.1 y))

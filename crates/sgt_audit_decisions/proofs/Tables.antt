@@ -37,11 +37,14 @@ abbrev pub told-as : ℕ → Outcome → Option (Placed ℕ)
 told-as i o = Some (record { number = i; outcome = o })
 
 placed-same : (i : ℕ) (d e : Decision) (p : Placed ℕ) → p.number ≡ i → e ≡ d → outcome_of e ≡ p.outcome → placed i d ≡ p
-placed-same i d e p number one comes = ap₂ (λ (n : ℕ) (o : Outcome). record { number = n; outcome = o }) (sym number) (ap outcome_of (sym one) ∙ comes)
+placed-same i d e p number one comes = ap₂ (λ (n : ℕ) (o : Outcome). record { number = n; outcome = o }) (sym number)
+    (ap outcome_of (sym one) ∙ comes)
 
 -- one more decision, on a transaction of which nothing was told
-pub entered : (ds : List Decision) (i : ℕ) (d : Decision) (f g : ℕ → Option (Placed ℕ)) → slice_get ds i ≡ Some d → f (decided_tx d) ≡ None
-    → g (decided_tx d) ≡ Some (placed i d) → ((q : ℕ) → decided_tx d ≢ q → g q ≡ f q) → HasFirst ds i f → HasFirst ds (i + 1) g
+pub entered : (ds : List Decision) (i : ℕ) (d : Decision) (f g : ℕ → Option (Placed ℕ)) → slice_get ds i ≡ Some d
+    → f (decided_tx d) ≡ None
+    → g (decided_tx d) ≡ Some (placed i d) → ((q : ℕ) → decided_tx d ≢ q → g q ≡ f q) → HasFirst ds i f
+        → HasFirst ds (i + 1) g
 entered ds i d f g at none here others first = λ tx p.
     elim (cases_eq (decided_tx d) tx) [
       | inl same ↦
@@ -52,7 +55,8 @@ entered ds i d f g at none here others first = λ tx p.
                 (omega arith, (d, ap (slice_get ds) (sym n) ∙ at, same, ap (λ (q : Placed ℕ). q.outcome) e)),
             λ (lt, by).
                 elim (cases_eq p.number i) [
-                  | inl e ↦ now ∙ ap Some (placed-same i d by.0 p e (same_Some by.0 d (sym by.1 ∙ ap (slice_get ds) e ∙ at)) by.3)
+                  | inl e ↦ now
+                      ∙ ap Some (placed-same i d by.0 p e (same_Some by.0 d (sym by.1 ∙ ap (slice_get ds) e ∙ at)) by.3)
                   | inr ne ↦
                       let had : f tx ≡ Some p = (first tx p).1 (omega arith, by) in
                       let missing : f tx ≡ None = ap f (sym same) ∙ none in
@@ -80,7 +84,8 @@ table-once ds f table = AllPairs-from_at (λ a b. decided_tx a ≢ decided_tx b)
     omega arith)
 
 -- a decision on a transaction of which something is told is its second
-pub decided-twice : (ds : List Decision) (i : ℕ) (p : Placed ℕ) (d : Decision) (f : ℕ → Option (Placed ℕ)) → slice_get ds i ≡ Some d → f (decided_tx d) ≡ Some p
+pub decided-twice : (ds : List Decision) (i : ℕ) (p : Placed ℕ) (d : Decision) (f : ℕ → Option (Placed ℕ))
+    → slice_get ds i ≡ Some d → f (decided_tx d) ≡ Some p
     → HasFirst ds i f → IsDecidedOnce ds → ⊥
 decided-twice ds i p d f at found first once =
     let had = (first (decided_tx d) p).0 found in
@@ -102,7 +107,8 @@ module _ {A : Type 0} where
   pub empty-map : (m : BTreeMap ℕ A) → m.entries ≡ [] → (tx : ℕ) → get nat_cmp m tx ≡ None
   empty-map m none tx = ap (λ es. lookup (λ k. is_eq (nat_cmp tx k)) es) none
 
-  module _ (m n : BTreeMap ℕ A) (k : ℕ) (v : A) (updated : (q : ℕ) → get nat_cmp n q ≡ cond (is_eq (nat_cmp k q)) (Some v) (get nat_cmp m q)) where
+  module _ (m n : BTreeMap ℕ A) (k : ℕ) (v : A) (updated : (q : ℕ)
+      → get nat_cmp n q ≡ cond (is_eq (nat_cmp k q)) (Some v) (get nat_cmp m q)) where
     pub map-here : get nat_cmp n k ≡ Some v
     map-here = updated k ∙ ap (λ b. cond b (Some v) (get nat_cmp m k)) (nat_cmp-same k k refl)
 
@@ -120,7 +126,8 @@ module _ {A : Type 0} where
   pub place-here : (xs : List (Option A)) (k : ℕ) (v : A) → k < length xs → get_or (set xs k (Some v)) k None ≡ Some v
   place-here xs k v lt = get_or-set_same xs k (Some v) None lt
 
-  pub place-others : (xs : List (Option A)) (k : ℕ) (v : A) (q : ℕ) → k ≢ q → get_or (set xs k (Some v)) q None ≡ get_or xs q None
+  pub place-others : (xs : List (Option A)) (k : ℕ) (v : A) (q : ℕ) → k ≢ q
+      → get_or (set xs k (Some v)) q None ≡ get_or xs q None
   place-others xs k v q apart = get_or-set_other xs k q (Some v) None (λ e. apart (sym e))
 
 -- ---- what is found in a table
@@ -135,4 +142,6 @@ module _ (ds : List Decision) (f : ℕ → Option (Placed ℕ)) (table : ArePlac
     found-decision = (table tx p).0 (sym found)
 
     pub only-there : (k : ℕ) → Decides ds k tx → k ≡ p.number
-    only-there k by = ap (λ (q : Placed ℕ). q.number) (same_Some (placed k by.0) p (sym ((table tx (placed k by.0)).1 (by.0, by.1, by.2, refl)) ∙ sym found))
+    only-there k by =
+        ap (λ (q : Placed ℕ). q.number)
+        (same_Some (placed k by.0) p (sym ((table tx (placed k by.0)).1 (by.0, by.1, by.2, refl)) ∙ sym found))

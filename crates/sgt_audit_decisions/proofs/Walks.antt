@@ -23,13 +23,16 @@ push-one (a ∷ xs) (b ∷ ys) x y e =
 
 -- where a step of the walk before its last one may lead
 abbrev pub LeadsThrough : List Decision → ℕ → ℕ → Step → Type 0
-LeadsThrough decisions number tx step = (step.to ≢ tx) × ((m : ℕ) × (rank : ℕ) × (m < number) × IsCommitted decisions m step.to rank)
+LeadsThrough decisions number tx step =
+    (step.to ≢ tx) × ((m : ℕ) × (rank : ℕ) × (m < number) × IsCommitted decisions m step.to rank)
 
-module _ (decisions : List Decision) (number tx : ℕ) (walk between : List Step) (last : Step) (whole : walk ≡ between ++ last ∷ []) where
+module _ (decisions : List Decision) (number tx : ℕ) (walk between : List Step) (last : Step)
+    (whole : walk ≡ between ++ last ∷ []) where
   stops-are : stops walk ≡ stops between ++ last.to ∷ []
   stops-are = ap stops whole ∙ map-append (λ (s : Step). s.to) between (last ∷ [])
 
-  pub is-cycle : last.to ≡ tx → 1 ≤ length between → AllPairs (λ a b. a.to ≢ b.to) between → All (LeadsThrough decisions number tx) between → IsCycle decisions number tx walk
+  pub is-cycle : last.to ≡ tx → 1 ≤ length between → AllPairs (λ a b. a.to ≢ b.to) between
+      → All (LeadsThrough decisions number tx) between → IsCycle decisions number tx walk
   is-cycle closed long apart through = record {
     between = stops between;
     long = omega (arith, length-map between (λ (s : Step). s.to));
@@ -41,9 +44,11 @@ module _ (decisions : List Decision) (number tx : ℕ) (walk between : List Step
     others = All-from_at (λ a. a ≢ tx) (stops between) (λ n a at e.
         let s = map_at (λ (s : Step). s.to) between n a at in
         (All_at (LeadsThrough decisions number tx) between n s.0 through s.1).0 (s.2 ∙ e));
-    earlier = All-from_at (λ a. (m : ℕ) × (rank : ℕ) × (m < number) × IsCommitted decisions m a rank) (stops between) (λ n a at.
+    earlier = All-from_at (λ a. (m : ℕ) × (rank : ℕ) × (m < number) × IsCommitted decisions m a rank) (stops between)
+        (λ n a at.
         let s = map_at (λ (s : Step). s.to) between n a at in
-        subst (λ t. (m : ℕ) × (rank : ℕ) × (m < number) × IsCommitted decisions m t rank) s.2 (All_at (LeadsThrough decisions number tx) between n s.0 through s.1).1);
+        subst (λ t. (m : ℕ) × (rank : ℕ) × (m < number) × IsCommitted decisions m t rank) s.2
+            (All_at (LeadsThrough decisions number tx) between n s.0 through s.1).1);
   }
 
   module _ (cycle : IsCycle decisions number tx walk) where
@@ -57,19 +62,25 @@ module _ (decisions : List Decision) (number tx : ℕ) (walk between : List Step
     cycle-long = omega (arith, cycle.long, ap length ends.0, length-map between (λ (s : Step). s.to))
 
     stop_at : (n : ℕ) (s : Step) → slice_get between n ≡ Some s → slice_get cycle.between n ≡ Some s.to
-    stop_at n s at = ap (λ ts. slice_get ts n) (sym ends.0) ∙ slice_get-map (λ (s : Step). s.to) between n ∙ ap (λ o. option_map (λ (s : Step). s.to) o) at
+    stop_at n s at = ap (λ ts. slice_get ts n) (sym ends.0) ∙ slice_get-map (λ (s : Step). s.to) between n
+        ∙ ap (λ o. option_map (λ (s : Step). s.to) o) at
 
     pub cycle-apart : AllPairs (λ a b. a.to ≢ b.to) between
-    cycle-apart = AllPairs-from_at (λ (a b : Step). a.to ≢ b.to) between (λ p q a b lt at_p at_q. AllPairs_at (λ a b. a ≢ b) cycle.between p q a.to b.to cycle.distinct lt (stop_at p a at_p) (stop_at q b at_q))
+    cycle-apart =
+        AllPairs-from_at (λ (a b : Step). a.to ≢ b.to) between
+        (λ p q a b lt at_p at_q. AllPairs_at (λ a b. a ≢ b) cycle.between p q a.to b.to cycle.distinct lt
+        (stop_at p a at_p) (stop_at q b at_q))
 
     pub cycle-through : All (LeadsThrough decisions number tx) between
     cycle-through = All-from_at (LeadsThrough decisions number tx) between (λ n s at. (
       All_at (λ a. a ≢ tx) cycle.between n s.to cycle.others (stop_at n s at),
-      All_at (λ a. (m : ℕ) × (rank : ℕ) × (m < number) × IsCommitted decisions m a rank) cycle.between n s.to cycle.earlier (stop_at n s at),
+      All_at (λ a. (m : ℕ) × (rank : ℕ) × (m < number) × IsCommitted decisions m a rank) cycle.between n s.to
+          cycle.earlier (stop_at n s at),
     ))
 
 -- no walk without a step
-pub no-walk : (decisions : List Decision) (number tx : ℕ) (walk : List Step) → walk ≡ [] → IsCycle decisions number tx walk → ⊥
+pub no-walk : (decisions : List Decision) (number tx : ℕ) (walk : List Step) → walk ≡ []
+    → IsCycle decisions number tx walk → ⊥
 no-walk decisions number tx walk none cycle = nothing cycle.between tx (sym (ap stops none) ∙ cycle.closed)
   where
     nothing : (xs : List ℕ) (x : ℕ) → [] ≡ xs ++ x ∷ [] → ⊥

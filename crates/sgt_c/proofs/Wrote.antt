@@ -32,7 +32,8 @@ held P was short xs ys whole none h =
     (subst (λ b. Wrote P (if b then None else Some xs) (if short then None else Some ys)) whole h))
 
 -- the answer by its number
-pub told : (P : Outcome → List ℕ → Type 0) → ((text : List ℕ) → P Unreadable text → ⊥) → (n : ℕ) (o : Outcome) (text : List ℕ) → n ≡ number_of_outcome o → P o text
+pub told : (P : Outcome → List ℕ → Type 0) → ((text : List ℕ) → P Unreadable text → ⊥)
+    → (n : ℕ) (o : Outcome) (text : List ℕ) → n ≡ number_of_outcome o → P o text
     → ((n ≡ 0) × P Yes text) ⊎ ((n ≡ 1) × P No text)
 told P never n Yes text is p = inl (is, p)
 told P never n No text is p = inr (is, p)
@@ -47,12 +48,14 @@ never-unreadable bytes text is = readable is.0 is.3
 
 -- ---- histories
 
-pub checked : (bytes : List ℕ) (n : ℕ) (o : Outcome) (text : List ℕ) → n ≡ number_of_check o → IsAnswer plainly bytes o text → IsCheckText bytes n text
+pub checked : (bytes : List ℕ) (n : ℕ) (o : Outcome) (text : List ℕ) → n ≡ number_of_check o
+    → IsAnswer plainly bytes o text → IsCheckText bytes n text
 checked bytes n Yes text is p = inl (is, p)
 checked bytes n No text is p = inr (inl (is, p))
 checked bytes n Unreadable text is p = inr (inr (is, p))
 
-pub check-exact : (bytes : List ℕ) (n : ℕ) (text : List ℕ) → IsCheckText bytes n text → IsYes n ↔ SpellsSerializable bytes
+pub check-exact : (bytes : List ℕ) (n : ℕ) (text : List ℕ) → IsCheckText bytes n text
+    → IsYes n ↔ SpellsSerializable bytes
 check-exact bytes n text (inl (is, a)) = (λ yes. (answer-exact plainly bytes text Yes a).0 refl, λ spelled. is)
 check-exact bytes n text (inr (inl (is, a))) = (
   λ yes. absurd (omega (arith, is, yes)),
@@ -96,42 +99,57 @@ of-text bytes n text (inr (inl (is, a))) = inl (inr is)
 of-text bytes n text (inr (inr (is, a))) = inr is
 
 module _ (bytes : List ℕ) (n : ℕ) where
-  answered : (a : Answered) → IsCheckText bytes a.number a.text.items → n ≡ a.number → IsYes n ↔ SpellsSerializable bytes
-  answered a text is = subst (λ k. IsYes k ↔ SpellsSerializable bytes) (sym is) (check-exact bytes a.number a.text.items text)
+  answered : (a : Answered) → IsCheckText bytes a.number a.text.items → n ≡ a.number
+      → IsYes n ↔ SpellsSerializable bytes
+  answered a text is =
+      subst (λ k. IsYes k ↔ SpellsSerializable bytes) (sym is) (check-exact bytes a.number a.text.items text)
 
-  pub measured-exact : (answer : Result Answered NoAnswer) (len : ℕ) → IfOk answer (λ a. IsCheckText bytes a.number a.text.items)
-      → IfOk answer (λ a. (n ≡ a.number) × (len ≡ length a.text.items)) → IfErr answer (λ why. (n ≡ number_of why) × (len ≡ 0)) → IsChecked n
+  pub measured-exact : (answer : Result Answered NoAnswer) (len : ℕ)
+      → IfOk answer (λ a. IsCheckText bytes a.number a.text.items)
+      → IfOk answer (λ a. (n ≡ a.number) × (len ≡ length a.text.items))
+          → IfErr answer (λ why. (n ≡ number_of why) × (len ≡ 0)) → IsChecked n
       → IsYes n ↔ SpellsSerializable bytes
   measured-exact (Ok a) len text ok err checked = answered a text ok.0
   measured-exact (Err why) len text ok err checked = absurd (unchecked why n err.0 checked)
 
-  pub put-exact : (answer : Result Answered NoAnswer) (old new : List ℕ) (len : ℕ) → IfOk answer (λ a. IsCheckText bytes a.number a.text.items)
-      → IfOk answer (λ a. length a.text.items ≤ length old → (n ≡ a.number) × (new ≡ a.text.items ++ drop (length a.text.items) old))
+  pub put-exact : (answer : Result Answered NoAnswer) (old new : List ℕ) (len : ℕ)
+      → IfOk answer (λ a. IsCheckText bytes a.number a.text.items)
+      → IfOk answer (λ a. length a.text.items ≤ length old
+          → (n ≡ a.number) × (new ≡ a.text.items ++ drop (length a.text.items) old))
       → IfOk answer (λ a. length old < length a.text.items → IsRoom n × (new ≡ old))
-      → IfErr answer (λ why. (n ≡ number_of why) × (len ≡ 0) × (new ≡ old)) → IsChecked n → IsYes n ↔ SpellsSerializable bytes
+      → IfErr answer (λ why. (n ≡ number_of why) × (len ≡ 0) × (new ≡ old)) → IsChecked n
+          → IsYes n ↔ SpellsSerializable bytes
   put-exact (Ok a) old new len text whole room err checked = elim (cases_lt (length old) (length a.text.items)) [
     | inl short ↦ absurd (unroomed n (room short).0 checked)
     | inr fits ↦ answered a text (whole fits).0
   ]
   put-exact (Err why) old new len text whole room err checked = absurd (unchecked why n err.0 checked)
 
-  pub put-text : (answer : Result Answered NoAnswer) (old new : List ℕ) (len : ℕ) → IfOk answer (λ a. IsCheckText bytes a.number a.text.items)
-      → IfOk answer (λ a. length a.text.items ≤ length old → (n ≡ a.number) × (new ≡ a.text.items ++ drop (length a.text.items) old))
-      → IfOk answer (λ a. length old < length a.text.items → IsRoom n × (new ≡ old)) → IfOk answer (λ a. len ≡ length a.text.items)
+  pub put-text : (answer : Result Answered NoAnswer) (old new : List ℕ) (len : ℕ)
+      → IfOk answer (λ a. IsCheckText bytes a.number a.text.items)
+      → IfOk answer (λ a. length a.text.items ≤ length old
+          → (n ≡ a.number) × (new ≡ a.text.items ++ drop (length a.text.items) old))
+      → IfOk answer (λ a. length old < length a.text.items → IsRoom n × (new ≡ old))
+          → IfOk answer (λ a. len ≡ length a.text.items)
       → IfErr answer (λ why. (n ≡ number_of why) × (len ≡ 0) × (new ≡ old)) → IsChecked n
       → (text : List ℕ) × IsCheckText bytes n text × (len ≡ length text) × (new ≡ text ++ drop (length text) old)
   put-text (Ok a) old new len text whole room long err checked = elim (cases_lt (length old) (length a.text.items)) [
     | inl short ↦ absurd (unroomed n (room short).0 checked)
-    | inr fits ↦ (a.text.items, subst (λ k. IsCheckText bytes k a.text.items) (sym (whole fits).0) text, long, (whole fits).1)
+    | inr fits ↦ (a.text.items, subst (λ k. IsCheckText bytes k a.text.items) (sym (whole fits).0) text, long,
+        (whole fits).1)
   ]
   put-text (Err why) old new len text whole room long err checked = absurd (unchecked why n err.0 checked)
 
-  pub put-room : (answer : Result Answered NoAnswer) (old new : List ℕ) (len : ℕ) → IfOk answer (λ a. IsCheckText bytes a.number a.text.items)
-      → IfOk answer (λ a. length a.text.items ≤ length old → (n ≡ a.number) × (new ≡ a.text.items ++ drop (length a.text.items) old))
-      → IfOk answer (λ a. len ≡ length a.text.items) → IfErr answer (λ why. (n ≡ number_of why) × (len ≡ 0) × (new ≡ old)) → IsRoom n
+  pub put-room : (answer : Result Answered NoAnswer) (old new : List ℕ) (len : ℕ)
+      → IfOk answer (λ a. IsCheckText bytes a.number a.text.items)
+      → IfOk answer (λ a. length a.text.items ≤ length old
+          → (n ≡ a.number) × (new ≡ a.text.items ++ drop (length a.text.items) old))
+      → IfOk answer (λ a. len ≡ length a.text.items)
+          → IfErr answer (λ why. (n ≡ number_of why) × (len ≡ 0) × (new ≡ old)) → IsRoom n
       → (m : ℕ) × (text : List ℕ) × IsCheckText bytes m text × (len ≡ length text) × (length old < length text)
   put-room (Ok a) old new len text whole long err room = elim (cases_lt (length old) (length a.text.items)) [
     | inl short ↦ (a.number, a.text.items, text, long, short)
-    | inr fits ↦ absurd (unroomed a.number (subst (λ k. IsRoom k) (whole fits).0 room) (of-text bytes a.number a.text.items text))
+    | inr fits ↦ absurd (unroomed a.number (subst (λ k. IsRoom k) (whole fits).0 room)
+        (of-text bytes a.number a.text.items text))
   ]
   put-room (Err why) old new len text whole long err room = absurd (not-room why n err.0 room)

@@ -101,7 +101,8 @@ number_of_check outcome.Unreadable = 2
 abbrev pub plainly : Options
 plainly = record { order = false }
 
--- the text that a history is answered by: a yes with its counts, a no with what shows it, or the first line that can't be read
+-- the text that a history is answered by: a yes with its counts, a no with what shows it, or the first line that
+-- can't be read
 abbrev pub IsCheckText : List ℕ → ℕ → List ℕ → Type 0
 IsCheckText bytes n text =
     ((n ≡ 0) × check.IsAnswer plainly bytes outcome.Yes text)

@@ -33,7 +33,8 @@ abbrev pub IsPlain : Request → Type 0
 IsPlain (installed tx site) = ⊥
 IsPlain r = Unit {0}
 
-same_fails : (j : State) (xs : List Install) (r : Request) (f : CertifierFault) → IsPlain r → Fails (record j { installs = xs }) r f ≡ Fails j r f
+same_fails : (j : State) (xs : List Install) (r : Request) (f : CertifierFault) → IsPlain r
+    → Fails (record j { installs = xs }) r f ≡ Fails j r f
 same_fails j xs begin _ plain = refl
 same_fails j xs (decide h edges) _ plain = refl
 same_fails j xs (finish tx) _ plain = refl
@@ -42,16 +43,19 @@ same_fails j xs close _ plain = refl
 same_fails j xs (expect h) _ plain = refl
 same_fails j xs (installed tx site) f plain = absurd plain
 
-pub allowed_with : (j : State) (xs : List Install) (r : Request) → IsPlain r → IsAllowed j r → IsAllowed (record j { installs = xs }) r
+pub allowed_with : (j : State) (xs : List Install) (r : Request) → IsPlain r → IsAllowed j r
+    → IsAllowed (record j { installs = xs }) r
 allowed_with j xs r plain allowed f fails = allowed f (subst (λ T. T) (same_fails j xs r f plain) fails)
 
-refused_with : (j : State) (xs : List Install) (r : Request) (f : CertifierFault) → IsPlain r → IsRefused j r f → IsRefused (record j { installs = xs }) r f
+refused_with : (j : State) (xs : List Install) (r : Request) (f : CertifierFault) → IsPlain r → IsRefused j r f
+    → IsRefused (record j { installs = xs }) r f
 refused_with j xs r f plain refused = (
   subst (λ T. T) (sym (same_fails j xs r f plain)) refused.0,
   λ g less fails. refused.1 g less (subst (λ T. T) (same_fails j xs r g plain) fails),
 )
 
-pub told_with : (j : State) (xs : List Install) (r : Request) (f : CertifierFault) → IsPlain r → IsTold j r f → IsTold (record j { installs = xs }) r f
+pub told_with : (j : State) (xs : List Install) (r : Request) (f : CertifierFault) → IsPlain r → IsTold j r f
+    → IsTold (record j { installs = xs }) r f
 told_with j xs r fault.Memory plain told = allowed_with j xs r plain told
 told_with j xs r f plain told = refused_with j xs r f plain told
 
@@ -63,26 +67,34 @@ IsPlainCall (call.Installed tx site items) = ⊥
 IsPlainCall (call.Finish tx) = ⊥
 IsPlainCall c = Unit {0}
 
-pub serves_with : (j j2 : State) (xs : List Install) (c : Call) → IsPlainCall c → Serves j c j2 → Serves (record j { installs = xs }) c (record j2 { installs = xs })
-serves_with j j2 xs (call.Begin tx h) plain r = (allowed_with j xs begin tt r.0, (r.1.0, r.1.1, ap (λ (s : State). record s { installs = xs }) r.1.2))
+pub serves_with : (j j2 : State) (xs : List Install) (c : Call) → IsPlainCall c → Serves j c j2
+    → Serves (record j { installs = xs }) c (record j2 { installs = xs })
+serves_with j j2 xs (call.Begin tx h) plain r =
+    (allowed_with j xs begin tt r.0, (r.1.0, r.1.1, ap (λ (s : State). record s { installs = xs }) r.1.2))
 serves_with j j2 xs (call.Decide h edges (Committed number)) plain r = (
   allowed_with j xs (decide h edges) tt r.0,
-  (r.1.0, record { free = r.1.1.free; places = r.1.1.places; placed = r.1.1.placed; after = ap (λ (s : State). record s { installs = xs }) r.1.1.after }),
+  (r.1.0, record { free = r.1.1.free; places = r.1.1.places; placed = r.1.1.placed; after =
+      ap (λ (s : State). record s { installs = xs }) r.1.1.after }),
 )
 serves_with j j2 xs (call.Decide h edges (Refused number walk)) plain r = (
   allowed_with j xs (decide h edges) tt r.0,
   (r.1.0, record { cycle = r.1.1.cycle; after = ap (λ (s : State). record s { installs = xs }) r.1.1.after }),
 )
-serves_with j j2 xs (call.Withdraw h number) plain r = (allowed_with j xs (withdraw h) tt r.0, (r.1.0, ap (λ (s : State). record s { installs = xs }) r.1.1))
-serves_with j j2 xs (call.Close ranks) plain r = (allowed_with j xs close tt r.0, (r.1.0, ap (λ (s : State). record s { installs = xs }) r.1.1))
+serves_with j j2 xs (call.Withdraw h number) plain r =
+    (allowed_with j xs (withdraw h) tt r.0, (r.1.0, ap (λ (s : State). record s { installs = xs }) r.1.1))
+serves_with j j2 xs (call.Close ranks) plain r =
+    (allowed_with j xs close tt r.0, (r.1.0, ap (λ (s : State). record s { installs = xs }) r.1.1))
 serves_with j j2 xs (call.Finish tx) plain r = absurd plain
 serves_with j j2 xs (call.Installed tx site items) plain r = absurd plain
 
 -- a call that notes none leaves the installs
-pub same_installs : (calls longer : List Call) (c : Call) → install_in c ≡ None → longer ≡ calls ++ c ∷ [] → installs_in calls ≡ installs_in longer
+pub same_installs : (calls longer : List Call) (c : Call) → install_in c ≡ None → longer ≡ calls ++ c ∷ []
+    → installs_in calls ≡ installs_in longer
 same_installs calls longer c none is =
     let empty : installs_in (c ∷ []) ≡ [] = rw none refl in
-    sym (ap installs_in is ∙ (filter_map-append install_in calls (c ∷ []) ∙ (ap (λ xs. installs_in calls ++ xs) empty ∙ append-nil (installs_in calls))))
+    sym (ap installs_in is
+        ∙ (filter_map-append install_in calls (c ∷ [])
+        ∙ (ap (λ xs. installs_in calls ++ xs) empty ∙ append-nil (installs_in calls))))
 
 no_install : (c : Call) → IsPlainCall c → install_in c ≡ None
 no_install (call.Begin tx h) plain = refl
@@ -92,19 +104,24 @@ no_install (call.Close ranks) plain = refl
 no_install (call.Finish tx) plain = refl
 no_install (call.Installed tx site items) plain = absurd plain
 
-pub plain_serves : (j j2 : State) (calls longer : List Call) (c : Call) → IsPlainCall c → Serves j c j2 → longer ≡ calls ++ c ∷ [] → Serves (state_with j calls) c (state_with j2 longer)
+pub plain_serves : (j j2 : State) (calls longer : List Call) (c : Call) → IsPlainCall c → Serves j c j2
+    → longer ≡ calls ++ c ∷ [] → Serves (state_with j calls) c (state_with j2 longer)
 plain_serves j j2 calls longer c plain serves is =
-    subst (λ xs. Serves (state_with j calls) c (record j2 { installs = xs })) (same_installs calls longer c (no_install c plain) is) (serves_with j j2 (installs_in calls) c plain serves)
+    subst (λ xs. Serves (state_with j calls) c (record j2 { installs = xs }))
+        (same_installs calls longer c (no_install c plain) is) (serves_with j j2 (installs_in calls) c plain serves)
 
 -- the calls with one more, replayed
-pub replays_on : (s t : State) (calls longer : List Call) (c : Call) → Replays calls s → Serves s c t → longer ≡ calls ++ c ∷ [] → Replays longer t
-replays_on s t calls longer c replays serves is = subst (λ cs. Replays cs t) (sym is) (runs_on opening calls s c t replays serves)
+pub replays_on : (s t : State) (calls longer : List Call) (c : Call) → Replays calls s → Serves s c t
+    → longer ≡ calls ++ c ∷ [] → Replays longer t
+replays_on s t calls longer c replays serves is =
+    subst (λ cs. Replays cs t) (sym is) (runs_on opening calls s c t replays serves)
 
 idle_not : {t : ℕ} (s : State) → s.step ≡ None → s.step ≡ Some t → ⊥
 idle_not s idle open_t = let f = sym idle ∙ open_t in cc
 
 -- what is kept while no step is open
-pub idle_kept : (j2 : State) (longer : List Call) (room : ℕ) → Replays longer (state_with j2 longer) → j2.step ≡ None → IsKept j2 longer room
+pub idle_kept : (j2 : State) (longer : List Call) (room : ℕ) → Replays longer (state_with j2 longer) → j2.step ≡ None
+    → IsKept j2 longer room
 idle_kept j2 longer room replays idle = record {
   replays = replays;
   noted = λ t open_t. absurd (idle_not j2 idle open_t);
@@ -113,12 +130,15 @@ idle_kept j2 longer room replays idle = record {
 
 -- ---- a decision
 
-decided_step : (j j2 : State) (h : Handle) (edges : List Edge) (reply : Decided) → Serves j (call.Decide h edges reply) j2 → j2.step ≡ Some (tx_under j h)
+decided_step : (j j2 : State) (h : Handle) (edges : List Edge) (reply : Decided)
+    → Serves j (call.Decide h edges reply) j2 → j2.step ≡ Some (tx_under j h)
 decided_step j j2 h edges (Committed number) r = ap (λ (s : State). s.step) r.1.1.after
 decided_step j j2 h edges (Refused number walk) r = ap (λ (s : State). s.step) r.1.1.after
 
-pub decided_kept : (j j2 : State) (calls longer : List Call) (h : Handle) (edges : List Edge) (reply : Decided) (room room2 : ℕ) → IsKept j calls room → Serves j (call.Decide h edges reply) j2 → j2.installs ≡ []
-    → longer ≡ calls ++ call.Decide h edges reply ∷ [] → suc (length longer + max_sites) ≤ room2 → IsKept j2 longer room2
+pub decided_kept : (j j2 : State) (calls longer : List Call) (h : Handle) (edges : List Edge) (reply : Decided)
+    (room room2 : ℕ) → IsKept j calls room → Serves j (call.Decide h edges reply) j2 → j2.installs ≡ []
+    → longer ≡ calls ++ call.Decide h edges reply ∷ [] → suc (length longer + max_sites) ≤ room2
+        → IsKept j2 longer room2
 decided_kept j j2 calls longer h edges reply room room2 kept serves none is spare =
     let s = state_with j calls in
     let good = replays-good calls s kept.replays in
@@ -127,12 +147,15 @@ decided_kept j j2 calls longer h edges reply room room2 kept serves none is spar
     let step = decided_step j j2 h edges reply serves in
     let installs = same_installs calls longer (call.Decide h edges reply) refl is in
     record {
-      replays = replays_on s (state_with j2 longer) calls longer (call.Decide h edges reply) kept.replays (plain_serves j j2 calls longer (call.Decide h edges reply) tt serves is) is;
+      replays = replays_on s (state_with j2 longer) calls longer (call.Decide h edges reply) kept.replays
+          (plain_serves j j2 calls longer (call.Decide h edges reply) tt serves is) is;
       noted = λ t open_t site. (
         λ noted. absurd (contains-none noted.1 (subst (λ xs. Contains xs noted.1) none (noted.0, noted.2, noted.3))),
         λ noted.
             let same : t ≡ tx_under j h = same_Some t (tx_under j h) (sym open_t ∙ step) in
-            let was : IsNoted s (tx_under j h) site = subst (λ u. IsNoted s u site) same (subst (Any (λ (x : Install). (x.tx ≡ t) × (x.site ≡ site))) (sym installs) noted) in
+            let was : IsNoted s (tx_under j h) site =
+                subst (λ u. IsNoted s u site) same (subst (Any (λ (x : Install). (x.tx ≡ t) × (x.site ≡ site)))
+                (sym installs) noted) in
             absurd (none_noted s (tx_under j h) site good.ruled good.installed idle active.1 was),
       );
       spare = λ t open_t. omega (arith, spare);
@@ -140,38 +163,48 @@ decided_kept j j2 calls longer h edges reply room room2 kept serves none is spar
 
 -- ---- the end of a step
 
-pub ends_serves : (j j2 : State) (calls longer : List Call) (tx : ℕ) → Ends j tx j2 → longer ≡ calls ++ call.Finish tx ∷ [] → Serves (state_with j calls) (call.Finish tx) (state_with j2 longer)
+pub ends_serves : (j j2 : State) (calls longer : List Call) (tx : ℕ) → Ends j tx j2
+    → longer ≡ calls ++ call.Finish tx ∷ [] → Serves (state_with j calls) (call.Finish tx) (state_with j2 longer)
 ends_serves j j2 calls longer tx ends is =
     let xs = installs_in calls in
-    subst (λ ys. Serves (state_with j calls) (call.Finish tx) (record j2 { installs = ys })) (same_installs calls longer (call.Finish tx) refl is)
+    subst (λ ys. Serves (state_with j calls) (call.Finish tx) (record j2 { installs = ys }))
+        (same_installs calls longer (call.Finish tx) refl is)
     (allowed_with j xs (finish tx) tt ends.allowed, ap (λ (s : State). record s { installs = xs }) ends.after)
 
 -- ---- an install
 
 -- an install that may be noted is one that may be served
-pub allowed_note : (j : State) (calls : List Call) (tx site room : ℕ) → IsKept j calls room → IsAllowed j (installed tx site) → IsAllowed (state_with j calls) (installed tx site)
+pub allowed_note : (j : State) (calls : List Call) (tx site room : ℕ) → IsKept j calls room
+    → IsAllowed j (installed tx site) → IsAllowed (state_with j calls) (installed tx site)
 allowed_note j calls tx site room kept allowed =
     let may = may_note j tx site allowed in
     installed_allowed (state_with j calls) tx site may.0 (λ noted. may.1 ((kept.noted tx may.0.0 site).1 noted))
 
-pub notes_serves : (j j2 : State) (calls longer : List Call) (tx site : ℕ) (items : List Name) (room : ℕ) → IsKept j calls room → Notes j tx site j2 → longer ≡ calls ++ call.Installed tx site items ∷ []
+pub notes_serves : (j j2 : State) (calls longer : List Call) (tx site : ℕ) (items : List Name) (room : ℕ)
+    → IsKept j calls room → Notes j tx site j2 → longer ≡ calls ++ call.Installed tx site items ∷ []
     → Serves (state_with j calls) (call.Installed tx site items) (state_with j2 longer)
 notes_serves j j2 calls longer tx site items room kept notes is =
     let one : Install = record { tx = tx; site = site; items = items } in
-    let installs : installs_in calls ++ one ∷ [] ≡ installs_in longer = sym (ap installs_in is ∙ filter_map-append install_in calls (call.Installed tx site items ∷ [])) in
+    let installs : installs_in calls ++ one ∷ [] ≡ installs_in longer =
+        sym (ap installs_in is ∙ filter_map-append install_in calls (call.Installed tx site items ∷ [])) in
     subst (λ ys. Serves (state_with j calls) (call.Installed tx site items) (record j2 { installs = ys })) installs
-    (allowed_note j calls tx site room kept notes.allowed, ap (λ (s : State). record s { installs = installs_in calls ++ one ∷ [] }) notes.after)
+    (allowed_note j calls tx site room kept notes.allowed,
+        ap (λ (s : State). record s { installs = installs_in calls ++ one ∷ [] }) notes.after)
 
 abbrev IsOf : ℕ → ℕ → Install → Type 0
 IsOf tx site x = (x.tx ≡ tx) × (x.site ≡ site)
 
-noted_left : (xs : List Install) (one : Install) (t site : ℕ) → Any (IsOf t site) xs → Any (IsOf t site) (xs ++ one ∷ [])
-noted_left xs one t site m = let left = Contains-append_left xs (one ∷ []) m.1 (m.0, m.2, m.3) in (left.0, m.1, left.1, left.2, m.4)
+noted_left : (xs : List Install) (one : Install) (t site : ℕ) → Any (IsOf t site) xs
+    → Any (IsOf t site) (xs ++ one ∷ [])
+noted_left xs one t site m = let left = Contains-append_left xs (one ∷ []) m.1 (m.0, m.2, m.3) in
+    (left.0, m.1, left.1, left.2, m.4)
 
 noted_right : (xs : List Install) (one : Install) (t site : ℕ) → IsOf t site one → Any (IsOf t site) (xs ++ one ∷ [])
-noted_right xs one t site is = let right = Contains-append_right xs (one ∷ []) one (cons_here one []) in (right.0, one, right.1, right.2, is)
+noted_right xs one t site is = let right = Contains-append_right xs (one ∷ []) one (cons_here one []) in
+    (right.0, one, right.1, right.2, is)
 
-noted_split : (xs : List Install) (one : Install) (t site : ℕ) → Any (IsOf t site) (xs ++ one ∷ []) → Any (IsOf t site) xs ⊎ IsOf t site one
+noted_split : (xs : List Install) (one : Install) (t site : ℕ) → Any (IsOf t site) (xs ++ one ∷ [])
+    → Any (IsOf t site) xs ⊎ IsOf t site one
 noted_split xs one t site m =
     elim (Contains-append_cases xs (one ∷ []) m.1 (m.0, m.2, m.3)) [
       | inl was ↦ inl (was.0, m.1, was.1, was.2, m.4)
@@ -181,7 +214,8 @@ noted_split xs one t site m =
       ]
     ]
 
-pub notes_kept : (j j2 : State) (calls longer : List Call) (tx site : ℕ) (items : List Name) (room room2 : ℕ) → IsKept j calls room → Notes j tx site j2 → longer ≡ calls ++ call.Installed tx site items ∷ [] → room2 ≡ room
+pub notes_kept : (j j2 : State) (calls longer : List Call) (tx site : ℕ) (items : List Name) (room room2 : ℕ)
+    → IsKept j calls room → Notes j tx site j2 → longer ≡ calls ++ call.Installed tx site items ∷ [] → room2 ≡ room
     → IsKept j2 longer room2
 notes_kept j j2 calls longer tx site items room room2 kept notes is room_is =
     let s = state_with j calls in
@@ -189,9 +223,11 @@ notes_kept j j2 calls longer tx site items room room2 kept notes is room_is =
     let mine = note_at tx site in
     let one : Install = record { tx = tx; site = site; items = items } in
     let shorter : j2.installs ≡ j.installs ++ mine ∷ [] = ap (λ (x : State). x.installs) notes.after in
-    let all : installs_in longer ≡ installs_in calls ++ one ∷ [] = ap installs_in is ∙ filter_map-append install_in calls (call.Installed tx site items ∷ []) in
+    let all : installs_in longer ≡ installs_in calls ++ one ∷ [] = ap installs_in is
+        ∙ filter_map-append install_in calls (call.Installed tx site items ∷ []) in
     record {
-      replays = replays_on s (state_with j2 longer) calls longer (call.Installed tx site items) kept.replays (notes_serves j j2 calls longer tx site items room kept notes is) is;
+      replays = replays_on s (state_with j2 longer) calls longer (call.Installed tx site items) kept.replays
+          (notes_serves j j2 calls longer tx site items room kept notes is) is;
       noted = λ t open_t k.
           let was : j.step ≡ Some t = sym (ap (λ (x : State). x.step) notes.after) ∙ open_t in
           let tie = kept.noted t was k in (
@@ -206,7 +242,8 @@ notes_kept j j2 calls longer tx site items room room2 kept notes is room_is =
           );
       spare = λ t open_t.
           let was : j.step ≡ Some t = sym (ap (λ (x : State). x.step) notes.after) ∙ open_t in
-          omega (arith, kept.spare t was, room_is, ap length is, length_push calls (call.Installed tx site items), ap length shorter, length_push j.installs mine);
+          omega (arith, kept.spare t was, room_is, ap length is, length_push calls (call.Installed tx site items),
+              ap length shorter, length_push j.installs mine);
     }
 
 -- ---- an install that is refused
@@ -226,7 +263,8 @@ alone : (s : State) (tx site : ℕ) (g : CertifierFault) → fault_place g < 2 �
 alone s tx site fault.Unknown less f = omega (arith, less)
 alone s tx site _ less f = f
 
-pub told_note : (j : State) (calls : List Call) (tx site room : ℕ) (f : CertifierFault) → f ≡ fault.Unknown → IsKept j calls room → IsTold j (installed tx site) f → IsTold (state_with j calls) (installed tx site) f
+pub told_note : (j : State) (calls : List Call) (tx site room : ℕ) (f : CertifierFault) → f ≡ fault.Unknown
+    → IsKept j calls room → IsTold j (installed tx site) f → IsTold (state_with j calls) (installed tx site) f
 told_note j calls tx site room f is kept told =
     let s = state_with j calls in
     let mine : IsRefused j (installed tx site) fault.Unknown = subst (IsTold j (installed tx site)) is told in
@@ -245,16 +283,19 @@ told_note j calls tx site room f is kept told =
 -- ---- refusals
 
 -- where the request is refused, nothing changes
-pub declines : {A : Type 0} (r : Result A CertifierFault) (f : CertifierFault) (old new : Kept) (request : Request) → IsErrAnd r (λ e. e ≡ f) → IsTold old.state request f → new ≡ old → IfErr r (λ e. Declines old request e new)
+pub declines : {A : Type 0} (r : Result A CertifierFault) (f : CertifierFault) (old new : Kept) (request : Request)
+    → IsErrAnd r (λ e. e ≡ f) → IsTold old.state request f → new ≡ old → IfErr r (λ e. Declines old request e new)
 declines (Ok a) f old new request is told same = tt
-declines (Err e) f old new request is told same = subst (λ g. Declines old request g new) (sym is) (record { told = told; same = same })
+declines (Err e) f old new request is told same =
+    subst (λ g. Declines old request g new) (sym is) (record { told = told; same = same })
 
 -- the view of a certifier by its parts
 abbrev pub view_by : State → List Call → List Prepared → Kept
 view_by judge calls expected = record { state = state_with judge calls; history = calls; expected = expected }
 
 -- more room is room
-pub kept_again : (j j2 : State) (calls calls2 : List Call) (room room2 : ℕ) → j2 ≡ j → calls2 ≡ calls → room ≤ room2 → IsKept j calls room → IsKept j2 calls2 room2
+pub kept_again : (j j2 : State) (calls calls2 : List Call) (room room2 : ℕ) → j2 ≡ j → calls2 ≡ calls → room ≤ room2
+    → IsKept j calls room → IsKept j2 calls2 room2
 kept_again j j2 calls calls2 room room2 same same_calls more kept =
     subst (λ x. IsKept x calls2 room2) (sym same) (subst (λ cs. IsKept j cs room2) (sym same_calls) (record {
       replays = kept.replays;

@@ -20,7 +20,8 @@ use Rattle.sgt_certifier.specs.declared.row.ItemCount.{ItemCount}
 use Rattle.sgt_names.proofs.Elements.{bytes_eq-other, get-set_here, get_set_elsewhere}
 
 -- a count of the item at a place is where the item is
-pub at_place : (cs : List ItemCount) (x : Name) (n : ℕ) → (c : ItemCount) × (slice_get cs n ≡ Some c) × (c.item ≡ x) → IsAt (λ c. c.item) cs x n
+pub at_place : (cs : List ItemCount) (x : Name) (n : ℕ) → (c : ItemCount) × (slice_get cs n ≡ Some c) × (c.item ≡ x)
+    → IsAt (λ c. c.item) cs x n
 at_place cs x n c = record {
   within = slice_get_within cs n c.0 c.1;
   is = λ d here. ap (λ (e : ItemCount). e.item) (same_Some d c.0 (sym here ∙ c.1)) ∙ c.2;
@@ -32,31 +33,38 @@ is_itself x = (bytes_eq-Decides x x).1 refl
 -- a name that comes before another, or behind it, is not the same
 pub before-apart : (x y : Name) → slice_cmp nat_cmp x y ≡ Less → x ≢ y
 before-apart x y less same =
-    let tied : slice_cmp nat_cmp x y ≡ Equal = subst (λ z. slice_cmp nat_cmp x z ≡ Equal) same (tied_itself nat_list_cmp_total x) in
+    let tied : slice_cmp nat_cmp x y ≡ Equal =
+        subst (λ z. slice_cmp nat_cmp x z ≡ Equal) same (tied_itself nat_list_cmp_total x) in
     absurd cc
 
 pub behind-apart : (x y : Name) → slice_cmp nat_cmp x y ≡ Greater → x ≢ y
 behind-apart x y greater same =
-    let tied : slice_cmp nat_cmp x y ≡ Equal = subst (λ z. slice_cmp nat_cmp x z ≡ Equal) same (tied_itself nat_list_cmp_total x) in
+    let tied : slice_cmp nat_cmp x y ≡ Equal =
+        subst (λ z. slice_cmp nat_cmp x z ≡ Equal) same (tied_itself nat_list_cmp_total x) in
     absurd cc
 
 -- what stands at a place is found
-pub found_at : (cs : List ItemCount) (n : ℕ) (c : ItemCount) → AreRising cs → slice_get cs n ≡ Some c → found_in cs c.item ≡ Some c.count
+pub found_at : (cs : List ItemCount) (n : ℕ) (c : ItemCount) → AreRising cs → slice_get cs n ≡ Some c
+    → found_in cs c.item ≡ Some c.count
 found_at [] n c rising at = absurd cc
 found_at (d ∷ cs) zero c rising at =
     subst (λ (e : ItemCount). found_in (d ∷ cs) e.item ≡ Some e.count) (same_Some d c at) (rw (is_itself d.item) refl)
 found_at (d ∷ cs) (suc n) c rising at =
-    let less = AllPairs_at (λ (a b : ItemCount). slice_cmp nat_cmp a.item b.item ≡ Less) (d ∷ cs) 0 (suc n) d c rising (omega arith) refl at in
+    let less = AllPairs_at (λ (a b : ItemCount). slice_cmp nat_cmp a.item b.item ≡ Less) (d ∷ cs) 0 (suc n) d c rising
+        (omega arith) refl at in
     rw (bytes_eq-other d.item c.item (before-apart d.item c.item less))
     (found_at cs n c (AllPairs-tail (λ (a b : ItemCount). slice_cmp nat_cmp a.item b.item ≡ Less) d cs rising) at)
 
 -- what stands nowhere isn't
-pub found_nowhere : (cs : List ItemCount) (x : Name) → ((n : ℕ) (c : ItemCount) → slice_get cs n ≡ Some c → c.item ≢ x) → found_in cs x ≡ None
+pub found_nowhere : (cs : List ItemCount) (x : Name)
+    → ((n : ℕ) (c : ItemCount) → slice_get cs n ≡ Some c → c.item ≢ x) → found_in cs x ≡ None
 found_nowhere [] x none = refl
-found_nowhere (c ∷ cs) x none = rw (bytes_eq-other c.item x (none 0 c refl)) (found_nowhere cs x (λ n d at. none (suc n) d at))
+found_nowhere (c ∷ cs) x none =
+    rw (bytes_eq-other c.item x (none 0 c refl)) (found_nowhere cs x (λ n d at. none (suc n) d at))
 
 module _ (cs : List ItemCount) (x : Name) (n : ℕ) where
-  pub found_here : (c : ItemCount) → AreRising cs → IsAt (λ c. c.item) cs x n → slice_get cs n ≡ Some c → found_in cs x ≡ Some c.count
+  pub found_here : (c : ItemCount) → AreRising cs → IsAt (λ c. c.item) cs x n → slice_get cs n ≡ Some c
+      → found_in cs x ≡ Some c.count
   found_here c rising at here = subst (λ y. found_in cs y ≡ Some c.count) (at.is c here) (found_at cs n c rising here)
 
   pub found_gap : IsGapFor (λ c. c.item) (slice_cmp nat_cmp) cs x n → found_in cs x ≡ None
@@ -66,7 +74,8 @@ module _ (cs : List ItemCount) (x : Name) (n : ℕ) where
   ])
 
 -- an item that has no place is put somewhere
-insert-own : (cs : List ItemCount) (n : ℕ) (c : ItemCount) → found_in cs c.item ≡ None → found_in (insert cs n c) c.item ≡ Some c.count
+insert-own : (cs : List ItemCount) (n : ℕ) (c : ItemCount) → found_in cs c.item ≡ None
+    → found_in (insert cs n c) c.item ≡ Some c.count
 insert-own cs zero c none = rw (is_itself c.item) refl
 insert-own [] (suc n) c none = rw (is_itself c.item) refl
 insert-own (d ∷ cs) (suc n) c none = elim (cases_Bool (bytes_eq d.item c.item)) [
@@ -74,7 +83,8 @@ insert-own (d ∷ cs) (suc n) c none = elim (cases_Bool (bytes_eq d.item c.item)
   | inr miss ↦ rw miss (insert-own cs n c (rw miss at none))
 ]
 
-insert-other : (cs : List ItemCount) (n : ℕ) (c : ItemCount) (x : Name) → c.item ≢ x → found_in (insert cs n c) x ≡ found_in cs x
+insert-other : (cs : List ItemCount) (n : ℕ) (c : ItemCount) (x : Name) → c.item ≢ x
+    → found_in (insert cs n c) x ≡ found_in cs x
 insert-other cs zero c x apart = rw (bytes_eq-other c.item x apart) refl
 insert-other [] (suc n) c x apart = rw (bytes_eq-other c.item x apart) refl
 insert-other (d ∷ cs) (suc n) c x apart = elim (cases_Bool (bytes_eq d.item x)) [
@@ -94,7 +104,9 @@ module _ (cs : List ItemCount) (n : ℕ) (x : Name) (none : found_in cs x ≡ No
     | inl hit ↦
         let same : x ≡ y = (bytes_eq-Decides x y).0 hit in
         subst (λ z. count_in put z ≡ count_in cs z) same (ap or_zero put-found ∙ sym (ap or_zero none))
-    | inr miss ↦ ap or_zero (insert-other cs n (record { item = x; count = 0 }) y (λ e. true≢false (sym ((bytes_eq-Decides x y).1 e) ∙ miss)))
+    | inr miss ↦ ap or_zero
+        (insert-other cs n (record { item = x; count = 0 }) y (λ e. true≢false (sym ((bytes_eq-Decides x y).1 e)
+        ∙ miss)))
   ]
 
   pub put-kept : (y : Name) → IsSome (found_in cs y) → IsSome (found_in put y)
@@ -103,7 +115,8 @@ module _ (cs : List ItemCount) (n : ℕ) (x : Name) (none : found_in cs x ≡ No
         let same : x ≡ y = (bytes_eq-Decides x y).0 hit in
         subst (λ z. IsSome (found_in put z)) same (subst IsSome (sym put-found) refl)
     | inr miss ↦ subst IsSome
-        (sym (insert-other cs n (record { item = x; count = 0 }) y (λ e. true≢false (sym ((bytes_eq-Decides x y).1 e) ∙ miss)))) has
+        (sym (insert-other cs n (record { item = x; count = 0 }) y (λ e. true≢false (sym ((bytes_eq-Decides x y).1 e)
+            ∙ miss)))) has
   ]
 
 -- the count at a place is another one
@@ -114,31 +127,39 @@ set-other (d ∷ cs) zero c x at apart =
     let same : d.item ≡ c.item = at.is d refl in
     rw (bytes_eq-other c.item x (λ e. apart (sym e)), bytes_eq-other d.item x (λ e. apart (sym e ∙ same))) refl
 set-other (d ∷ cs) (suc n) c x at apart =
-    let below : IsAt (λ c. c.item) cs c.item n = record { within = omega (arith, at.within); is = λ e here. at.is e here } in
+    let below : IsAt (λ c. c.item) cs c.item n =
+        record { within = omega (arith, at.within); is = λ e here. at.is e here } in
     elim (cases_Bool (bytes_eq d.item x)) [
       | inl hit ↦ rw hit refl
       | inr miss ↦ rw miss (set-other cs n c x below apart)
     ]
 
 -- a place was put into the gap, or nothing was
-module _ {U E : Type 0} (old new : List ItemCount) (x : Name) (n : ℕ) (gap : IsGapFor (λ c. c.item) (slice_cmp nat_cmp) old x n) where
-  pub tried-rises : (r : Result U E) → OnOk r (new ≡ insert old n (record { item = x; count = 0 })) → OnErr r (new ≡ old) → AreRising old
+module _ {U E : Type 0} (old new : List ItemCount) (x : Name) (n : ℕ)
+    (gap : IsGapFor (λ c. c.item) (slice_cmp nat_cmp) old x n) where
+  pub tried-rises : (r : Result U E) → OnOk r (new ≡ insert old n (record { item = x; count = 0 }))
+      → OnErr r (new ≡ old) → AreRising old
       → AreRising new
   tried-rises (Ok u) ok err rising =
-      subst AreRising (sym ok) (rising-insert (λ (c : ItemCount). c.item) (slice_cmp nat_cmp) nat_list_cmp_total old n (record { item = x; count = 0 }) gap rising)
+      subst AreRising (sym ok) (rising-insert (λ (c : ItemCount). c.item) (slice_cmp nat_cmp) nat_list_cmp_total old n
+          (record { item = x; count = 0 }) gap rising)
   tried-rises (Err e) ok err rising = subst AreRising (sym err) rising
 
-  pub tried-same : (r : Result U E) → OnOk r (new ≡ insert old n (record { item = x; count = 0 })) → OnErr r (new ≡ old) → (y : Name)
+  pub tried-same : (r : Result U E) → OnOk r (new ≡ insert old n (record { item = x; count = 0 }))
+      → OnErr r (new ≡ old) → (y : Name)
       → count_in new y ≡ count_in old y
   tried-same (Ok u) ok err y = ap (λ cs. count_in cs y) ok ∙ put-same old n x (found_gap old x n gap) y
   tried-same (Err e) ok err y = ap (λ cs. count_in cs y) err
 
-  pub tried-kept : (r : Result U E) → OnOk r (new ≡ insert old n (record { item = x; count = 0 })) → OnErr r (new ≡ old) → (y : Name)
+  pub tried-kept : (r : Result U E) → OnOk r (new ≡ insert old n (record { item = x; count = 0 }))
+      → OnErr r (new ≡ old) → (y : Name)
       → IsSome (found_in old y) → IsSome (found_in new y)
-  tried-kept (Ok u) ok err y has = subst (λ cs. IsSome (found_in cs y)) (sym ok) (put-kept old n x (found_gap old x n gap) y has)
+  tried-kept (Ok u) ok err y has =
+      subst (λ cs. IsSome (found_in cs y)) (sym ok) (put-kept old n x (found_gap old x n gap) y has)
   tried-kept (Err e) ok err y has = subst (λ cs. IsSome (found_in cs y)) (sym err) has
 
-  pub tried-ok : (r : Result U E) → OnOk r (new ≡ insert old n (record { item = x; count = 0 })) → OnOk r (IsSome (found_in new x))
+  pub tried-ok : (r : Result U E) → OnOk r (new ≡ insert old n (record { item = x; count = 0 }))
+      → OnOk r (IsSome (found_in new x))
   tried-ok (Ok u) ok = subst IsSome (sym (ap (λ cs. found_in cs x) ok ∙ put-found old n x (found_gap old x n gap))) refl
   tried-ok (Err e) ok = tt
 
@@ -147,13 +168,15 @@ module _ {U E : Type 0} (old new : List ItemCount) (x : Name) (n : ℕ) (gap : I
   tried-err (Err e) = λ has. true≢false (sym (subst IsSome (found_gap old x n gap) has))
 
 -- an item that was found has a place
-pub found_some : (cs : List ItemCount) (x : Name) (n : ℕ) → AreRising cs → IsAt (λ c. c.item) cs x n → IsSome (found_in cs x)
+pub found_some : (cs : List ItemCount) (x : Name) (n : ℕ) → AreRising cs → IsAt (λ c. c.item) cs x n
+    → IsSome (found_in cs x)
 found_some cs x n rising at =
     let c = within_at cs n at.within in
     subst IsSome (sym (found_here cs x n c.0 rising at c.1)) refl
 
 -- one more install of the item that stands at a place
-module _ (cs : List ItemCount) (x : Name) (n : ℕ) (c : ItemCount) (rising : AreRising cs) (at : IsAt (λ c. c.item) cs x n)
+module _ (cs : List ItemCount) (x : Name) (n : ℕ) (c : ItemCount) (rising : AreRising cs)
+    (at : IsAt (λ c. c.item) cs x n)
     (here : slice_get cs n ≡ Some c) where
   abbrev pub more : ItemCount
   more = record { item = c.item; count = c.count + 1 }
@@ -182,14 +205,16 @@ pub none-rises : AreRising []
 none-rises i j d lt within = absurd (omega arith)
 
 -- one more count stands behind the others
-pub found-own : (cs : List ItemCount) (c : ItemCount) → found_in cs c.item ≡ None → found_in (cs ++ c ∷ []) c.item ≡ Some c.count
+pub found-own : (cs : List ItemCount) (c : ItemCount) → found_in cs c.item ≡ None
+    → found_in (cs ++ c ∷ []) c.item ≡ Some c.count
 found-own [] c none = rw (is_itself c.item) refl
 found-own (d ∷ cs) c none = elim (cases_Bool (bytes_eq d.item c.item)) [
   | inl hit ↦ let e : Some d.count ≡ None = rw hit at none in absurd cc
   | inr miss ↦ rw miss (found-own cs c (rw miss at none))
 ]
 
-pub found-other : (cs : List ItemCount) (c : ItemCount) (x : Name) → c.item ≢ x → found_in (cs ++ c ∷ []) x ≡ found_in cs x
+pub found-other : (cs : List ItemCount) (c : ItemCount) (x : Name) → c.item ≢ x
+    → found_in (cs ++ c ∷ []) x ≡ found_in cs x
 found-other [] c x apart = rw (bytes_eq-other c.item x apart) refl
 found-other (d ∷ cs) c x apart = elim (cases_Bool (bytes_eq d.item x)) [
   | inl hit ↦ rw hit refl

@@ -53,7 +53,8 @@ module _ (old new : Counts) (s : ℕ) (row : List ItemCount) (is : new.rows.item
   row-other t apart = ap or_nothing (ap (λ rows. slice_get rows t) is ∙ get_set_elsewhere old.rows.items s t row apart)
 
 -- a row with nothing in it is as none
-pub row-pushed : (rows : List (List ItemCount)) (s : ℕ) → or_nothing (slice_get (rows ++ [] ∷ []) s) ≡ or_nothing (slice_get rows s)
+pub row-pushed : (rows : List (List ItemCount)) (s : ℕ)
+    → or_nothing (slice_get (rows ++ [] ∷ []) s) ≡ or_nothing (slice_get rows s)
 row-pushed [] zero = refl
 row-pushed [] (suc s) = refl
 row-pushed (r ∷ rows) zero = refl
@@ -62,17 +63,21 @@ row-pushed (r ∷ rows) (suc s) = row-pushed rows s
 -- an item that has its place is in a row
 pub has-row : (counts : Counts) (s : ℕ) (x : Name) → HasPlace counts s x → s < length counts.rows.items
 has-row counts s x has = elim (option_cases (slice_get counts.rows.items s)) [
-  | inl none ↦ absurd (true≢false (sym (subst (λ (o : Option (List ItemCount)). IsSome (found_in (or_nothing o) x)) none has)))
+  | inl none ↦ absurd
+      (true≢false (sym (subst (λ (o : Option (List ItemCount)). IsSome (found_in (or_nothing o) x)) none has)))
   | inr some ↦ slice_get_within counts.rows.items s some.0 some.1
 ]
 
 -- the row that stands at the place of a site
-pub row-is : (counts : Counts) (s n : ℕ) (row : List ItemCount) → n ≡ s → slice_get counts.rows.items n ≡ Some row → row_at counts s ≡ row
+pub row-is : (counts : Counts) (s n : ℕ) (row : List ItemCount) → n ≡ s → slice_get counts.rows.items n ≡ Some row
+    → row_at counts s ≡ row
 row-is counts s n row place at = ap (row_at counts) (sym place) ∙ ap or_nothing at
 
 -- where no place could be made, there was none
-pub placed-err : {U E : Type 0} (r : Result U E) (before old : Counts) (s n : ℕ) (x : Name) (row : List ItemCount) → n ≡ s
-    → slice_get old.rows.items n ≡ Some row → Widens before old → OnErr r (IsSome (found_in row x) → ⊥) → OnErr r (HasPlace before s x → ⊥)
+pub placed-err : {U E : Type 0} (r : Result U E) (before old : Counts) (s n : ℕ) (x : Name) (row : List ItemCount)
+    → n ≡ s
+    → slice_get old.rows.items n ≡ Some row → Widens before old → OnErr r (IsSome (found_in row x) → ⊥)
+        → OnErr r (HasPlace before s x → ⊥)
 placed-err (Ok u) before old s n x row place at w none = tt
 placed-err (Err e) before old s n x row place at w none =
     λ has. none (subst (λ r. IsSome (found_in r x)) (row-is old s n row place at) (w.kept s x has))
@@ -86,16 +91,19 @@ module _ (old new : Counts) (s n : ℕ) (x : Name) (row made : List ItemCount) (
   made_there = is ∙ ap (λ k. set old.rows.items k made) place
 
   now : row_at new s ≡ made
-  now = row-here old new s made made_there (let lt = slice_get_within old.rows.items n row at in omega (arith, lt, place))
+  now = row-here old new s made made_there (let lt = slice_get_within old.rows.items n row at in
+      omega (arith, lt, place))
 
   -- a place is made
-  pub placed-widens : ((y : Name) → count_in made y ≡ count_in row y) → ((y : Name) → IsSome (found_in row y) → IsSome (found_in made y))
+  pub placed-widens : ((y : Name) → count_in made y ≡ count_in row y)
+      → ((y : Name) → IsSome (found_in row y) → IsSome (found_in made y))
       → Widens old new
   placed-widens same kept = record {
     same = λ t y. elim (cases_Bool (t == s)) [
       | inl here ↦
           let e : t ≡ s = eqb-true t s here in
-          ap (λ u. count_at new u y) e ∙ ap (λ r. count_in r y) now ∙ same y ∙ sym (ap (λ r. count_in r y) was) ∙ sym (ap (λ u. count_at old u y) e)
+          ap (λ u. count_at new u y) e ∙ ap (λ r. count_in r y) now ∙ same y ∙ sym (ap (λ r. count_in r y) was)
+              ∙ sym (ap (λ u. count_at old u y) e)
       | inr other ↦ ap (λ r. count_in r y) (row-other old new s made made_there t (eqb-false t s other))
     ];
     kept = λ t y has. elim (cases_Bool (t == s)) [
@@ -104,7 +112,8 @@ module _ (old new : Counts) (s n : ℕ) (x : Name) (row made : List ItemCount) (
           let has_row : IsSome (found_in row y) =
           subst (λ r. IsSome (found_in r y)) was (subst (λ u. HasPlace old u y) e has) in
           subst (λ u. HasPlace new u y) (sym e) (subst (λ r. IsSome (found_in r y)) (sym now) (kept y has_row))
-      | inr other ↦ subst (λ r. IsSome (found_in r y)) (sym (row-other old new s made made_there t (eqb-false t s other))) has
+      | inr other ↦ subst (λ r. IsSome (found_in r y))
+          (sym (row-other old new s made made_there t (eqb-false t s other))) has
     ];
   }
 
@@ -115,7 +124,8 @@ module _ (rows : List (List ItemCount)) (s n : ℕ) (x : Name) (row made : List 
   was_in = ap or_nothing (ap (slice_get rows) (sym place) ∙ at)
 
   now_in : or_nothing (slice_get (set rows n made) s) ≡ made
-  now_in = ap or_nothing (ap (slice_get (set rows n made)) (sym place) ∙ get-set_here rows n made (slice_get_within rows n row at))
+  now_in = ap or_nothing (ap (slice_get (set rows n made)) (sym place)
+      ∙ get-set_here rows n made (slice_get_within rows n row at))
 
   pub placed-ok : {U E : Type 0} (r : Result U E) → OnOk r (IsSome (found_in made x))
       → OnOk r (IsSome (found_in (or_nothing (slice_get (set rows n made) s)) x))
@@ -123,10 +133,12 @@ module _ (rows : List (List ItemCount)) (s n : ℕ) (x : Name) (row made : List 
   placed-ok (Err e) has = tt
 
   pub added-here : found_in made x ≡ Some (suc (count_in row x))
-      → found_in (or_nothing (slice_get (set rows n made) s)) x ≡ Some (suc (count_in (or_nothing (slice_get rows s)) x))
+      → found_in (or_nothing (slice_get (set rows n made) s)) x ≡ Some
+          (suc (count_in (or_nothing (slice_get rows s)) x))
   added-here more = ap (λ cs. found_in cs x) now_in ∙ more ∙ ap (λ cs. Some (suc (count_in cs x))) (sym was_in)
 
-  pub added-others : ((y : Name) → y ≢ x → found_in made y ≡ found_in row y) → (t : ℕ) (y : Name) → ((t ≡ s) × (y ≡ x) → ⊥)
+  pub added-others : ((y : Name) → y ≢ x → found_in made y ≡ found_in row y) → (t : ℕ) (y : Name)
+      → ((t ≡ s) × (y ≡ x) → ⊥)
       → found_in (or_nothing (slice_get (set rows n made) t)) y ≡ found_in (or_nothing (slice_get rows t)) y
   added-others others t y apart = elim (cases_Bool (t == s)) [
     | inl here ↦
@@ -162,22 +174,27 @@ on-err (Err e) X x = x
 -- ---- over lists
 
 -- no element stands in front of itself
-pub fresh-at : (xs : List Name) (n : ℕ) (x : Name) → AllPairs (λ a b. a ≢ b) xs → slice_get xs n ≡ Some x → Contains (take n xs) x → ⊥
+pub fresh-at : (xs : List Name) (n : ℕ) (x : Name) → AllPairs (λ a b. a ≢ b) xs → slice_get xs n ≡ Some x
+    → Contains (take n xs) x → ⊥
 fresh-at xs n x once at c =
     let early = Contains_at (take n xs) x c in
     let where_at = slice_get-take xs n early.0 x early.1 in
     AllPairs_at (λ a b. a ≢ b) xs early.0 n x x once where_at.0 where_at.1 at refl
 
 pub widens-more : (old mid new : Counts) → Widens old mid → Widens mid new → Widens old new
-widens-more old mid new a b = record { same = λ s x. b.same s x ∙ a.same s x; kept = λ s x has. b.kept s x (a.kept s x has) }
+widens-more old mid new a b = record { same = λ s x. b.same s x ∙ a.same s x; kept =
+    λ s x has. b.kept s x (a.kept s x has) }
 
-pub places-kept : (old new : Counts) (lists : List Prepared) → Widens old new → All (HavePlaces old) lists → All (HavePlaces new) lists
+pub places-kept : (old new : Counts) (lists : List Prepared) → Widens old new → All (HavePlaces old) lists
+    → All (HavePlaces new) lists
 places-kept old new lists w = All-weaken (HavePlaces old) (HavePlaces new) lists
     (λ p all. All-weaken (HasPlace old p.site) (HasPlace new p.site) p.items (λ x has. w.kept p.site x has) all)
 
-pub counts-next : (site : ℕ) (xs : List Name) (x : Name) (old mid new : Counts) → CountsEach site xs old mid → (Contains xs x → ⊥)
+pub counts-next : (site : ℕ) (xs : List Name) (x : Name) (old mid new : Counts) → CountsEach site xs old mid
+    → (Contains xs x → ⊥)
     → stands_at new site x ≡ Some (suc (count_at mid site x))
-    → ((s : ℕ) (y : Name) → ((s ≡ site) × (y ≡ x) → ⊥) → stands_at new s y ≡ stands_at mid s y) → CountsEach site (xs ++ x ∷ []) old new
+    → ((s : ℕ) (y : Name) → ((s ≡ site) × (y ≡ x) → ⊥) → stands_at new s y ≡ stands_at mid s y)
+        → CountsEach site (xs ++ x ∷ []) old new
 counts-next site xs x old mid new each fresh here others = record {
   hit = λ y c. elim (Contains-append_cases xs (x ∷ []) y c) [
     | inl early ↦
@@ -204,10 +221,12 @@ counts-next site xs x old mid new each fresh here others = record {
 -- ---- the counts of a history
 
 pub counted-none : (counts : Counts) → ((s : ℕ) (x : Name) → stands_at counts s x ≡ None) → AreCounted counts [] []
-counted-none counts none = record { exact = λ s x. ap or_zero (none s x); placed = λ k d within. absurd (omega (arith, within)) }
+counted-none counts none = record { exact = λ s x. ap or_zero (none s x); placed =
+    λ k d within. absurd (omega (arith, within)) }
 
 -- a call that notes no install
-pub counted-on : (counts : Counts) (history longer : List Call) (expected : List Prepared) (c : Call) → longer ≡ history ++ c ∷ []
+pub counted-on : (counts : Counts) (history longer : List Call) (expected : List Prepared) (c : Call)
+    → longer ≡ history ++ c ∷ []
     → install_in c ≡ None → AreCounted counts history expected → AreCounted counts longer expected
 counted-on counts history longer expected c is none h = record {
   exact = λ s x. h.exact s x ∙ sym (ap (λ cs. counted cs s x) is ∙ counted_other history c s x none);
@@ -215,18 +234,21 @@ counted-on counts history longer expected c is none h = record {
 }
 
 -- places are made
-pub counted-wider : (old new : Counts) (history : List Call) (expected : List Prepared) → Widens old new → AreCounted old history expected
+pub counted-wider : (old new : Counts) (history : List Call) (expected : List Prepared) → Widens old new
+    → AreCounted old history expected
     → AreCounted new history expected
 counted-wider old new history expected w h = record {
   exact = λ s x. w.same s x ∙ h.exact s x;
   placed = places-kept old new expected w h.placed;
 }
 
-pub counted-lists : (old new : Counts) (history : List Call) (expected lists : List Prepared) → Widens old new → All (HavePlaces new) lists
+pub counted-lists : (old new : Counts) (history : List Call) (expected lists : List Prepared) → Widens old new
+    → All (HavePlaces new) lists
     → AreCounted old history expected → AreCounted new history lists
 counted-lists old new history expected lists w all h = record { exact = λ s x. w.same s x ∙ h.exact s x; placed = all }
 
-fewer-placed : (counts : Counts) (expected rest : List Prepared) → ((p : Prepared) → Contains rest p → Contains expected p)
+fewer-placed : (counts : Counts) (expected rest : List Prepared)
+    → ((p : Prepared) → Contains rest p → Contains expected p)
     → All (HavePlaces counts) expected → All (HavePlaces counts) rest
 fewer-placed counts expected rest fewer all = All-from_at (HavePlaces counts) rest (λ n p at.
     let was = Contains_at expected p (fewer p (Contains-from_at rest n p at)) in
@@ -234,7 +256,8 @@ fewer-placed counts expected rest fewer all = All-from_at (HavePlaces counts) re
 
 -- some lists are taken away
 pub counted-fewer : (counts : Counts) (history : List Call) (expected rest : List Prepared)
-    → ((p : Prepared) → Contains rest p → Contains expected p) → AreCounted counts history expected → AreCounted counts history rest
+    → ((p : Prepared) → Contains rest p → Contains expected p) → AreCounted counts history expected
+        → AreCounted counts history rest
 counted-fewer counts history expected rest fewer h = record {
   exact = h.exact;
   placed = fewer-placed counts expected rest fewer h.placed;
@@ -248,8 +271,10 @@ any_true x (y ∷ ys) e = elim (cases_Bool (bytes_eq x y)) [
 ]
 
 -- an install is noted
-pub counted-installed : (old new : Counts) (history longer : List Call) (expected : List Prepared) (tx site : ℕ) (items : List Name)
-    → longer ≡ history ++ call.Installed tx site items ∷ [] → CountsEach site items old new → AreCounted old history expected
+pub counted-installed : (old new : Counts) (history longer : List Call) (expected : List Prepared) (tx site : ℕ)
+    (items : List Name)
+    → longer ≡ history ++ call.Installed tx site items ∷ [] → CountsEach site items old new
+        → AreCounted old history expected
     → AreCounted new longer expected
 counted-installed old new history longer expected tx site items is each h = record {
   exact = λ s x.
@@ -259,12 +284,14 @@ counted-installed old new history longer expected tx site items is each h = reco
             let same : site ≡ s = eqb-true site s here in
             elim (cases_Bool (list_any (bytes_eq x) items)) [
               | inl hit ↦
-                  let changes : changes_item s x (record { tx = tx; site = site; items = items }) ≡ true = rw (here, hit) refl in
+                  let changes : changes_item s x (record { tx = tx; site = site; items = items }) ≡ true =
+                      rw (here, hit) refl in
                   let now : count_at new s x ≡ suc (count_at old s x) =
                   subst (λ t. count_at new t x ≡ suc (count_at old t x)) same (each.hit x (any_true x items hit)) in
                   now ∙ ap suc (h.exact s x) ∙ sym (noted ∙ counted_hit history tx site s items x changes)
               | inr miss ↦
-                  let changes : changes_item s x (record { tx = tx; site = site; items = items }) ≡ false = rw (here, miss) refl in
+                  let changes : changes_item s x (record { tx = tx; site = site; items = items }) ≡ false =
+                      rw (here, miss) refl in
                   let now : count_at new s x ≡ count_at old s x = subst (λ t. count_at new t x ≡ count_at old t x) same
                   (each.miss x (λ c. true≢false (sym (any_member x items c) ∙ miss))) in
                   now ∙ h.exact s x ∙ sym (noted ∙ counted_miss history tx site s items x changes)
@@ -275,20 +302,24 @@ counted-installed old new history longer expected tx site items is each h = reco
             ∙ sym (noted ∙ counted_miss history tx site s items x changes)
       ];
   placed = All-weaken (HavePlaces old) (HavePlaces new) expected
-      (λ p all. All-weaken (HasPlace old p.site) (HasPlace new p.site) p.items (λ x has. each.kept p.site x has) all) h.placed;
+      (λ p all. All-weaken (HasPlace old p.site) (HasPlace new p.site) p.items (λ x has. each.kept p.site x has) all)
+          h.placed;
 }
 
 -- no list was made for items of which one has no place
-pub not-placed : (counts : Counts) (expected : List Prepared) (touched : List Touch) (site : ℕ) → All (HavePlaces counts) expected
+pub not-placed : (counts : Counts) (expected : List Prepared) (touched : List Touch) (site : ℕ)
+    → All (HavePlaces counts) expected
     → (All (HasPlace counts site) (changed_at touched site) → ⊥) → IsExpected expected touched site → ⊥
 not-placed counts expected touched site placed none (inl empty) =
     none (subst (All (HasPlace counts site)) (sym empty) (λ k d within. absurd (omega (arith, within))))
 not-placed counts expected touched site placed none (inr c) =
     let at = Contains_at expected (record { site = site; items = changed_at touched site }) c in
-    none (All_at (HavePlaces counts) expected at.0 (record { site = site; items = changed_at touched site }) placed at.1)
+    none (All_at (HavePlaces counts) expected at.0 (record { site = site; items = changed_at touched site }) placed
+        at.1)
 
 -- what is taken away at a place leaves the others
-left-at : {A : Type 0} (xs : List A) (n k : ℕ) (p q : A) → slice_get xs n ≡ Some p → (q ≡ p → ⊥) → slice_get xs k ≡ Some q
+left-at : {A : Type 0} (xs : List A) (n k : ℕ) (p q : A) → slice_get xs n ≡ Some p → (q ≡ p → ⊥)
+    → slice_get xs k ≡ Some q
     → (j : ℕ) × (slice_get (remove xs n) j ≡ Some q)
 left-at [] n k p q at apart at_q = absurd cc
 left-at (x ∷ xs) zero zero p q at apart at_q = absurd (apart (same_Some q p (sym at_q ∙ at)))
@@ -303,12 +334,14 @@ expected-left expected new n site items touched s at is apart (inl empty) = inl 
 expected-left expected new n site items touched s at is apart (inr c) =
     let q : Prepared = record { site = s; items = changed_at touched s } in
     let was_at = Contains_at expected q c in
-    let j = left-at expected n was_at.0 (record { site = site; items = items }) q at (λ e. apart (ap (λ (p : Prepared). p.site) e)) was_at.1 in
+    let j = left-at expected n was_at.0 (record { site = site; items = items }) q at
+        (λ e. apart (ap (λ (p : Prepared). p.site) e)) was_at.1 in
     inr (subst (λ ps. Contains ps q) (sym is) (Contains-from_at (remove expected n) j.0 q j.1))
 
 -- ---- the items of a draft
 
-changed-written : (n : ℕ) (ts : List Touch) → changed_at ts n ≡ map (λ (w : Name × Change). w.0) (writing_in (at_site n ts))
+changed-written : (n : ℕ) (ts : List Touch)
+    → changed_at ts n ≡ map (λ (w : Name × Change). w.0) (writing_in (at_site n ts))
 changed-written n [] = refl
 changed-written n (t ∷ ts) = elim (cases_Bool (t.site == n)) [
   | inl here ↦ elim (option_cases t.change) [
@@ -332,8 +365,10 @@ pairs-apart (w ∷ ws) pairs = (all-apart w.0 ws pairs.0, pairs-apart ws pairs.1
 pub changed-once : (n : ℕ) (ts : List Touch) → AreRising ts → AllPairs (λ a b. a ≢ b) (changed_at ts n)
 changed-once n ts rising =
     let ws = writing_in (at_site n ts) in
-    let rises = recursion_from_AllPairs (λ (a b : Name × Change). slice_cmp nat_cmp a.0 b.0 ≡ Less) ws (writing-by_item n ts rising) in
-    let apart_all = AllPairs-from_recursion (λ (a b : Name). a ≢ b) (map (λ (w : Name × Change). w.0) ws) (pairs-apart ws rises) in
+    let rises = recursion_from_AllPairs (λ (a b : Name × Change). slice_cmp nat_cmp a.0 b.0 ≡ Less) ws
+        (writing-by_item n ts rising) in
+    let apart_all = AllPairs-from_recursion (λ (a b : Name). a ≢ b) (map (λ (w : Name × Change). w.0) ws)
+        (pairs-apart ws rises) in
     subst (AllPairs (λ a b. a ≢ b)) (sym (changed-written n ts)) apart_all
 
 -- a count is no more than the calls
@@ -344,8 +379,10 @@ counted-few (call.Installed tx at items ∷ cs) site item =
     let sum = sum_by-cons (λ (x : Install). cond (changes_item site item x) 1 0) one (installs_in cs) in
     let rest = counted-few cs site item in
     elim (cases_Bool (changes_item site item one)) [
-      | inl hit ↦ let more : cond {A = ℕ} (changes_item site item one) 1 0 ≡ 1 = rw hit refl in omega (arith, sum, rest, more)
-      | inr miss ↦ let more : cond {A = ℕ} (changes_item site item one) 1 0 ≡ 0 = rw miss refl in omega (arith, sum, rest, more)
+      | inl hit ↦ let more : cond {A = ℕ} (changes_item site item one) 1 0 ≡ 1 = rw hit refl in
+          omega (arith, sum, rest, more)
+      | inr miss ↦ let more : cond {A = ℕ} (changes_item site item one) 1 0 ≡ 0 = rw miss refl in
+          omega (arith, sum, rest, more)
     ]
 counted-few (call.Begin tx h ∷ cs) site item = let rest = counted-few cs site item in omega (arith, rest)
 counted-few (call.Decide h edges reply ∷ cs) site item = let rest = counted-few cs site item in omega (arith, rest)

@@ -26,32 +26,38 @@ abbrev NotTwice : Install → Install → Type 0
 NotTwice a b = AreTwice a b → ⊥
 
 pub opening-installed : IsInstalled opening
-opening-installed = record { committed = λ install c. absurd (contains-none install c); once = λ i j d lt within. absurd (omega arith) }
+opening-installed = record { committed = λ install c. absurd (contains-none install c); once =
+    λ i j d lt within. absurd (omega arith) }
 
 -- no install is new, and who was committed still is
-pub same-installed : (s t : State) → t.installs ≡ s.installs → ((tx : ℕ) → Contains (serial s) tx → Contains (serial t) tx) → IsInstalled s → IsInstalled t
+pub same-installed : (s t : State) → t.installs ≡ s.installs
+    → ((tx : ℕ) → Contains (serial s) tx → Contains (serial t) tx) → IsInstalled s → IsInstalled t
 same-installed s t same grows h = record {
   committed = λ install c. grows install.tx (h.committed install (subst (λ xs. Contains xs install) same c));
   once = subst (AllPairs NotTwice) (sym same) h.once;
 }
 
-pub committed-installed : (old : State) (i : ℕ) (arcs : List Arc) (new : State) → Commits old i arcs new → IsInstalled old → IsInstalled new
+pub committed-installed : (old : State) (i : ℕ) (arcs : List Arc) (new : State) → Commits old i arcs new
+    → IsInstalled old → IsInstalled new
 committed-installed old i arcs new m h = subst IsInstalled (sym m.after) (record {
   committed = λ install c. elim (Contains-append_cases old.past old.order install.tx (h.committed install c)) [
     | inl early ↦ Contains-append_left old.past m.places install.tx early
-    | inr late ↦ Contains-append_right old.past m.places install.tx (subst (λ p. Contains p install.tx) (sym m.placed.2) (placed_old m.placed.0 old.order i install.tx late))
+    | inr late ↦ Contains-append_right old.past m.places install.tx
+        (subst (λ p. Contains p install.tx) (sym m.placed.2) (placed_old m.placed.0 old.order i install.tx late))
   ];
   once = h.once;
 })
 
-pub noted-installed : (s : State) (i site : ℕ) (items : List Name) → Contains s.order i → (IsNoted s i site → ⊥) → IsInstalled s → IsInstalled (with_install s i site items)
+pub noted-installed : (s : State) (i site : ℕ) (items : List Name) → Contains s.order i → (IsNoted s i site → ⊥)
+    → IsInstalled s → IsInstalled (with_install s i site items)
 noted-installed s i site items member new h =
     let one : Install = record { tx = i; site = site; items = items } in
     record {
       committed = λ install c. elim (Contains-append_cases s.installs (one ∷ []) install c) [
         | inl was ↦ h.committed install was
         | inr last ↦ elim (contains-cases one [] install last) [
-          | inl e ↦ Contains-append_right s.past s.order install.tx (subst (λ (x : Install). Contains s.order x.tx) e member)
+          | inl e ↦ Contains-append_right s.past s.order install.tx
+              (subst (λ (x : Install). Contains s.order x.tx) e member)
           | inr none ↦ absurd (contains-none install none)
         ]
       ];
@@ -59,7 +65,8 @@ noted-installed s i site items member new h =
     }
 
 -- who is active while no step is open has no install
-pub none_noted : (s : State) (i site : ℕ) → IsRuled s → IsInstalled s → s.step ≡ None → Contains s.active i → IsNoted s i site → ⊥
+pub none_noted : (s : State) (i site : ℕ) → IsRuled s → IsInstalled s → s.step ≡ None → Contains s.active i
+    → IsNoted s i site → ⊥
 none_noted s i site ruled h idle active noted =
     let member = subst (Contains (serial s)) noted.4.0 (h.committed noted.1 (noted.0, noted.2, noted.3)) in
     let r = ruled.from_serial i member in
@@ -83,33 +90,47 @@ below_any n q (x ∷ xs) all hit =
 -- numbers below n, no two of them the same, are at most n
 pub distinct_few : (n : ℕ) (xs : List ℕ) → AllPairs (λ a b. a ≢ b) xs → All (λ k. k < n) xs → length xs ≤ n
 distinct_few n xs once below =
-    length-le_from_distinct_below xs n (IsDistinct-from_apart eqb xs (λ i j d lt within. ne_eqb (get_or xs i d) (get_or xs j d) (once i j d lt within)))
+    length-le_from_distinct_below xs n
+        (IsDistinct-from_apart eqb xs (λ i j d lt within. ne_eqb (get_or xs i d) (get_or xs j d)
+        (once i j d lt within)))
     (λ q hit. below_any n q xs below hit)
 
 -- ---- counts
 
-counted_push : (history : List Call) (c : Call) (site : ℕ) (item : Name) → counted (history ++ c ∷ []) site item ≡ counted history site item + length (filter (changes_item site item) (filter_map install_in (c ∷ [])))
+counted_push : (history : List Call) (c : Call) (site : ℕ) (item : Name)
+    → counted (history ++ c ∷ []) site item ≡ counted history site item + length
+    (filter (changes_item site item) (filter_map install_in (c ∷ [])))
 counted_push history c site item =
     let p = changes_item site item in
     let longer = sym (length-filter p (installs_in (history ++ c ∷ []))) in
     let shorter = length-filter p (installs_in history) in
-    let split = ap (λ xs. length (filter p xs)) (filter_map-append install_in history (c ∷ [])) ∙ (ap length (filter-append p (installs_in history) (filter_map install_in (c ∷ []))) ∙ length-append (filter p (installs_in history)) (filter p (filter_map install_in (c ∷ [])))) in
+    let split = ap (λ xs. length (filter p xs)) (filter_map-append install_in history (c ∷ []))
+        ∙ (ap length (filter-append p (installs_in history) (filter_map install_in (c ∷ [])))
+        ∙ length-append (filter p (installs_in history)) (filter p (filter_map install_in (c ∷ [])))) in
     longer ∙ (split ∙ ap (λ n. n + length (filter p (filter_map install_in (c ∷ [])))) shorter)
 
-pub counted_hit : (history : List Call) (tx site at : ℕ) (items : List Name) (item : Name) → changes_item at item (record { tx = tx; site = site; items = items }) ≡ true → counted (history ++ call.Installed tx site items ∷ []) at item ≡ suc (counted history at item)
+pub counted_hit : (history : List Call) (tx site at : ℕ) (items : List Name) (item : Name)
+    → changes_item at item (record { tx = tx; site = site; items = items }) ≡ true
+    → counted (history ++ call.Installed tx site items ∷ []) at item ≡ suc (counted history at item)
 counted_hit history tx site at items item hit =
-    let one : length (filter (changes_item at item) ((record { tx = tx; site = site; items = items }) ∷ [])) ≡ 1 = rw hit refl in
+    let one : length (filter (changes_item at item) ((record { tx = tx; site = site; items = items }) ∷ [])) ≡ 1 =
+        rw hit refl in
     omega (arith, counted_push history (call.Installed tx site items) at item, one)
 
-pub counted_miss : (history : List Call) (tx site at : ℕ) (items : List Name) (item : Name) → changes_item at item (record { tx = tx; site = site; items = items }) ≡ false → counted (history ++ call.Installed tx site items ∷ []) at item ≡ counted history at item
+pub counted_miss : (history : List Call) (tx site at : ℕ) (items : List Name) (item : Name)
+    → changes_item at item (record { tx = tx; site = site; items = items }) ≡ false
+    → counted (history ++ call.Installed tx site items ∷ []) at item ≡ counted history at item
 counted_miss history tx site at items item miss =
-    let none : length (filter (changes_item at item) ((record { tx = tx; site = site; items = items }) ∷ [])) ≡ 0 = rw miss refl in
+    let none : length (filter (changes_item at item) ((record { tx = tx; site = site; items = items }) ∷ [])) ≡ 0 =
+        rw miss refl in
     omega (arith, counted_push history (call.Installed tx site items) at item, none)
 
-pub counted_other : (history : List Call) (c : Call) (site : ℕ) (item : Name) → install_in c ≡ None → counted (history ++ c ∷ []) site item ≡ counted history site item
+pub counted_other : (history : List Call) (c : Call) (site : ℕ) (item : Name) → install_in c ≡ None
+    → counted (history ++ c ∷ []) site item ≡ counted history site item
 counted_other history c site item none =
     let empty : filter_map install_in (c ∷ []) ≡ [] = rw none refl in
-    let zero_more : length (filter (changes_item site item) (filter_map install_in (c ∷ []))) ≡ 0 = ap (λ xs. length (filter (changes_item site item) xs)) empty in
+    let zero_more : length (filter (changes_item site item) (filter_map install_in (c ∷ []))) ≡ 0 =
+        ap (λ xs. length (filter (changes_item site item) xs)) empty in
     omega (arith, counted_push history c site item, zero_more)
 
 pub any_member : (item : Name) (items : List Name) → Contains items item → list_any (bytes_eq item) items ≡ true

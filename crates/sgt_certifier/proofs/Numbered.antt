@@ -25,8 +25,10 @@ apart s t h idle active (suc p) (suc q) a b lt at_a at_b e =
     let r = map_at ruled s.rulings q b at_b in
     AllPairs_at RuledApart s.rulings p q l.0 r.0 h.once (omega (arith, lt)) l.1 r.1 (l.2 ∙ e ∙ sym r.2)
 
-begun : (s : State) (t : ℕ) → IsSoundCertifier s → IsRuled s → Contains s.active t → (n a : ℕ) → slice_get (t ∷ map ruled s.rulings) n ≡ Some a → a < suc s.begun
-begun s t sound h active zero a at = let here = (sound.active_here t active).1 in let same = same_Some t a at in omega (arith, here, same)
+begun : (s : State) (t : ℕ) → IsSoundCertifier s → IsRuled s → Contains s.active t → (n a : ℕ)
+    → slice_get (t ∷ map ruled s.rulings) n ≡ Some a → a < suc s.begun
+begun s t sound h active zero a at = let here = (sound.active_here t active).1 in let same = same_Some t a at in
+    omega (arith, here, same)
 begun s t sound h active (suc n) a at =
     let r = map_at ruled s.rulings n a at in
     let below = h.begun n r.0 r.1 in
@@ -34,9 +36,11 @@ begun s t sound h active (suc n) a at =
     omega (arith, below, same)
 
 -- while a transaction is active that isn't decided, no more decisions were taken than transactions were begun
-pub decided-few : (s : State) (t : ℕ) → IsSoundCertifier s → IsRuled s → s.step ≡ None → Contains s.active t → length s.rulings ≤ s.begun
+pub decided-few : (s : State) (t : ℕ) → IsSoundCertifier s → IsRuled s → s.step ≡ None → Contains s.active t
+    → length s.rulings ≤ s.begun
 decided-few s t sound h idle active =
     let all = t ∷ map ruled s.rulings in
-    let few = distinct_few (suc s.begun) all (AllPairs-from_at (λ a b. a ≢ b) all (apart s t h idle active)) (All-from_at (λ a. a < suc s.begun) all (begun s t sound h active)) in
+    let few = distinct_few (suc s.begun) all (AllPairs-from_at (λ a b. a ≢ b) all (apart s t h idle active))
+        (All-from_at (λ a. a < suc s.begun) all (begun s t sound h active)) in
     let long = length-map s.rulings ruled in
     omega (arith, few, long)

@@ -21,13 +21,15 @@ use Rattle.sgt_names.proofs.Elements.{take-front, drop-front, length-take_within
 
 -- the lines are those of sites that are numbered from k
 abbrev AreSites : ℕ → List (List ℕ) → Type 0
-AreSites k xs = (ss : List SiteLine) × All IsSiteLine ss × (map (λ l. l.site) ss ≡ range_with_len k (length ss)) × (xs ≡ map site_text ss)
+AreSites k xs = (ss : List SiteLine) × All IsSiteLine ss × (map (λ l. l.site) ss ≡ range_with_len k (length ss))
+    × (xs ≡ map site_text ss)
 
 abbrev IsSiteAt : ℕ → List ℕ → SiteLine → Type 0
 IsSiteAt k x l = (l.site ≡ k) × (x ≡ site_text l)
 
 site-found : (k : ℕ) (x : List ℕ) → Decidable ((l : SiteLine) × IsSiteLine l × IsSiteAt k x l)
-site-found k x = searched-site_lines (IsSiteAt k x) (λ l. decidable-both (cases_eq l.site k) (decidable-text x (site_text l)))
+site-found k x =
+    searched-site_lines (IsSiteAt k x) (λ l. decidable-both (cases_eq l.site k) (decidable-text x (site_text l)))
 
 known-sites : (k : ℕ) (xs : List (List ℕ)) → Decidable (AreSites k xs)
 known-sites k [] = inl ([], All-nil IsSiteLine, refl, refl)
@@ -41,7 +43,8 @@ known-sites k (x ∷ xs) = both (site-found k x) (known-sites (k + 1) xs)
     later ([], all, number, text) = absurd cc
     later (l ∷ ss, all, number, text) = (ss, All-tail IsSiteLine l ss all, tails _ _ _ _ number, tails _ _ _ _ text)
 
-    both : Decidable ((l : SiteLine) × IsSiteLine l × IsSiteAt k x l) → Decidable (AreSites (k + 1) xs) → Decidable (AreSites k (x ∷ xs))
+    both : Decidable ((l : SiteLine) × IsSiteLine l × IsSiteAt k x l) → Decidable (AreSites (k + 1) xs)
+        → Decidable (AreSites k (x ∷ xs))
     both (inr never) rest = inr (λ is. never (first is))
     both (inl l) (inr never) = inr (λ is. never (later is))
     both (inl (l, is, at)) (inl (ss, all, number, text)) =
@@ -54,7 +57,8 @@ AreEvents xs = (es : List EventLine) × All IsEventLine es × (xs ≡ map event_
 
 known-events : (xs : List (List ℕ)) → Decidable (AreEvents xs)
 known-events [] = inl ([], All-nil IsEventLine, refl)
-known-events (x ∷ xs) = both (searched-events (λ e. x ≡ event_text e) (λ e. decidable-text x (event_text e))) (known-events xs)
+known-events (x ∷ xs) = both (searched-events (λ e. x ≡ event_text e) (λ e. decidable-text x (event_text e)))
+    (known-events xs)
   where
     first : AreEvents (x ∷ xs) → (e : EventLine) × IsEventLine e × (x ≡ event_text e)
     first ([], all, text) = absurd cc
@@ -64,10 +68,12 @@ known-events (x ∷ xs) = both (searched-events (λ e. x ≡ event_text e) (λ e
     later ([], all, text) = absurd cc
     later (e ∷ es, all, text) = (es, All-tail IsEventLine e es all, tails _ _ _ _ text)
 
-    both : Decidable ((e : EventLine) × IsEventLine e × (x ≡ event_text e)) → Decidable (AreEvents xs) → Decidable (AreEvents (x ∷ xs))
+    both : Decidable ((e : EventLine) × IsEventLine e × (x ≡ event_text e)) → Decidable (AreEvents xs)
+        → Decidable (AreEvents (x ∷ xs))
     both (inr never) rest = inr (λ is. never (first is))
     both (inl e) (inr never) = inr (λ is. never (later is))
-    both (inl (e, is, at)) (inl (es, all, text)) = inl (e ∷ es, All-cons IsEventLine e es is all, ap₂ (λ y ys. y ∷ ys) at text)
+    both (inl (e, is, at)) (inl (es, all, text)) =
+        inl (e ∷ es, All-cons IsEventLine e es is all, ap₂ (λ y ys. y ∷ ys) at text)
 
 -- ---- the two parts
 
@@ -84,7 +90,8 @@ record Splits (xs : List (List ℕ)) (n : ℕ) : Type 0 where
 
 known-split : (xs : List (List ℕ)) (n : ℕ) → Decidable (Splits xs n)
 known-split xs n =
-    decidable-as (λ p. record { sites = p.0.0; events = p.0.1; few = p.1.0; first = p.1.1 }) (λ s. ((s.sites, s.events), (s.few, s.first)))
+    decidable-as (λ p. record { sites = p.0.0; events = p.0.1; few = p.1.0; first = p.1.1 })
+        (λ s. ((s.sites, s.events), (s.few, s.first)))
     (decidable-both (decidable-both (known-sites 0 (take n xs)) (known-events (drop n xs)))
     (decidable-both (decidable-most n max_sites) (decidable-if (cases_eq n 0) (λ _. no-more (drop n xs)))))
 
@@ -117,7 +124,8 @@ begins-from xs n within s =
       sym (take-append-drop n xs) ∙ ap₂ (λ fs bs. fs ++ bs) s.sites.3 s.events.2,
     )
 
-splits-of : (xs : List (List ℕ)) (input : Input) → IsBegun input → xs ≡ input_lines input → Splits xs (length input.sites)
+splits-of : (xs : List (List ℕ)) (input : Input) → IsBegun input → xs ≡ input_lines input
+    → Splits xs (length input.sites)
 splits-of xs input is same =
     let fs = map site_text input.sites in
     let bs = map event_text input.events in

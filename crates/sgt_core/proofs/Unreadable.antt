@@ -32,7 +32,8 @@ front-events es [] zs a e = ([], All-nil IsEventLine, refl, omega arith)
 front-events [] (x ∷ xs) zs a e = absurd cc
 front-events (f ∷ es) (x ∷ xs) zs a e =
     let rest = front-events es xs zs (All-tail IsEventLine f es a) (tails _ _ _ _ e) in
-    (f ∷ rest.0, All-cons IsEventLine f rest.0 (All-head IsEventLine f es a) rest.1, ap₂ (λ y ys. y ∷ ys) (sym (heads _ _ _ _ e)) rest.2, omega (arith, rest.3))
+    (f ∷ rest.0, All-cons IsEventLine f rest.0 (All-head IsEventLine f es a) rest.1,
+        ap₂ (λ y ys. y ∷ ys) (sym (heads _ _ _ _ e)) rest.2, omega (arith, rest.3))
 
 -- the sites, numbered from n, and the events whose lines come first
 record IsFront (n : ℕ) (ss : List SiteLine) (es : List EventLine) (xs : List (List ℕ)) : Type 0 where
@@ -46,13 +47,16 @@ record IsFront (n : ℕ) (ss : List SiteLine) (es : List EventLine) (xs : List (
   are : All IsEventLine events
   first : sites ≡ [] → (events ≡ []) ⊎ (ss ≡ [])
 
-front-lines : (n : ℕ) (ss : List SiteLine) (es : List EventLine) (xs zs : List (List ℕ)) → map (λ l. l.site) ss ≡ range_with_len n (length ss)
+front-lines : (n : ℕ) (ss : List SiteLine) (es : List EventLine) (xs zs : List (List ℕ))
+    → map (λ l. l.site) ss ≡ range_with_len n (length ss)
     → All IsSiteLine ss → All IsEventLine es → map site_text ss ++ map event_text es ≡ xs ++ zs → IsFront n ss es xs
 front-lines n [] es xs zs number a b e =
     let f = front-events es xs zs b e in
-    record { sites = []; events = f.0; text = f.2; few = omega arith; fewer = f.3; numbered = refl; each = All-nil IsSiteLine; are = f.1; first = λ none. inr refl }
+    record { sites = []; events = f.0; text = f.2; few = omega arith; fewer = f.3; numbered = refl; each =
+        All-nil IsSiteLine; are = f.1; first = λ none. inr refl }
 front-lines n (s ∷ ss) es [] zs number a b e =
-    record { sites = []; events = []; text = refl; few = omega arith; fewer = omega arith; numbered = refl; each = All-nil IsSiteLine; are = All-nil IsEventLine; first = λ none. inl refl }
+    record { sites = []; events = []; text = refl; few = omega arith; fewer = omega arith; numbered = refl; each =
+        All-nil IsSiteLine; are = All-nil IsEventLine; first = λ none. inl refl }
 front-lines n (s ∷ ss) es (x ∷ xs) zs number a b e =
     let f = front-lines (n + 1) ss es xs zs (tails _ _ _ _ number) (All-tail IsSiteLine s ss a) b (tails _ _ _ _ e) in
     record {
@@ -71,7 +75,8 @@ no-elements : {A : Type 0} (xs ys : List A) → ys ≡ [] → length xs ≤ leng
 no-elements [] ys none few = refl
 no-elements (x ∷ xs) ys none few = absurd (omega (arith, few, ap length none))
 
-front-begun : (i : Input) (xs : List (List ℕ)) → IsBegun i → (f : IsFront 0 i.sites i.events xs) → IsBegun (record { sites = f.sites; events = f.events })
+front-begun : (i : Input) (xs : List (List ℕ)) → IsBegun i → (f : IsFront 0 i.sites i.events xs)
+    → IsBegun (record { sites = f.sites; events = f.events })
 front-begun i xs is f = record {
   few = omega (arith, is.few, f.few);
   numbered = f.numbered;
@@ -91,12 +96,14 @@ begins-front xs zs (i, is, e) =
 
 -- ---- each of them is short, and has no LF
 
-lines-plain : (ss : List SiteLine) (es : List EventLine) → All IsSiteLine ss → All IsEventLine es → AllByRecursion IsPlain (map site_text ss ++ map event_text es)
+lines-plain : (ss : List SiteLine) (es : List EventLine) → All IsSiteLine ss → All IsEventLine es
+    → AllByRecursion IsPlain (map site_text ss ++ map event_text es)
 lines-plain [] [] a b = tt
 lines-plain [] (e ∷ es) a b =
     let is = All-head IsEventLine e es b in
     let short = event-short e is in
-    ((recursion_from_All (λ c. c ≢ 10) (event_text e) (event-no_lf e is), omega (arith, short)), lines-plain [] es a (All-tail IsEventLine e es b))
+    ((recursion_from_All (λ c. c ≢ 10) (event_text e) (event-no_lf e is), omega (arith, short)),
+        lines-plain [] es a (All-tail IsEventLine e es b))
 lines-plain (s ∷ ss) es a b =
     let is = All-head IsSiteLine s ss a in
     (site-plain s is, lines-plain ss es (All-tail IsSiteLine s ss a) b)
@@ -119,7 +126,8 @@ none-begins = (
 )
 
 -- nor does it have any line where nothing is kept
-pub nothing-kept : (ss : List SiteLine) (es : List EventLine) → ss ≡ [] → es ≡ [] → HaveLines (record { sites = ss; events = es }) []
+pub nothing-kept : (ss : List SiteLine) (es : List EventLine) → ss ≡ [] → es ≡ []
+    → HaveLines (record { sites = ss; events = es }) []
 unfolding none-begins
 nothing-kept ss es none empty =
     let sites = sym none in
@@ -133,32 +141,38 @@ are-inputs = record { none = none-begins; front = begins-front; plain = begins-p
 
 -- ---- what bytes are read as
 
-pub lines-one_fault : (bytes : List ℕ) (n m : ℕ) (f g : NotationFault) → FirstUnreadable bytes n f → FirstUnreadable bytes m g → (n ≡ m) × (f ≡ g)
+pub lines-one_fault : (bytes : List ℕ) (n m : ℕ) (f g : NotationFault) → FirstUnreadable bytes n f
+    → FirstUnreadable bytes m g → (n ≡ m) × (f ≡ g)
 lines-one_fault = any.lines-one_fault Begins are-inputs
 
 has_line : (ss : List SiteLine) (es : List EventLine) → ss ≢ [] → map site_text ss ++ map event_text es ≢ []
 has_line [] es some none = some refl
 has_line (s ∷ ss) es some none = nonempty _ _ none
 
-pub input-no_fault : (bytes : List ℕ) (i : Input) (n : ℕ) (f : NotationFault) → Spells bytes i → FirstUnreadable bytes n f → ⊥
+pub input-no_fault : (bytes : List ℕ) (i : Input) (n : ℕ) (f : NotationFault) → Spells bytes i
+    → FirstUnreadable bytes n f → ⊥
 input-no_fault bytes i n f spells =
-    any.input-no_fault Begins are-inputs bytes (input_lines i) n f (i, spells.0.0, refl) (has_line i.sites i.events spells.0.1) spells.1
+    any.input-no_fault Begins are-inputs bytes (input_lines i) n f (i, spells.0.0,
+        refl) (has_line i.sites i.events spells.0.1) spells.1
 
 -- lines that an input may begin with, of which there are some, are those of an input
 pub has_site : (i : Input) → IsBegun i → input_lines i ≢ [] → i.sites ≢ []
 has_site i is some empty = some (ap₂ (λ ss es. map site_text ss ++ map event_text es) empty (is.first empty))
 
 -- what was taken of an input, of which there is some, is the whole of it
-pub whole-input : (input : Input) (lines : List (List ℕ)) (told : Option (List ℕ)) → IsBegun input → lines ≡ input_lines input → lines ≢ []
+pub whole-input : (input : Input) (lines : List (List ℕ)) (told : Option (List ℕ)) → IsBegun input
+    → lines ≡ input_lines input → lines ≢ []
     → IfSome told (λ bytes. bytes ≡ text_of_lines lines) → IsInput input × IfSome told (λ bytes. Spells bytes input)
 whole-input input lines told is same some text =
     let whole : IsInput input = (is, has_site input is (λ none. some (same ∙ none))) in
     (whole, spelled IsBegun input_lines (IsInput input) told lines input whole same text)
 
 -- and so is what was kept, as it is handed out
-pub kept-input : (sites ss : List SiteLine) (events es : List EventLine) (told : Option (List ℕ)) → ss ≡ sites → es ≡ events
+pub kept-input : (sites ss : List SiteLine) (events es : List EventLine) (told : Option (List ℕ)) → ss ≡ sites
+    → es ≡ events
     → IsTaken Begins (HaveLines (record { sites = sites; events = events })) told
-    → IsInput (record { sites = ss; events = es }) × IfSome told (λ bytes. Spells bytes (record { sites = ss; events = es }))
+    → IsInput (record { sites = ss; events = es })
+        × IfSome told (λ bytes. Spells bytes (record { sites = ss; events = es }))
 kept-input sites ss events es told same equal taken =
     let kept : Input = record { sites = sites; events = events } in
     let there = sym same in
@@ -167,17 +181,21 @@ kept-input sites ss events es told same equal taken =
     subst (λ (i : Input). IsInput i × IfSome told (λ bytes. Spells bytes i)) input
     (whole-input kept taken.lines told taken.taken.0 taken.taken.1 taken.some taken.text)
 
-pub input-or_fault : (bytes : List ℕ) → ((i : Input) × Spells bytes i) ⊎ ((n : ℕ) × (f : NotationFault) × FirstUnreadable bytes n f)
+pub input-or_fault : (bytes : List ℕ)
+    → ((i : Input) × Spells bytes i) ⊎ ((n : ℕ) × (f : NotationFault) × FirstUnreadable bytes n f)
 input-or_fault bytes =
     elim (read-or_not Begins known-begins bytes none-begins) [
       | inl (lines, begun, some, text) ↦
-          inl (begun.0, ((begun.1, has_site begun.0 begun.1 (λ none. some (begun.2 ∙ none))), text ∙ ap text_of_lines begun.2))
+          inl (begun.0, ((begun.1, has_site begun.0 begun.1 (λ none. some (begun.2 ∙ none))), text
+              ∙ ap text_of_lines begun.2))
       | inr fault ↦ inr fault
     ]
 
 -- an answer calls the bytes unreadable, or there is an input that they spell
-pub answer-unreadable : (told : Option (List ℕ)) (o : Outcome) (text : List ℕ) → IsAnswer told o text → IfSome told (λ bytes. TellsUnreadable bytes o)
+pub answer-unreadable : (told : Option (List ℕ)) (o : Outcome) (text : List ℕ) → IsAnswer told o text
+    → IfSome told (λ bytes. TellsUnreadable bytes o)
 answer-unreadable None o text a = tt
 answer-unreadable (Some bytes) outcome.Yes text a = ((λ same. absurd cc), λ none. absurd (none a.0 a.1))
 answer-unreadable (Some bytes) outcome.No text a = ((λ same. absurd cc), λ none. absurd (none a.0 a.1))
-answer-unreadable (Some bytes) outcome.Unreadable text a = ((λ same input spells. input-no_fault bytes input a.0 a.1 spells a.3), λ none. refl)
+answer-unreadable (Some bytes) outcome.Unreadable text a =
+    ((λ same input spells. input-no_fault bytes input a.0 a.1 spells a.3), λ none. refl)

@@ -12,8 +12,10 @@ use Rattle.sgt_core_machine.specs.private.Decided.{RulesAt}
 use Rattle.sgt_names.proofs.Elements.{contains-none}
 
 -- the judge's answer; it has noted nothing then
-pub rules_from : (old new : State) (table : List (Option Running)) (slot : ℕ) (edges : List Edge) (r : Running) → slice_get table slot ≡ Some (Some r) → (answer : Result Decided CertifierFault)
-    → IfOk answer (λ reply. Serves old (call.Decide r.handle edges reply) new) → OnOk answer (new.installs ≡ []) → IfOk answer (λ reply. RulesAt old new table slot edges reply)
+pub rules_from : (old new : State) (table : List (Option Running)) (slot : ℕ) (edges : List Edge) (r : Running)
+    → slice_get table slot ≡ Some (Some r) → (answer : Result Decided CertifierFault)
+    → IfOk answer (λ reply. Serves old (call.Decide r.handle edges reply) new) → OnOk answer (new.installs ≡ [])
+        → IfOk answer (λ reply. RulesAt old new table slot edges reply)
 rules_from old new table slot edges r runs (Ok reply) serves none = record {
   running = r;
   runs = runs;

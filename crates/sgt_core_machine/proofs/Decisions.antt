@@ -39,12 +39,15 @@ pub record IsDecision (c : CoreState) (tx : ℕ) (new : State) (reply : Decided)
   pub certifier : State
   pub due : ℕ → List Entry
   pub carries : Carries new certifier
-  pub same : certifier ≡ record c.certifier { order = certifier.order; arcs = certifier.arcs; step = Some tx; rulings = certifier.rulings }
+  pub same : certifier ≡ record c.certifier { order = certifier.order; arcs = certifier.arcs; step =
+      Some tx; rulings = certifier.rulings }
   pub order : (i : ℕ) → Contains c.certifier.order i → Contains certifier.order i
-  pub phase : (n : Parts) (d : CoreState) (o : Open) → d.certifier ≡ certifier → o.tx ≡ tx → IsPhase n d o (phase_after reply)
+  pub phase : (n : Parts) (d : CoreState) (o : Open) → d.certifier ≡ certifier → o.tx ≡ tx
+      → IsPhase n d o (phase_after reply)
   pub some : (s : ℕ) → touches c tx s ≡ true → due s ≡ [] → ⊥
   pub none : (s : ℕ) → touches c tx s ≡ false → due s ≡ []
-  pub due_by : (n : Parts) (d : CoreState) (touched : List Touch) (s : ℕ) → d.due ≡ due → d.changes ≡ c.changes → touches c tx s ≡ true
+  pub due_by : (n : Parts) (d : CoreState) (touched : List Touch) (s : ℕ) → d.due ≡ due → d.changes ≡ c.changes
+      → touches c tx s ≡ true
       → (phase_after reply ≡ Committed → AwaitsInstall n.certifier tx s) → IsDueBy n d tx touched (phase_after reply) s
   pub may : MayStep c (Decide tx) (reply_after reply) (decided c tx certifier due)
 
@@ -58,15 +61,19 @@ abbrev pub ended_state : CoreState → ℕ → State → CoreState
 ended_state c tx certifier = record c { certifier = with_finished certifier tx; step = None; due = λ s. [] }
 
 -- the step closes where nothing is due
-closes : (c : CoreState) (i : ℕ) → ((s : ℕ) → c.due s ≡ []) → closed_if_written c i ≡ record c { certifier = with_finished c.certifier i; step = None; due = λ s. [] }
+closes : (c : CoreState) (i : ℕ) → ((s : ℕ) → c.due s ≡ [])
+    → closed_if_written c i ≡ record c { certifier = with_finished c.certifier i; step = None; due = λ s. [] }
 closes c i none = rw (all_empty c.due (sites_of c) none) refl
   where
-    all_empty : (due : ℕ → List Entry) (xs : List ℕ) → ((s : ℕ) → due s ≡ []) → list_all (λ s. is_empty (due s)) xs ≡ true
+    all_empty : (due : ℕ → List Entry) (xs : List ℕ) → ((s : ℕ) → due s ≡ [])
+        → list_all (λ s. is_empty (due s)) xs ≡ true
     all_empty due [] e = refl
     all_empty due (x ∷ xs) e = ap (λ es. is_empty es && list_all (λ s. is_empty (due s)) xs) (e x) ∙ all_empty due xs e
 
-module _ (m : Parts) (c : CoreState) (s : StandsFor m c) (tx slot : ℕ) (h : IsSlotOf m tx slot) (no_other : IsOtherOpen c tx → ⊥) (undecided : c.certifier.step ≡ None)
-    (everywhere : (t : ℕ) → touches c tx t ≡ true → Contains (gathered_in c.step) t) (new : State) (reply : Decided) (v : IsDecision c tx new reply) where
+module _ (m : Parts) (c : CoreState) (s : StandsFor m c) (tx slot : ℕ) (h : IsSlotOf m tx slot)
+    (no_other : IsOtherOpen c tx → ⊥) (undecided : c.certifier.step ≡ None)
+    (everywhere : (t : ℕ) → touches c tx t ≡ true → Contains (gathered_in c.step) t) (new : State) (reply : Decided)
+        (v : IsDecision c tx new reply) where
   abbrev k : IsKept c
   k = reached_kept c s.reached
 
@@ -83,14 +90,17 @@ module _ (m : Parts) (c : CoreState) (s : StandsFor m c) (tx slot : ℕ) (h : Is
   generation_same = ap (λ (st : State). st.generation) v.same
 
   handle_stays : (i : Install) → IsHandleOf c.certifier i → IsHandleOf v.certifier i
-  handle_stays i (inl here) = inl (here.0 ∙ sym generation_same, here.1 ∙ ap (λ b. suc (b + i.handle.index)) (sym before_same), v.order i.tx here.2)
+  handle_stays i (inl here) =
+      inl (here.0 ∙ sym generation_same, here.1 ∙ ap (λ b. suc (b + i.handle.index)) (sym before_same),
+      v.order i.tx here.2)
   handle_stays i (inr older) = inr (omega (arith, older.0, generation_same), omega (arith, older.1, before_same))
 
   -- the machine has the step open that the model has
   due_touched : (t : ℕ) (p : Place) (o : Open) (a : IsDueAt m c t p o) → touches c tx t ≡ true
   due_touched t p o a =
       let own = step_own m c tx no_other m.step s.step o a.open_step in
-      subst (λ i. touches c i t ≡ true) (sym a.tx ∙ own) (draft_touches c k m.before a.place t a.running (s.running a.place (Some a.running) a.there) a.touched)
+      subst (λ i. touches c i t ≡ true) (sym a.tx
+          ∙ own) (draft_touches c k m.before a.place t a.running (s.running a.place (Some a.running) a.there) a.touched)
 
   not_written : (n : ℕ) → c.certifier.step ≡ Some n → ⊥
   not_written n e = let f : Some n ≡ None = sym e ∙ undecided in absurd cc
@@ -103,7 +113,8 @@ module _ (m : Parts) (c : CoreState) (s : StandsFor m c) (tx slot : ℕ) (h : Is
 
   -- ---- where a block is due
 
-  module _ (r : Running) (runs : slice_get m.table slot ≡ Some (Some r)) (awaits : phase_after reply ≡ Committed → (t : ℕ) → AwaitsInstall new tx t) where
+  module _ (r : Running) (runs : slice_get m.table slot ≡ Some (Some r)) (awaits : phase_after reply ≡ Committed
+      → (t : ℕ) → AwaitsInstall new tx t) where
     abbrev n : Parts
     n = decided_parts m tx new reply
 
@@ -129,7 +140,9 @@ module _ (m : Parts) (c : CoreState) (s : StandsFor m c) (tx slot : ℕ) (h : Is
         let a = is.1 in
         let own = step_own m c tx no_other m.step s.step o a.open_step in
         let same_place : a.place ≡ slot = omega (arith, a.tx, own, h.0) in
-        let same : r ≡ a.running = same_Some r a.running (same_Some (Some r) (Some a.running) (sym runs ∙ (ap (slice_get m.table) (sym same_place) ∙ a.there))) in (
+        let same : r ≡ a.running =
+            same_Some r a.running (same_Some (Some r) (Some a.running) (sym runs
+            ∙ (ap (slice_get m.table) (sym same_place) ∙ a.there))) in (
           record { tx = tx; phase = phase_after reply },
           record {
             open_step = refl;
@@ -140,29 +153,36 @@ module _ (m : Parts) (c : CoreState) (s : StandsFor m c) (tx slot : ℕ) (h : Is
             gathered = a.gathered;
             touched = a.touched;
             pledge = a.pledge ∙ ap (λ i. Some (record { tx = i; part = at_site t a.running.draft.touched })) own;
-            due = v.due_by n d a.running.draft.touched t refl refl (due_touched t p o a) (λ is. subst (λ (w : Running). AwaitsInstall new tx t) same (awaits is t));
+            due = v.due_by n d a.running.draft.touched t refl refl (due_touched t p o a)
+                (λ is. subst (λ (w : Running). AwaitsInstall new tx t) same (awaits is t));
           },
         )
 
     decided_place : (t : ℕ) (p : Place) → slice_get m.places t ≡ Some p → IsPlace n d t p
     decided_place t p at =
         let is = s.places t p at in
-        record { number = is.number; entries = is.entries; handles = λ i member. handle_stays i (is.handles i member); apart = is.apart; part = decided_part t p p.part is.part }
+        record { number = is.number; entries = is.entries; handles = λ i member. handle_stays i (is.handles i member);
+            apart = is.apart; part = decided_part t p p.part is.part }
 
-    open_there : (o : Option Open) → IsStep m c o → (q : Open) → o ≡ Some q → IsStep n d (Some (record { tx = tx; phase = phase_after reply }))
+    open_there : (o : Option Open) → IsStep m c o → (q : Open) → o ≡ Some q
+        → IsStep n d (Some (record { tx = tx; phase = phase_after reply }))
     open_there None is q e = absurd cc
     open_there (Some o) is q e =
         let mine : o.tx ≡ tx = step_own m c tx no_other (Some o) is o refl in
-        (is.0, is.1 ∙ ap (λ i. Some (record { tx = i; gathered = is.0 })) mine, v.phase n d (record { tx = tx; phase = phase_after reply }) refl refl)
+        (is.0, is.1 ∙ ap (λ i. Some (record { tx = i; gathered = is.0 })) mine,
+            v.phase n d (record { tx = tx; phase = phase_after reply }) refl refl)
 
     pub decision_due : (t : ℕ) (p : Place) → slice_get m.places t ≡ Some p → p.part ≡ Due
-        → (e : CoreState) × MayStep c (Decide tx) (reply_after reply) e × StandsFor (record m { certifier = new; step = Some (record { tx = tx; phase = phase_after reply }) }) e
+        → (e : CoreState) × MayStep c (Decide tx) (reply_after reply) e
+            × StandsFor (record m { certifier = new; step = Some (record { tx = tx; phase = phase_after reply }) }) e
     decision_due t p at is =
         let here : (o : Open) × IsDueAt m c t p o = subst (IsPart m c t p) is (s.places t p at).part in
         let count = site_count m c s in
         let lt = slice_get_within m.places t p at in
-        let open_still : decided c tx v.certifier v.due ≡ d = stays_open d tx t (omega (arith, lt, count)) (v.some t (due_touched t p here.0 here.1)) in
-        let may : MayStep c (Decide tx) (reply_after reply) d = subst (MayStep c (Decide tx) (reply_after reply)) open_still v.may in (
+        let open_still : decided c tx v.certifier v.due ≡ d =
+            stays_open d tx t (omega (arith, lt, count)) (v.some t (due_touched t p here.0 here.1)) in
+        let may : MayStep c (Decide tx) (reply_after reply) d =
+            subst (MayStep c (Decide tx) (reply_after reply)) open_still v.may in (
           d,
           may,
           record {
@@ -182,7 +202,8 @@ module _ (m : Parts) (c : CoreState) (s : StandsFor m c) (tx slot : ℕ) (h : Is
 
   -- ---- where none is
 
-  module _ (last : State) (finishes : last ≡ record (with_finished new tx) { installs = [] }) (none : (t : ℕ) (p : Place) → slice_get m.places t ≡ Some p → p.part ≡ Due → ⊥) where
+  module _ (last : State) (finishes : last ≡ record (with_finished new tx) { installs = [] })
+      (none : (t : ℕ) (p : Place) → slice_get m.places t ≡ Some p → p.part ≡ Due → ⊥) where
     abbrev b : Parts
     b = record m { certifier = last; table = slice_set m.table slot None; step = None }
 
@@ -190,14 +211,18 @@ module _ (m : Parts) (c : CoreState) (s : StandsFor m c) (tx slot : ℕ) (h : Is
     f = ended_state c tx v.certifier
 
     kept_active : (i : ℕ) → Contains (with_finished v.certifier tx).active i → Contains c.certifier.active i
-    kept_active i there = subst (λ xs. Contains xs i) active_same (filter_member (λ j. not (j == tx)) v.certifier.active i there).0
+    kept_active i there =
+        subst (λ xs. Contains xs i) active_same (filter_member (λ j. not (j == tx)) v.certifier.active i there).0
 
-    still_active : (i : ℕ) → (i ≡ tx → ⊥) → Contains c.certifier.active i → Contains (with_finished v.certifier tx).active i
+    still_active : (i : ℕ) → (i ≡ tx → ⊥) → Contains c.certifier.active i
+        → Contains (with_finished v.certifier tx).active i
     still_active i other there =
-        member_filter (λ j. not (j == tx)) v.certifier.active i (subst (λ xs. Contains xs i) (sym active_same) there) (ap not (ne_eqb i tx other))
+        member_filter (λ j. not (j == tx)) v.certifier.active i (subst (λ xs. Contains xs i) (sym active_same) there)
+            (ap not (ne_eqb i tx other))
 
     ended_out : Contains (with_finished v.certifier tx).active tx → ⊥
-    ended_out there = true≢false (sym (filter_member (λ j. not (j == tx)) v.certifier.active tx there).1 ∙ ap not (eq-eqb tx tx refl))
+    ended_out there = true≢false (sym (filter_member (λ j. not (j == tx)) v.certifier.active tx there).1
+        ∙ ap not (eq-eqb tx tx refl))
 
     ended_slot : (j : ℕ) (o : Option Running) → (j ≡ slot → ⊥) → RunsAt c m.before j o → RunsAt f m.before j o
     ended_slot j None other out = λ there. out (kept_active (suc (m.before + j)) there)
@@ -210,16 +235,22 @@ module _ (m : Parts) (c : CoreState) (s : StandsFor m c) (tx slot : ℕ) (h : Is
       reads = is.reads;
     }
 
-    ended_running : (j : ℕ) (o : Option Running) → slice_get (slice_set m.table slot None) j ≡ Some o → RunsAt f m.before j o
+    ended_running : (j : ℕ) (o : Option Running) → slice_get (slice_set m.table slot None) j ≡ Some o
+        → RunsAt f m.before j o
     ended_running j o at = elim (cases_eq j slot) [
       | inl is ↦
-          let here : slice_get (slice_set m.table slot None) slot ≡ Some None = get-slice_set_same m.table slot None (slice_get_within m.table slot _ h.1.1) in
-          let same : None ≡ o = same_Some None o (sym here ∙ (ap (slice_get (slice_set m.table slot None)) (sym is) ∙ at)) in
-          subst (λ w. RunsAt f m.before j w) same (λ there. ended_out (subst (Contains (with_finished v.certifier tx).active) (ap (λ i. suc (m.before + i)) is ∙ sym h.0) there))
+          let here : slice_get (slice_set m.table slot None) slot ≡ Some None =
+              get-slice_set_same m.table slot None (slice_get_within m.table slot _ h.1.1) in
+          let same : None ≡ o =
+              same_Some None o (sym here ∙ (ap (slice_get (slice_set m.table slot None)) (sym is) ∙ at)) in
+          subst (λ w. RunsAt f m.before j w) same
+              (λ there. ended_out (subst (Contains (with_finished v.certifier tx).active)
+              (ap (λ i. suc (m.before + i)) is ∙ sym h.0) there))
       | inr ne ↦ ended_slot j o ne (s.running j o (sym (get-slice_set_other m.table slot j None ne) ∙ at))
     ]
 
-    ended_part : (t : ℕ) (p : Place) → slice_get m.places t ≡ Some p → (part : Part) → p.part ≡ part → IsPart m c t p part → IsPart b f t p part
+    ended_part : (t : ℕ) (p : Place) → slice_get m.places t ≡ Some p → (part : Part) → p.part ≡ part
+        → IsPart m c t p part → IsPart b f t p part
     ended_part t p at Idle e is = (is.0, refl, λ member. contains-none t member)
     ended_part t p at Written e is = absurd (not_written _ is.decided)
     ended_part t p at Due e is = absurd (none t p at e)
@@ -227,7 +258,8 @@ module _ (m : Parts) (c : CoreState) (s : StandsFor m c) (tx slot : ℕ) (h : Is
     ended_place : (t : ℕ) (p : Place) → slice_get m.places t ≡ Some p → IsPlace b f t p
     ended_place t p at =
         let is = s.places t p at in
-        record { number = is.number; entries = is.entries; handles = λ i member. handle_stays i (is.handles i member); apart = is.apart; part = ended_part t p at p.part refl is.part }
+        record { number = is.number; entries = is.entries; handles = λ i member. handle_stays i (is.handles i member);
+            apart = is.apart; part = ended_part t p at p.part refl is.part }
 
     nowhere_due : (t : ℕ) → v.due t ≡ []
     nowhere_due t = elim (cases_Bool (touches c tx t)) [
@@ -235,14 +267,17 @@ module _ (m : Parts) (c : CoreState) (s : StandsFor m c) (tx slot : ℕ) (h : Is
       | inr miss ↦ v.none t miss
     ]
       where
-        by_part : (t : ℕ) (p : Place) → slice_get m.places t ≡ Some p → (part : Part) → p.part ≡ part → IsPart m c t p part → Contains (gathered_in c.step) t → ⊥
+        by_part : (t : ℕ) (p : Place) → slice_get m.places t ≡ Some p → (part : Part) → p.part ≡ part
+            → IsPart m c t p part → Contains (gathered_in c.step) t → ⊥
         by_part t p at Idle e is member = is.2 member
         by_part t p at Written e is member = not_written _ is.decided
         by_part t p at Due e is member = none t p at e
 
         gathered_out : (t : ℕ) → touches c tx t ≡ true → ⊥
         gathered_out t hit =
-            let inside : t < length c.items = below (length c.items) t (λ out. true≢false (sym hit ∙ untouched_outside c tx t k.sound.walked k.sound.legal out)) in
+            let inside : t < length c.items =
+                below (length c.items) t (λ out. true≢false (sym hit
+                ∙ untouched_outside c tx t k.sound.walked k.sound.legal out)) in
             let count = site_count m c s in
             let p = within_at m.places t (omega (arith, inside, count)) in
             by_part t p.0 p.1 p.0.part refl (s.places t p.0 p.1).part (everywhere t hit)
@@ -250,10 +285,12 @@ module _ (m : Parts) (c : CoreState) (s : StandsFor m c) (tx slot : ℕ) (h : Is
             below : (n t : ℕ) → (n ≤ t → ⊥) → t < n
             below n t out = omega (arith, out)
 
-    pub decision_ends : (e : CoreState) × MayStep c (Decide tx) (reply_after reply) e × StandsFor (record m { certifier = last; table = slice_set m.table slot None; step = None }) e
+    pub decision_ends : (e : CoreState) × MayStep c (Decide tx) (reply_after reply) e
+        × StandsFor (record m { certifier = last; table = slice_set m.table slot None; step = None }) e
     decision_ends =
         let closed : decided c tx v.certifier v.due ≡ f = closes (decided_state c v.certifier v.due) tx nowhere_due in
-        let may : MayStep c (Decide tx) (reply_after reply) f = subst (MayStep c (Decide tx) (reply_after reply)) closed v.may in (
+        let may : MayStep c (Decide tx) (reply_after reply) f =
+            subst (MayStep c (Decide tx) (reply_after reply)) closed v.may in (
           f,
           may,
           record {
@@ -261,7 +298,10 @@ module _ (m : Parts) (c : CoreState) (s : StandsFor m c) (tx slot : ℕ) (h : Is
             sites = s.sites;
             items = s.items;
             certifier = subst (λ (st : State). Carries st (with_finished v.certifier tx)) (sym finishes)
-                (record { same = ap (λ (st : State). with_finished st tx) v.carries.same; noted = ended_noted new v.certifier (record (with_finished new tx) { installs = [] }) (with_finished v.certifier tx) v.carries.noted refl refl (λ j m. m); fewer = v.carries.fewer; lead = v.carries.lead });
+                (record { same = ap (λ (st : State). with_finished st tx) v.carries.same; noted =
+                    ended_noted new v.certifier (record (with_finished new tx) { installs = [] })
+                    (with_finished v.certifier tx) v.carries.noted refl refl (λ j m. m); fewer = v.carries.fewer;
+                    lead = v.carries.lead });
             before = before_same ∙ s.before;
             begun = begun_same ∙ s.begun;
             window = s.window ∙ ap (λ j. m.before + j) (sym (length-set m.table slot None));

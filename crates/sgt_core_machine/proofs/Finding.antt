@@ -19,23 +19,30 @@ pub items_there : (m : Parts) (c : CoreState) (s : ℕ) (o : Option Place) → S
     → items_at c s ≡ items_in (option_map (λ (p : Place). p.site.items) o)
 items_there m c s o stands at =
     ap (λ items. items_in (slice_get items s)) stands.items
-    ∙ (ap items_in (slice_get-map (λ (p : Place). p.site.items) m.places s) ∙ ap (λ q. items_in (option_map (λ (p : Place). p.site.items) q)) at)
+    ∙ (ap items_in (slice_get-map (λ (p : Place). p.site.items) m.places s)
+        ∙ ap (λ q. items_in (option_map (λ (p : Place). p.site.items) q)) at)
 
-pub of_place : (m : Parts) (c : CoreState) (s : ℕ) (x : Name) (p : Place) → StandsFor m c → slice_get m.places s ≡ Some p → Contains (names p.site.items) x → IsOfSite c s x
-of_place m c s x p stands at h = subst (λ items. Contains (names items) x) (sym (items_there m c s (Some p) stands at)) h
+pub of_place : (m : Parts) (c : CoreState) (s : ℕ) (x : Name) (p : Place) → StandsFor m c
+    → slice_get m.places s ≡ Some p → Contains (names p.site.items) x → IsOfSite c s x
+of_place m c s x p stands at h =
+    subst (λ items. Contains (names items) x) (sym (items_there m c s (Some p) stands at)) h
 
-pub to_place : (m : Parts) (c : CoreState) (s : ℕ) (x : Name) (p : Place) → StandsFor m c → slice_get m.places s ≡ Some p → IsOfSite c s x → Contains (names p.site.items) x
+pub to_place : (m : Parts) (c : CoreState) (s : ℕ) (x : Name) (p : Place) → StandsFor m c
+    → slice_get m.places s ≡ Some p → IsOfSite c s x → Contains (names p.site.items) x
 to_place m c s x p stands at h = subst (λ items. Contains (names items) x) (items_there m c s (Some p) stands at) h
 
-pub of_none : (m : Parts) (c : CoreState) (s : ℕ) (x : Name) → StandsFor m c → slice_get m.places s ≡ None → IsOfSite c s x → ⊥
-of_none m c s x stands at h = contains-none x (subst (λ items. Contains (names items) x) (items_there m c s None stands at) h)
+pub of_none : (m : Parts) (c : CoreState) (s : ℕ) (x : Name) → StandsFor m c → slice_get m.places s ≡ None
+    → IsOfSite c s x → ⊥
+of_none m c s x stands at h =
+    contains-none x (subst (λ items. Contains (names items) x) (items_there m c s None stands at) h)
 
 -- ---- results
 
 pub not_true : (b : Bool) → b ≡ false → IsTrue b → ⊥
 not_true b e t = true≢false (sym t ∙ e)
 
-pub ok_iff : {A E : Type 0} (P : Type 0) (Q : E → Type 0) (r : Result A E) → OnOk r P → IfErr r (λ f. Q f × (P → ⊥)) → (IsTrue (is_ok r) → P) × (P → IsTrue (is_ok r))
+pub ok_iff : {A E : Type 0} (P : Type 0) (Q : E → Type 0) (r : Result A E) → OnOk r P → IfErr r (λ f. Q f × (P → ⊥))
+    → (IsTrue (is_ok r) → P) × (P → IsTrue (is_ok r))
 ok_iff P Q (Ok a) p out = (λ t. p, λ q. refl)
 ok_iff P Q (Err e) p out = (λ t. absurd (true≢false (sym t)), λ q. absurd (out.1 q))
 
@@ -44,9 +51,11 @@ OnErr_then (Ok a) p f = tt
 OnErr_then (Err e) p f = f p
 
 -- an element that was put back as it was
-pub put_back : (table : List (Option Running)) (slot : ℕ) (r : Running) (e : Option Running) → slot < length table → e ≡ get_or table slot e → e ≡ Some r
+pub put_back : (table : List (Option Running)) (slot : ℕ) (r : Running) (e : Option Running) → slot < length table
+    → e ≡ get_or table slot e → e ≡ Some r
     → slice_set table slot (Some r) ≡ table
-put_back table slot r e lt at is = set_same table slot (Some r) (slice_get_read table (length table) slot e refl lt at ∙ ap Some is)
+put_back table slot r e lt at is = set_same table slot (Some r) (slice_get_read table (length table) slot e refl lt at
+    ∙ ap Some is)
 
 pub beyond : {A : Type 0} (xs : List A) (n : ℕ) → length xs ≤ n → slice_get xs n ≡ None
 beyond xs n le = elim (option_cases (slice_get xs n)) [
@@ -67,15 +76,21 @@ ok_by (Ok a) e p = p
 ok_by (Err f) e p = absurd (true≢false e)
 
 -- an item's site is there
-pub item_inside : (m : Parts) (c : CoreState) → StandsFor m c → (s : ℕ) (x : Name) → IsOfSite c s x → s < length m.places
-item_inside m c stands s x known = below_all (length m.places) s (λ le. of_none m c s x stands (beyond m.places s le) known)
+pub item_inside : (m : Parts) (c : CoreState) → StandsFor m c → (s : ℕ) (x : Name) → IsOfSite c s x
+    → s < length m.places
+item_inside m c stands s x known =
+    below_all (length m.places) s (λ le. of_none m c s x stands (beyond m.places s le) known)
   where
     below_all : (n t : ℕ) → (n ≤ t → ⊥) → t < n
     below_all n t out = omega (arith, out)
 
 -- what was found at a place of the table where a transaction is active
-pub found_there : (table : List (Option Running)) (slot : ℕ) (e : Option Running) (q : Running) → slice_get table slot ≡ Some (Some q) → e ≡ get_or table slot e → slice_get table slot ≡ Some e
-found_there table slot e q at is = slice_get_read table (length table) slot e refl (slice_get_within table slot (Some q) at) is
+pub found_there : (table : List (Option Running)) (slot : ℕ) (e : Option Running) (q : Running)
+    → slice_get table slot ≡ Some (Some q) → e ≡ get_or table slot e → slice_get table slot ≡ Some e
+found_there table slot e q at is =
+    slice_get_read table (length table) slot e refl (slice_get_within table slot (Some q) at) is
 
-pub someone_there : (table : List (Option Running)) (slot : ℕ) (e : Option Running) (q : Running) → slice_get table slot ≡ Some (Some q) → e ≡ get_or table slot e → e ≡ None → ⊥
-someone_there table slot e q at is none = let f : ◌≡◌ {A = Option (Option Running)} (Some (Some q)) (Some None) = sym at ∙ (found_there table slot e q at is ∙ ap Some none) in cc
+pub someone_there : (table : List (Option Running)) (slot : ℕ) (e : Option Running) (q : Running)
+    → slice_get table slot ≡ Some (Some q) → e ≡ get_or table slot e → e ≡ None → ⊥
+someone_there table slot e q at is none = let f : ◌≡◌ {A = Option (Option Running)} (Some (Some q)) (Some None) =
+    sym at ∙ (found_there table slot e q at is ∙ ap Some none) in cc

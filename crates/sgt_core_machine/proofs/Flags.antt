@@ -21,14 +21,16 @@ set_hit old flags ts n t at used was s on = elim (cases_eq s t.site) [
 ]
 
 -- and those that were set still are
-pub set_kept : (flags : List Bool) (at s : ℕ) → at < length flags → get_or flags s false ≡ true → get_or (set flags at true) s false ≡ true
+pub set_kept : (flags : List Bool) (at s : ℕ) → at < length flags → get_or flags s false ≡ true
+    → get_or (set flags at true) s false ≡ true
 set_kept flags at s within on = elim (cases_eq s at) [
   | inl here ↦ ap (λ (k : ℕ). get_or (set flags at true) k false) here ∙ get_or-set_same flags at true false within
   | inr other ↦ get_or-set_other flags at s true false other ∙ on
 ]
 
 -- and it is set itself
-pub set_each : (flags : List Bool) (ts : List Touch) (n : ℕ) (t : Touch) → slice_get ts n ≡ Some t → t.site < length flags
+pub set_each : (flags : List Bool) (ts : List Touch) (n : ℕ) (t : Touch) → slice_get ts n ≡ Some t
+    → t.site < length flags
     → ((k : ℕ) (u : Touch) → k < n → slice_get ts k ≡ Some u → get_or flags u.site false ≡ true)
     → (k : ℕ) (u : Touch) → k < n + 1 → slice_get ts k ≡ Some u → get_or (set flags t.site true) u.site false ≡ true
 set_each flags ts n t at within was k u upto there = elim (cases_lt k n) [
@@ -36,7 +38,8 @@ set_each flags ts n t at within was k u upto there = elim (cases_lt k n) [
   | inr from ↦
       let same : k ≡ n = omega (arith, upto, from) in
       let one : u ≡ t = same_Some u t (sym there ∙ (ap (slice_get ts) same ∙ at)) in
-      ap (λ (v : Touch). get_or (set flags t.site true) v.site false) one ∙ get_or-set_same flags t.site true false within
+      ap (λ (v : Touch). get_or (set flags t.site true) v.site false) one
+          ∙ get_or-set_same flags t.site true false within
 ]
 
 -- all of them are set behind the last
@@ -52,25 +55,32 @@ set_all old flags ts n end hit kept each s = (
     | inr any ↦
         let found = Any_at (λ (u : Touch). (u.site ≡ s) × IsUsed u) ts any in
         let within = slice_get_within ts found.0 found.1 found.2 in
-        subst (λ (k : ℕ). get_or flags k false ≡ true) found.3.0 (each found.0 found.1 (omega (arith, end, within)) found.2)
+        subst (λ (k : ℕ). get_or flags k false ≡ true) found.3.0
+            (each found.0 found.1 (omega (arith, end, within)) found.2)
   ],
 )
 
 -- ---- part by part
 
-module _ (old flags new : List Bool) (ps : List PartView) (n : ℕ) (p : PartView) (at : slice_get ps n ≡ Some p) (marks : Marks flags new (Touches p.touched)) where
-  pub parts_hit : ((s : ℕ) → get_or flags s false ≡ true → (get_or old s false ≡ true) ⊎ Any (λ (q : PartView). Touches q.touched s) ps)
-      → (s : ℕ) → get_or new s false ≡ true → (get_or old s false ≡ true) ⊎ Any (λ (q : PartView). Touches q.touched s) ps
+module _ (old flags new : List Bool) (ps : List PartView) (n : ℕ) (p : PartView) (at : slice_get ps n ≡ Some p)
+    (marks : Marks flags new (Touches p.touched)) where
+  pub parts_hit : ((s : ℕ) → get_or flags s false ≡ true
+      → (get_or old s false ≡ true) ⊎ Any (λ (q : PartView). Touches q.touched s) ps)
+      → (s : ℕ) → get_or new s false ≡ true
+          → (get_or old s false ≡ true) ⊎ Any (λ (q : PartView). Touches q.touched s) ps
   parts_hit was s on = elim ((marks s).0 on) [
     | inl before ↦ was s before
     | inr any ↦ inr (Any-from_at (λ (q : PartView). Touches q.touched s) ps n p at any)
   ]
 
-  pub parts_kept : ((s : ℕ) → get_or old s false ≡ true → get_or flags s false ≡ true) → (s : ℕ) → get_or old s false ≡ true → get_or new s false ≡ true
+  pub parts_kept : ((s : ℕ) → get_or old s false ≡ true → get_or flags s false ≡ true) → (s : ℕ)
+      → get_or old s false ≡ true → get_or new s false ≡ true
   parts_kept was s on = (marks s).1 (inl (was s on))
 
-  pub parts_each : ((k : ℕ) (q : PartView) → k < n → slice_get ps k ≡ Some q → (s : ℕ) → Touches q.touched s → get_or flags s false ≡ true)
-      → (k : ℕ) (q : PartView) → k < n + 1 → slice_get ps k ≡ Some q → (s : ℕ) → Touches q.touched s → get_or new s false ≡ true
+  pub parts_each : ((k : ℕ) (q : PartView) → k < n → slice_get ps k ≡ Some q → (s : ℕ) → Touches q.touched s
+      → get_or flags s false ≡ true)
+      → (k : ℕ) (q : PartView) → k < n + 1 → slice_get ps k ≡ Some q → (s : ℕ) → Touches q.touched s
+          → get_or new s false ≡ true
   parts_each was k q upto there s any = elim (cases_lt k n) [
     | inl before ↦ (marks s).1 (inl (was k q before there s any))
     | inr from ↦
@@ -80,9 +90,11 @@ module _ (old flags new : List Bool) (ps : List PartView) (n : ℕ) (p : PartVie
   ]
 
 pub parts_all : (old flags : List Bool) (ps : List PartView) (n : ℕ) → length ps ≤ n
-    → ((s : ℕ) → get_or flags s false ≡ true → (get_or old s false ≡ true) ⊎ Any (λ (q : PartView). Touches q.touched s) ps)
+    → ((s : ℕ) → get_or flags s false ≡ true
+        → (get_or old s false ≡ true) ⊎ Any (λ (q : PartView). Touches q.touched s) ps)
     → ((s : ℕ) → get_or old s false ≡ true → get_or flags s false ≡ true)
-    → ((k : ℕ) (q : PartView) → k < n → slice_get ps k ≡ Some q → (s : ℕ) → Touches q.touched s → get_or flags s false ≡ true)
+    → ((k : ℕ) (q : PartView) → k < n → slice_get ps k ≡ Some q → (s : ℕ) → Touches q.touched s
+        → get_or flags s false ≡ true)
     → Marks old flags (λ s. Any (λ (q : PartView). Touches q.touched s) ps)
 parts_all old flags ps n end hit kept each s = (
   hit s,
@@ -103,7 +115,8 @@ unset zero s on = true≢false (sym on)
 unset (suc n) zero on = true≢false (sym on)
 unset (suc n) (suc s) on = unset n s on
 
-pub flags_whole : (old mid new : List Bool) (few : List Touch) (ps : List PartView) → ((s : ℕ) → get_or old s false ≡ true → ⊥) → Marks old mid (Touches few)
+pub flags_whole : (old mid new : List Bool) (few : List Touch) (ps : List PartView)
+    → ((s : ℕ) → get_or old s false ≡ true → ⊥) → Marks old mid (Touches few)
     → Marks mid new (λ s. Any (λ (q : PartView). Touches q.touched s) ps) → AreFlags new (few ++ touched_in ps)
 flags_whole old mid new few ps none first second s =
     let both = Any-touched (λ (t : Touch). (t.site ≡ s) × IsUsed t) few ps in (

@@ -1,4 +1,5 @@
--- A block of the open step is written at its site: what the machine stands for then, whether or not the step ends with it.
+-- A block of the open step is written at its site: what the machine stands for then, whether or not the step ends
+-- with it.
 use Rattle.std.proofs.Common.{◌≡◌, ◌<◌, ◌+◌, ℕ, suc, zero, true, false, List, [], ◌∷◌, ◌++◌, length, map, refl, sym, ◌∙◌, arith, inl, inr, Contains, Option, Some, None, subst, ap}
 use Rattle.std.specs.Prelude.{slice_get, slice_set, ◌==◌}
 use Rattle.std.proofs.lemmas.Bool.{cases_Bool, cases_eq}
@@ -54,7 +55,8 @@ pub record IsVerdict (c : CoreState) (verdict : Verdict) (tx : ℕ) : Type 0 whe
 pub committed-apart : Committed ≡ Refused → ⊥
 committed-apart e = cc
 
-pub verdict_phase : (m : Parts) (c : CoreState) (o : Open) (verdict : Verdict) (x : Phase) → verdict_in x ≡ Some verdict → IsPhase m c o x → IsVerdict c verdict o.tx
+pub verdict_phase : (m : Parts) (c : CoreState) (o : Open) (verdict : Verdict) (x : Phase)
+    → verdict_in x ≡ Some verdict → IsPhase m c o x → IsVerdict c verdict o.tx
 verdict_phase m c o verdict (phase.Gathering edges) e h = absurd cc
 verdict_phase m c o verdict phase.Committed e h =
     let is = same_Some Committed verdict e in
@@ -64,14 +66,18 @@ verdict_phase m c o verdict phase.Refused e h =
     record { decided = h.0; committed = λ v. absurd (committed-apart (sym (is ∙ v))); refused = λ v. h.1 }
 
 -- the block that is due by a decision
-due_phase : (m : Parts) (c : CoreState) (tx : ℕ) (touched : List Touch) (s : ℕ) (verdict : Verdict) (x : Phase) → verdict_in x ≡ Some verdict
+due_phase : (m : Parts) (c : CoreState) (tx : ℕ) (touched : List Touch) (s : ℕ) (verdict : Verdict) (x : Phase)
+    → verdict_in x ≡ Some verdict
     → IsDueBy m c tx touched x s → c.due s ≡ block_by verdict tx (c.changes tx s)
 due_phase m c tx touched s verdict (phase.Gathering edges) e h = absurd cc
-due_phase m c tx touched s verdict phase.Committed e h = h.0 ∙ ap (λ v. block_by v tx (c.changes tx s)) (same_Some Committed verdict e)
-due_phase m c tx touched s verdict phase.Refused e h = h ∙ ap (λ v. block_by v tx (c.changes tx s)) (same_Some Refused verdict e)
+due_phase m c tx touched s verdict phase.Committed e h = h.0
+    ∙ ap (λ v. block_by v tx (c.changes tx s)) (same_Some Committed verdict e)
+due_phase m c tx touched s verdict phase.Refused e h = h
+    ∙ ap (λ v. block_by v tx (c.changes tx s)) (same_Some Refused verdict e)
 
 -- and what the certifier awaits of a commit
-pub awaits_phase : (m : Parts) (c : CoreState) (tx : ℕ) (touched : List Touch) (s : ℕ) (x : Phase) → verdict_in x ≡ Some Committed
+pub awaits_phase : (m : Parts) (c : CoreState) (tx : ℕ) (touched : List Touch) (s : ℕ) (x : Phase)
+    → verdict_in x ≡ Some Committed
     → IsDueBy m c tx touched x s → AwaitsInstall m.certifier tx s
 awaits_phase m c tx touched s (phase.Gathering edges) e h = absurd cc
 awaits_phase m c tx touched s phase.Committed e h = h.1
@@ -80,7 +86,8 @@ awaits_phase m c tx touched s phase.Refused e h = absurd (committed-apart (sym (
 -- ---- the certifier
 
 -- the items that a draft changes
-changed-written : (n : ℕ) (ts : List Touch) → changed_names ts n ≡ map (λ (w : Name × Change). w.0) (writing_in (at_site n ts))
+changed-written : (n : ℕ) (ts : List Touch)
+    → changed_names ts n ≡ map (λ (w : Name × Change). w.0) (writing_in (at_site n ts))
 changed-written n [] = refl
 changed-written n (t ∷ ts) = elim (cases_Bool (t.site == n)) [
   | inl here ↦ elim (option_cases t.change) [
@@ -94,11 +101,14 @@ changed-written n (t ∷ ts) = elim (cases_Bool (t.site == n)) [
 pub noted-same : (c : CoreState) (tx s : ℕ) → noted c tx s ≡ record c.certifier { installs = (noted c tx s).installs }
 noted-same c tx s = elim (cases_Bool (is_committed c tx)) [ inl hit ↦ rw hit refl | inr miss ↦ rw miss refl ]
 
-carries_install : (s t : State) (tx site : ℕ) (items : List Name) → Contains (serial t) tx → Carries s t → Carries (with_install s tx site []) (with_install t tx site items)
-carries_install s t tx site items member h = record { same = ap (λ st. with_install st tx site items) h.same; noted = install_noted s t tx site items h.noted member; fewer = h.fewer; lead = h.lead }
+carries_install : (s t : State) (tx site : ℕ) (items : List Name) → Contains (serial t) tx → Carries s t
+    → Carries (with_install s tx site []) (with_install t tx site items)
+carries_install s t tx site items member h = record { same = ap (λ st. with_install st tx site items) h.same; noted =
+    install_noted s t tx site items h.noted member; fewer = h.fewer; lead = h.lead }
 
 -- what is awaited at another site stays so
-still_unnoted : (s : State) (tx site u : ℕ) (items : List Name) → (u ≡ site → ⊥) → (IsNoted s tx u → ⊥) → IsNoted (with_install s tx site items) tx u → ⊥
+still_unnoted : (s : State) (tx site u : ℕ) (items : List Name) → (u ≡ site → ⊥) → (IsNoted s tx u → ⊥)
+    → IsNoted (with_install s tx site items) tx u → ⊥
 still_unnoted s tx site u items ne out m =
     let one : Noted = record { tx = tx; site = site; items = items } in
     elim (Contains-append_cases s.installs (one ∷ []) m.1 (m.0, m.2, m.3)) [
@@ -109,17 +119,22 @@ still_unnoted s tx site u items ne out m =
       ]
     ]
 
-pub awaits_stays : (verdict : Verdict) (old new : State) (s tx u : ℕ) → IsNotedBy verdict old new s tx → (u ≡ s → ⊥) → AwaitsInstall old tx u → AwaitsInstall new tx u
+pub awaits_stays : (verdict : Verdict) (old new : State) (s tx u : ℕ) → IsNotedBy verdict old new s tx → (u ≡ s → ⊥)
+    → AwaitsInstall old tx u → AwaitsInstall new tx u
 awaits_stays Refused old new s tx u is ne h = subst (λ (k : State). AwaitsInstall k tx u) (sym is) h
-awaits_stays Committed old new s tx u is ne h = λ n. still_unnoted old tx s u [] ne h (subst (λ (st : State). IsNoted st tx u) is.after n)
+awaits_stays Committed old new s tx u is ne h =
+    λ n. still_unnoted old tx s u [] ne h (subst (λ (st : State). IsNoted st tx u) is.after n)
 
 -- the certifier carries what the model notes
-pub carries_noted : (verdict : Verdict) (m : Parts) (c : CoreState) (new : State) (s tx : ℕ) → IsVerdict c verdict tx → IsNotedBy verdict m.certifier new s tx → Carries m.certifier c.certifier
+pub carries_noted : (verdict : Verdict) (m : Parts) (c : CoreState) (new : State) (s tx : ℕ) → IsVerdict c verdict tx
+    → IsNotedBy verdict m.certifier new s tx → Carries m.certifier c.certifier
     → Carries new (noted c tx s)
 carries_noted Committed m c new s tx v is h =
     let hit : is_committed c tx ≡ true = (is_in-Decides c.certifier.order tx).1 (v.committed refl) in
     let items = map (λ (d : Name × Change). d.0) (c.changes tx s) in
-    rw hit (subst (λ (st : State). Carries st (with_install c.certifier tx s items)) (sym is.after) (carries_install m.certifier c.certifier tx s items (Contains-append_right c.certifier.past c.certifier.order tx (v.committed refl)) h))
+    rw hit (subst (λ (st : State). Carries st (with_install c.certifier tx s items)) (sym is.after)
+        (carries_install m.certifier c.certifier tx s items
+        (Contains-append_right c.certifier.past c.certifier.order tx (v.committed refl)) h))
 carries_noted Refused m c new s tx v is h =
     let miss : is_committed c tx ≡ false = elim (cases_Bool (is_committed c tx)) [
       | inl hit ↦ absurd (v.refused refl ((is_in-Decides c.certifier.order tx).0 hit))
@@ -129,11 +144,14 @@ carries_noted Refused m c new s tx v is h =
 
 -- ---- the handles
 
-handle_stays : (s t : State) (installs : List Noted) → t ≡ record s { installs = installs } → (i : Install) → IsHandleOf s i → IsHandleOf t i
+handle_stays : (s t : State) (installs : List Noted) → t ≡ record s { installs = installs } → (i : Install)
+    → IsHandleOf s i → IsHandleOf t i
 handle_stays s t installs is i h = subst (λ (st : State). IsHandleOf st i) (sym is) h
 
-pub handles_by : (verdict : Verdict) (s : State) (tx slot : ℕ) (handle : Handle) (installed : List Install) → (verdict ≡ Committed → Contains s.order tx) → tx ≡ suc (s.before + slot)
-    → handle ≡ record { index = slot; generation = s.generation } → ((i : Install) → Contains installed i → IsHandleOf s i)
+pub handles_by : (verdict : Verdict) (s : State) (tx slot : ℕ) (handle : Handle) (installed : List Install)
+    → (verdict ≡ Committed → Contains s.order tx) → tx ≡ suc (s.before + slot)
+    → handle ≡ record { index = slot; generation = s.generation }
+        → ((i : Install) → Contains installed i → IsHandleOf s i)
     → (i : Install) → Contains (installed_by verdict installed (record { tx = tx; handle = handle })) i → IsHandleOf s i
 handles_by Refused s tx slot handle installed order number is h i m = h i m
 handles_by Committed s tx slot handle installed order number is h i m =
@@ -157,15 +175,18 @@ block_some Committed tx cs e = no_block (as_changes tx cs) (entry.Commit tx) e
 block_some Refused tx cs e = no_block (as_wants tx cs) (entry.Refuse tx) e
 
 -- a block is due where the machine says so
-pub due_some : (m : Parts) (c : CoreState) (tx : ℕ) (touched : List Touch) (s : ℕ) (verdict : Verdict) (x : Phase) → verdict_in x ≡ Some verdict
+pub due_some : (m : Parts) (c : CoreState) (tx : ℕ) (touched : List Touch) (s : ℕ) (verdict : Verdict) (x : Phase)
+    → verdict_in x ≡ Some verdict
     → IsDueBy m c tx touched x s → c.due s ≡ [] → ⊥
-due_some m c tx touched s verdict x e h none = block_some verdict tx (c.changes tx s) (sym (due_phase m c tx touched s verdict x e h) ∙ none)
+due_some m c tx touched s verdict x e h none =
+    block_some verdict tx (c.changes tx s) (sym (due_phase m c tx touched s verdict x e h) ∙ none)
 
 -- ---- the state behind the block
 
 -- the state with the block in the log, while the step is open
 abbrev pub written_state : CoreState → ℕ → ℕ → CoreState
-written_state c tx s = record (with_entries c (only_at s (c.due s))) { certifier = noted c tx s; due = changed_at s [] c.due }
+written_state c tx s = record (with_entries c (only_at s (c.due s))) { certifier = noted c tx s; due =
+    changed_at s [] c.due }
 
 -- the open step of the transaction at this place of the table is decided so, and its block is due at the site
 pub record IsToWrite (m : Parts) (c : CoreState) (verdict : Verdict) (tx slot s : ℕ) : Type 0 where
@@ -180,7 +201,8 @@ pub record IsToWrite (m : Parts) (c : CoreState) (verdict : Verdict) (tx slot s 
   pub there : slice_get m.places s ≡ Some place
   pub due : place.part ≡ Due
 
-module _ (m : Parts) (c : CoreState) (s : StandsFor m c) (verdict : Verdict) (tx slot t : ℕ) (w : IsToWrite m c verdict tx slot t) where
+module _ (m : Parts) (c : CoreState) (s : StandsFor m c) (verdict : Verdict) (tx slot t : ℕ)
+    (w : IsToWrite m c verdict tx slot t) where
   abbrev k : IsKept c
   k = reached_kept c s.reached
 
@@ -223,7 +245,8 @@ module _ (m : Parts) (c : CoreState) (s : StandsFor m c) (verdict : Verdict) (tx
 
   pub same_running : due_at.1.running ≡ r
   same_running =
-      same_Some due_at.1.running r (same_Some (Some due_at.1.running) (Some r) (sym due_at.1.there ∙ (ap (slice_get m.table) same_slot ∙ w.runs)))
+      same_Some due_at.1.running r (same_Some (Some due_at.1.running) (Some r) (sym due_at.1.there
+          ∙ (ap (slice_get m.table) same_slot ∙ w.runs)))
 
   pub due_of : IsDueBy m c tx r.draft.touched o.phase t
   due_of =
@@ -236,8 +259,10 @@ module _ (m : Parts) (c : CoreState) (s : StandsFor m c) (verdict : Verdict) (tx
 
   pub pledged_there : p.site.pledge ≡ Some (record { tx = tx; part = at_site t r.draft.touched })
   pledged_there =
-      due_at.1.pledge ∙ (ap (λ (q : Open). Some (record { tx = q.tx; part = at_site t due_at.1.running.draft.touched })) same_open
-      ∙ (ap (λ i. Some (record { tx = i; part = at_site t due_at.1.running.draft.touched })) w.own ∙ ap (λ (q : Running). Some (record { tx = tx; part = at_site t q.draft.touched })) same_running))
+      due_at.1.pledge
+          ∙ (ap (λ (q : Open). Some (record { tx = q.tx; part = at_site t due_at.1.running.draft.touched })) same_open
+      ∙ (ap (λ i. Some (record { tx = i; part = at_site t due_at.1.running.draft.touched })) w.own
+          ∙ ap (λ (q : Running). Some (record { tx = tx; part = at_site t q.draft.touched })) same_running))
 
   own : IsRunning c m.before slot r
   own = s.running slot (Some r) w.runs
@@ -248,29 +273,35 @@ module _ (m : Parts) (c : CoreState) (s : StandsFor m c) (verdict : Verdict) (tx
   block : c.due t ≡ block_by verdict tx (writing_in (at_site p.site.number r.draft.touched))
   block =
       due_phase m c tx r.draft.touched t verdict o.phase w.verdict_is due_of
-      ∙ (ap (block_by verdict tx) (changes t) ∙ ap (λ n. block_by verdict tx (writing_in (at_site n r.draft.touched))) (sym at_t.number))
+      ∙ (ap (block_by verdict tx) (changes t)
+          ∙ ap (λ n. block_by verdict tx (writing_in (at_site n r.draft.touched))) (sym at_t.number))
 
   inside : t < length c.items
-  inside = subst (λ n. t < n) (sym (ap length s.items ∙ length-map m.places (λ (q : Place). q.site.items))) (slice_get_within m.places t p w.there)
+  inside = subst (λ n. t < n) (sym (ap length s.items ∙ length-map m.places (λ (q : Place). q.site.items)))
+      (slice_get_within m.places t p w.there)
 
   -- the block reads nothing
   no_read : (u : ℕ) (e : Entry) → Contains (more u) e → IsRead e → ⊥
   no_read u e member read = elim (cases_eq u t) [
-    | inl is ↦ (k.sound.legal.sites t inside).due_reads e (subst (λ es. Contains es e) (ap more is ∙ only_here t (c.due t)) member) read
+    | inl is ↦ (k.sound.legal.sites t inside).due_reads e (subst (λ es. Contains es e) (ap more is
+        ∙ only_here t (c.due t)) member) read
     | inr ne ↦ contains-none e (subst (λ es. Contains es e) (only_there t (c.due t) u ne) member)
   ]
 
-  reads_stay : (i u : ℕ) (kept : List (Name × ℕ × ℕ)) → KeepsReads (c.entries u) i kept → KeepsReads (d.entries u) i kept
+  reads_stay : (i u : ℕ) (kept : List (Name × ℕ × ℕ)) → KeepsReads (c.entries u) i kept
+      → KeepsReads (d.entries u) i kept
   reads_stay i u kept h y v n = (
     λ member. LogsRead-append (c.entries u) (more u) i y v n ((h y v n).0 member),
-    λ logged. (h y v n).1 (LogsRead-cases (c.entries u) (more u) i y v n logged (λ old. old) (λ j at is. absurd (no_read u (entry.Read i y v) (Contains-from_at (more u) j _ at) tt))),
+    λ logged. (h y v n).1 (LogsRead-cases (c.entries u) (more u) i y v n logged (λ old. old)
+        (λ j at is. absurd (no_read u (entry.Read i y v) (Contains-from_at (more u) j _ at) tt))),
   )
 
   same_state : d.certifier ≡ record c.certifier { installs = d.certifier.installs }
   same_state = noted-same c tx t
 
   running_stays : (j : ℕ) (x : Option Running) → RunsAt c m.before j x → RunsAt d m.before j x
-  running_stays j None h = λ member. h (subst (λ (st : State). Contains st.active (suc (m.before + j))) same_state member)
+  running_stays j None h =
+      λ member. h (subst (λ (st : State). Contains st.active (suc (m.before + j))) same_state member)
   running_stays j (Some q) h = record {
     active = subst (λ (st : State). Contains st.active (suc (m.before + j))) (sym same_state) h.active;
     handle = h.handle ∙ ap (λ (st : State). record { index = j; generation = st.generation }) (sym same_state);
@@ -292,8 +323,11 @@ module _ (m : Parts) (c : CoreState) (s : StandsFor m c) (verdict : Verdict) (tx
 
     pub new_places : n.places ≡ slice_set m.places t q
     new_places =
-        h.block.is ∙ (ap (λ (v : Place). slice_set m.places t (record { site = ended_by verdict tx h.block.running v.site; part = Written })) wrote_place
-        ∙ ap (λ (v : Running). slice_set m.places t (record { site = ended_by verdict tx v p.site; part = Written })) wrote_running)
+        h.block.is
+            ∙ (ap (λ (v : Place). slice_set m.places t (record { site = ended_by verdict tx h.block.running v.site;
+            part = Written })) wrote_place
+        ∙ ap (λ (v : Running). slice_set m.places t (record { site = ended_by verdict tx v p.site; part = Written }))
+            wrote_running)
 
     same_table : n.table ≡ m.table
     same_table = ap (λ (v : Parts). v.table) h.is
@@ -305,11 +339,14 @@ module _ (m : Parts) (c : CoreState) (s : StandsFor m c) (verdict : Verdict) (tx
     same_step = ap (λ (v : Parts). v.step) h.is
 
     -- at another site
-    due_elsewhere : (u : ℕ) → (u ≡ t → ⊥) → (i : ℕ) (touched : List Touch) (x : Phase) → i ≡ tx → IsDueBy m c i touched x u → IsDueBy n d i touched x u
+    due_elsewhere : (u : ℕ) → (u ≡ t → ⊥) → (i : ℕ) (touched : List Touch) (x : Phase) → i ≡ tx
+        → IsDueBy m c i touched x u → IsDueBy n d i touched x u
     due_elsewhere u ne i touched (phase.Gathering edges) is g = cleared_there t c.due u ne ∙ g
     due_elsewhere u ne i touched phase.Committed is g = (
       cleared_there t c.due u ne ∙ g.0,
-      subst (λ j. AwaitsInstall n.certifier j u) (sym is) (awaits_stays verdict m.certifier n.certifier t tx u h.noted ne (subst (λ j. AwaitsInstall m.certifier j u) is g.1)),
+      subst (λ j. AwaitsInstall n.certifier j u) (sym is)
+          (awaits_stays verdict m.certifier n.certifier t tx u h.noted ne
+          (subst (λ j. AwaitsInstall m.certifier j u) is g.1)),
     )
     due_elsewhere u ne i touched phase.Refused is g = cleared_there t c.due u ne ∙ g
 
@@ -328,14 +365,16 @@ module _ (m : Parts) (c : CoreState) (s : StandsFor m c) (verdict : Verdict) (tx
             gathered = a.gathered;
             touched = a.touched;
             pledge = a.pledge;
-            due = due_elsewhere u ne g.0.tx a.running.draft.touched g.0.phase (ap (λ (x : Open). x.tx) same ∙ w.own) a.due;
+            due = due_elsewhere u ne g.0.tx a.running.draft.touched g.0.phase (ap (λ (x : Open). x.tx) same
+                ∙ w.own) a.due;
           },
         )
     part_elsewhere u ne v Written g = record {
       place = g.place;
       running = g.running;
       there = ap (λ ts. slice_get ts g.place) same_table ∙ g.there;
-      decided = ap (λ (st : State). st.step) same_state ∙ (g.decided ∙ ap (λ b. Some (suc (b + g.place))) (sym same_before));
+      decided = ap (λ (st : State). st.step) same_state
+          ∙ (g.decided ∙ ap (λ b. Some (suc (b + g.place))) (sym same_before));
       gathered = g.gathered;
       touched = g.touched;
       pledge = g.pledge;
@@ -355,15 +394,19 @@ module _ (m : Parts) (c : CoreState) (s : StandsFor m c) (verdict : Verdict) (tx
     here : IsPlace n d t q
     here = record {
       number = at_t.number;
-      entries = ap (λ es. c.entries t ++ es) (only_here t (c.due t) ∙ block) ∙ ap (λ es. es ++ block_by verdict tx (writing_in (at_site p.site.number r.draft.touched))) at_t.entries;
+      entries = ap (λ es. c.entries t ++ es) (only_here t (c.due t) ∙ block)
+          ∙ ap (λ es. es ++ block_by verdict tx (writing_in (at_site p.site.number r.draft.touched))) at_t.entries;
       handles = λ i member. handle_stays c.certifier d.certifier d.certifier.installs same_state i
-          (handles_by verdict c.certifier tx slot r.handle p.site.installed decided_so.committed (w.number ∙ ap (λ b. suc (b + slot)) (sym s.before)) own.handle at_t.handles i member);
-      apart = own_by c.certifier tx slot r.handle p.site.installed (w.number ∙ ap (λ b. suc (b + slot)) (sym s.before)) own.handle at_t.handles at_t.apart verdict;
+          (handles_by verdict c.certifier tx slot r.handle p.site.installed decided_so.committed (w.number
+              ∙ ap (λ b. suc (b + slot)) (sym s.before)) own.handle at_t.handles i member);
+      apart = own_by c.certifier tx slot r.handle p.site.installed (w.number
+          ∙ ap (λ b. suc (b + slot)) (sym s.before)) own.handle at_t.handles at_t.apart verdict;
       part = record {
         place = slot;
         running = r;
         there = ap (λ ts. slice_get ts slot) same_table ∙ w.runs;
-        decided = ap (λ (st : State). st.step) same_state ∙ (decided_so.decided ∙ ap Some (w.number ∙ ap (λ b. suc (b + slot)) (sym same_before)));
+        decided = ap (λ (st : State). st.step) same_state
+            ∙ (decided_so.decided ∙ ap Some (w.number ∙ ap (λ b. suc (b + slot)) (sym same_before)));
         gathered = due_at.1.gathered;
         touched = touched_there;
         pledge = refl;
@@ -374,21 +417,30 @@ module _ (m : Parts) (c : CoreState) (s : StandsFor m c) (verdict : Verdict) (tx
     pub written_places : (u : ℕ) (v : Place) → slice_get n.places u ≡ Some v → IsPlace n d u v
     written_places u v at = elim (cases_eq u t) [
       | inl is ↦
-          let now : slice_get (slice_set m.places t q) t ≡ Some q = get-slice_set_same m.places t q (slice_get_within m.places t p w.there) in
-          let same : q ≡ v = same_Some q v (sym now ∙ (ap (λ ps. slice_get ps t) (sym new_places) ∙ (ap (slice_get n.places) (sym is) ∙ at))) in
+          let now : slice_get (slice_set m.places t q) t ≡ Some q =
+              get-slice_set_same m.places t q (slice_get_within m.places t p w.there) in
+          let same : q ≡ v =
+              same_Some q v (sym now
+              ∙ (ap (λ ps. slice_get ps t) (sym new_places) ∙ (ap (slice_get n.places) (sym is) ∙ at))) in
           subst (IsPlace n d u) same (subst (λ i. IsPlace n d i q) (sym is) here)
-      | inr ne ↦ elsewhere u ne v (s.places u v (sym (get-slice_set_other m.places t u q ne) ∙ (ap (λ ps. slice_get ps u) (sym new_places) ∙ at)))
+      | inr ne ↦ elsewhere u ne v (s.places u v (sym (get-slice_set_other m.places t u q ne)
+          ∙ (ap (λ ps. slice_get ps u) (sym new_places) ∙ at)))
     ]
 
     pub written_running : (j : ℕ) (x : Option Running) → slice_get n.table j ≡ Some x → RunsAt d n.before j x
-    written_running j x at = subst (λ b. RunsAt d b j x) (sym same_before) (running_stays j x (s.running j x (ap (λ ts. slice_get ts j) (sym same_table) ∙ at)))
+    written_running j x at =
+        subst (λ b. RunsAt d b j x) (sym same_before)
+        (running_stays j x (s.running j x (ap (λ ts. slice_get ts j) (sym same_table) ∙ at)))
 
     pub written_items : c.items ≡ map (λ (v : Place). v.site.items) n.places
-    written_items = s.items ∙ sym (ap (map (λ (v : Place). v.site.items)) new_places ∙ set_map m.places t q p w.there refl)
+    written_items = s.items ∙ sym (ap (map (λ (v : Place). v.site.items)) new_places
+        ∙ set_map m.places t q p w.there refl)
       where
-        set_map : (ps : List Place) (j : ℕ) (a b : Place) → slice_get ps j ≡ Some b → a.site.items ≡ b.site.items → map (λ (v : Place). v.site.items) (slice_set ps j a) ≡ map (λ (v : Place). v.site.items) ps
+        set_map : (ps : List Place) (j : ℕ) (a b : Place) → slice_get ps j ≡ Some b → a.site.items ≡ b.site.items
+            → map (λ (v : Place). v.site.items) (slice_set ps j a) ≡ map (λ (v : Place). v.site.items) ps
         set_map [] j a b at is = absurd cc
-        set_map (v ∷ ps) zero a b at is = ap (λ i. i ∷ map (λ (x : Place). x.site.items) ps) (is ∙ ap (λ (x : Place). x.site.items) (sym (same_Some v b at)))
+        set_map (v ∷ ps) zero a b at is = ap (λ i. i ∷ map (λ (x : Place). x.site.items) ps) (is
+            ∙ ap (λ (x : Place). x.site.items) (sym (same_Some v b at)))
         set_map (v ∷ ps) (suc j) a b at is = ap (λ is. v.site.items ∷ is) (set_map ps j a b at is)
 
     pub written_carries : Carries n.certifier (noted c tx t)
@@ -396,8 +448,12 @@ module _ (m : Parts) (c : CoreState) (s : StandsFor m c) (verdict : Verdict) (tx
 
     phase_stays : (x : Phase) → verdict_in x ≡ Some verdict → IsPhase m c o x → IsPhase n d o x
     phase_stays (phase.Gathering edges) e g = absurd cc
-    phase_stays phase.Committed e g = (ap (λ (st : State). st.step) same_state ∙ g.0, subst (λ (st : State). Contains st.order o.tx) (sym same_state) g.1)
-    phase_stays phase.Refused e g = (ap (λ (st : State). st.step) same_state ∙ g.0, λ member. g.1 (subst (λ (st : State). Contains st.order o.tx) same_state member))
+    phase_stays phase.Committed e g =
+        (ap (λ (st : State). st.step) same_state
+        ∙ g.0, subst (λ (st : State). Contains st.order o.tx) (sym same_state) g.1)
+    phase_stays phase.Refused e g =
+        (ap (λ (st : State). st.step) same_state
+        ∙ g.0, λ member. g.1 (subst (λ (st : State). Contains st.order o.tx) same_state member))
 
     -- what the machine stands for while the step is open
     pub written_stands : IsReached (written_state c tx t) → StandsFor n (written_state c tx t)
@@ -412,5 +468,6 @@ module _ (m : Parts) (c : CoreState) (s : StandsFor m c) (verdict : Verdict) (tx
       unborn = λ i u lt. s.unborn i u (subst (λ b. b < i) (ap (λ (v : Parts). v.begun) h.is) lt);
       running = written_running;
       places = written_places;
-      step = subst (IsStep n d) (sym (same_step ∙ w.is)) (stepped.0, stepped.1, phase_stays o.phase w.verdict_is stepped.2);
+      step = subst (IsStep n d) (sym (same_step ∙ w.is)) (stepped.0, stepped.1,
+          phase_stays o.phase w.verdict_is stepped.2);
     }

@@ -36,10 +36,14 @@ all_true : (p : ℕ → Bool) (xs : List ℕ) → ((x : ℕ) → Contains xs x �
 all_true p [] h = refl
 all_true p (x ∷ xs) h = rw (h x (cons_here x xs)) (all_true p xs (λ y member. h y (contains-later x xs y member)))
 
-carries_finished : (s t : State) (i : ℕ) → Carries s t → Carries (record (with_finished s i) { installs = [] }) (with_finished t i)
-carries_finished s t i h = record { same = ap (λ st. with_finished st i) h.same; noted = ended_noted s t (record (with_finished s i) { installs = [] }) (with_finished t i) h.noted refl refl (λ j m. m); fewer = h.fewer; lead = h.lead }
+carries_finished : (s t : State) (i : ℕ) → Carries s t
+    → Carries (record (with_finished s i) { installs = [] }) (with_finished t i)
+carries_finished s t i h = record { same = ap (λ st. with_finished st i) h.same; noted =
+    ended_noted s t (record (with_finished s i) { installs = [] }) (with_finished t i) h.noted refl refl (λ j m. m);
+    fewer = h.fewer; lead = h.lead }
 
-module _ (m : Parts) (c : CoreState) (s : StandsFor m c) (verdict : Verdict) (tx slot t : ℕ) (w : IsToWrite m c verdict tx slot t) (n : Parts) (h : Writes verdict m n t slot tx) where
+module _ (m : Parts) (c : CoreState) (s : StandsFor m c) (verdict : Verdict) (tx slot t : ℕ)
+    (w : IsToWrite m c verdict tx slot t) (n : Parts) (h : Writes verdict m n t slot tx) where
   abbrev d : CoreState
   d = written_state c tx t
 
@@ -47,7 +51,8 @@ module _ (m : Parts) (c : CoreState) (s : StandsFor m c) (verdict : Verdict) (tx
   places = written_places m c s verdict tx slot t w n h
 
   site_count : length c.items ≡ length n.places
-  site_count = ap length (written_items m c s verdict tx slot t w n h) ∙ length-map n.places (λ (v : Place). v.site.items)
+  site_count = ap length (written_items m c s verdict tx slot t w n h)
+      ∙ length-map n.places (λ (v : Place). v.site.items)
 
   step_there : n.step ≡ Some w.open_step
   step_there = ap (λ (v : Parts). v.step) h.is ∙ w.is
@@ -58,7 +63,8 @@ module _ (m : Parts) (c : CoreState) (s : StandsFor m c) (verdict : Verdict) (tx
   still_due u v at is none =
       let due = subst (IsPart n d u v) is (places u v at).part in
       let same : due.0 ≡ w.open_step = same_Some due.0 w.open_step (sym due.1.open_step ∙ step_there) in
-      let verdict_is = ap (λ (x : Open). Rattle.sgt_core_machine.specs.private.Installing.verdict_in x.phase) same ∙ w.verdict_is in
+      let verdict_is = ap (λ (x : Open). Rattle.sgt_core_machine.specs.private.Installing.verdict_in x.phase) same
+          ∙ w.verdict_is in
       due_some n d due.0.tx due.1.running.draft.touched u verdict due.0.phase verdict_is due.1.due none
 
   unwritten : Any IsDueThere n.places → is_written d ≡ false
@@ -67,16 +73,22 @@ module _ (m : Parts) (c : CoreState) (s : StandsFor m c) (verdict : Verdict) (tx
       let lt = slice_get_within n.places a.0 a.1 a.2 in
       let count = site_count in
       elim (cases_Bool (is_written d)) [
-        | inl done ↦ absurd (still_due a.0 a.1 a.2 a.3 (empty_is (d.due a.0) (all_pass (λ u. is_empty (d.due u)) (sites_of d) a.0 done (is_site d a.0 (omega (arith, lt, count))))))
+        | inl done ↦ absurd
+            (still_due a.0 a.1 a.2 a.3
+            (empty_is (d.due a.0) (all_pass (λ u. is_empty (d.due u)) (sites_of d) a.0 done
+            (is_site d a.0 (omega (arith, lt, count))))))
         | inr left ↦ left
       ]
 
-  pub open_goes : IsAllowed c (Write tx t) → Any IsDueThere n.places → (e : CoreState) × MayStep c (Write tx t) Installed e × StandsFor n e
+  pub open_goes : IsAllowed c (Write tx t) → Any IsDueThere n.places
+      → (e : CoreState) × MayStep c (Write tx t) Installed e × StandsFor n e
   open_goes allowed some =
       let left = unwritten some in
       let is : written_state c tx t ≡ installed c tx t = rw left refl in
       let may : MayStep c (Write tx t) Installed (written_state c tx t) = (allowed, is) in
-      (written_state c tx t, may, written_stands m c s verdict tx slot t w n h (reached_more c (Write tx t) Installed (written_state c tx t) s.reached may))
+      (written_state c tx t, may,
+          written_stands m c s verdict tx slot t w n h
+          (reached_more c (Write tx t) Installed (written_state c tx t) s.reached may))
 
   -- ---- none is
 
@@ -84,7 +96,8 @@ module _ (m : Parts) (c : CoreState) (s : StandsFor m c) (verdict : Verdict) (tx
     not_due : (u : ℕ) (v : Place) → slice_get n.places u ≡ Some v → v.part ≡ Due → ⊥
     not_due u v at is = none (Any-from_at IsDueThere n.places u v at is)
 
-    nothing_due : (u : ℕ) (v : Place) (part : Part) → (part ≡ Due → ⊥) → IsPart n d u v part → (v.site.pledge ≡ None) × (d.due u ≡ [])
+    nothing_due : (u : ℕ) (v : Place) (part : Part) → (part ≡ Due → ⊥) → IsPart n d u v part
+        → (v.site.pledge ≡ None) × (d.due u ≡ [])
     nothing_due u v Idle out g = (g.0, g.1)
     nothing_due u v Due out g = absurd (out refl)
     nothing_due u v Written out g = (g.pledge, g.due)
@@ -108,7 +121,8 @@ module _ (m : Parts) (c : CoreState) (s : StandsFor m c) (verdict : Verdict) (tx
           let is : v ≡ record found.0 { part = Idle } = ends.places.each u found.0 v found.1 at in
           let g = places u found.0 found.1 in
           let clear = nothing_due u found.0 found.0.part (not_due u found.0 found.1) g.part in
-          subst (IsPlace e f u) (sym is) (record { number = g.number; entries = g.entries; handles = g.handles; apart = g.apart; part = (clear.0, refl, λ member. contains-none u member) })
+          subst (IsPlace e f u) (sym is) (record { number = g.number; entries = g.entries; handles = g.handles;
+              apart = g.apart; part = (clear.0, refl, λ member. contains-none u member) })
 
       freed : Contains f.certifier.active (suc (n.before + slot)) → ⊥
       freed member =
@@ -119,13 +133,15 @@ module _ (m : Parts) (c : CoreState) (s : StandsFor m c) (verdict : Verdict) (tx
           true≢false (sym passed ∙ ap not (eq-eqb (suc (n.before + slot)) tx same))
 
       stays : (j : ℕ) (x : Option Running) → (j ≡ slot → ⊥) → RunsAt d n.before j x → RunsAt f n.before j x
-      stays j None ne g = λ member. g (filter_member (λ a. not (a == tx)) d.certifier.active (suc (n.before + j)) member).0
+      stays j None ne g =
+          λ member. g (filter_member (λ a. not (a == tx)) d.certifier.active (suc (n.before + j)) member).0
       stays j (Some r) ne g =
           let before = ap (λ (x : Parts). x.before) h.is in
           let number = w.number in
           let other : suc (n.before + j) ≡ tx → ⊥ = λ is. ne (omega (arith, is, before, number)) in
           record {
-            active = member_filter (λ a. not (a == tx)) d.certifier.active (suc (n.before + j)) g.active (ap not (ne_eqb (suc (n.before + j)) tx other));
+            active = member_filter (λ a. not (a == tx)) d.certifier.active (suc (n.before + j)) g.active
+                (ap not (ne_eqb (suc (n.before + j)) tx other));
             handle = g.handle;
             rising = g.rising;
             used = g.used;
@@ -133,23 +149,32 @@ module _ (m : Parts) (c : CoreState) (s : StandsFor m c) (verdict : Verdict) (tx
             reads = g.reads;
           }
 
-      in_table : (j : ℕ) (x : Option Running) → slice_get (slice_set n.table slot None) j ≡ Some x → RunsAt f n.before j x
+      in_table : (j : ℕ) (x : Option Running) → slice_get (slice_set n.table slot None) j ≡ Some x
+          → RunsAt f n.before j x
       in_table j x at = elim (cases_eq j slot) [
         | inl is ↦
             let there = ap (λ (v : Parts). slice_get v.table slot) h.is ∙ w.runs in
-            let now : slice_get (slice_set n.table slot None) slot ≡ Some None = get-slice_set_same n.table slot None (slice_get_within n.table slot (Some w.running) there) in
-            let same : None ≡ x = same_Some None x (sym now ∙ (ap (slice_get (slice_set n.table slot None)) (sym is) ∙ at)) in
+            let now : slice_get (slice_set n.table slot None) slot ≡ Some None =
+                get-slice_set_same n.table slot None (slice_get_within n.table slot (Some w.running) there) in
+            let same : None ≡ x =
+                same_Some None x (sym now ∙ (ap (slice_get (slice_set n.table slot None)) (sym is) ∙ at)) in
             subst (RunsAt f n.before j) same (subst (λ i. RunsAt f n.before i None) (sym is) freed)
-        | inr ne ↦ stays j x ne (written_running m c s verdict tx slot t w n h j x (sym (get-slice_set_other n.table slot j None ne) ∙ at))
+        | inr ne ↦ stays j x ne
+            (written_running m c s verdict tx slot t w n h j x (sym (get-slice_set_other n.table slot j None ne) ∙ at))
       ]
 
       new_running : (j : ℕ) (x : Option Running) → slice_get e.table j ≡ Some x → RunsAt f e.before j x
-      new_running j x at = subst (λ b. RunsAt f b j x) (ap (λ (v : Parts). v.before) (sym ends.is)) (in_table j x (ap (λ (v : Parts). slice_get v.table j) (sym ends.is) ∙ at))
+      new_running j x at = subst (λ b. RunsAt f b j x) (ap (λ (v : Parts). v.before) (sym ends.is))
+          (in_table j x (ap (λ (v : Parts). slice_get v.table j) (sym ends.is) ∙ at))
 
       same_items : map (λ (v : Place). v.site.items) e.places ≡ map (λ (v : Place). v.site.items) n.places
-      same_items = each_item e.places n.places ends.places.long (λ u p q at_p at_q. ap (λ (v : Place). v.site.items) (ends.places.each u p q at_p at_q))
+      same_items =
+          each_item e.places n.places ends.places.long
+          (λ u p q at_p at_q. ap (λ (v : Place). v.site.items) (ends.places.each u p q at_p at_q))
         where
-          each_item : (ps qs : List Place) → length ps ≡ length qs → ((u : ℕ) (p q : Place) → slice_get qs u ≡ Some p → slice_get ps u ≡ Some q → q.site.items ≡ p.site.items)
+          each_item : (ps qs : List Place) → length ps ≡ length qs
+              → ((u : ℕ) (p q : Place) → slice_get qs u ≡ Some p → slice_get ps u ≡ Some q
+              → q.site.items ≡ p.site.items)
               → map (λ (v : Place). v.site.items) ps ≡ map (λ (v : Place). v.site.items) qs
           each_item [] [] long each = refl
           each_item (q ∷ ps) [] long each = absurd (omega (arith, long))
@@ -167,7 +192,8 @@ module _ (m : Parts) (c : CoreState) (s : StandsFor m c) (verdict : Verdict) (tx
           let table = ap (λ (v : Parts). v.table) h.is in
           let begun : e.begun ≡ m.begun = ap (λ (v : Parts). v.begun) ends.is ∙ ap (λ (v : Parts). v.begun) h.is in
           let before : e.before ≡ m.before = ap (λ (v : Parts). v.before) ends.is ∙ ap (λ (v : Parts). v.before) h.is in
-          let long : length e.table ≡ length m.table = ap (λ (v : Parts). length v.table) ends.is ∙ (length-set n.table slot None ∙ ap length table) in
+          let long : length e.table ≡ length m.table = ap (λ (v : Parts). length v.table) ends.is
+              ∙ (length-set n.table slot None ∙ ap length table) in
           let window = s.window in (
             f,
             may,

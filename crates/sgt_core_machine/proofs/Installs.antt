@@ -32,7 +32,8 @@ use Rattle.sgt_core_machine.proofs.InstallEnds.{IsDueThere, open_goes, ended_goe
 
 -- ---- refusals
 
-module _ (c : CoreState) (tx t : ℕ) (begun : tx ≤ c.certifier.begun) (active : Contains c.certifier.active tx) (no_other : IsOtherOpen c tx → ⊥) (inside : t < length c.items)
+module _ (c : CoreState) (tx t : ℕ) (begun : tx ≤ c.certifier.begun) (active : Contains c.certifier.active tx)
+    (no_other : IsOtherOpen c tx → ⊥) (inside : t < length c.items)
     (decided : IsDecided c tx) where
   install_again : touches c tx t ≡ true → c.due t ≡ [] → IsRefused c (Write tx t) fault.AlreadyDone
   install_again hit none = ((hit, none), first)
@@ -65,24 +66,29 @@ module _ (c : CoreState) (tx t : ℕ) (begun : tx ≤ c.certifier.begun) (active
   install_allowed hit some fault.NotGathered h = h decided
   install_allowed hit some fault.AlreadyDone h = some h.1
   install_allowed hit some fault.NotTouched h = true≢false (sym hit ∙ h)
-  install_allowed hit some fault.Unknown h = behind_step c tx begun active (Write tx t) refl no_other fault.Unknown (omega arith) h
-  install_allowed hit some fault.Ended h = behind_step c tx begun active (Write tx t) refl no_other fault.Ended (omega arith) h
+  install_allowed hit some fault.Unknown h =
+      behind_step c tx begun active (Write tx t) refl no_other fault.Unknown (omega arith) h
+  install_allowed hit some fault.Ended h =
+      behind_step c tx begun active (Write tx t) refl no_other fault.Ended (omega arith) h
   install_allowed hit some fault.StepOpen h = no_other h
   install_allowed hit some _ h = h
 
 -- ---- the verdict
 
-undecided_in : (m : Parts) (c : CoreState) (o : Open) (p : Phase) → verdict_in p ≡ None → IsPhase m c o p → c.certifier.step ≡ None
+undecided_in : (m : Parts) (c : CoreState) (o : Open) (p : Phase) → verdict_in p ≡ None → IsPhase m c o p
+    → c.certifier.step ≡ None
 undecided_in m c o (phase.Gathering edges) e h = h.0
 undecided_in m c o phase.Committed e h = absurd cc
 undecided_in m c o phase.Refused e h = absurd cc
 
-undecided_by : (m : Parts) (c : CoreState) (o : Option Open) → verdict_of o ≡ None → IsStep m c o → c.certifier.step ≡ None
+undecided_by : (m : Parts) (c : CoreState) (o : Option Open) → verdict_of o ≡ None → IsStep m c o
+    → c.certifier.step ≡ None
 undecided_by m c None e h = h.1
 undecided_by m c (Some o) e h = undecided_in m c o o.phase e h.2
 
 -- the open step that was decided
-decided_step : (o : Option Open) (verdict : Verdict) → verdict_of o ≡ Some verdict → (p : Open) × (o ≡ Some p) × (verdict_in p.phase ≡ Some verdict)
+decided_step : (o : Option Open) (verdict : Verdict) → verdict_of o ≡ Some verdict
+    → (p : Open) × (o ≡ Some p) × (verdict_in p.phase ≡ Some verdict)
 decided_step None verdict e = absurd cc
 decided_step (Some p) verdict e = (p, refl, e)
 
@@ -92,7 +98,8 @@ own_step m c tx no_other o h = elim (cases_eq o.tx tx) [
   | inr other ↦ absurd (no_other (subst (StepIs (λ i. i ≡ tx → ⊥)) (sym h.1) other))
 ]
 
-module _ (m : Parts) (c : CoreState) (s : StandsFor m c) (tx slot : ℕ) (h : IsSlotOf m tx slot) (no_other : IsOtherOpen c tx → ⊥) (t : ℕ) (p : Place) (at : slice_get m.places t ≡ Some p) where
+module _ (m : Parts) (c : CoreState) (s : StandsFor m c) (tx slot : ℕ) (h : IsSlotOf m tx slot)
+    (no_other : IsOtherOpen c tx → ⊥) (t : ℕ) (p : Place) (at : slice_get m.places t ≡ Some p) where
   begun : tx ≤ c.certifier.begun
   begun = slot_begun m c tx slot s h
 
@@ -102,9 +109,11 @@ module _ (m : Parts) (c : CoreState) (s : StandsFor m c) (tx slot : ℕ) (h : Is
   inside : t < length c.items
   inside = let count = site_count m c s in let lt = slice_get_within m.places t p at in omega (arith, count, lt)
 
-  pub install_early : (reply : Reply) → verdict_of m.step ≡ None → reply ≡ Fault fault.NotGathered → Goes m c (Write tx t) reply
+  pub install_early : (reply : Reply) → verdict_of m.step ≡ None → reply ≡ Fault fault.NotGathered
+      → Goes m c (Write tx t) reply
   install_early reply none e =
-      let undecided : IsDecided c tx → ⊥ = λ d. let g : Some tx ≡ None = sym d ∙ undecided_by m c m.step none s.step in absurd cc in
+      let undecided : IsDecided c tx → ⊥ = λ d. let g : Some tx ≡ None = sym d
+          ∙ undecided_by m c m.step none s.step in absurd cc in
       install_too_early m c s tx slot h no_other t reply (slice_get_within m.places t p at) undecided e
 
   module _ (verdict : Verdict) (v : Some verdict ≡ verdict_of m.step) where
@@ -134,21 +143,29 @@ module _ (m : Parts) (c : CoreState) (s : StandsFor m c) (tx slot : ℕ) (h : Is
           | inl hit ↦ absurd (part.2 (k.gathered tx t decided.decided (touching_there c tx t hit)))
           | inr miss ↦ miss
         ] in
-        refused_goes m c s (Write tx t) fault.NotTouched reply e (install_untouched c tx t begun active no_other inside decided.decided miss)
+        refused_goes m c s (Write tx t) fault.NotTouched reply e
+            (install_untouched c tx t begun active no_other inside decided.decided miss)
 
     pub again_goes : (reply : Reply) → p.part ≡ Written → reply ≡ Fault fault.AlreadyDone → Goes m c (Write tx t) reply
     again_goes reply written e =
         let part = subst (IsPart m c t p) written (s.places t p at).part in
-        let number : suc (m.before + part.place) ≡ tx = same_Some (suc (m.before + part.place)) tx (sym part.decided ∙ decided.decided) in
+        let number : suc (m.before + part.place) ≡ tx = same_Some (suc (m.before + part.place)) tx (sym part.decided
+            ∙ decided.decided) in
         let here_is = h.0 in
         let place : part.place ≡ slot = omega (arith, number, here_is) in
-        let same : part.running ≡ h.1.0 = same_Some part.running h.1.0 (same_Some (Some part.running) (Some h.1.0) (sym part.there ∙ (ap (slice_get m.table) place ∙ h.1.1))) in
-        let hit = here m c s tx slot h t (subst (λ (r : Running). Rattle.sgt_names.specs.Draft.Touches r.draft.touched t) same part.touched) in
-        refused_goes m c s (Write tx t) fault.AlreadyDone reply e (install_again c tx t begun active no_other inside decided.decided hit part.due)
+        let same : part.running ≡ h.1.0 =
+            same_Some part.running h.1.0 (same_Some (Some part.running) (Some h.1.0) (sym part.there
+            ∙ (ap (slice_get m.table) place ∙ h.1.1))) in
+        let hit =
+            here m c s tx slot h t (subst (λ (r : Running). Rattle.sgt_names.specs.Draft.Touches r.draft.touched t)
+            same part.touched) in
+        refused_goes m c s (Write tx t) fault.AlreadyDone reply e
+            (install_again c tx t begun active no_other inside decided.decided hit part.due)
 
     module _ (due : p.part ≡ Due) where
       pub to_write : IsToWrite m c verdict tx slot t
-      to_write = record { open_step = o; is = is; own = own; verdict_is = verdict_is; number = h.0; running = h.1.0; runs = h.1.1; place = p; there = at; due = due }
+      to_write = record { open_step = o; is = is; own = own; verdict_is = verdict_is; number = h.0; running =
+          h.1.0; runs = h.1.1; place = p; there = at; due = due }
 
       allowed : IsAllowed c (Write tx t)
       unfolding to_write
@@ -165,7 +182,8 @@ module _ (m : Parts) (c : CoreState) (s : StandsFor m c) (tx slot : ℕ) (h : Is
         running = h.1.0;
         there = at;
         runs = h.1.1;
-        pledge = pledged_there m c s verdict tx slot t to_write ∙ ap (λ n. Some (record { tx = tx; part = at_site n h.1.0.draft.touched })) (sym (s.places t p at).number);
+        pledge = pledged_there m c s verdict tx slot t to_write
+            ∙ ap (λ n. Some (record { tx = tx; part = at_site n h.1.0.draft.touched })) (sym (s.places t p at).number);
       }
 
       pub awaited : verdict ≡ Committed → AwaitsAt m.certifier t tx
@@ -175,21 +193,27 @@ module _ (m : Parts) (c : CoreState) (s : StandsFor m c) (tx slot : ℕ) (h : Is
           let order = ap (λ (st : State). st.order) s.certifier.same in
           record {
             installing = (sym step ∙ decided.decided, subst (λ ts. Contains ts tx) order (decided.committed committed));
-            awaits = awaits_phase m c tx h.1.0.draft.touched t o.phase (verdict_is ∙ ap Some committed) (due_of m c s verdict tx slot t to_write);
+            awaits = awaits_phase m c tx h.1.0.draft.touched t o.phase (verdict_is
+                ∙ ap Some committed) (due_of m c s verdict tx slot t to_write);
           }
 
       module _ (n : Parts) (wrote : Writes verdict m n t slot tx) where
         -- the certifier's step is still open
         pub open_certifier : n.certifier.step ≡ Some tx
-        open_certifier = ap (λ (st : State). st.step) (sym (Rattle.sgt_core_machine.proofs.InstallBlocks.written_carries m c s verdict tx slot t to_write n wrote).same)
+        open_certifier =
+            ap (λ (st : State). st.step)
+            (sym (Rattle.sgt_core_machine.proofs.InstallBlocks.written_carries m c s verdict tx slot t to_write n
+            wrote).same)
             ∙ (Rattle.sgt_core_model.proofs.Runs.noted-step c tx t ∙ decided.decided)
 
-        pub still_goes : (reply : Reply) → Any IsDueThere n.places → reply ≡ Installed → (d : CoreState) × MayStep c (Write tx t) reply d × StandsFor n d
+        pub still_goes : (reply : Reply) → Any IsDueThere n.places → reply ≡ Installed
+            → (d : CoreState) × MayStep c (Write tx t) reply d × StandsFor n d
         still_goes reply some e =
             let g = open_goes m c s verdict tx slot t to_write n wrote allowed some in
             (g.0, subst (λ q. MayStep c (Write tx t) q g.0) (sym e) g.1, g.2)
 
-        pub last_goes : (e : Parts) → Ends n e slot tx → (Any IsDueThere n.places → ⊥) → (reply : Reply) → reply ≡ Installed → (d : CoreState) × MayStep c (Write tx t) reply d × StandsFor e d
+        pub last_goes : (e : Parts) → Ends n e slot tx → (Any IsDueThere n.places → ⊥) → (reply : Reply)
+            → reply ≡ Installed → (d : CoreState) × MayStep c (Write tx t) reply d × StandsFor e d
         last_goes e ends none reply is =
             let g = ended_goes m c s verdict tx slot t to_write n wrote none e ends allowed in
             (g.0, subst (λ q. MayStep c (Write tx t) q g.0) (sym is) g.1, g.2)

@@ -14,22 +14,27 @@ abbrev IsOf : ℕ → ℕ → Install → Type 0
 IsOf tx site x = (x.tx ≡ tx) × (x.site ≡ site)
 
 -- nothing is noted
-pub same_noted : (s t s2 t2 : State) → HasNoted s t → s2.step ≡ s.step → s2.installs ≡ s.installs → t2.installs ≡ t.installs
+pub same_noted : (s t s2 t2 : State) → HasNoted s t → s2.step ≡ s.step → s2.installs ≡ s.installs
+    → t2.installs ≡ t.installs
     → ((i : ℕ) → Contains (serial t) i → Contains (serial t2) i) → HasNoted s2 t2
 same_noted s t s2 t2 h step mine all grows = record {
-  open_step = λ tx o site n. subst (Any (IsOf tx site)) (sym mine) (h.open_step tx (sym step ∙ o) site (subst (Any (IsOf tx site)) all n));
+  open_step =
+      λ tx o site n. subst (Any (IsOf tx site)) (sym mine)
+      (h.open_step tx (sym step ∙ o) site (subst (Any (IsOf tx site)) all n));
   committed = λ i m. grows i.tx (h.committed i (subst (λ xs. Contains xs i) all m));
 }
 
 -- no step is open any more
-pub ended_noted : (s t s2 t2 : State) → HasNoted s t → s2.step ≡ None → t2.installs ≡ t.installs → ((i : ℕ) → Contains (serial t) i → Contains (serial t2) i) → HasNoted s2 t2
+pub ended_noted : (s t s2 t2 : State) → HasNoted s t → s2.step ≡ None → t2.installs ≡ t.installs
+    → ((i : ℕ) → Contains (serial t) i → Contains (serial t2) i) → HasNoted s2 t2
 ended_noted s t s2 t2 h idle all grows = record {
   open_step = λ tx o site n. absurd (let f : None ≡ Some tx = sym idle ∙ o in cc);
   committed = λ i m. grows i.tx (h.committed i (subst (λ xs. Contains xs i) all m));
 }
 
 -- who is active while no step is open has no install
-pub none_of : (s t : State) (i site : ℕ) → HasNoted s t → IsRuled t → t.step ≡ None → Contains t.active i → IsNoted t i site → ⊥
+pub none_of : (s t : State) (i site : ℕ) → HasNoted s t → IsRuled t → t.step ≡ None → Contains t.active i
+    → IsNoted t i site → ⊥
 none_of s t i site h ruled idle active n =
     let member = subst (Contains (serial t)) n.4.0 (h.committed n.1 (n.0, n.2, n.3)) in
     let r = ruled.from_serial i member in
@@ -37,7 +42,8 @@ none_of s t i site h ruled idle active n =
     absurd (let f : None ≡ Some i = sym idle ∙ open_i in cc)
 
 -- the step of a transaction opens that has no install
-pub ruled_noted : (s t s2 t2 : State) (i : ℕ) → HasNoted s t → s2.step ≡ Some i → t2.installs ≡ t.installs → ((site : ℕ) → IsNoted t i site → ⊥)
+pub ruled_noted : (s t s2 t2 : State) (i : ℕ) → HasNoted s t → s2.step ≡ Some i → t2.installs ≡ t.installs
+    → ((site : ℕ) → IsNoted t i site → ⊥)
     → ((j : ℕ) → Contains (serial t) j → Contains (serial t2) j) → HasNoted s2 t2
 ruled_noted s t s2 t2 i h step all none grows = record {
   open_step = λ tx o site n.
@@ -47,7 +53,8 @@ ruled_noted s t s2 t2 i h step all none grows = record {
 }
 
 -- an install is noted
-pub install_noted : (s t : State) (tx site : ℕ) (items : List Name) → HasNoted s t → Contains (serial t) tx → HasNoted (with_install s tx site []) (with_install t tx site items)
+pub install_noted : (s t : State) (tx site : ℕ) (items : List Name) → HasNoted s t → Contains (serial t) tx
+    → HasNoted (with_install s tx site []) (with_install t tx site items)
 install_noted s t tx site items h member =
     let mine : Install = record { tx = tx; site = site; items = [] } in
     let one : Install = record { tx = tx; site = site; items = items } in

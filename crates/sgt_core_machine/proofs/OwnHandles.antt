@@ -30,9 +30,11 @@ pub own_stays : (s u : SiteState) → u.installed ≡ s.installed → HaveOwnHan
 own_stays s u same own = subst Own (sym same) own
 
 -- a handle was given before, or is the last one
-found : (is : List Install) (i : Install) (a : ℕ) (h : Handle) → handle_of (is ++ i ∷ []) a ≡ Some h → (handle_of is a ≡ Some h) ⊎ ((i.tx ≡ a) × (i.handle ≡ h))
+found : (is : List Install) (i : Install) (a : ℕ) (h : Handle) → handle_of (is ++ i ∷ []) a ≡ Some h
+    → (handle_of is a ≡ Some h) ⊎ ((i.tx ≡ a) × (i.handle ≡ h))
 found [] i a h e = elim (cases_Bool (i.tx == a)) [
-  | inl hit ↦ inr (eqb-true i.tx a hit, same_Some i.handle h (sym (ap (λ b. if b then Some i.handle else None) hit) ∙ e))
+  | inl hit ↦ inr (eqb-true i.tx a hit, same_Some i.handle h (sym (ap (λ b. if b then Some i.handle else None) hit)
+      ∙ e))
   | inr miss ↦ absurd (let none : None ≡ Some h = sym (ap (λ b. if b then Some i.handle else None) miss) ∙ e in cc)
 ]
 found (j ∷ is) i a h e = elim (cases_Bool (j.tx == a)) [
@@ -47,7 +49,8 @@ found (j ∷ is) i a h e = elim (cases_Bool (j.tx == a)) [
 ]
 
 -- the transaction that ends has a handle of its own
-module _ (s : State) (tx slot : ℕ) (handle : Handle) (is : List Install) (number : tx ≡ suc (s.before + slot)) (own : handle ≡ record { index = slot; generation = s.generation })
+module _ (s : State) (tx slot : ℕ) (handle : Handle) (is : List Install) (number : tx ≡ suc (s.before + slot))
+    (own : handle ≡ record { index = slot; generation = s.generation })
     (handles : (i : Install) → Contains is i → IsHandleOf s i) (apart : Own is) where
   same_tx : (a : ℕ) (h : Handle) → handle_of is a ≡ Some h → handle ≡ h → tx ≡ a
   same_tx a h at new =
@@ -71,15 +74,18 @@ module _ (s : State) (tx slot : ℕ) (handle : Handle) (is : List Install) (numb
         ]
       ]
 
-  pub own_by : (verdict : Verdict) (a b : ℕ) (h : Handle) → handle_of (installed_by verdict is (record { tx = tx; handle = handle })) a ≡ Some h
+  pub own_by : (verdict : Verdict) (a b : ℕ) (h : Handle)
+      → handle_of (installed_by verdict is (record { tx = tx; handle = handle })) a ≡ Some h
       → handle_of (installed_by verdict is (record { tx = tx; handle = handle })) b ≡ Some h → a ≡ b
   own_by Committed a b h one two = own_more a b h one two
   own_by Refused a b h one two = apart a b h one two
 
 -- a site where the transaction may be gathered is none where it was
-pub not_yet : (c : CoreState) (tx t : ℕ) → IsAllowed c (Gather tx t) → (IsOtherOpen c tx → ⊥) → Contains (gathered_in c.step) t → ⊥
+pub not_yet : (c : CoreState) (tx t : ℕ) → IsAllowed c (Gather tx t) → (IsOtherOpen c tx → ⊥)
+    → Contains (gathered_in c.step) t → ⊥
 not_yet c tx t allowed no_other member = by_step c.step member no_other (λ own. allowed fault.AlreadyDone (own, member))
   where
-    by_step : (step : Option OpenStep) → Contains (gathered_in step) t → (StepIs (λ i. i ≡ tx → ⊥) step → ⊥) → (StepIs (λ i. i ≡ tx) step → ⊥) → ⊥
+    by_step : (step : Option OpenStep) → Contains (gathered_in step) t → (StepIs (λ i. i ≡ tx → ⊥) step → ⊥)
+        → (StepIs (λ i. i ≡ tx) step → ⊥) → ⊥
     by_step None gathered other own = contains-none t gathered
     by_step (Some o) gathered other own = elim (cases_eq o.tx tx) [ inl mine ↦ own mine | inr another ↦ other another ]

@@ -33,8 +33,10 @@ slot_begun m c tx slot s h =
     let within = slice_get_within m.table slot (Some h.1.0) h.1.1 in
     omega (arith, h.0)
 
-pub slot_active : (m : Parts) (c : CoreState) (tx slot : ℕ) → StandsFor m c → IsSlotOf m tx slot → Contains c.certifier.active tx
-slot_active m c tx slot s h = let r = s.running slot (Some h.1.0) h.1.1 in subst (Contains c.certifier.active) (sym h.0) r.active
+pub slot_active : (m : Parts) (c : CoreState) (tx slot : ℕ) → StandsFor m c → IsSlotOf m tx slot
+    → Contains c.certifier.active tx
+slot_active m c tx slot s h = let r = s.running slot (Some h.1.0) h.1.1 in
+    subst (Contains c.certifier.active) (sym h.0) r.active
 
 -- a site with the same items, pledge and part, whose log is this one
 pub record IsLike (p q : Place) (es : List Entry) : Type 0 where
@@ -50,12 +52,18 @@ redrafted c entries changes = record c { entries = entries; changes = changes }
 abbrev pub redraft_parts : Parts → List Place → ℕ → Running → Parts
 redraft_parts m places slot q = record m { places = places; table = slice_set m.table slot (Some q) }
 
-module _ (m : Parts) (c : CoreState) (s : StandsFor m c) (tx slot : ℕ) (number : tx ≡ suc (m.before + slot)) (r q : Running) (there : slice_get m.table slot ≡ Some (Some r))
-    (handle : q.handle ≡ r.handle) (closed : IsOwnOpen c tx → ⊥) (entries : ℕ → List Entry) (changes : ℕ → ℕ → List (Name × Change)) (places : List Place)
+module _ (m : Parts) (c : CoreState) (s : StandsFor m c) (tx slot : ℕ) (number : tx ≡ suc (m.before + slot))
+    (r q : Running) (there : slice_get m.table slot ≡ Some (Some r))
+    (handle : q.handle ≡ r.handle) (closed : IsOwnOpen c tx → ⊥) (entries : ℕ → List Entry) (changes : ℕ → ℕ
+        → List (Name × Change)) (places : List Place)
     (other_changes : (i t : ℕ) → (i ≡ tx → ⊥) → changes i t ≡ c.changes i t)
-    (other_reads : (i t : ℕ) (kept : List (Name × ℕ × ℕ)) → (i ≡ tx → ⊥) → KeepsReads (c.entries t) i kept → KeepsReads (entries t) i kept)
-    (other_edges : (i : ℕ) (arc : Arc) → (i ≡ tx → ⊥) → (IsEdgeOf c i arc → IsEdgeOf (redrafted c entries changes) i arc) × (IsEdgeOf (redrafted c entries changes) i arc → IsEdgeOf c i arc))
-    (like : (t : ℕ) (q : Place) → slice_get places t ≡ Some q → (p : Place) × (slice_get m.places t ≡ Some p) × IsLike p q (entries t)) where
+    (other_reads : (i t : ℕ) (kept : List (Name × ℕ × ℕ)) → (i ≡ tx → ⊥) → KeepsReads (c.entries t) i kept
+        → KeepsReads (entries t) i kept)
+    (other_edges : (i : ℕ) (arc : Arc) → (i ≡ tx → ⊥)
+        → (IsEdgeOf c i arc → IsEdgeOf (redrafted c entries changes) i arc)
+        × (IsEdgeOf (redrafted c entries changes) i arc → IsEdgeOf c i arc))
+    (like : (t : ℕ) (q : Place) → slice_get places t ≡ Some q → (p : Place) × (slice_get m.places t ≡ Some p)
+        × IsLike p q (entries t)) where
   abbrev d : CoreState
   d = redrafted c entries changes
 
@@ -79,12 +87,16 @@ module _ (m : Parts) (c : CoreState) (s : StandsFor m c) (tx slot : ℕ) (number
   slot_other : (k : ℕ) → (k ≡ slot → ⊥) → (suc (m.before + k) ≡ tx → ⊥)
   slot_other k ne e = ne (omega (arith, e, number))
 
-  redraft_due : (o : Open) → (o.tx ≡ tx → ⊥) → (touched : List Touch) (t : ℕ) (phase : Phase) → IsDueBy m c o.tx touched phase t → IsDueBy n d o.tx touched phase t
+  redraft_due : (o : Open) → (o.tx ≡ tx → ⊥) → (touched : List Touch) (t : ℕ) (phase : Phase)
+      → IsDueBy m c o.tx touched phase t → IsDueBy n d o.tx touched phase t
   redraft_due o other touched t (Gathering edges) h = h
-  redraft_due o other touched t Committed h = (h.0 ∙ ap (λ cs. Rattle.sgt_site.specs.State.commit_block o.tx cs) (sym (other_changes o.tx t other)), h.1)
-  redraft_due o other touched t Refused h = h ∙ ap (λ cs. Rattle.sgt_site.specs.State.refuse_block o.tx cs) (sym (other_changes o.tx t other))
+  redraft_due o other touched t Committed h =
+      (h.0 ∙ ap (λ cs. Rattle.sgt_site.specs.State.commit_block o.tx cs) (sym (other_changes o.tx t other)), h.1)
+  redraft_due o other touched t Refused h = h
+      ∙ ap (λ cs. Rattle.sgt_site.specs.State.refuse_block o.tx cs) (sym (other_changes o.tx t other))
 
-  redraft_part : (t : ℕ) (p w : Place) → IsLike p w (entries t) → (part : Part) → IsPart m c t p part → IsPart n d t w part
+  redraft_part : (t : ℕ) (p w : Place) → IsLike p w (entries t) → (part : Part) → IsPart m c t p part
+      → IsPart n d t w part
   redraft_part t p w l Idle h = (l.pledge ∙ h.0, h.1, h.2)
   redraft_part t p w l Written h =
       let own = step_decided h in
@@ -164,13 +176,17 @@ module _ (m : Parts) (c : CoreState) (s : StandsFor m c) (tx slot : ℕ) (number
   redraft_step None e h = h
   redraft_step (Some o) e h = (h.0, h.1, redraft_phase o (step_other o e) o.phase h.2)
 
-  module _ (reached : IsReached (redrafted c entries changes)) (items : map (λ (p : Place). p.site.items) places ≡ map (λ (p : Place). p.site.items) m.places)
+  module _ (reached : IsReached (redrafted c entries changes)) (items : map (λ (p : Place). p.site.items) places ≡ map
+      (λ (p : Place). p.site.items) m.places)
       (own : IsRunning (redrafted c entries changes) m.before slot q) where
-    redraft_running : (k : ℕ) (o : Option Running) → slice_get (slice_set m.table slot (Some q)) k ≡ Some o → RunsAt d m.before k o
+    redraft_running : (k : ℕ) (o : Option Running) → slice_get (slice_set m.table slot (Some q)) k ≡ Some o
+        → RunsAt d m.before k o
     redraft_running k o at = elim (cases_eq k slot) [
       | inl is ↦
-          let here : slice_get (slice_set m.table slot (Some q)) slot ≡ Some (Some q) = get-slice_set_same m.table slot (Some q) (slice_get_within m.table slot (Some r) there) in
-          let same : Some q ≡ o = same_Some (Some q) o (sym here ∙ (ap (slice_get (slice_set m.table slot (Some q))) (sym is) ∙ at)) in
+          let here : slice_get (slice_set m.table slot (Some q)) slot ≡ Some (Some q) =
+              get-slice_set_same m.table slot (Some q) (slice_get_within m.table slot (Some r) there) in
+          let same : Some q ≡ o =
+              same_Some (Some q) o (sym here ∙ (ap (slice_get (slice_set m.table slot (Some q))) (sym is) ∙ at)) in
           subst (λ w. RunsAt d m.before k w) same (subst (λ j. IsRunning d m.before j q) (sym is) own)
       | inr ne ↦ redraft_slot k o ne (s.running k o (sym (get-slice_set_other m.table slot k (Some q) ne) ∙ at))
     ]
@@ -188,7 +204,8 @@ module _ (m : Parts) (c : CoreState) (s : StandsFor m c) (tx slot : ℕ) (number
           before = s.before;
           begun = s.begun;
           window = s.window ∙ ap (λ k. m.before + k) (sym (length-set m.table slot (Some q)));
-          unborn = λ i t lt. other_changes i t (λ e. absurd (omega (arith, e, number, within, lt, window))) ∙ s.unborn i t lt;
+          unborn = λ i t lt. other_changes i t (λ e. absurd (omega (arith, e, number, within, lt, window)))
+              ∙ s.unborn i t lt;
           running = redraft_running;
           places = redraft_place;
           step = redraft_step m.step refl s.step;

@@ -37,11 +37,13 @@ use Rattle.sgt_core_machine.proofs.Noting.{none_of}
 use Rattle.sgt_core_model.proofs.Committing.{no_block}
 
 -- a decided step is the certifier's
-pub ruled_step : (m : Parts) (c : CoreState) (o : Option Open) → IsStep m c o → IsRuled o → (q : Open) × (o ≡ Some q) × (c.certifier.step ≡ Some q.tx)
+pub ruled_step : (m : Parts) (c : CoreState) (o : Option Open) → IsStep m c o → IsRuled o
+    → (q : Open) × (o ≡ Some q) × (c.certifier.step ≡ Some q.tx)
 ruled_step m c None h r = absurd r
 ruled_step m c (Some o) h r = (o, refl, by_phase o.phase h.2 r)
   where
-    by_phase : (phase : Phase) → IsPhase m c o phase → (phase ≡ Committed) ⊎ (phase ≡ Refused) → c.certifier.step ≡ Some o.tx
+    by_phase : (phase : Phase) → IsPhase m c o phase → (phase ≡ Committed) ⊎ (phase ≡ Refused)
+        → c.certifier.step ≡ Some o.tx
     by_phase (Gathering edges) h r = elim r [ inl e ↦ cc | inr e ↦ cc ]
     by_phase Committed h r = h.0
     by_phase Refused h r = h.0
@@ -50,12 +52,14 @@ pub not_ruled : (m : Parts) (c : CoreState) (o : Option Open) → IsStep m c o �
 not_ruled m c None h out = h.1
 not_ruled m c (Some o) h out = by_phase o.phase h.2 out
   where
-    by_phase : (phase : Phase) → IsPhase m c o phase → ((phase ≡ Committed) ⊎ (phase ≡ Refused) → ⊥) → c.certifier.step ≡ None
+    by_phase : (phase : Phase) → IsPhase m c o phase → ((phase ≡ Committed) ⊎ (phase ≡ Refused) → ⊥)
+        → c.certifier.step ≡ None
     by_phase (Gathering edges) h out = h.0
     by_phase Committed h out = absurd (out (inl refl))
     by_phase Refused h out = absurd (out (inr refl))
 
-module _ (m : Parts) (c : CoreState) (s : StandsFor m c) (tx slot : ℕ) (number : tx ≡ suc (m.before + slot)) (allowed : IsAllowed c (Decide tx)) where
+module _ (m : Parts) (c : CoreState) (s : StandsFor m c) (tx slot : ℕ) (number : tx ≡ suc (m.before + slot))
+    (allowed : IsAllowed c (Decide tx)) where
   abbrev k : IsKept c
   k = reached_kept c s.reached
 
@@ -67,40 +71,50 @@ module _ (m : Parts) (c : CoreState) (s : StandsFor m c) (tx slot : ℕ) (number
 
   -- the transaction has no install yet
   unnoted : (site : ℕ) → IsNoted c.certifier tx site → ⊥
-  unnoted site n = none_of m.certifier c.certifier tx site s.certifier.noted k.sound.ruled undecided (is_active c (Decide tx) tx allowed refl) n
+  unnoted site n = none_of m.certifier c.certifier tx site s.certifier.noted k.sound.ruled undecided
+      (is_active c (Decide tx) tx allowed refl) n
 
   no_other : IsOtherOpen c tx → ⊥
   no_other other = allowed fault.StepOpen other
 
-  gathered_by : (o : Open) → o.tx ≡ tx → (phase : Phase) → IsPhase m c o phase → AreGathered m.certifier c tx (edges_by phase)
+  gathered_by : (o : Open) → o.tx ≡ tx → (phase : Phase) → IsPhase m c o phase
+      → AreGathered m.certifier c tx (edges_by phase)
   gathered_by o own (Gathering edges) h = subst (λ i. AreGathered m.certifier c i edges) own h.1
   gathered_by o own Committed h = absurd (let f : Some o.tx ≡ None = sym h.0 ∙ undecided in cc)
   gathered_by o own Refused h = absurd (let f : Some o.tx ≡ None = sym h.0 ∙ undecided in cc)
 
   pub gathered_in_step : (o : Option Open) → IsStep m c o → AreGathered m.certifier c tx (edges_in o)
   gathered_in_step None h =
-      none_gathered m.certifier c tx slot (number ∙ ap (λ b. suc (b + slot)) (sym s.before ∙ ap (λ (st : State). st.before) s.certifier.same)) (ap gathered_in h.0)
+      none_gathered m.certifier c tx slot (number
+          ∙ ap (λ b. suc (b + slot)) (sym s.before ∙ ap (λ (st : State). st.before) s.certifier.same))
+          (ap gathered_in h.0)
   gathered_in_step (Some o) h = gathered_by o (step_own m c tx no_other (Some o) h o refl) o.phase h.2
 
-  module _ (new : State) (handle : Handle) (named : tx_under m.certifier handle ≡ tx) (edges : List Edge) (gathered : AreGathered m.certifier c tx edges) where
-    committed_one : Commits m.certifier tx (arcs_of m.certifier edges) new → (number : ℕ) → IsDecision c tx new (verdict.Committed number)
+  module _ (new : State) (handle : Handle) (named : tx_under m.certifier handle ≡ tx) (edges : List Edge)
+      (gathered : AreGathered m.certifier c tx edges) where
+    committed_one : Commits m.certifier tx (arcs_of m.certifier edges) new → (number : ℕ)
+        → IsDecision c tx new (verdict.Committed number)
     committed_one d number = record {
       certifier = all_committed c tx d.places;
       due = committed_block c tx;
       carries = committed_carries m.certifier c k s.certifier tx edges gathered everywhere unnoted new d;
       same = refl;
       order = λ i member.
-          let there = placed_old d.placed.0 m.certifier.order tx i (subst (λ o. Contains o i) (ap (λ (st : State). st.order) s.certifier.same) member) in
+          let there =
+              placed_old d.placed.0 m.certifier.order tx i
+              (subst (λ o. Contains o i) (ap (λ (st : State). st.order) s.certifier.same) member) in
           subst (λ o. Contains o i) (sym d.placed.2) there;
       phase = λ n e o is mine. (
         ap (λ (st : State). st.step) is ∙ ap Some (sym mine),
         subst (λ (st : State). Contains st.order o.tx) (sym is)
-            (subst (Contains d.places) (sym mine) (subst (λ ps. Contains ps tx) (sym d.placed.2) (placed_self d.placed.0 m.certifier.order tx))),
+            (subst (Contains d.places) (sym mine)
+                (subst (λ ps. Contains ps tx) (sym d.placed.2) (placed_self d.placed.0 m.certifier.order tx))),
       );
       some = λ t hit none. no_block _ _ (sym (ap (λ b. cond b (commit_block tx (c.changes tx t)) []) hit) ∙ none);
       none = λ t miss. ap (λ b. cond b (commit_block tx (c.changes tx t)) []) miss;
       due_by = λ n e touched t due changes hit awaits. (
-        ap (λ (f : ℕ → List Entry). f t) due ∙ (ap (λ b. cond b (commit_block tx (c.changes tx t)) []) hit ∙ ap (λ ch. commit_block tx (ch tx t)) (sym changes)),
+        ap (λ (f : ℕ → List Entry). f t) due ∙ (ap (λ b. cond b (commit_block tx (c.changes tx t)) []) hit
+            ∙ ap (λ ch. commit_block tx (ch tx t)) (sym changes)),
         awaits refl,
       );
       may = (
@@ -115,7 +129,8 @@ module _ (m : Parts) (c : CoreState) (s : StandsFor m c) (tx slot : ℕ) (number
       );
     }
 
-    refused_one : (walk : List Step) → Refuses m.certifier tx (arcs_of m.certifier edges) walk new → (number : ℕ) → IsDecision c tx new (verdict.Refused number walk)
+    refused_one : (walk : List Step) → Refuses m.certifier tx (arcs_of m.certifier edges) walk new → (number : ℕ)
+        → IsDecision c tx new (verdict.Refused number walk)
     refused_one walk d number = record {
       certifier = all_refused c tx walk;
       due = refused_block c tx;
@@ -125,7 +140,8 @@ module _ (m : Parts) (c : CoreState) (s : StandsFor m c) (tx slot : ℕ) (number
       phase = λ n e o is mine. (
         ap (λ (st : State). st.step) is ∙ ap Some (sym mine),
         λ member.
-            let there : Contains c.certifier.order tx = subst (Contains c.certifier.order) mine (subst (λ (st : State). Contains st.order o.tx) is member) in
+            let there : Contains c.certifier.order tx =
+                subst (Contains c.certifier.order) mine (subst (λ (st : State). Contains st.order o.tx) is member) in
             let open_tx = k.sound.ordered.certifier.committed_open tx (is_active c (Decide tx) tx allowed refl) there in
             let f : Some tx ≡ None = sym open_tx ∙ undecided in
             cc,
@@ -133,7 +149,8 @@ module _ (m : Parts) (c : CoreState) (s : StandsFor m c) (tx slot : ℕ) (number
       some = λ t hit none. no_block _ _ (sym (ap (λ b. cond b (refuse_block tx (c.changes tx t)) []) hit) ∙ none);
       none = λ t miss. ap (λ b. cond b (refuse_block tx (c.changes tx t)) []) miss;
       due_by = λ n e touched t due changes hit awaits.
-          ap (λ (f : ℕ → List Entry). f t) due ∙ (ap (λ b. cond b (refuse_block tx (c.changes tx t)) []) hit ∙ ap (λ ch. refuse_block tx (ch tx t)) (sym changes));
+          ap (λ (f : ℕ → List Entry). f t) due ∙ (ap (λ b. cond b (refuse_block tx (c.changes tx t)) []) hit
+              ∙ ap (λ ch. refuse_block tx (ch tx t)) (sym changes));
       may = (
         allowed,
         record {
@@ -147,15 +164,21 @@ module _ (m : Parts) (c : CoreState) (s : StandsFor m c) (tx slot : ℕ) (number
       );
     }
 
-    by_verdict : (reply : Decided) → CertifierServes m.certifier (call.Decide handle edges reply) new → IsDecision c tx new reply
-    by_verdict (verdict.Committed number) serves = committed_one (subst (λ i. Commits m.certifier i (arcs_of m.certifier edges) new) named serves.1.1) number
-    by_verdict (verdict.Refused number walk) serves = refused_one walk (subst (λ i. Refuses m.certifier i (arcs_of m.certifier edges) walk new) named serves.1.1) number
+    by_verdict : (reply : Decided) → CertifierServes m.certifier (call.Decide handle edges reply) new
+        → IsDecision c tx new reply
+    by_verdict (verdict.Committed number) serves =
+        committed_one (subst (λ i. Commits m.certifier i (arcs_of m.certifier edges) new) named serves.1.1) number
+    by_verdict (verdict.Refused number walk) serves =
+        refused_one walk (subst (λ i. Refuses m.certifier i (arcs_of m.certifier edges) walk new) named serves.1.1)
+        number
 
   pub ruled_one : (new : State) (handle : Handle) → tx_under m.certifier handle ≡ tx → (reply : Decided)
       → CertifierServes m.certifier (call.Decide handle (edges_in m.step) reply) new → IsDecision c tx new reply
-  ruled_one new handle named reply serves = by_verdict new handle named (edges_in m.step) (gathered_in_step m.step s.step) reply serves
+  ruled_one new handle named reply serves =
+      by_verdict new handle named (edges_in m.step) (gathered_in_step m.step s.step) reply serves
 
-module _ (m : Parts) (c : CoreState) (s : StandsFor m c) (tx slot : ℕ) (h : IsSlotOf m tx slot) (allowed : IsAllowed c (Decide tx)) (new : State) (reply : Decided)
+module _ (m : Parts) (c : CoreState) (s : StandsFor m c) (tx slot : ℕ) (h : IsSlotOf m tx slot)
+    (allowed : IsAllowed c (Decide tx)) (new : State) (reply : Decided)
     (r : RulesAt m.certifier new m.table slot (edges_in m.step) reply) where
   named : tx_under m.certifier r.running.handle ≡ tx
   named =
@@ -174,20 +197,31 @@ module _ (m : Parts) (c : CoreState) (s : StandsFor m c) (tx slot : ℕ) (h : Is
   out : IsOtherOpen c tx → ⊥
   out other = allowed fault.StepOpen other
 
-  pub rules_due : Any (λ (p : Place). p.part ≡ Due) m.places → (after : Parts) → after ≡ record m { certifier = new; step = Some (record { tx = tx; phase = phase_after reply }) }
-      → (answer : Reply) → answer ≡ reply_after reply → (e : CoreState) × MayStep c (Decide tx) answer e × StandsFor after e
+  pub rules_due : Any (λ (p : Place). p.part ≡ Due) m.places → (after : Parts)
+      → after ≡ record m { certifier = new; step = Some (record { tx = tx; phase = phase_after reply }) }
+      → (answer : Reply) → answer ≡ reply_after reply → (e : CoreState) × MayStep c (Decide tx) answer e
+          × StandsFor after e
   rules_due some after is answer same =
       let p = Any_at (λ (p : Place). p.part ≡ Due) m.places some in
-      let goes = decision_due m c s tx slot h out (undecided m c s tx slot h.0 allowed) (everywhere m c s tx slot h.0 allowed) new reply v r.running r.runs
+      let goes =
+          decision_due m c s tx slot h out (undecided m c s tx slot h.0 allowed)
+          (everywhere m c s tx slot h.0 allowed) new reply v r.running r.runs
       (λ e t. subst (λ i. AwaitsInstall new i t) named (r.awaits e t)) p.0 p.1 p.2 p.3 in
-      (goes.0, subst (λ q. MayStep c (Decide tx) q goes.0) (sym same) goes.1, subst (λ w. StandsFor w goes.0) (sym is) goes.2)
+      (goes.0, subst (λ q. MayStep c (Decide tx) q goes.0) (sym same) goes.1,
+          subst (λ w. StandsFor w goes.0) (sym is) goes.2)
 
-  pub rules_end : (Any (λ (p : Place). p.part ≡ Due) m.places → ⊥) → (mid after : Parts) → mid ≡ record m { certifier = new; step = None } → EndsAt mid after tx slot
-      → (answer : Reply) → answer ≡ reply_after reply → (e : CoreState) × MayStep c (Decide tx) answer e × StandsFor after e
+  pub rules_end : (Any (λ (p : Place). p.part ≡ Due) m.places → ⊥) → (mid after : Parts)
+      → mid ≡ record m { certifier = new; step = None } → EndsAt mid after tx slot
+      → (answer : Reply) → answer ≡ reply_after reply → (e : CoreState) × MayStep c (Decide tx) answer e
+          × StandsFor after e
   rules_end none mid after is ends answer same =
-      let finishes : after.certifier ≡ record (with_finished new tx) { installs = [] } = ends.ends.after ∙ ap (λ (w : Parts). record (with_finished w.certifier tx) { installs = [] }) is in
-      let goes = decision_ends m c s tx slot h out (undecided m c s tx slot h.0 allowed) (everywhere m c s tx slot h.0 allowed) new reply v after.certifier finishes
+      let finishes : after.certifier ≡ record (with_finished new tx) { installs = [] } = ends.ends.after
+          ∙ ap (λ (w : Parts). record (with_finished w.certifier tx) { installs = [] }) is in
+      let goes =
+          decision_ends m c s tx slot h out (undecided m c s tx slot h.0 allowed)
+          (everywhere m c s tx slot h.0 allowed) new reply v after.certifier finishes
       (λ t p at due. none (Any-from_at (λ (q : Place). q.part ≡ Due) m.places t p at due)) in
       let all : after ≡ record m { certifier = after.certifier; table = slice_set m.table slot None; step = None } =
       ends.is ∙ ap (λ (w : Parts). record w { certifier = after.certifier; table = slice_set w.table slot None }) is in
-      (goes.0, subst (λ q. MayStep c (Decide tx) q goes.0) (sym same) goes.1, subst (λ w. StandsFor w goes.0) (sym all) goes.2)
+      (goes.0, subst (λ q. MayStep c (Decide tx) q goes.0) (sym same) goes.1,
+          subst (λ w. StandsFor w goes.0) (sym all) goes.2)

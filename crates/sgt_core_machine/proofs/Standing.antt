@@ -18,15 +18,21 @@ use Rattle.sgt_names.proofs.Elements.{contains-none}
 
 -- ---- runs
 
-pub run_more : (old : CoreState) (events : List Event) (replies : List Reply) (mid : CoreState) (event : Event) (reply : Reply) (new : CoreState)
-    → Run old events replies mid → MayStep mid event reply new → Run old (events ++ event ∷ []) (replies ++ reply ∷ []) new
+pub run_more : (old : CoreState) (events : List Event) (replies : List Reply) (mid : CoreState) (event : Event)
+    (reply : Reply) (new : CoreState)
+    → Run old events replies mid → MayStep mid event reply new
+        → Run old (events ++ event ∷ []) (replies ++ reply ∷ []) new
 run_more old [] [] mid event reply new run may = (new, subst (λ c. MayStep c event reply new) run may, refl)
-run_more old (x ∷ xs) (y ∷ ys) mid event reply new run may = (run.0, run.1, run_more run.0 xs ys mid event reply new run.2 may)
+run_more old (x ∷ xs) (y ∷ ys) mid event reply new run may =
+    (run.0, run.1, run_more run.0 xs ys mid event reply new run.2 may)
 run_more old [] (y ∷ ys) mid event reply new run may = absurd run
 run_more old (x ∷ xs) [] mid event reply new run may = absurd run
 
-pub reached_more : (c : CoreState) (event : Event) (reply : Reply) (d : CoreState) → IsReached c → MayStep c event reply d → IsReached d
-reached_more c event reply d r may = (r.0, (r.1.0 ++ event ∷ [], (r.1.1.0 ++ reply ∷ [], run_more (fresh r.0) r.1.0 r.1.1.0 c event reply d r.1.1.1 may)))
+pub reached_more : (c : CoreState) (event : Event) (reply : Reply) (d : CoreState) → IsReached c
+    → MayStep c event reply d → IsReached d
+reached_more c event reply d r may =
+    (r.0, (r.1.0 ++ event ∷ [],
+    (r.1.1.0 ++ reply ∷ [], run_more (fresh r.0) r.1.0 r.1.1.0 c event reply d r.1.1.1 may)))
 
 pub reached_kept : (c : CoreState) → IsReached c → IsKept c
 reached_kept c r = runs-kept r.0 r.1.0 r.1.1.0 c r.1.1.1
@@ -35,7 +41,8 @@ reached_kept c r = runs-kept r.0 r.1.0 r.1.1.0 c r.1.1.1
 pub goes_stands : (P : CoreState → CoreState → Type 0) (old new : Parts) → Stands old → GoesOn P old new → Stands new
 goes_stands P old new s go = let r = go s.0 s.1 in (r.0, r.2)
 
-pub goes_same : (inside now new : Parts) (event same : Event) (reply : Reply) → inside ≡ now → event ≡ same → GoesOn (λ c d. MayStep c same reply d) inside new
+pub goes_same : (inside now new : Parts) (event same : Event) (reply : Reply) → inside ≡ now → event ≡ same
+    → GoesOn (λ c d. MayStep c same reply d) inside new
     → GoesOn (λ c d. MayStep c event reply d) now new
 goes_same inside now new event same reply view is go c s =
     let r = go c (subst (λ v. StandsFor v c) (sym view) s) in
@@ -61,16 +68,20 @@ none_gathered : (c : CoreState) (s : ℕ) → c.step ≡ None → Contains (gath
 none_gathered c s none m = contains-none s (subst (λ o. Contains (gathered_in o) s) none m)
 
 -- while none is open a site has no part of one
-pub part_closed : (m n : Parts) (c d : CoreState) (s : ℕ) (p : Place) (part : Part) → IsPart m c s p part → m.step ≡ None → c.step ≡ None → d.step ≡ None
+pub part_closed : (m n : Parts) (c d : CoreState) (s : ℕ) (p : Place) (part : Part) → IsPart m c s p part
+    → m.step ≡ None → c.step ≡ None → d.step ≡ None
     → d.due s ≡ c.due s → IsPart n d s p part
 part_closed m n c d s p Idle h m_none c_none d_none due = (h.0, due ∙ h.1, none_gathered d s d_none)
-part_closed m n c d s p Due h m_none c_none d_none due = absurd (let e : Some h.0 ≡ None = sym h.1.open_step ∙ m_none in cc)
+part_closed m n c d s p Due h m_none c_none d_none due = absurd (let e : Some h.0 ≡ None = sym h.1.open_step
+    ∙ m_none in cc)
 part_closed m n c d s p Written h m_none c_none d_none due = absurd (none_gathered c s c_none h.gathered)
 
 -- ---- who isn't active
 
-low : (c : CoreState) (event : Event) (tx : ℕ) (g : CoreFault) → tx_in event ≡ Some tx → tx ≤ c.certifier.begun → fault_place g < 2 → Fails c event g → ⊥
-low c event tx fault.Unknown is le lt h = let e : Some tx ≡ Some h.0 = sym is ∙ h.1 in let same : tx ≡ h.0 = cc in omega (arith, h.2, same)
+low : (c : CoreState) (event : Event) (tx : ℕ) (g : CoreFault) → tx_in event ≡ Some tx → tx ≤ c.certifier.begun
+    → fault_place g < 2 → Fails c event g → ⊥
+low c event tx fault.Unknown is le lt h = let e : Some tx ≡ Some h.0 = sym is ∙ h.1 in let same : tx ≡ h.0 = cc in
+    omega (arith, h.2, same)
 low c event tx fault.Ended is le lt h = absurd (omega arith)
 low c event tx fault.StepOpen is le lt h = absurd (omega arith)
 low c event tx fault.UnknownItem is le lt h = absurd (omega arith)
@@ -83,22 +94,27 @@ low c event tx fault.GenerationsSpent is le lt h = absurd (omega arith)
 low c event tx fault.NumbersSpent is le lt h = absurd (omega arith)
 low c event tx fault.NotTouched is le lt h = absurd (omega arith)
 
-pub ended_refused : (c : CoreState) (event : Event) (tx : ℕ) → tx_in event ≡ Some tx → tx ≤ c.certifier.begun → (Contains c.certifier.active tx → ⊥)
+pub ended_refused : (c : CoreState) (event : Event) (tx : ℕ) → tx_in event ≡ Some tx → tx ≤ c.certifier.begun
+    → (Contains c.certifier.active tx → ⊥)
     → IsRefused c event fault.Ended
 ended_refused c event tx is le out = ((tx, is, (le, out)), λ g lt h. low c event tx g is le lt h)
 
 -- who was begun before the window has ended
-pub older_refused : (m : Parts) (c : CoreState) (event : Event) (tx : ℕ) → StandsFor m c → tx_in event ≡ Some tx → tx ≤ m.before
+pub older_refused : (m : Parts) (c : CoreState) (event : Event) (tx : ℕ) → StandsFor m c → tx_in event ≡ Some tx
+    → tx ≤ m.before
     → IsRefused c event fault.Ended
 older_refused m c event tx s is le =
     let k = reached_kept c s.reached in
     let before = s.before in
     let window = k.sound.ordered.certifier.window in
-    ended_refused c event tx is (omega arith) (λ active. let here = k.sound.ordered.certifier.active_here tx active in omega (arith, here.0))
+    ended_refused c event tx is (omega arith) (λ active. let here = k.sound.ordered.certifier.active_here tx active in
+        omega (arith, here.0))
 
 -- and so has one of the window at whose place nothing stands
-pub free_refused : (m : Parts) (c : CoreState) (event : Event) (tx slot : ℕ) → StandsFor m c → tx_in event ≡ Some tx → tx ≤ m.begun
+pub free_refused : (m : Parts) (c : CoreState) (event : Event) (tx slot : ℕ) → StandsFor m c → tx_in event ≡ Some tx
+    → tx ≤ m.begun
     → tx ≡ suc (m.before + slot) → slice_get m.table slot ≡ Some None → IsRefused c event fault.Ended
 free_refused m c event tx slot s is le at there =
     let begun = s.begun in
-    ended_refused c event tx is (omega arith) (λ active. s.running slot None there (subst (Contains c.certifier.active) at active))
+    ended_refused c event tx is (omega arith)
+        (λ active. s.running slot None there (subst (Contains c.certifier.active) at active))

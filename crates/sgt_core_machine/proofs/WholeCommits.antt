@@ -71,7 +71,8 @@ module _ (c : CoreState) (tx : ℕ) (k : IsKept c) (allowed : IsAllowed c (Commi
   distinct = filter-distinct (touches c tx) (sites_of c) (range-distinct 0 (length c.items))
 
   inside : (s : ℕ) → Contains (touched c tx) s → s < length c.items
-  inside s m = let r = in_range 0 (length c.items) s (filter_member (touches c tx) (sites_of c) s m).0 in omega (arith, r.1)
+  inside s m = let r = in_range 0 (length c.items) s (filter_member (touches c tx) (sites_of c) s m).0 in
+      omega (arith, r.1)
 
   hit : (s : ℕ) → Contains (touched c tx) s → touches c tx s ≡ true
   hit s m = (filter_member (touches c tx) (sites_of c) s m).1
@@ -81,7 +82,9 @@ module _ (c : CoreState) (tx : ℕ) (k : IsKept c) (allowed : IsAllowed c (Commi
     serves = refl;
     same = refl;
     alone = subst (λ o. StepIs (λ t. t ≡ tx → ⊥) o → ⊥) (sym closed) (λ n. n);
-    gathered = λ s. (λ m. absurd (contains-none s m), λ m. absurd (contains-none s (subst (λ o. Contains (gathered_in o) s) closed m)));
+    gathered =
+        λ s. (λ m. absurd (contains-none s m),
+        λ m. absurd (contains-none s (subst (λ o. Contains (gathered_in o) s) closed m)));
   }
 
   module _ (o : Option OpenStep) (done : List ℕ) (h : GathersAll c tx done (record c { step = o })) where
@@ -90,9 +93,12 @@ module _ (c : CoreState) (tx : ℕ) (k : IsKept c) (allowed : IsAllowed c (Commi
     one_more s may =
         let e : CoreState = record c { step = Some (record { tx = tx; gathered = s ∷ gathered_in o }) } in
         record {
-          serves = subst (λ (es : List Event). ServesAll c es (map (λ t. Gathered) (done ++ s ∷ [])) e) (sym (map-push (Gather tx) done s))
-              (subst (λ (rs : List Reply). ServesAll c (map (Gather tx) done ++ Gather tx s ∷ []) rs e) (sym (map-push (λ (t : ℕ). Gathered) done s))
-              (append-all c (map (Gather tx) done) (Gather tx s ∷ []) (map (λ t. Gathered) done) (Gathered ∷ []) (record c { step = o }) e h.serves (e, (may, refl), refl)));
+          serves = subst (λ (es : List Event). ServesAll c es (map (λ t. Gathered) (done ++ s ∷ [])) e)
+              (sym (map-push (Gather tx) done s))
+              (subst (λ (rs : List Reply). ServesAll c (map (Gather tx) done ++ Gather tx s ∷ []) rs e)
+                  (sym (map-push (λ (t : ℕ). Gathered) done s))
+              (append-all c (map (Gather tx) done) (Gather tx s ∷ []) (map (λ t. Gathered) done) (Gathered ∷ [])
+                  (record c { step = o }) e h.serves (e, (may, refl), refl)));
           same = refl;
           alone = λ n. n refl;
           gathered = λ t. (
@@ -110,39 +116,48 @@ module _ (c : CoreState) (tx : ℕ) (k : IsKept c) (allowed : IsAllowed c (Commi
           );
         }
 
-    gather_may : (s : ℕ) → Contains (touched c tx) s → (Contains done s → ⊥) → IsAllowed (record c { step = o }) (Gather tx s)
+    gather_may : (s : ℕ) → Contains (touched c tx) s → (Contains done s → ⊥)
+        → IsAllowed (record c { step = o }) (Gather tx s)
     gather_may s m new = gather_allowed (record c { step = o }) tx s (going o h.alone) (record {
       inside = inside s m;
       touched = hit s m;
       fresh = λ n. new ((h.gathered s).1 n);
     })
 
-    gather_by : (s : ℕ) → IsAllowed (record c { step = o }) (Gather tx s) → (reply : Reply) (e : CoreState) → MayStep (record c { step = o }) (Gather tx s) reply e
+    gather_by : (s : ℕ) → IsAllowed (record c { step = o }) (Gather tx s) → (reply : Reply) (e : CoreState)
+        → MayStep (record c { step = o }) (Gather tx s) reply e
         → GatherGives c tx done s reply e
     gather_by s may Gathered e step = subst (GathersAll c tx (done ++ s ∷ [])) (sym step.1) (one_more s may)
     gather_by s may (Fault fault.Memory) e step = step.1
     gather_by s may (Fault f) e step = absurd (may f step.0.0)
     gather_by s may reply e step = absurd step.1
 
-  pub gather_gives : (d : CoreState) (done : List ℕ) (s : ℕ) → GathersAll c tx done d → Contains (touched c tx) s → (Contains done s → ⊥) → (reply : Reply) (e : CoreState)
+  pub gather_gives : (d : CoreState) (done : List ℕ) (s : ℕ) → GathersAll c tx done d → Contains (touched c tx) s
+      → (Contains done s → ⊥) → (reply : Reply) (e : CoreState)
       → MayStep d (Gather tx s) reply e → GatherGives c tx done s reply e
   gather_gives d done s h m new reply e step =
       let g = subst (GathersAll c tx done) h.same h in
-      gather_by d.step done g s (gather_may d.step done g s m new) reply e (subst (λ (x : CoreState). MayStep x (Gather tx s) reply e) h.same step)
+      gather_by d.step done g s (gather_may d.step done g s m new) reply e
+          (subst (λ (x : CoreState). MayStep x (Gather tx s) reply e) h.same step)
 
   -- ---- the decision
 
-  decide_may : (o : Option OpenStep) → GathersAll c tx (touched c tx) (record c { step = o }) → IsAllowed (record c { step = o }) (Decide tx)
-  decide_may o h = decide_allowed (record c { step = o }) tx (going o h.alone) (idle c k closed) (λ s m. let n = (h.gathered s).0 m in (own o s h.alone n, n))
+  decide_may : (o : Option OpenStep) → GathersAll c tx (touched c tx) (record c { step = o })
+      → IsAllowed (record c { step = o }) (Decide tx)
+  decide_may o h = decide_allowed (record c { step = o }) tx (going o h.alone) (idle c k closed) (λ s m. let n =
+      (h.gathered s).0 m in (own o s h.alone n, n))
     where
-      own : (o : Option OpenStep) (s : ℕ) → (StepIs (λ i. i ≡ tx → ⊥) o → ⊥) → Contains (gathered_in o) s → StepIs (λ i. i ≡ tx) o
+      own : (o : Option OpenStep) (s : ℕ) → (StepIs (λ i. i ≡ tx → ⊥) o → ⊥) → Contains (gathered_in o) s
+          → StepIs (λ i. i ≡ tx) o
       own None s out m = absurd (contains-none s m)
       own (Some p) s out m = elim (cases_eq p.tx tx) [ inl is ↦ is | inr other ↦ absurd (out other) ]
 
 -- the blocks are due at each of the sites
-pub all_due : (c : CoreState) (tx : ℕ) (sites : List ℕ) → AreDistinct sites → ((s : ℕ) → Contains sites s → IsBlockDue c tx s) → AwaitsBlocks c tx sites
+pub all_due : (c : CoreState) (tx : ℕ) (sites : List ℕ) → AreDistinct sites
+    → ((s : ℕ) → Contains sites s → IsBlockDue c tx s) → AwaitsBlocks c tx sites
 all_due c tx [] d each = tt
-all_due c tx (s ∷ ss) d each = (each s (cons_here s ss), (d.0, all_due c tx ss d.1 (λ t m. each t (contains-later s ss t m))))
+all_due c tx (s ∷ ss) d each =
+    (each s (cons_here s ss), (d.0, all_due c tx ss d.1 (λ t m. each t (contains-later s ss t m))))
 
 -- and still are after the decision, since the step stays open for them
 pub due_decided : (c : CoreState) (tx : ℕ) (mid : State) (block : ℕ → List Entry) (sites : List ℕ)
@@ -154,10 +169,13 @@ due_decided c tx mid block (s ∷ ss) h =
 
 module _ (c : CoreState) (tx : ℕ) (k : IsKept c) (allowed : IsAllowed c (Commit tx)) where
   -- the transaction is decided, and its blocks are these
-  due_blocks : (o : Option OpenStep) (mid : State) (block : ℕ → List Entry) → (StepIs (λ t. t ≡ tx → ⊥) o → ⊥) → mid.active ≡ c.certifier.active
+  due_blocks : (o : Option OpenStep) (mid : State) (block : ℕ → List Entry) → (StepIs (λ t. t ≡ tx → ⊥) o → ⊥)
+      → mid.active ≡ c.certifier.active
       → mid.begun ≡ c.certifier.begun → mid.step ≡ Some tx → ((s : ℕ) → touches c tx s ≡ true → block s ≡ [] → ⊥)
       → AwaitsBlocks (record c { step = o; certifier = mid; due = block }) tx (touched c tx)
-  due_blocks o mid block alone active begun step due = all_due (record c { step = o; certifier = mid; due = block }) tx (touched c tx) (distinct c tx k allowed) (λ s m. record {
+  due_blocks o mid block alone active begun step due =
+      all_due (record c { step = o; certifier = mid; due = block }) tx (touched c tx) (distinct c tx k allowed)
+      (λ s m. record {
     active = subst (λ xs. Contains xs tx) (sym active) (going c tx k allowed o alone).active;
     begun = subst (λ n. tx ≤ n) (sym begun) (going c tx k allowed o alone).begun;
     alone = alone;
@@ -167,21 +185,27 @@ module _ (c : CoreState) (tx : ℕ) (k : IsKept c) (allowed : IsAllowed c (Commi
     due = due s (hit c tx k allowed s m);
   })
 
-  decides_with : (o : Option OpenStep) (verdict : Reply) (e : CoreState) → GathersAll c tx (touched c tx) (record c { step = o })
+  decides_with : (o : Option OpenStep) (verdict : Reply) (e : CoreState)
+      → GathersAll c tx (touched c tx) (record c { step = o })
       → ServesAll (record c { step = o }) (Decide tx ∷ []) (verdict ∷ []) e
-      → ServesAll c (map (Gather tx) (touched c tx) ++ Decide tx ∷ []) (map (λ s. Gathered) (touched c tx) ++ verdict ∷ []) e
+      → ServesAll c (map (Gather tx) (touched c tx) ++ Decide tx ∷ [])
+          (map (λ s. Gathered) (touched c tx) ++ verdict ∷ []) e
   decides_with o verdict e h last =
-      append-all c (map (Gather tx) (touched c tx)) (Decide tx ∷ []) (map (λ s. Gathered) (touched c tx)) (verdict ∷ []) (record c { step = o }) e h.serves last
+      append-all c (map (Gather tx) (touched c tx)) (Decide tx ∷ []) (map (λ s. Gathered) (touched c tx))
+          (verdict ∷ []) (record c { step = o }) e h.serves last
 
-  decide_by : (o : Option OpenStep) → GathersAll c tx (touched c tx) (record c { step = o }) → IsAllowed (record c { step = o }) (Decide tx) → (reply : Reply) (e : CoreState)
+  decide_by : (o : Option OpenStep) → GathersAll c tx (touched c tx) (record c { step = o })
+      → IsAllowed (record c { step = o }) (Decide tx) → (reply : Reply) (e : CoreState)
       → MayStep (record c { step = o }) (Decide tx) reply e → DecidesWhole c tx (touched c tx) reply e
   decide_by o h may Yes e step =
       let v = step.1 in
       let mid : CoreState = record c { step = o } in
       let after = v.commits.after in (
         (allowed, decides_with o Yes e h (e, step, refl)),
-        subst (λ (x : CoreState). AwaitsBlocks x tx (touched c tx)) (sym v.after) (due_decided mid tx v.certifier (committed_block mid tx) (touched c tx)
-            (due_blocks o v.certifier (committed_block mid tx) h.alone (ap (λ (s : State). s.active) after) (ap (λ (s : State). s.begun) after) (ap (λ (s : State). s.step) after)
+        subst (λ (x : CoreState). AwaitsBlocks x tx (touched c tx)) (sym v.after)
+            (due_decided mid tx v.certifier (committed_block mid tx) (touched c tx)
+            (due_blocks o v.certifier (committed_block mid tx) h.alone (ap (λ (s : State). s.active) after)
+                (ap (λ (s : State). s.begun) after) (ap (λ (s : State). s.step) after)
             (λ s hit. some_block (touches c tx s) _ _ hit))),
       )
   decide_by o h may No e step =
@@ -189,24 +213,29 @@ module _ (c : CoreState) (tx : ℕ) (k : IsKept c) (allowed : IsAllowed c (Commi
       let mid : CoreState = record c { step = o } in
       let after = v.refuses.after in (
         (allowed, decides_with o No e h (e, step, refl)),
-        subst (λ (x : CoreState). AwaitsBlocks x tx (touched c tx)) (sym v.after) (due_decided mid tx v.certifier (refused_block mid tx) (touched c tx)
-            (due_blocks o v.certifier (refused_block mid tx) h.alone (ap (λ (s : State). s.active) after) (ap (λ (s : State). s.begun) after) (ap (λ (s : State). s.step) after)
+        subst (λ (x : CoreState). AwaitsBlocks x tx (touched c tx)) (sym v.after)
+            (due_decided mid tx v.certifier (refused_block mid tx) (touched c tx)
+            (due_blocks o v.certifier (refused_block mid tx) h.alone (ap (λ (s : State). s.active) after)
+                (ap (λ (s : State). s.begun) after) (ap (λ (s : State). s.step) after)
             (λ s hit. some_block (touches c tx s) _ _ hit))),
       )
   decide_by o h may (Fault fault.Memory) e step = (allowed, step.1)
   decide_by o h may (Fault f) e step = absurd (may f step.0.0)
   decide_by o h may reply e step = absurd step.1
 
-  pub decide_gives : (d : CoreState) → GathersAll c tx (touched c tx) d → (reply : Reply) (e : CoreState) → MayStep d (Decide tx) reply e → DecidesWhole c tx (touched c tx) reply e
+  pub decide_gives : (d : CoreState) → GathersAll c tx (touched c tx) d → (reply : Reply) (e : CoreState)
+      → MayStep d (Decide tx) reply e → DecidesWhole c tx (touched c tx) reply e
   decide_gives d h reply e step =
       let g = subst (GathersAll c tx (touched c tx)) h.same h in
-      decide_by d.step g (decide_may c tx k allowed d.step g) reply e (subst (λ (x : CoreState). MayStep x (Decide tx) reply e) h.same step)
+      decide_by d.step g (decide_may c tx k allowed d.step g) reply e
+          (subst (λ (x : CoreState). MayStep x (Decide tx) reply e) h.same step)
 
 -- ---- the blocks are written
 
 -- after a block is written the others are still due
 still_due : (c : CoreState) (tx s : ℕ) → IsBlockDue c tx s → (ts : List ℕ) → (Contains ts s → ⊥) → AwaitsBlocks c tx ts
-    → AwaitsBlocks (record (with_entries c (only_at s (c.due s))) { certifier = noted c tx s; due = changed_at s [] c.due }) tx ts
+    → AwaitsBlocks (record (with_entries c (only_at s (c.due s))) { certifier = noted c tx s; due =
+        changed_at s [] c.due }) tx ts
 still_due c tx s h [] out all = tt
 still_due c tx s h (t ∷ ts) out all =
     let a = all.0 in (
@@ -217,57 +246,73 @@ still_due c tx s h (t ∷ ts) out all =
         decided = noted-step c tx s ∙ a.decided;
         inside = a.inside;
         touched = still_touched c tx t (only_at s (c.due s) t) a.touched;
-        due = λ e. a.due (sym (cleared_there s c.due t (λ is. out (subst (Contains (t ∷ ts)) is (cons_here t ts)))) ∙ e);
+        due = λ e. a.due (sym (cleared_there s c.due t (λ is. out (subst (Contains (t ∷ ts)) is (cons_here t ts))))
+            ∙ e);
       },
       (all.1.0, still_due c tx s h ts (λ m. out (contains-later t ts s m)) all.1.1),
     )
 
-awaits_rest : (c : CoreState) (tx s : ℕ) → IsBlockDue c tx s → (ts : List ℕ) → (Contains ts s → ⊥) → AwaitsBlocks c tx ts → AwaitsBlocks (installed c tx s) tx ts
+awaits_rest : (c : CoreState) (tx s : ℕ) → IsBlockDue c tx s → (ts : List ℕ) → (Contains ts s → ⊥)
+    → AwaitsBlocks c tx ts → AwaitsBlocks (installed c tx s) tx ts
 awaits_rest c tx s h [] out all = tt
 awaits_rest c tx s h (t ∷ ts) out all =
-    let mid : CoreState = record (with_entries c (only_at s (c.due s))) { certifier = noted c tx s; due = changed_at s [] c.due } in
+    let mid : CoreState = record (with_entries c (only_at s (c.due s))) { certifier = noted c tx s; due =
+        changed_at s [] c.due } in
     let rest = still_due c tx s h (t ∷ ts) out all in
     subst (λ (x : CoreState). AwaitsBlocks x tx (t ∷ ts)) (sym (stays_open mid tx t rest.0.inside rest.0.due)) rest
 
-write_by : (c : CoreState) (tx s : ℕ) → IsAllowed c (Write tx s) → (reply : Reply) (e : CoreState) → MayStep c (Write tx s) reply e → e ≡ installed c tx s
+write_by : (c : CoreState) (tx s : ℕ) → IsAllowed c (Write tx s) → (reply : Reply) (e : CoreState)
+    → MayStep c (Write tx s) reply e → e ≡ installed c tx s
 write_by c tx s may Installed e step = step.1
 write_by c tx s may (Fault fault.Memory) e step = absurd step.1
 write_by c tx s may (Fault f) e step = absurd (may f step.0.0)
 write_by c tx s may reply e step = absurd step.1
 
 -- one more block is written
-pub install_gives : (c d : CoreState) (tx : ℕ) (done : List ℕ) (s : ℕ) (rest : List ℕ) → InstallsAll c tx done d → AwaitsBlocks d tx (s ∷ rest)
-    → (reply : Reply) (e : CoreState) → MayStep d (Write tx s) reply e → InstallsAll c tx (done ++ s ∷ []) e × AwaitsBlocks e tx rest
+pub install_gives : (c d : CoreState) (tx : ℕ) (done : List ℕ) (s : ℕ) (rest : List ℕ) → InstallsAll c tx done d
+    → AwaitsBlocks d tx (s ∷ rest)
+    → (reply : Reply) (e : CoreState) → MayStep d (Write tx s) reply e → InstallsAll c tx (done ++ s ∷ []) e
+        × AwaitsBlocks e tx rest
 install_gives c d tx done s rest h all reply e step =
     let a = all.0 in
-    let may = write_allowed d tx s (record { active = a.active; begun = a.begun; alone = a.alone }) a.decided (record { inside = a.inside; touched = a.touched; due = a.due }) in
+    let may = write_allowed d tx s (record { active = a.active; begun = a.begun; alone = a.alone }) a.decided
+        (record { inside = a.inside; touched = a.touched; due = a.due }) in
     let is : e ≡ installed d tx s = write_by d tx s may reply e step in (
-      subst (λ (es : List Event). ServesAll c es (map (λ t. Installed) (done ++ s ∷ [])) e) (sym (map-push (Write tx) done s))
-          (subst (λ (rs : List Reply). ServesAll c (map (Write tx) done ++ Write tx s ∷ []) rs e) (sym (map-push (λ (t : ℕ). Installed) done s))
-          (append-all c (map (Write tx) done) (Write tx s ∷ []) (map (λ t. Installed) done) (Installed ∷ []) d e h (e, (may, is), refl))),
+      subst (λ (es : List Event). ServesAll c es (map (λ t. Installed) (done ++ s ∷ [])) e)
+          (sym (map-push (Write tx) done s))
+          (subst (λ (rs : List Reply). ServesAll c (map (Write tx) done ++ Write tx s ∷ []) rs e)
+              (sym (map-push (λ (t : ℕ). Installed) done s))
+          (append-all c (map (Write tx) done) (Write tx s ∷ []) (map (λ t. Installed) done) (Installed ∷ []) d e h (e,
+              (may, is), refl))),
       subst (λ (x : CoreState). AwaitsBlocks x tx rest) (sym is) (awaits_rest d tx s a rest all.1.0 all.1.1),
     )
 
 -- ---- the whole commit
 
 -- a whole commit after whose decision the blocks were written
-pub commits_by : (c mid new : CoreState) (tx : ℕ) (verdict : Reply) → ((f : CoreFault) → verdict ≡ Fault f → ⊥) → DecidesWhole c tx (touched c tx) verdict mid
+pub commits_by : (c mid new : CoreState) (tx : ℕ) (verdict : Reply) → ((f : CoreFault) → verdict ≡ Fault f → ⊥)
+    → DecidesWhole c tx (touched c tx) verdict mid
     → InstallsAll mid tx (touched c tx) new → MayStep c (Commit tx) verdict new
 commits_by c mid new tx (Fault f) out h all = absurd (out f refl)
 commits_by c mid new tx verdict out h all =
     let sites = touched c tx in (
       h.0.0,
-      subst (λ (es : List Event). ServesAll c es (map (λ s. Gathered) sites ++ verdict ∷ map (λ s. Installed) sites) new) (append_assoc (map (Gather tx) sites) (Decide tx ∷ []) (map (Write tx) sites))
-          (subst (λ (rs : List Reply). ServesAll c ((map (Gather tx) sites ++ Decide tx ∷ []) ++ map (Write tx) sites) rs new) (append_assoc (map (λ s. Gathered) sites) (verdict ∷ []) (map (λ s. Installed) sites))
-          (append-all c (map (Gather tx) sites ++ Decide tx ∷ []) (map (Write tx) sites) (map (λ s. Gathered) sites ++ verdict ∷ []) (map (λ s. Installed) sites) mid new h.0.1 all)),
+      subst (λ (es : List Event). ServesAll c es (map (λ s. Gathered) sites ++ verdict ∷ map (λ s. Installed) sites)
+          new) (append_assoc (map (Gather tx) sites) (Decide tx ∷ []) (map (Write tx) sites))
+          (subst (λ (rs : List Reply). ServesAll c ((map (Gather tx) sites ++ Decide tx ∷ []) ++ map (Write tx) sites)
+              rs new) (append_assoc (map (λ s. Gathered) sites) (verdict ∷ []) (map (λ s. Installed) sites))
+          (append-all c (map (Gather tx) sites ++ Decide tx ∷ []) (map (Write tx) sites)
+              (map (λ s. Gathered) sites ++ verdict ∷ []) (map (λ s. Installed) sites) mid new h.0.1 all)),
     )
 
 -- the blocks that are due after a verdict
-pub awaits_after : (c mid : CoreState) (tx : ℕ) (sites : List ℕ) (verdict : Reply) → ((f : CoreFault) → verdict ≡ Fault f → ⊥) → DecidesWhole c tx sites verdict mid → AwaitsBlocks mid tx sites
+pub awaits_after : (c mid : CoreState) (tx : ℕ) (sites : List ℕ) (verdict : Reply)
+    → ((f : CoreFault) → verdict ≡ Fault f → ⊥) → DecidesWhole c tx sites verdict mid → AwaitsBlocks mid tx sites
 awaits_after c mid tx sites (Fault f) out h = absurd (out f refl)
 awaits_after c mid tx sites verdict out h = h.1
 
 -- a decision as a whole, whatever the reply
-pub decision_of : (c mid : CoreState) (tx : ℕ) (sites : List ℕ) (reply : Reply) → DecidesWhole c tx sites reply mid → MayDecide c tx reply mid
+pub decision_of : (c mid : CoreState) (tx : ℕ) (sites : List ℕ) (reply : Reply) → DecidesWhole c tx sites reply mid
+    → MayDecide c tx reply mid
 decision_of c mid tx sites (Fault f) h = h
 decision_of c mid tx sites reply h = h.0

@@ -21,13 +21,16 @@ AreWhole m tx sites = (c : CoreState) → StandsFor m c → IsWhole c tx sites
 
 -- ---- gathers
 
-pub gathering_none : (m : Parts) (tx : ℕ) (sites : List ℕ) → AreWhole m tx sites → GoesOn (λ c d. GathersAll c tx [] d) m m
+pub gathering_none : (m : Parts) (tx : ℕ) (sites : List ℕ) → AreWhole m tx sites
+    → GoesOn (λ c d. GathersAll c tx [] d) m m
 gathering_none m tx sites whole c s = (c, gathers_none c tx (reached_kept c s.reached) (whole c s).allowed, s)
 
 module _ (first mid last : Parts) (tx : ℕ) (sites : List ℕ) (whole : AreWhole first tx sites) where
-  module _ (i s : ℕ) (at : slice_get sites i ≡ Some s) (reply : Reply) (run : GoesOn (λ c d. GathersAll c tx (take i sites) d) first mid)
+  module _ (i s : ℕ) (at : slice_get sites i ≡ Some s) (reply : Reply)
+      (run : GoesOn (λ c d. GathersAll c tx (take i sites) d) first mid)
       (go : GoesOn (λ c d. MayStep c (Gather tx s) reply d) mid last) where
-    gives : (c : CoreState) → StandsFor first c → (e : CoreState) × GatherGives c tx (take i sites) s reply e × StandsFor last e
+    gives : (c : CoreState) → StandsFor first c → (e : CoreState) × GatherGives c tx (take i sites) s reply e
+        × StandsFor last e
     gives c st =
         let a = run c st in
         let b = go a.0 a.2 in
@@ -41,20 +44,23 @@ module _ (first mid last : Parts) (tx : ℕ) (sites : List ℕ) (whole : AreWhol
     gathering_on is c st =
         let r = gives c st in (
           r.0,
-          subst (λ xs. GathersAll c tx xs r.0) (sym (take_next sites i s at)) (subst (λ q. GatherGives c tx (take i sites) s q r.0) is r.1),
+          subst (λ xs. GathersAll c tx xs r.0) (sym (take_next sites i s at))
+              (subst (λ q. GatherGives c tx (take i sites) s q r.0) is r.1),
           r.2,
         )
 
     pub gathering_stops : (reply ≡ Gathered → ⊥) → GoesOn (λ c d. d ≡ record c { step = None }) first last
     gathering_stops out c st = let r = gives c st in (r.0, by_reply c r.0 reply out r.1, r.2)
       where
-        by_reply : (c e : CoreState) (q : Reply) → (q ≡ Gathered → ⊥) → GatherGives c tx (take i sites) s q e → e ≡ record c { step = None }
+        by_reply : (c e : CoreState) (q : Reply) → (q ≡ Gathered → ⊥) → GatherGives c tx (take i sites) s q e
+            → e ≡ record c { step = None }
         by_reply c e Gathered out h = absurd (out refl)
         by_reply c e q out h = h
 
   -- ---- the decision
 
-  pub deciding : (reply : Reply) → GoesOn (λ c d. GathersAll c tx sites d) first mid → GoesOn (λ c d. MayStep c (Decide tx) reply d) mid last
+  pub deciding : (reply : Reply) → GoesOn (λ c d. GathersAll c tx sites d) first mid
+      → GoesOn (λ c d. MayStep c (Decide tx) reply d) mid last
       → GoesOn (λ c d. DecidesWhole c tx sites reply d) first last
   deciding reply run go c st =
       let a = run c st in
@@ -62,29 +68,36 @@ module _ (first mid last : Parts) (tx : ℕ) (sites : List ℕ) (whole : AreWhol
       let w = whole c st in (
         b.0,
         subst (λ xs. DecidesWhole c tx xs reply b.0) (sym w.all)
-            (decide_gives c tx (reached_kept c st.reached) w.allowed a.0 (subst (λ xs. GathersAll c tx xs a.0) w.all a.1) reply b.0 b.1),
+            (decide_gives c tx (reached_kept c st.reached) w.allowed a.0
+                (subst (λ xs. GathersAll c tx xs a.0) w.all a.1) reply b.0 b.1),
         b.2,
       )
 
-  pub deciding_stops : (reply : Reply) → reply ≡ Fault fault.Memory → GoesOn (λ c d. d ≡ record c { step = None }) first last → GoesOn (λ c d. DecidesWhole c tx sites reply d) first last
+  pub deciding_stops : (reply : Reply) → reply ≡ Fault fault.Memory
+      → GoesOn (λ c d. d ≡ record c { step = None }) first last
+      → GoesOn (λ c d. DecidesWhole c tx sites reply d) first last
   deciding_stops reply is stop c st =
       let a = stop c st in
       (a.0, subst (λ q. DecidesWhole c tx sites q a.0) (sym is) ((whole c st).allowed, a.1), a.2)
 
   -- ---- the whole
 
-  pub committing : (verdict : Reply) → ((f : CoreFault) → verdict ≡ Fault f → ⊥) → GoesOn (λ c d. DecidesWhole c tx sites verdict d) first mid
-      → ((c : CoreState) → StandsFor mid c → AwaitsBlocks c tx sites → (d : CoreState) × InstallsAll c tx sites d × StandsFor last d) → GoesOn (λ c d. MayStep c (Commit tx) verdict d) first last
+  pub committing : (verdict : Reply) → ((f : CoreFault) → verdict ≡ Fault f → ⊥)
+      → GoesOn (λ c d. DecidesWhole c tx sites verdict d) first mid
+      → ((c : CoreState) → StandsFor mid c → AwaitsBlocks c tx sites → (d : CoreState) × InstallsAll c tx sites d
+          × StandsFor last d) → GoesOn (λ c d. MayStep c (Commit tx) verdict d) first last
   committing verdict out run go c st =
       let a = run c st in
       let w = whole c st in
       let b = go a.0 a.2 (awaits_after c a.0 tx sites verdict out a.1) in (
         b.0,
-        commits_by c a.0 b.0 tx verdict out (subst (λ xs. DecidesWhole c tx xs verdict a.0) w.all a.1) (subst (λ xs. InstallsAll a.0 tx xs b.0) w.all b.1),
+        commits_by c a.0 b.0 tx verdict out (subst (λ xs. DecidesWhole c tx xs verdict a.0) w.all a.1)
+            (subst (λ xs. InstallsAll a.0 tx xs b.0) w.all b.1),
         b.2,
       )
 
-pub committing_stops : (first last : Parts) (tx : ℕ) (sites : List ℕ) (f : CoreFault) (reply : Reply) → reply ≡ Fault f → GoesOn (λ c d. DecidesWhole c tx sites (Fault f) d) first last
+pub committing_stops : (first last : Parts) (tx : ℕ) (sites : List ℕ) (f : CoreFault) (reply : Reply)
+    → reply ≡ Fault f → GoesOn (λ c d. DecidesWhole c tx sites (Fault f) d) first last
     → GoesOn (λ c d. MayStep c (Commit tx) reply d) first last
 committing_stops first last tx sites f reply is run c st =
     let a = run c st in
@@ -94,13 +107,18 @@ committing_stops first last tx sites f reply is run c st =
     by_fault c e fault.Memory h = h
     by_fault c e f h = h
 
-pub commit_refused : (m : Parts) (tx : ℕ) (f : CoreFault) (reply : Reply) → reply ≡ Fault f → ((c : CoreState) → StandsFor m c → RefusesWhole c tx f) → GoesOn (λ c d. MayStep c (Commit tx) reply d) m m
-commit_refused m tx f reply is h c st = (c, subst (λ q. MayStep c (Commit tx) q c) (sym is) (whole_commit c tx f (h c st)), st)
+pub commit_refused : (m : Parts) (tx : ℕ) (f : CoreFault) (reply : Reply) → reply ≡ Fault f
+    → ((c : CoreState) → StandsFor m c → RefusesWhole c tx f) → GoesOn (λ c d. MayStep c (Commit tx) reply d) m m
+commit_refused m tx f reply is h c st =
+    (c, subst (λ q. MayStep c (Commit tx) q c) (sym is) (whole_commit c tx f (h c st)), st)
 
-pub decision_refused : (m : Parts) (tx : ℕ) (f : CoreFault) (reply : Reply) → reply ≡ Fault f → ((c : CoreState) → StandsFor m c → RefusesWhole c tx f) → GoesOn (λ c d. MayDecide c tx reply d) m m
-decision_refused m tx f reply is h c st = (c, subst (λ q. MayDecide c tx q c) (sym is) (whole_decision c tx f (h c st)), st)
+pub decision_refused : (m : Parts) (tx : ℕ) (f : CoreFault) (reply : Reply) → reply ≡ Fault f
+    → ((c : CoreState) → StandsFor m c → RefusesWhole c tx f) → GoesOn (λ c d. MayDecide c tx reply d) m m
+decision_refused m tx f reply is h c st =
+    (c, subst (λ q. MayDecide c tx q c) (sym is) (whole_decision c tx f (h c st)), st)
 
-pub decision_made : (first last : Parts) (tx : ℕ) (sites : List ℕ) (reply : Reply) → GoesOn (λ c d. DecidesWhole c tx sites reply d) first last → GoesOn (λ c d. MayDecide c tx reply d) first last
+pub decision_made : (first last : Parts) (tx : ℕ) (sites : List ℕ) (reply : Reply)
+    → GoesOn (λ c d. DecidesWhole c tx sites reply d) first last → GoesOn (λ c d. MayDecide c tx reply d) first last
 decision_made first last tx sites reply run c st = let a = run c st in (a.0, decision_of c a.0 tx sites reply a.1, a.2)
 
 -- ---- installs
@@ -113,7 +131,8 @@ AreInstalling first last tx sites i = (c : CoreState) → StandsFor first c → 
 pub installing_none : (m : Parts) (tx : ℕ) (sites : List ℕ) → AreInstalling m m tx sites 0
 installing_none m tx sites c st all = (c, refl, all, st)
 
-pub installing_on : (first mid last : Parts) (tx : ℕ) (sites : List ℕ) (i s : ℕ) → slice_get sites i ≡ Some s → (reply : Reply) → AreInstalling first mid tx sites i
+pub installing_on : (first mid last : Parts) (tx : ℕ) (sites : List ℕ) (i s : ℕ) → slice_get sites i ≡ Some s
+    → (reply : Reply) → AreInstalling first mid tx sites i
     → GoesOn (λ c d. MayStep c (Write tx s) reply d) mid last → AreInstalling first last tx sites (i + 1)
 installing_on first mid last tx sites i s at reply run go c st all =
     let a = run c st all in

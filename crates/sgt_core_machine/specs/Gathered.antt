@@ -16,7 +16,8 @@ use Rattle.sgt_core_machine.specs.declared.machine.Phase.TheVariants.{Gathering}
 
 -- the edges are given of the transaction at this place of the table, and stand for all of its edges
 -- at the site; no two are the same
-pub record AreGiven (places : List Place) (table : List (Option Running)) (site slot : ℕ) (edges : List Edge) : Type 0 where
+pub record AreGiven (places : List Place) (table : List (Option Running)) (site slot : ℕ) (edges : List Edge) : Type 0
+    where
   pub place : Place
   pub running : Running
   pub there : slice_get places site ≡ Some place

@@ -84,7 +84,8 @@ refused_form i walk = record {
 }
 
 module _ (i : ℕ) (r : Ruling) (make : Name → Change → Entry) (last : Entry) (form : IsForm i r make last) where
-  form-block : (items : List Holding) (cs : List (Name × Change)) → ((d : Name × Change) → Contains cs d → Contains (names items) d.0)
+  form-block : (items : List Holding) (cs : List (Name × Change))
+      → ((d : Name × Change) → Contains cs d → Contains (names items) d.0)
       → AllPairs AreApart cs → IsBlock items i r (map (λ (d : Name × Change). make d.0 d.1) cs) last
   form-block items cs known once = record {
     own = λ e c. let m = of_change make cs e c in ap tx_of (sym m.2) ∙ form.own m.0.0 m.0.1;
@@ -97,7 +98,8 @@ module _ (i : ℕ) (r : Ruling) (make : Name → Change → Entry) (last : Entry
         let g = map_at (λ (d : Name × Change). make d.0 d.1) cs p e at_e in
         let h = map_at (λ (d : Name × Change). make d.0 d.1) cs q f at_f in
         AllPairs_at AreApart cs p q g.0 h.0 once lt g.1 h.1
-        (form.writes g.0.0 g.0.1 x (subst (Writes x) (sym g.2) we) ∙ sym (form.writes h.0.0 h.0.1 x (subst (Writes x) (sym h.2) wf))));
+        (form.writes g.0.0 g.0.1 x (subst (Writes x) (sym g.2) we)
+            ∙ sym (form.writes h.0.0 h.0.1 x (subst (Writes x) (sym h.2) wf))));
     last_own = form.last_own;
     last_end = form.last_end;
     last_suits = form.last_suits;
@@ -110,10 +112,14 @@ module _ (i : ℕ) (r : Ruling) (make : Name → Change → Entry) (last : Entry
   no_open _ h k = h
 
   form-blocks : (cs : List (Name × Change)) → AreBlocks (map (λ (d : Name × Change). make d.0 d.1) cs ++ last ∷ [])
-  form-blocks [] zero e at_n opens = absurd (no_open last form.last_end (subst IsOpen (sym (same_Some last e at_n)) opens))
+  form-blocks [] zero e at_n opens =
+      absurd (no_open last form.last_end (subst IsOpen (sym (same_Some last e at_n)) opens))
   form-blocks [] (suc n) e at_n opens = absurd cc
-  form-blocks (d ∷ []) zero e at_n opens = (last, refl, subst (λ f. Continues f last) (same_Some (make d.0 d.1) e at_n) (form.ends d.0 d.1))
-  form-blocks (d ∷ g ∷ gs) zero e at_n opens = (make g.0 g.1, refl, subst (λ f. Continues f (make g.0 g.1)) (same_Some (make d.0 d.1) e at_n) (form.next d.0 g.0 d.1 g.1))
+  form-blocks (d ∷ []) zero e at_n opens =
+      (last, refl, subst (λ f. Continues f last) (same_Some (make d.0 d.1) e at_n) (form.ends d.0 d.1))
+  form-blocks (d ∷ g ∷ gs) zero e at_n opens =
+      (make g.0 g.1, refl, subst (λ f. Continues f (make g.0 g.1)) (same_Some (make d.0 d.1) e at_n)
+      (form.next d.0 g.0 d.1 g.1))
   form-blocks (d ∷ ds) (suc n) e at_n opens = form-blocks ds n e at_n opens
 
 pub blocks-nil : AreBlocks []
@@ -121,19 +127,25 @@ blocks-nil n e at_n opens = absurd cc
 
 -- ---- the three kinds
 
-pub committed-block : (items : List Holding) (i : ℕ) (cs : List (Name × Change)) → ((d : Name × Change) → Contains cs d → Contains (names items) d.0)
-    → AllPairs AreApart cs → IsBlock items i (committed i) (map (λ (d : Name × Change). change_entry i d.0 d.1) cs) (entry.Commit i)
-committed-block items i cs known once = form-block i (committed i) (change_entry i) (entry.Commit i) (committed_form i) items cs known once
+pub committed-block : (items : List Holding) (i : ℕ) (cs : List (Name × Change))
+    → ((d : Name × Change) → Contains cs d → Contains (names items) d.0)
+    → AllPairs AreApart cs
+        → IsBlock items i (committed i) (map (λ (d : Name × Change). change_entry i d.0 d.1) cs) (entry.Commit i)
+committed-block items i cs known once =
+    form-block i (committed i) (change_entry i) (entry.Commit i) (committed_form i) items cs known once
 
-pub committed-blocks : (i : ℕ) (cs : List (Name × Change)) → AreBlocks (map (λ (d : Name × Change). change_entry i d.0 d.1) cs ++ entry.Commit i ∷ [])
+pub committed-blocks : (i : ℕ) (cs : List (Name × Change))
+    → AreBlocks (map (λ (d : Name × Change). change_entry i d.0 d.1) cs ++ entry.Commit i ∷ [])
 committed-blocks i cs = form-blocks i (committed i) (change_entry i) (entry.Commit i) (committed_form i) cs
 
 pub refused-block : (items : List Holding) (i : ℕ) (walk : List Step) (cs : List (Name × Change))
     → ((d : Name × Change) → Contains cs d → Contains (names items) d.0) → AllPairs AreApart cs
     → IsBlock items i (refused i walk) (map (λ (d : Name × Change). want_entry i d.0 d.1) cs) (entry.Refuse i)
-refused-block items i walk cs known once = form-block i (refused i walk) (want_entry i) (entry.Refuse i) (refused_form i walk) items cs known once
+refused-block items i walk cs known once =
+    form-block i (refused i walk) (want_entry i) (entry.Refuse i) (refused_form i walk) items cs known once
 
-pub refused-blocks : (i : ℕ) (walk : List Step) (cs : List (Name × Change)) → AreBlocks (map (λ (d : Name × Change). want_entry i d.0 d.1) cs ++ entry.Refuse i ∷ [])
+pub refused-blocks : (i : ℕ) (walk : List Step) (cs : List (Name × Change))
+    → AreBlocks (map (λ (d : Name × Change). want_entry i d.0 d.1) cs ++ entry.Refuse i ∷ [])
 refused-blocks i walk cs = form-blocks i (refused i walk) (want_entry i) (entry.Refuse i) (refused_form i walk) cs
 
 pub withdrawn-block : (items : List Holding) (i : ℕ) → IsBlock items i (withdrawn i) [] (entry.Withdraw i)
@@ -152,17 +164,20 @@ pub withdrawn-blocks : (i : ℕ) → AreBlocks (entry.Withdraw i ∷ [])
 withdrawn-blocks i zero e at_n opens = absurd (subst IsOpen (sym (same_Some (entry.Withdraw i) e at_n)) opens)
 withdrawn-blocks i (suc n) e at_n opens = absurd cc
 
-pub either_blocks : (ops : List Entry) (last : Entry) → AreBlocks (ops ++ last ∷ []) → (b : Bool) → AreBlocks (block_of b ops last)
+pub either_blocks : (ops : List Entry) (last : Entry) → AreBlocks (ops ++ last ∷ []) → (b : Bool)
+    → AreBlocks (block_of b ops last)
 either_blocks ops last h true = h
 either_blocks ops last h false = blocks-nil
 
 -- a block has no reads
-pub block_reads : (items : List Holding) (i : ℕ) (r : Ruling) (ops : List Entry) (last : Entry) → IsBlock items i r ops last
+pub block_reads : (items : List Holding) (i : ℕ) (r : Ruling) (ops : List Entry) (last : Entry)
+    → IsBlock items i r ops last
     → (t : Bool) (e : Entry) → Contains (block_of t ops last) e → IsRead e → ⊥
 block_reads items i r ops last b false e c k = contains-none e c
 block_reads items i r ops last b true e c k = elim (Contains-append_cases ops (last ∷ []) e c) [
   | inl op ↦ open_read e (b.opens e op) k
-  | inr end ↦ elim (contains-cases last [] e end) [ inl is ↦ end_read e (subst IsEnd is b.last_end) k | inr none ↦ absurd (contains-none e none) ]
+  | inr end ↦ elim (contains-cases last [] e end) [ inl is ↦ end_read e (subst IsEnd is b.last_end) k
+      | inr none ↦ absurd (contains-none e none) ]
 ]
   where
     open_read : (e : Entry) → IsOpen e → IsRead e → ⊥

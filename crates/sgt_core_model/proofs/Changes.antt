@@ -43,7 +43,8 @@ not_back x y e f =
     let same : Less ≡ Equal = sym loop ∙ tied_itself nat_list_cmp_total x in
     absurd cc
 
-put_in_member : (d : Name × Change) (cs : List (Name × Change)) (g : Name × Change) → Contains (put_in d cs) g → (d ≡ g) ⊎ Contains cs g
+put_in_member : (d : Name × Change) (cs : List (Name × Change)) (g : Name × Change) → Contains (put_in d cs) g
+    → (d ≡ g) ⊎ Contains cs g
 put_in_member d cs g c =
     let front = filter (λ (f : Name × Change). comes_before f.0 d.0) cs in
     let back = filter (λ (f : Name × Change). comes_before d.0 f.0) cs in
@@ -60,12 +61,15 @@ put_in_apart d cs once =
     let before = λ (f : Name × Change). comes_before f.0 d.0 in
     let behind = λ (f : Name × Change). comes_before d.0 f.0 in
     pairs_insert AreApart (filter before cs) (filter behind cs) d
-    (AllPairs-append AreApart (filter before cs) (filter behind cs) (AllPairs-filter AreApart before cs once) (AllPairs-filter AreApart behind cs once) (λ a b ca cb same.
-    not_back a.0 d.0 (filter_member before cs a ca).1 (subst (λ x. comes_before d.0 x ≡ true) (sym same) (filter_member behind cs b cb).1)))
+    (AllPairs-append AreApart (filter before cs) (filter behind cs) (AllPairs-filter AreApart before cs once)
+        (AllPairs-filter AreApart behind cs once) (λ a b ca cb same.
+    not_back a.0 d.0 (filter_member before cs a ca).1
+        (subst (λ x. comes_before d.0 x ≡ true) (sym same) (filter_member behind cs b cb).1)))
     (λ a ca same. not_itself a.0 (subst (λ x. comes_before a.0 x ≡ true) (sym same) (filter_member before cs a ca).1))
     (λ b cb same. not_itself b.0 (subst (λ x. comes_before x b.0 ≡ true) same (filter_member behind cs b cb).1))
 
-changed_twice : (Q : List (Name × Change) → Type 0) (tx s : ℕ) (P : List (Name × Change)) (w : ℕ → ℕ → List (Name × Change)) (u t : ℕ) → (t ≡ s → Q P)
+changed_twice : (Q : List (Name × Change) → Type 0) (tx s : ℕ) (P : List (Name × Change)) (w : ℕ → ℕ
+    → List (Name × Change)) (u t : ℕ) → (t ≡ s → Q P)
     → Q (w u t) → Q (changed_at tx (changed_at s P (w tx)) w u t)
 changed_twice Q tx s P w u t here there =
     elim (cases_eq u tx) [
@@ -76,11 +80,14 @@ changed_twice Q tx s P w u t here there =
       | inr other ↦ rw (ne_eqb u tx other) there
     ]
 
-pub change-legal : (c : CoreState) (tx s : ℕ) (x : Name) (change : Change) → IsLegal c → Contains (names (items_at c s)) x → IsLegal (with_change c tx s x change)
+pub change-legal : (c : CoreState) (tx s : ℕ) (x : Name) (change : Change) → IsLegal c
+    → Contains (names (items_at c s)) x → IsLegal (with_change c tx s x change)
 change-legal c tx s x change l known = record {
   sites = l.sites;
-  changes_known = λ u t g. changed_twice (λ cs. Contains cs g → Contains (names (items_at c t)) g.0) tx s (put_in (x, change) (c.changes tx s)) c.changes u t
-      (λ at m. subst (λ n. Contains (names (items_at c n)) g.0) (sym at) (elim (put_in_member (x, change) (c.changes tx s) g m) [
+  changes_known = λ u t g. changed_twice (λ cs. Contains cs g → Contains (names (items_at c t)) g.0) tx s
+      (put_in (x, change) (c.changes tx s)) c.changes u t
+      (λ at m. subst (λ n. Contains (names (items_at c n)) g.0) (sym at)
+          (elim (put_in_member (x, change) (c.changes tx s) g m) [
         | inl is ↦ subst (λ (k : Name × Change). Contains (names (items_at c s)) k.0) is known
         | inr was ↦ l.changes_known tx s g was
       ]))
@@ -113,12 +120,16 @@ none_found f (x ∷ xs) h e c =
         | inl is ↦ subst (λ z. f z ≡ None) is none
         | inr later ↦ none_found f xs (subst (λ o. cons_option o (filter_map f xs) ≡ []) none h) e later
       ]
-      | inr some ↦ absurd (let g : cons_option (Some some.0) (filter_map f xs) ≡ [] = subst (λ o. cons_option o (filter_map f xs) ≡ []) some.1 h in cc)
+      | inr some ↦ absurd (let g : cons_option (Some some.0) (filter_map f xs) ≡ [] =
+          subst (λ o. cons_option o (filter_map f xs) ≡ []) some.1 h in cc)
     ]
 
-pub unread : (c : CoreState) (tx s : ℕ) (x : Name) → look c tx s x ≡ None → (e : Entry) → Contains (c.entries s) e → tx_of e ≡ tx → Reads x e → ⊥
+pub unread : (c : CoreState) (tx s : ℕ) (x : Name) → look c tx s x ≡ None → (e : Entry) → Contains (c.entries s) e
+    → tx_of e ≡ tx → Reads x e → ⊥
 unread c tx s x none e m own k =
-    let empty = first_none (filter_map (read_of tx x) (c.entries s)) (unchanged_none (seen c tx s x) (change_in (c.changes tx s) x) none) in
+    let empty =
+        first_none (filter_map (read_of tx x) (c.entries s))
+        (unchanged_none (seen c tx s x) (change_in (c.changes tx s) x) none) in
     let found = read_found tx x e own k in
     let f : Some found.0 ≡ None = sym found.1 ∙ none_found (read_of tx x) (c.entries s) empty e m in
     absurd cc

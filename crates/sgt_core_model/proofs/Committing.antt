@@ -25,9 +25,11 @@ use Rattle.sgt_names.proofs.Elements.{contains-cases, contains-later, contains-n
 
 -- ---- lists
 
-pub append-all : (a : CoreState) (xs ys : List Event) (rs qs : List Reply) (b c : CoreState) → ServesAll a xs rs b → ServesAll b ys qs c → ServesAll a (xs ++ ys) (rs ++ qs) c
+pub append-all : (a : CoreState) (xs ys : List Event) (rs qs : List Reply) (b c : CoreState) → ServesAll a xs rs b
+    → ServesAll b ys qs c → ServesAll a (xs ++ ys) (rs ++ qs) c
 append-all a [] ys [] qs b c first second = subst (λ s. ServesAll s ys qs c) first second
-append-all a (x ∷ xs) ys (r ∷ rs) qs b c first second = (first.0, first.1, append-all first.0 xs ys rs qs b c first.2 second)
+append-all a (x ∷ xs) ys (r ∷ rs) qs b c first second =
+    (first.0, first.1, append-all first.0 xs ys rs qs b c first.2 second)
 append-all a [] ys (r ∷ rs) qs b c first second = absurd first
 append-all a (x ∷ xs) ys [] qs b c first second = absurd first
 
@@ -101,8 +103,10 @@ pub record AreGathered (c : CoreState) (tx : ℕ) (sites : List ℕ) : Type 0 wh
   pub gathered : (s : ℕ) → Contains sites s → IsGathered (record c { step = step }) tx s
   pub kept : (s : ℕ) → IsGathered c tx s → IsGathered (record c { step = step }) tx s
 
-unfoldable pub gather_all : (c : CoreState) (tx : ℕ) (sites : List ℕ) → IsGoing c tx → AreDistinct sites → ((s : ℕ) → Contains sites s → IsToGather c tx s) → AreGathered c tx sites
-gather_all c tx [] g d each = record { step = c.step; serves = refl; alone = g.alone; gathered = λ s m. absurd (contains-none s m); kept = λ s h. h }
+unfoldable pub gather_all : (c : CoreState) (tx : ℕ) (sites : List ℕ) → IsGoing c tx → AreDistinct sites
+    → ((s : ℕ) → Contains sites s → IsToGather c tx s) → AreGathered c tx sites
+gather_all c tx [] g d each = record { step = c.step; serves = refl; alone = g.alone; gathered =
+    λ s m. absurd (contains-none s m); kept = λ s h. h }
 gather_all c tx (s ∷ ss) g d each =
     let mid : CoreState = record c { step = Some (record { tx = tx; gathered = s ∷ gathered_in c.step }) } in
     let going : IsGoing mid tx = record { active = g.active; begun = g.begun; alone = λ n. n refl } in
@@ -135,7 +139,8 @@ pub record IsToWrite (c : CoreState) (tx s : ℕ) : Type 0 where
   pub touched : touches c tx s ≡ true
   pub due : c.due s ≡ [] → ⊥
 
-pub write_allowed : (c : CoreState) (tx s : ℕ) → IsGoing c tx → c.certifier.step ≡ Some tx → IsToWrite c tx s → IsAllowed c (Write tx s)
+pub write_allowed : (c : CoreState) (tx s : ℕ) → IsGoing c tx → c.certifier.step ≡ Some tx → IsToWrite c tx s
+    → IsAllowed c (Write tx s)
 write_allowed c tx s g own t fault.Unknown h = unknown c tx h.0 g h.1 h.2
 write_allowed c tx s g own t fault.Ended h = ended c tx h.0 g h.1 h.2.1
 write_allowed c tx s g own t fault.StepOpen h = g.alone h
@@ -149,7 +154,8 @@ write_allowed c tx s g own t _ h = h
 pub stays_open : (c : CoreState) (tx s : ℕ) → s < length c.items → (c.due s ≡ [] → ⊥) → closed_if_written c tx ≡ c
 stays_open c tx s inside due =
     elim (cases_Bool (is_written c)) [
-      | inl done ↦ absurd (due (empty_is (c.due s) (all_pass (λ n. is_empty (c.due n)) (sites_of c) s done (is_site c s inside))))
+      | inl done ↦ absurd
+          (due (empty_is (c.due s) (all_pass (λ n. is_empty (c.due n)) (sites_of c) s done (is_site c s inside))))
       | inr left ↦ rw left refl
     ]
 
@@ -163,24 +169,32 @@ pub still_touched : (c : CoreState) (tx s : ℕ) (more : List Entry) → touches
     → (list_any (λ e. tx_of e == tx) (c.entries s ++ more) || is_some_change (c.changes tx s)) ≡ true
 still_touched c tx s more hit =
     elim (cases_Bool (list_any (λ e. tx_of e == tx) (c.entries s))) [
-      | inl logged ↦ ap (λ b. b || is_some_change (c.changes tx s)) (any_append (λ e. tx_of e == tx) (c.entries s) more logged)
+      | inl logged ↦ ap (λ b. b || is_some_change (c.changes tx s))
+          (any_append (λ e. tx_of e == tx) (c.entries s) more logged)
       | inr none ↦
-          let some : is_some_change (c.changes tx s) ≡ true = subst (λ b. (b || is_some_change (c.changes tx s)) ≡ true) none hit in
-          ap (λ b. list_any (λ e. tx_of e == tx) (c.entries s ++ more) || b) some ∙ or_last (list_any (λ e. tx_of e == tx) (c.entries s ++ more))
+          let some : is_some_change (c.changes tx s) ≡ true =
+              subst (λ b. (b || is_some_change (c.changes tx s)) ≡ true) none hit in
+          ap (λ b. list_any (λ e. tx_of e == tx) (c.entries s ++ more) || b) some
+              ∙ or_last (list_any (λ e. tx_of e == tx) (c.entries s ++ more))
     ]
   where
     or_last : (b : Bool) → (b || true) ≡ true
     or_last true = refl
     or_last false = refl
 
-unfoldable pub write_all : (c : CoreState) (tx : ℕ) (sites : List ℕ) → IsGoing c tx → c.certifier.step ≡ Some tx → AreDistinct sites
-    → ((s : ℕ) → Contains sites s → IsToWrite c tx s) → (new : CoreState) × ServesAll c (map (Write tx) sites) (map (λ s. Installed) sites) new
+unfoldable pub write_all : (c : CoreState) (tx : ℕ) (sites : List ℕ) → IsGoing c tx → c.certifier.step ≡ Some tx
+    → AreDistinct sites
+    → ((s : ℕ) → Contains sites s → IsToWrite c tx s)
+        → (new : CoreState) × ServesAll c (map (Write tx) sites) (map (λ s. Installed) sites) new
 write_all c tx [] g own d each = (c, refl)
-write_all c tx (s ∷ []) g own d each = (installed c tx s, (installed c tx s, (write_allowed c tx s g own (each s (cons_here s [])), refl), refl))
+write_all c tx (s ∷ []) g own d each =
+    (installed c tx s, (installed c tx s, (write_allowed c tx s g own (each s (cons_here s [])), refl), refl))
 write_all c tx (s ∷ t ∷ ts) g own d each =
-    let mid : CoreState = record (with_entries c (only_at s (c.due s))) { certifier = noted c tx s; due = changed_at s [] c.due } in
+    let mid : CoreState = record (with_entries c (only_at s (c.due s))) { certifier = noted c tx s; due =
+        changed_at s [] c.due } in
     let due_there : (n : ℕ) → Contains (t ∷ ts) n → mid.due n ≡ [] → ⊥
-    = λ n m e. (each n (contains-later s (t ∷ ts) n m)).due (sym (cleared_there s c.due n (λ is. d.0 (subst (Contains (t ∷ ts)) is m))) ∙ e) in
+    = λ n m e. (each n (contains-later s (t ∷ ts) n m)).due
+        (sym (cleared_there s c.due n (λ is. d.0 (subst (Contains (t ∷ ts)) is m))) ∙ e) in
     let inside_t = (each t (contains-later s (t ∷ ts) t (cons_here t ts))).inside in
     let open_still : installed c tx s ≡ mid = stays_open mid tx t inside_t (due_there t (cons_here t ts)) in
     let going : IsGoing mid tx = record {
@@ -188,7 +202,8 @@ write_all c tx (s ∷ t ∷ ts) g own d each =
       begun = subst (λ n. tx ≤ n) (sym (noted_begun c tx s)) g.begun;
       alone = g.alone;
     } in
-    let rest = write_all mid tx (t ∷ ts) going (noted-step c tx s ∙ own) d.1 (λ n m. let e = each n (contains-later s (t ∷ ts) n m) in record {
+    let rest = write_all mid tx (t ∷ ts) going (noted-step c tx s ∙ own) d.1 (λ n m. let e =
+        each n (contains-later s (t ∷ ts) n m) in record {
       inside = e.inside;
       touched = still_touched c tx n (only_at s (c.due s) n) e.touched;
       due = due_there n m;
@@ -197,7 +212,8 @@ write_all c tx (s ∷ t ∷ ts) g own d each =
 
 -- ---- the whole commit
 
-pub decide_allowed : (c : CoreState) (tx : ℕ) → IsGoing c tx → c.certifier.step ≡ None → ((s : ℕ) → Contains (touched c tx) s → IsGathered c tx s) → IsAllowed c (Decide tx)
+pub decide_allowed : (c : CoreState) (tx : ℕ) → IsGoing c tx → c.certifier.step ≡ None
+    → ((s : ℕ) → Contains (touched c tx) s → IsGathered c tx s) → IsAllowed c (Decide tx)
 decide_allowed c tx g none all fault.Unknown h = unknown c tx h.0 g h.1 h.2
 decide_allowed c tx g none all fault.Ended h = ended c tx h.0 g h.1 h.2.1
 decide_allowed c tx g none all fault.StepOpen h = g.alone h
@@ -206,7 +222,8 @@ decide_allowed c tx g none all fault.AlreadyDone h = let e : Some tx ≡ None = 
 decide_allowed c tx g none all _ h = h
 
 -- after a decision with these blocks, all are written
-unfoldable pub finishes : (c : CoreState) (tx : ℕ) (mid : State) (block : ℕ → List Entry) (sites : List ℕ) → IsGoing (record c { certifier = mid; due = block }) tx → mid.step ≡ Some tx
+unfoldable pub finishes : (c : CoreState) (tx : ℕ) (mid : State) (block : ℕ → List Entry) (sites : List ℕ)
+    → IsGoing (record c { certifier = mid; due = block }) tx → mid.step ≡ Some tx
     → AreDistinct sites → ((s : ℕ) → Contains sites s → IsToWrite (record c { certifier = mid; due = block }) tx s)
     → (new : CoreState) × ServesAll (decided c tx mid block) (map (Write tx) sites) (map (λ s. Installed) sites) new
 finishes c tx mid block [] g own d each = (decided c tx mid block, refl)
@@ -215,25 +232,30 @@ finishes c tx mid block (s ∷ ss) g own d each =
     let here = each s (cons_here s ss) in
     let open_still : decided c tx mid block ≡ after = stays_open after tx s here.inside here.due in
     let r = write_all after tx (s ∷ ss) g own d each in
-    (r.0, subst (λ (a : CoreState). ServesAll a (map (Write tx) (s ∷ ss)) (map (λ n. Installed) (s ∷ ss)) r.0) (sym open_still) r.1)
+    (r.0, subst (λ (a : CoreState). ServesAll a (map (Write tx) (s ∷ ss)) (map (λ n. Installed) (s ∷ ss)) r.0)
+        (sym open_still) r.1)
 
 pub some_block : (t : Bool) (ops : List Entry) (last : Entry) → t ≡ true → cond t (ops ++ last ∷ []) [] ≡ [] → ⊥
 some_block true ops last e none = no_block ops last none
 some_block false ops last e none = true≢false (sym e)
 
-unfoldable pub commits : (c : CoreState) (tx : ℕ) → IsKept c → IsAllowed c (Commit tx) → (reply : Reply) × (new : CoreState) × MayStep c (Commit tx) reply new × IsAnswer reply
+unfoldable pub commits : (c : CoreState) (tx : ℕ) → IsKept c → IsAllowed c (Commit tx)
+    → (reply : Reply) × (new : CoreState) × MayStep c (Commit tx) reply new × IsAnswer reply
 commits c tx k allowed =
     let sites = touched c tx in
     let closed = none_open c (allowed fault.StepOpen) in
     let none = idle c k closed in
     let active = is_active c (Commit tx) tx allowed refl in
     let begun = at_most c.certifier.begun tx (λ lt. allowed fault.Unknown (tx, refl, lt)) in
-    let going : IsGoing c tx = record { active = active; begun = begun; alone = subst (λ o. StepIs (λ t. t ≡ tx → ⊥) o → ⊥) (sym closed) (λ n. n) } in
+    let going : IsGoing c tx =
+        record { active = active; begun = begun; alone = subst (λ o. StepIs (λ t. t ≡ tx → ⊥) o
+        → ⊥) (sym closed) (λ n. n) } in
     let distinct = filter-distinct (touches c tx) (sites_of c) (range-distinct 0 (length c.items)) in
     let inside : (s : ℕ) → Contains sites s → s < length c.items = λ s m.
     let r = in_range 0 (length c.items) s (filter_member (touches c tx) (sites_of c) s m).0 in
     omega (arith, r.1) in
-    let hit : (s : ℕ) → Contains sites s → touches c tx s ≡ true = λ s m. (filter_member (touches c tx) (sites_of c) s m).1 in
+    let hit : (s : ℕ) → Contains sites s → touches c tx s ≡ true =
+        λ s m. (filter_member (touches c tx) (sites_of c) s m).1 in
     let all = gather_all c tx sites going distinct (λ s m. record {
       inside = inside s m;
       touched = hit s m;
@@ -260,8 +282,11 @@ commits c tx k allowed =
             rest.0,
             (
               allowed,
-              append-all c (map (Gather tx) sites) (Decide tx ∷ map (Write tx) sites) (map (λ s. Gathered) sites) (Yes ∷ map (λ s. Installed) sites) mid rest.0 all.serves
-                  (r.0, (may, v), subst (λ (a : CoreState). ServesAll a (map (Write tx) sites) (map (λ s. Installed) sites) rest.0) (sym v.after) rest.1),
+              append-all c (map (Gather tx) sites) (Decide tx ∷ map (Write tx) sites) (map (λ s. Gathered) sites)
+                  (Yes ∷ map (λ s. Installed) sites) mid rest.0 all.serves
+                  (r.0, (may, v),
+                      subst (λ (a : CoreState). ServesAll a (map (Write tx) sites) (map (λ s. Installed) sites)
+                      rest.0) (sym v.after) rest.1),
             ),
             tt,
           )
@@ -281,8 +306,11 @@ commits c tx k allowed =
             rest.0,
             (
               allowed,
-              append-all c (map (Gather tx) sites) (Decide tx ∷ map (Write tx) sites) (map (λ s. Gathered) sites) (No ∷ map (λ s. Installed) sites) mid rest.0 all.serves
-                  (r.0, (may, v), subst (λ (a : CoreState). ServesAll a (map (Write tx) sites) (map (λ s. Installed) sites) rest.0) (sym v.after) rest.1),
+              append-all c (map (Gather tx) sites) (Decide tx ∷ map (Write tx) sites) (map (λ s. Gathered) sites)
+                  (No ∷ map (λ s. Installed) sites) mid rest.0 all.serves
+                  (r.0, (may, v),
+                      subst (λ (a : CoreState). ServesAll a (map (Write tx) sites) (map (λ s. Installed) sites)
+                      rest.0) (sym v.after) rest.1),
             ),
             tt,
           )

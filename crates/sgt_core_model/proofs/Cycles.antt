@@ -28,7 +28,8 @@ record IsSimple (edge : ℕ → ℕ → Type 0) (a b : ℕ) : Type 0 where
 
 module _ (edge : ℕ → ℕ → Type 0) where
   -- cut off in front of a
-  cut : (a b c : ℕ) (ys : List ℕ) → Leads edge c ys b → AreDistinct (c ∷ ys) → (Contains ys b → ⊥) → Contains (c ∷ ys) a → IsSimple edge a b
+  cut : (a b c : ℕ) (ys : List ℕ) → Leads edge c ys b → AreDistinct (c ∷ ys) → (Contains ys b → ⊥)
+      → Contains (c ∷ ys) a → IsSimple edge a b
   cut a b c [] h d short m = elim (contains-cases c [] a m) [
     | inl is ↦ subst (λ t. IsSimple edge t b) is (record { between = []; leads = h; distinct = d; short = short })
     | inr none ↦ absurd (contains-none a none)
@@ -52,10 +53,12 @@ module _ (edge : ℕ → ℕ → Type 0) where
       ]
 
   simple : (a : ℕ) (xs : List ℕ) (b : ℕ) → Leads edge a xs b → IsSimple edge a b
-  simple a [] b h = record { between = []; leads = h; distinct = (λ c. contains-none a c, tt); short = λ c. contains-none b c }
+  simple a [] b h = record { between = []; leads = h; distinct = (λ c. contains-none a c, tt); short =
+      λ c. contains-none b c }
   simple a (c ∷ cs) b h =
       elim (cases_eq c b) [
-        | inl is ↦ record { between = []; leads = subst (edge a) is h.0; distinct = (λ k. contains-none a k, tt); short = λ k. contains-none b k }
+        | inl is ↦ record { between = []; leads = subst (edge a) is h.0; distinct = (λ k. contains-none a k, tt);
+            short = λ k. contains-none b k }
         | inr other ↦ step_before a c b h.0 other (simple c cs b h.1)
       ]
 
@@ -65,11 +68,13 @@ distinct-pairs (x ∷ xs) d = (others x xs d.0, distinct-pairs xs d.1)
   where
     others : (x : ℕ) (xs : List ℕ) → (Contains xs x → ⊥) → AllByRecursion (λ y. x ≡ y → ⊥) xs
     others x [] out = tt
-    others x (y ∷ ys) out = (λ is. out (subst (Contains (y ∷ ys)) (sym is) (cons_here y ys)), others x ys (λ c. out (contains-later y ys x c)))
+    others x (y ∷ ys) out = (λ is. out (subst (Contains (y ∷ ys)) (sym is) (cons_here y ys)),
+        others x ys (λ c. out (contains-later y ys x c)))
 
 -- ---- its steps
 
-along : (arcs : List Arc) (a : ℕ) (xs : List ℕ) (b : ℕ) → Leads (Joins arcs) a xs b → (walk : List Step) × (stops walk ≡ xs ++ b ∷ []) × Walks arcs a walk
+along : (arcs : List Arc) (a : ℕ) (xs : List ℕ) (b : ℕ) → Leads (Joins arcs) a xs b
+    → (walk : List Step) × (stops walk ≡ xs ++ b ∷ []) × Walks arcs a walk
 along arcs a [] b h = (record { label = h.0; to = b } ∷ [], refl, (h.1, tt))
 along arcs a (c ∷ cs) b h =
     let r = along arcs c cs b h.1 in
@@ -77,7 +82,8 @@ along arcs a (c ∷ cs) b h =
 
 -- ---- of a transaction with its new edges
 
-module _ (s : State) (i : ℕ) (arcs : List Arc) (sound : IsSoundCertifier s) (out : Contains s.order i → ⊥) (fresh : AreNew s i arcs) where
+module _ (s : State) (i : ℕ) (arcs : List Arc) (sound : IsSoundCertifier s) (out : Contains s.order i
+    → ⊥) (fresh : AreNew s i arcs) where
   -- where an edge leads, but to i, is a committed transaction
   led_to : (a b : ℕ) → Joins (s.arcs ++ arcs) a b → (b ≡ i → ⊥) → Contains s.order b
   led_to a b j other = elim (Contains-append_cases s.arcs arcs _ j.1) [
@@ -91,10 +97,12 @@ module _ (s : State) (i : ℕ) (arcs : List Arc) (sound : IsSoundCertifier s) (o
     | inr new ↦ elim (fresh _ new) [ inl from_i ↦ out from_i.1 | inr to_i ↦ out to_i.1 ]
   ]
 
-  all_led : (a : ℕ) (xs : List ℕ) (b : ℕ) → Leads (Joins (s.arcs ++ arcs)) a xs b → (Contains xs i → ⊥) → (x : ℕ) → Contains xs x → Contains s.order x
+  all_led : (a : ℕ) (xs : List ℕ) (b : ℕ) → Leads (Joins (s.arcs ++ arcs)) a xs b → (Contains xs i → ⊥) → (x : ℕ)
+      → Contains xs x → Contains s.order x
   all_led a [] b h other x m = absurd (contains-none x m)
   all_led a (c ∷ cs) b h other x m = elim (contains-cases c cs x m) [
-    | inl is ↦ subst (Contains s.order) is (led_to a c h.0 (λ at_i. other (subst (Contains (c ∷ cs)) at_i (cons_here c cs))))
+    | inl is ↦ subst (Contains s.order) is
+        (led_to a c h.0 (λ at_i. other (subst (Contains (c ∷ cs)) at_i (cons_here c cs))))
     | inr later ↦ all_led c cs b h.1 (λ k. other (contains-later c cs i k)) x later
   ]
 
@@ -115,7 +123,9 @@ module _ (s : State) (i : ℕ) (arcs : List Arc) (sound : IsSoundCertifier s) (o
           long = omega arith;
           closed = steps.1;
           distinct = AllPairs-from_recursion (λ a b. a ≡ b → ⊥) between (distinct-pairs between rest.distinct);
-          committed = All-from_at (Contains s.order) between (λ n x at. all_led i between i leads other x (Contains-from_at between n x at));
+          committed =
+              All-from_at (Contains s.order) between
+              (λ n x at. all_led i between i leads other x (Contains-from_at between n x at));
           steps = steps.2;
         },
       )

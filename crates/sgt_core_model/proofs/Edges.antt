@@ -69,9 +69,11 @@ clashes-Decides : (kind : Kind) (x : Name) (e f : Entry) → Decides (clashes ki
 clashes-Decides Wr x e f = Decides-and (writes x e) (reads x f) (writes-Decides x e) (reads-Decides x f)
 clashes-Decides Rw x e f = Decides-and (reads x e) (writes x f) (reads-Decides x e) (writes-Decides x f)
 clashes-Decides Ww x e f =
-    Decides-like (writes x e && (writes x f && not (is_increment e && is_increment f))) (λ k. (k.0, k.1.0, k.1.1)) (λ k. (k.0, (k.1, k.2)))
+    Decides-like (writes x e && (writes x f && not (is_increment e && is_increment f))) (λ k. (k.0, k.1.0, k.1.1))
+        (λ k. (k.0, (k.1, k.2)))
     (Decides-and (writes x e) (writes x f && not (is_increment e && is_increment f)) (writes-Decides x e)
-    (Decides-and (writes x f) (not (is_increment e && is_increment f)) (writes-Decides x f) (both-Decides (is_increment e) (is_increment f))))
+    (Decides-and (writes x f) (not (is_increment e && is_increment f)) (writes-Decides x f)
+        (both-Decides (is_increment e) (is_increment f))))
 
 -- ---- the arcs of two entries
 
@@ -96,19 +98,25 @@ record IsOfPair (s : ℕ) (e f : Entry) (arc : Arc) : Type 0 where
   pub apart : arc.from ≡ arc.to → ⊥
   pub clash : Clash arc.label.kind arc.label.item e f
 
-item_arc : (s : ℕ) (o : Option Name) (e f : Entry) (kind : Kind) (arc : Arc) → Contains (with_item s o e f kind) arc → IsOfPair s e f arc
+item_arc : (s : ℕ) (o : Option Name) (e f : Entry) (kind : Kind) (arc : Arc) → Contains (with_item s o e f kind) arc
+    → IsOfPair s e f arc
 item_arc s None e f kind arc m = absurd (contains-none arc m)
 item_arc s (Some x) e f kind arc m =
     elim (cases_Bool (conflicting x e f kind)) [
       | inl hit ↦
-          elim (contains-cases (arc_of s x e f kind) [] arc (subst (λ b. Contains (if b then arc_of s x e f kind ∷ [] else []) arc) hit m)) [
+          elim (contains-cases (arc_of s x e f kind) [] arc
+              (subst (λ b. Contains (if b then arc_of s x e f kind ∷ [] else []) arc) hit m)) [
             | inl is ↦
                 let apart = Decides-not (tx_of e == tx_of f) (Decides-eqb (tx_of e) (tx_of f)) in
-                let both = (Decides-and (clashes kind x e f) (not (tx_of e == tx_of f)) (clashes-Decides kind x e f) apart).0 hit in
-                subst (IsOfPair s e f) is (record { site = refl; from = refl; to = refl; apart = both.1; clash = both.0 })
+                let both =
+                    (Decides-and (clashes kind x e f) (not (tx_of e == tx_of f)) (clashes-Decides kind x e f) apart).0
+                    hit in
+                subst (IsOfPair s e f) is (record { site = refl; from = refl; to = refl; apart = both.1; clash =
+                    both.0 })
             | inr none ↦ absurd (contains-none arc none)
           ]
-      | inr miss ↦ absurd (contains-none arc (subst (λ b. Contains (if b then arc_of s x e f kind ∷ [] else []) arc) miss m))
+      | inr miss ↦ absurd
+          (contains-none arc (subst (λ b. Contains (if b then arc_of s x e f kind ∷ [] else []) arc) miss m))
     ]
 
 pair_arc : (s : ℕ) (e f : Entry) (arc : Arc) → Contains (of_pair s e f) arc → IsOfPair s e f arc
@@ -122,20 +130,28 @@ pair_arc s e f arc m =
       ]
     ]
 
-made_arc : (s : ℕ) (x : Name) (e f : Entry) (kind : Kind) → Clash kind x e f → (tx_of e ≡ tx_of f → ⊥) → Contains (with_item s (item_of e) e f kind) (arc_of s x e f kind)
+made_arc : (s : ℕ) (x : Name) (e f : Entry) (kind : Kind) → Clash kind x e f → (tx_of e ≡ tx_of f → ⊥)
+    → Contains (with_item s (item_of e) e f kind) (arc_of s x e f kind)
 made_arc s x e f kind clash apart =
     let differ = (Decides-not (tx_of e == tx_of f) (Decides-eqb (tx_of e) (tx_of f))).1 apart in
     let hit : conflicting x e f kind ≡ true = rw ((clashes-Decides kind x e f).1 clash) differ in
     let there : Contains (with_item s (Some x) e f kind) (arc_of s x e f kind)
-    = subst (λ b. Contains (if b then arc_of s x e f kind ∷ [] else []) (arc_of s x e f kind)) (sym hit) (cons_here (arc_of s x e f kind) []) in
+    = subst (λ b. Contains (if b then arc_of s x e f kind ∷ [] else []) (arc_of s x e f kind)) (sym hit)
+        (cons_here (arc_of s x e f kind) []) in
     subst (λ o. Contains (with_item s o e f kind) (arc_of s x e f kind)) (sym (clash-item kind x e f clash)) there
 
-of_kind : (s : ℕ) (e f : Entry) (arc : Arc) (kind : Kind) → Contains (with_item s (item_of e) e f kind) arc → Contains (of_pair s e f) arc
+of_kind : (s : ℕ) (e f : Entry) (arc : Arc) (kind : Kind) → Contains (with_item s (item_of e) e f kind) arc
+    → Contains (of_pair s e f) arc
 of_kind s e f arc Wr m = Contains-append_left (with_item s (item_of e) e f Wr) _ arc m
-of_kind s e f arc Rw m = Contains-append_right (with_item s (item_of e) e f Wr) _ arc (Contains-append_left (with_item s (item_of e) e f Rw) (with_item s (item_of e) e f Ww) arc m)
-of_kind s e f arc Ww m = Contains-append_right (with_item s (item_of e) e f Wr) _ arc (Contains-append_right (with_item s (item_of e) e f Rw) (with_item s (item_of e) e f Ww) arc m)
+of_kind s e f arc Rw m =
+    Contains-append_right (with_item s (item_of e) e f Wr) _ arc
+    (Contains-append_left (with_item s (item_of e) e f Rw) (with_item s (item_of e) e f Ww) arc m)
+of_kind s e f arc Ww m =
+    Contains-append_right (with_item s (item_of e) e f Wr) _ arc
+    (Contains-append_right (with_item s (item_of e) e f Rw) (with_item s (item_of e) e f Ww) arc m)
 
-made_pair : (s : ℕ) (e f : Entry) (x : Name) (kind : Kind) → Clash kind x e f → (tx_of e ≡ tx_of f → ⊥) → Contains (of_pair s e f) (arc_of s x e f kind)
+made_pair : (s : ℕ) (e f : Entry) (x : Name) (kind : Kind) → Clash kind x e f → (tx_of e ≡ tx_of f → ⊥)
+    → Contains (of_pair s e f) (arc_of s x e f kind)
 made_pair s e f x kind clash apart = of_kind s e f (arc_of s x e f kind) kind (made_arc s x e f kind clash apart)
 
 -- ---- the arcs of a log
@@ -145,14 +161,16 @@ arcs_in s [] = []
 arcs_in s (e ∷ es) = flat_map (of_pair s e) es ++ arcs_in s es
 
 -- what is made of an element is in what is made of all
-flat_in : {A B : Type 0} (f : A → List B) (xs : List A) (x : A) (y : B) → Contains xs x → Contains (f x) y → Contains (flat_map f xs) y
+flat_in : {A B : Type 0} (f : A → List B) (xs : List A) (x : A) (y : B) → Contains xs x → Contains (f x) y
+    → Contains (flat_map f xs) y
 flat_in f [] x y c m = absurd (contains-none x c)
 flat_in f (z ∷ zs) x y c m = elim (contains-cases z zs x c) [
   | inl is ↦ Contains-append_left (f z) (flat_map f zs) y (subst (λ w. Contains (f w) y) (sym is) m)
   | inr later ↦ Contains-append_right (f z) (flat_map f zs) y (flat_in f zs x y later m)
 ]
 
-flat_from : {A B : Type 0} (f : A → List B) (xs : List A) (y : B) → Contains (flat_map f xs) y → (x : A) × Contains xs x × Contains (f x) y
+flat_from : {A B : Type 0} (f : A → List B) (xs : List A) (y : B) → Contains (flat_map f xs) y
+    → (x : A) × Contains xs x × Contains (f x) y
 flat_from f [] y m = absurd (contains-none y m)
 flat_from f (z ∷ zs) y m = elim (Contains-append_cases (f z) (flat_map f zs) y m) [
   | inl here ↦ (z, cons_here z zs, here)
@@ -160,7 +178,8 @@ flat_from f (z ∷ zs) y m = elim (Contains-append_cases (f z) (flat_map f zs) y
 ]
 
 -- a later conflict is one of the longer log
-conflict_later : (e : Entry) (es : List Entry) (kind : Kind) (x : Name) (a b : ℕ) → Conflicts es kind x a b → Conflicts (e ∷ es) kind x a b
+conflict_later : (e : Entry) (es : List Entry) (kind : Kind) (x : Name) (a b : ℕ) → Conflicts es kind x a b
+    → Conflicts (e ∷ es) kind x a b
 conflict_later e es kind x a b h = record {
   p = suc h.p;
   q = suc h.q;
@@ -175,7 +194,8 @@ conflict_later e es kind x a b h = record {
   clash = h.clash;
 }
 
-arcs_are : (s : ℕ) (es : List Entry) (arc : Arc) → Contains (arcs_in s es) arc → (arc.label.site ≡ s) × Conflicts es arc.label.kind arc.label.item arc.from arc.to
+arcs_are : (s : ℕ) (es : List Entry) (arc : Arc) → Contains (arcs_in s es) arc
+    → (arc.label.site ≡ s) × Conflicts es arc.label.kind arc.label.item arc.from arc.to
 arcs_are s [] arc m = absurd (contains-none arc m)
 arcs_are s (e ∷ es) arc m = elim (Contains-append_cases (flat_map (of_pair s e) es) (arcs_in s es) arc m) [
   | inl here ↦
@@ -197,10 +217,12 @@ arcs_are s (e ∷ es) arc m = elim (Contains-append_cases (flat_map (of_pair s e
           clash = pair.clash;
         },
       )
-  | inr later ↦ let r = arcs_are s es arc later in (r.0, conflict_later e es arc.label.kind arc.label.item arc.from arc.to r.1)
+  | inr later ↦ let r = arcs_are s es arc later in
+      (r.0, conflict_later e es arc.label.kind arc.label.item arc.from arc.to r.1)
 ]
 
-arcs_have : (s : ℕ) (es : List Entry) (p q : ℕ) (e f : Entry) (kind : Kind) (x : Name) → p < q → slice_get es p ≡ Some e → slice_get es q ≡ Some f
+arcs_have : (s : ℕ) (es : List Entry) (p q : ℕ) (e f : Entry) (kind : Kind) (x : Name) → p < q
+    → slice_get es p ≡ Some e → slice_get es q ≡ Some f
     → (tx_of e ≡ tx_of f → ⊥) → Clash kind x e f → Contains (arcs_in s es) (arc_of s x e f kind)
 arcs_have s [] p q e f kind x lt at_p at_q apart clash = absurd cc
 arcs_have s (g ∷ gs) p zero e f kind x lt at_p at_q apart clash = absurd (omega arith)
@@ -210,15 +232,18 @@ arcs_have s (g ∷ gs) zero (suc q) e f kind x lt at_p at_q apart clash =
     (flat_in (of_pair s g) gs f (arc_of s x e f kind) (Contains-from_at gs q f at_q)
     (subst (λ h. Contains (of_pair s h f) (arc_of s x e f kind)) (sym g_is) (made_pair s e f x kind clash apart)))
 arcs_have s (g ∷ gs) (suc p) (suc q) e f kind x lt at_p at_q apart clash =
-    Contains-append_right (flat_map (of_pair s g) gs) (arcs_in s gs) (arc_of s x e f kind) (arcs_have s gs p q e f kind x (omega arith) at_p at_q apart clash)
+    Contains-append_right (flat_map (of_pair s g) gs) (arcs_in s gs) (arc_of s x e f kind)
+        (arcs_have s gs p q e f kind x (omega arith) at_p at_q apart clash)
 
 -- ---- the edges of a transaction
 
 abbrev pub joins_committed : CoreState → ℕ → Arc → Bool
-joins_committed c i arc = ((arc.from == i) && is_in c.certifier.order arc.to) || ((arc.to == i) && is_in c.certifier.order arc.from)
+joins_committed c i arc =
+    ((arc.from == i) && is_in c.certifier.order arc.to) || ((arc.to == i) && is_in c.certifier.order arc.from)
 
 abbrev IsJoined : CoreState → ℕ → Arc → Type 0
-IsJoined c i arc = ((arc.from ≡ i) × Contains c.certifier.order arc.to) ⊎ ((arc.to ≡ i) × Contains c.certifier.order arc.from)
+IsJoined c i arc = ((arc.from ≡ i) × Contains c.certifier.order arc.to)
+    ⊎ ((arc.to ≡ i) × Contains c.certifier.order arc.from)
 
 joined-Decides : (c : CoreState) (i : ℕ) (arc : Arc) → Decides (joins_committed c i arc) (IsJoined c i arc)
 joined-Decides c i arc =
@@ -242,15 +267,22 @@ edges_are c i h arc = (
       let found = arcs_are r.0 (followed c i r.0) arc r.2 in
       record {
         ends = (joined-Decides c i arc).0 kept.1;
-        conflict = subst (λ s. Conflicts (followed c i s) arc.label.kind arc.label.item arc.from arc.to) (sym found.0) found.1;
+        conflict = subst (λ s. Conflicts (followed c i s) arc.label.kind arc.label.item arc.from arc.to)
+            (sym found.0) found.1;
       },
   λ e.
       let k = e.conflict in
       let s = arc.label.site in
       let inside = is_site c s (edge_site c i arc h.walked h.legal e).0 in
       let differ : tx_of k.e ≡ tx_of k.f → ⊥ = λ same. k.apart (sym k.from ∙ same ∙ k.to) in
-      let there = arcs_have s (followed c i s) k.p k.q k.e k.f arc.label.kind arc.label.item k.before k.first k.second differ k.clash in
-      let there2 : Contains (arcs_in s (followed c i s)) arc = subst (λ a. Contains (arcs_in s (followed c i s)) (record { from = a; to = arc.to; label = arc.label })) k.from
-      (subst (λ b. Contains (arcs_in s (followed c i s)) (record { from = tx_of k.e; to = b; label = arc.label })) k.to there) in
-      member_filter (joins_committed c i) (all_arcs c i) arc (flat_in (λ t. arcs_in t (followed c i t)) (sites_of c) s arc inside there2) ((joined-Decides c i arc).1 e.ends),
+      let there = arcs_have s (followed c i s) k.p k.q k.e k.f arc.label.kind arc.label.item k.before k.first k.second
+          differ k.clash in
+      let there2 : Contains (arcs_in s (followed c i s)) arc =
+          subst (λ a. Contains (arcs_in s (followed c i s)) (record { from = a; to = arc.to; label = arc.label }))
+          k.from
+      (subst (λ b. Contains (arcs_in s (followed c i s)) (record { from = tx_of k.e; to = b; label = arc.label }))
+          k.to there) in
+      member_filter (joins_committed c i) (all_arcs c i) arc
+          (flat_in (λ t. arcs_in t (followed c i t)) (sites_of c) s arc inside there2)
+          ((joined-Decides c i arc).1 e.ends),
 )

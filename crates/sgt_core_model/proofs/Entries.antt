@@ -100,7 +100,8 @@ pub change_suits : (i j : ℕ) (x : Name) (change : Change) → SuitsRuling (cha
 change_suits i j x (Put v) = tt
 change_suits i j x (Add v) = tt
 
-pub want_suits : (i j : ℕ) (walk : List Step) (x : Name) (change : Change) → SuitsRuling (want_entry i x change) (refused j walk)
+pub want_suits : (i j : ℕ) (walk : List Step) (x : Name) (change : Change)
+    → SuitsRuling (want_entry i x change) (refused j walk)
 want_suits i j walk x (Put v) = tt
 want_suits i j walk x (Add v) = tt
 
@@ -109,7 +110,8 @@ want_writes i x (Put v) y k = k
 want_writes i x (Add v) y k = k
 
 -- each of the entries is one of a private change
-pub of_change : (f : Name → Change → Entry) (cs : List (Name × Change)) (e : Entry) → Contains (map (λ (d : Name × Change). f d.0 d.1) cs) e
+pub of_change : (f : Name → Change → Entry) (cs : List (Name × Change)) (e : Entry)
+    → Contains (map (λ (d : Name × Change). f d.0 d.1) cs) e
     → (d : Name × Change) × Contains cs d × (f d.0 d.1 ≡ e)
 of_change f cs e c =
     let p = Contains_at (map (λ (d : Name × Change). f d.0 d.1) cs) e c in

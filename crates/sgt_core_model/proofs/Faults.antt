@@ -74,7 +74,8 @@ abbrev pub step_passes : (ℕ → Bool) → Option OpenStep → Bool
 step_passes p None = false
 step_passes p (Some step) = p step.tx
 
-step-Decides : (p : ℕ → Bool) (P : ℕ → Type 0) → ((t : ℕ) → Decides (p t) (P t)) → (o : Option OpenStep) → Decides (step_passes p o) (StepIs P o)
+step-Decides : (p : ℕ → Bool) (P : ℕ → Type 0) → ((t : ℕ) → Decides (p t) (P t)) → (o : Option OpenStep)
+    → Decides (step_passes p o) (StepIs P o)
 step-Decides p P each None = never
 step-Decides p P each (Some step) = each step.tx
 
@@ -96,7 +97,8 @@ abbrev pub tx_passes : (ℕ → Bool) → Option ℕ → Bool
 tx_passes p None = false
 tx_passes p (Some t) = p t
 
-tx-Decides : (p : ℕ → Bool) (P : ℕ → Type 0) → ((t : ℕ) → Decides (p t) (P t)) → (o : Option ℕ) → Decides (tx_passes p o) ((t : ℕ) × (o ≡ Some t) × P t)
+tx-Decides : (p : ℕ → Bool) (P : ℕ → Type 0) → ((t : ℕ) → Decides (p t) (P t)) → (o : Option ℕ)
+    → Decides (tx_passes p o) ((t : ℕ) × (o ≡ Some t) × P t)
 tx-Decides p P each None = (λ e. absurd (true≢false (sym e)), λ r. let e = r.1 in absurd cc)
 tx-Decides p P each (Some t) = (λ e. (t, refl, (each t).0 e), λ r. (each t).1 (subst P (sym (same_Some t r.0 r.1)) r.2))
 
@@ -121,16 +123,19 @@ own-Decides : (c : CoreState) (tx : ℕ) → Decides (own_open c tx) (IsOwnOpen 
 own-Decides c tx = step-Decides (λ t. t == tx) (λ t. t ≡ tx) (λ t. Decides-eqb t tx) c.step
 
 other-Decides : (c : CoreState) (tx : ℕ) → Decides (other_open c tx) (IsOtherOpen c tx)
-other-Decides c tx = step-Decides (λ t. not (t == tx)) (λ t. t ≡ tx → ⊥) (λ t. Decides-not (t == tx) (Decides-eqb t tx)) c.step
+other-Decides c tx = step-Decides (λ t. not (t == tx)) (λ t. t ≡ tx
+    → ⊥) (λ t. Decides-not (t == tx) (Decides-eqb t tx)) c.step
 
 item-Decides : (c : CoreState) (s : ℕ) (x : List ℕ) → Decides (not (has_item c s x)) (IsOfSite c s x → ⊥)
 item-Decides c s x = Decides-not (has_item c s x) (member-Decides bytes_eq bytes_eq-Decides x (names (items_at c s)))
 
 gathered-Decides : (c : CoreState) (tx s : ℕ) → Decides (is_gathered c tx s) (IsGathered c tx s)
-gathered-Decides c tx s = Decides-and (own_open c tx) (is_in (gathered_in c.step) s) (own-Decides c tx) (is_in-Decides (gathered_in c.step) s)
+gathered-Decides c tx s = Decides-and (own_open c tx) (is_in (gathered_in c.step) s) (own-Decides c tx)
+    (is_in-Decides (gathered_in c.step) s)
 
 -- a site that passes the test
-some_site : (p : ℕ → Bool) (P : ℕ → Type 0) → ((s : ℕ) → Decides (p s) (P s)) → (sites : List ℕ) → Decides (list_any p sites) ((s : ℕ) × Contains sites s × P s)
+some_site : (p : ℕ → Bool) (P : ℕ → Type 0) → ((s : ℕ) → Decides (p s) (P s)) → (sites : List ℕ)
+    → Decides (list_any p sites) ((s : ℕ) × Contains sites s × P s)
 some_site p P each [] = (λ e. absurd (true≢false (sym e)), λ r. absurd (contains-none r.0 r.1))
 some_site p P each (s ∷ sites) =
     elim (cases_Bool (p s)) [
@@ -147,7 +152,8 @@ some_site p P each (s ∷ sites) =
 -- the fault is there, as a test
 abbrev pub fails : CoreState → Event → CoreFault → Bool
 fails c event fault.Unknown = tx_passes (λ tx. nat_lt c.certifier.begun tx) (tx_in event)
-fails c event fault.Ended = tx_passes (λ tx. nat_le tx c.certifier.begun && not (is_in c.certifier.active tx)) (tx_in event)
+fails c event fault.Ended = tx_passes (λ tx. nat_le tx c.certifier.begun && not (is_in c.certifier.active tx))
+    (tx_in event)
 fails c (Read tx s x) fault.StepOpen = own_open c tx
 fails c (Put tx s x v) fault.StepOpen = own_open c tx
 fails c (Add tx s x v) fault.StepOpen = own_open c tx
@@ -173,14 +179,18 @@ fails c (Gather tx s) fault.NotTouched = not (touches c tx s)
 fails c (Install tx s) fault.NotTouched = not (touches c tx s)
 fails _ _ _ = false
 
-ended-Decides : (c : CoreState) (tx : ℕ) → Decides (nat_le tx c.certifier.begun && not (is_in c.certifier.active tx)) (HasEnded c tx)
-ended-Decides c tx = Decides-and (nat_le tx c.certifier.begun) (not (is_in c.certifier.active tx)) (at_most-Decides tx c.certifier.begun)
+ended-Decides : (c : CoreState) (tx : ℕ)
+    → Decides (nat_le tx c.certifier.begun && not (is_in c.certifier.active tx)) (HasEnded c tx)
+ended-Decides c tx = Decides-and (nat_le tx c.certifier.begun) (not (is_in c.certifier.active tx))
+    (at_most-Decides tx c.certifier.begun)
     (Decides-not (is_in c.certifier.active tx) (is_in-Decides c.certifier.active tx))
 
 pub fails-Decides : (c : CoreState) (event : Event) (f : CoreFault) → Decides (fails c event f) (Fails c event f)
-fails-Decides c event fault.Unknown = tx-Decides (λ tx. nat_lt c.certifier.begun tx) (λ tx. c.certifier.begun < tx) (λ tx. Decides-ltb c.certifier.begun tx) (tx_in event)
+fails-Decides c event fault.Unknown = tx-Decides (λ tx. nat_lt c.certifier.begun tx) (λ tx. c.certifier.begun < tx)
+    (λ tx. Decides-ltb c.certifier.begun tx) (tx_in event)
 fails-Decides c event fault.Ended =
-    tx-Decides (λ tx. nat_le tx c.certifier.begun && not (is_in c.certifier.active tx)) (HasEnded c) (ended-Decides c) (tx_in event)
+    tx-Decides (λ tx. nat_le tx c.certifier.begun && not (is_in c.certifier.active tx)) (HasEnded c) (ended-Decides c)
+        (tx_in event)
 fails-Decides c (Read tx s x) fault.StepOpen = own-Decides c tx
 fails-Decides c (Put tx s x v) fault.StepOpen = own-Decides c tx
 fails-Decides c (Add tx s x v) fault.StepOpen = own-Decides c tx
@@ -194,11 +204,13 @@ fails-Decides c (Add tx s x v) fault.UnknownItem = item-Decides c s x
 fails-Decides c (Gather tx s) fault.UnknownItem = at_most-Decides (length c.items) s
 fails-Decides c (Install tx s) fault.UnknownItem = at_most-Decides (length c.items) s
 fails-Decides c (Decide tx) fault.NotGathered =
-    some_site (λ s. not (is_gathered c tx s)) (λ s. IsGathered c tx s → ⊥) (λ s. Decides-not (is_gathered c tx s) (gathered-Decides c tx s)) (touched c tx)
+    some_site (λ s. not (is_gathered c tx s)) (λ s. IsGathered c tx s
+        → ⊥) (λ s. Decides-not (is_gathered c tx s) (gathered-Decides c tx s)) (touched c tx)
 fails-Decides c (Install tx s) fault.NotGathered = Decides-not (is_decided c tx) (num-Decides tx c.certifier.step)
 fails-Decides c (Gather tx s) fault.AlreadyDone = gathered-Decides c tx s
 fails-Decides c (Decide tx) fault.AlreadyDone = num-Decides tx c.certifier.step
-fails-Decides c (Install tx s) fault.AlreadyDone = Decides-and (touches c tx s) (is_empty (c.due s)) (true-Decides (touches c tx s)) (empty-Decides (c.due s))
+fails-Decides c (Install tx s) fault.AlreadyDone =
+    Decides-and (touches c tx s) (is_empty (c.due s)) (true-Decides (touches c tx s)) (empty-Decides (c.due s))
 fails-Decides c Begin fault.WindowFull = at_most-Decides window_room (c.certifier.begun - c.certifier.before)
 fails-Decides c Close fault.ActiveLeft = some_num-Decides c.certifier.active
 fails-Decides c Close fault.GenerationsSpent = at_most-Decides (2 ^ 32) (suc c.certifier.generation)
@@ -212,7 +224,8 @@ fails-Decides _ _ _ = never
 -- all faults that the state can show, in the order in which they are told
 abbrev pub faults : List CoreFault
 faults =
-    fault.Unknown ∷ fault.Ended ∷ fault.StepOpen ∷ fault.UnknownItem ∷ fault.NotGathered ∷ fault.AlreadyDone ∷ fault.WindowFull
+    fault.Unknown ∷ fault.Ended ∷ fault.StepOpen ∷ fault.UnknownItem ∷ fault.NotGathered ∷ fault.AlreadyDone
+        ∷ fault.WindowFull
     ∷ fault.ActiveLeft ∷ fault.GenerationsSpent ∷ fault.NumbersSpent ∷ fault.NotTouched ∷ []
 
 -- the first of these that is there
@@ -249,14 +262,17 @@ no_memory c (Commit tx) h = h
 no_memory c (Withdraw tx) h = h
 no_memory c Close h = h
 
-none_there : (c : CoreState) (event : Event) (fs : List CoreFault) → first_in c event fs ≡ None → (f : CoreFault) → Contains fs f → Fails c event f → ⊥
+none_there : (c : CoreState) (event : Event) (fs : List CoreFault) → first_in c event fs ≡ None → (f : CoreFault)
+    → Contains fs f → Fails c event f → ⊥
 none_there c event [] none f m h = contains-none f m
 none_there c event (g ∷ gs) none f m h =
     elim (cases_Bool (fails c event g)) [
-      | inl hit ↦ absurd (let e : Some g ≡ None = subst (λ b. (if b then Some g else first_in c event gs) ≡ None) hit none in cc)
+      | inl hit ↦ absurd (let e : Some g ≡ None =
+          subst (λ b. (if b then Some g else first_in c event gs) ≡ None) hit none in cc)
       | inr miss ↦ elim (contains-cases g gs f m) [
         | inl is ↦ not_from_Decides (fails c event g) (fails-Decides c event g) miss (subst (Fails c event) (sym is) h)
-        | inr later ↦ none_there c event gs (subst (λ b. (if b then Some g else first_in c event gs) ≡ None) miss none) f later h
+        | inr later ↦ none_there c event gs
+            (subst (λ b. (if b then Some g else first_in c event gs) ≡ None) miss none) f later h
       ]
     ]
 
@@ -271,13 +287,15 @@ abbrev AreRising : List CoreFault → Type 0
 AreRising [] = Unit {0}
 AreRising (f ∷ fs) = ((g : CoreFault) → Contains fs g → fault_place f < fault_place g) × AreRising fs
 
-first_there : (c : CoreState) (event : Event) (fs : List CoreFault) → AreRising fs → (f : CoreFault) → first_in c event fs ≡ Some f
+first_there : (c : CoreState) (event : Event) (fs : List CoreFault) → AreRising fs → (f : CoreFault)
+    → first_in c event fs ≡ Some f
     → Fails c event f × ((g : CoreFault) → Contains fs g → fault_place g < fault_place f → Fails c event g → ⊥)
 first_there c event [] rising f first = absurd cc
 first_there c event (h ∷ hs) rising f first =
     elim (cases_Bool (fails c event h)) [
       | inl hit ↦
-          let is : h ≡ f = same_Some h f (subst (λ b. (if b then Some h else first_in c event hs) ≡ Some f) hit first) in (
+          let is : h ≡ f =
+              same_Some h f (subst (λ b. (if b then Some h else first_in c event hs) ≡ Some f) hit first) in (
             subst (Fails c event) is ((fails-Decides c event h).0 hit),
             λ g m lt there. elim (contains-cases h hs g m) [
               | inl same ↦ let e = ap fault_place (sym is ∙ same) in omega (arith, lt, e)
@@ -285,10 +303,12 @@ first_there c event (h ∷ hs) rising f first =
             ],
           )
       | inr miss ↦
-          let r = first_there c event hs rising.1 f (subst (λ b. (if b then Some h else first_in c event hs) ≡ Some f) miss first) in (
+          let r = first_there c event hs rising.1 f
+              (subst (λ b. (if b then Some h else first_in c event hs) ≡ Some f) miss first) in (
             r.0,
             λ g m lt there. elim (contains-cases h hs g m) [
-              | inl same ↦ not_from_Decides (fails c event h) (fails-Decides c event h) miss (subst (Fails c event) (sym same) there)
+              | inl same ↦ not_from_Decides (fails c event h) (fails-Decides c event h) miss
+                  (subst (Fails c event) (sym same) there)
               | inr later ↦ r.1 g later lt there
             ],
           )
@@ -299,18 +319,21 @@ abbrev rise : List CoreFault → Bool
 rise [] = true
 rise (f ∷ fs) = list_all (λ g. nat_lt (fault_place f) (fault_place g)) fs && rise fs
 
-all_pass : (p : CoreFault → Bool) (fs : List CoreFault) (g : CoreFault) → list_all p fs ≡ true → Contains fs g → p g ≡ true
+all_pass : (p : CoreFault → Bool) (fs : List CoreFault) (g : CoreFault) → list_all p fs ≡ true → Contains fs g
+    → p g ≡ true
 all_pass p [] g t c = absurd (contains-none g c)
 all_pass p (f ∷ fs) g t c =
     let both = (Decides-and (p f) (list_all p fs) (true-Decides (p f)) (true-Decides (list_all p fs))).0 t in
-    elim (contains-cases f fs g c) [ inl is ↦ subst (λ h. p h ≡ true) is both.0 | inr later ↦ all_pass p fs g both.1 later ]
+    elim (contains-cases f fs g c) [ inl is ↦ subst (λ h. p h ≡ true) is both.0
+        | inr later ↦ all_pass p fs g both.1 later ]
 
 rise-true : (fs : List CoreFault) → rise fs ≡ true → AreRising fs
 rise-true [] t = tt
 rise-true (f ∷ fs) t =
     let first = list_all (λ g. nat_lt (fault_place f) (fault_place g)) fs in
     let both = (Decides-and first (rise fs) (true-Decides first) (true-Decides (rise fs))).0 t in
-    (λ g m. (Decides-ltb (fault_place f) (fault_place g)).0 (all_pass (λ g. nat_lt (fault_place f) (fault_place g)) fs g both.0 m), rise-true fs both.1)
+    (λ g m. (Decides-ltb (fault_place f) (fault_place g)).0
+        (all_pass (λ g. nat_lt (fault_place f) (fault_place g)) fs g both.0 m), rise-true fs both.1)
 
 pub first_told : (c : CoreState) (event : Event) (f : CoreFault) → told c event ≡ Some f → IsRefused c event f
 first_told c event f first =
@@ -336,8 +359,10 @@ allowed_or_refused c event = told_by c event (told c event) refl
 -- the faults at their places
 abbrev placed : List CoreFault
 placed =
-    fault.Unknown ∷ fault.Unknown ∷ fault.Ended ∷ fault.StepOpen ∷ fault.UnknownItem ∷ fault.NotGathered ∷ fault.AlreadyDone
-    ∷ fault.WindowFull ∷ fault.ActiveLeft ∷ fault.ActiveLeft ∷ fault.GenerationsSpent ∷ fault.NumbersSpent ∷ fault.NotTouched
+    fault.Unknown ∷ fault.Unknown ∷ fault.Ended ∷ fault.StepOpen ∷ fault.UnknownItem ∷ fault.NotGathered
+        ∷ fault.AlreadyDone
+    ∷ fault.WindowFull ∷ fault.ActiveLeft ∷ fault.ActiveLeft ∷ fault.GenerationsSpent ∷ fault.NumbersSpent
+        ∷ fault.NotTouched
     ∷ fault.Memory ∷ []
 
 at_place : (f : CoreFault) → slice_get placed (fault_place f) ≡ Some f
@@ -357,7 +382,8 @@ at_place fault.NotTouched = refl
 -- and it is refused with one fault alone
 pub one_refusal : (c : CoreState) (event : Event) (f g : CoreFault) → IsRefused c event f → IsRefused c event g → f ≡ g
 one_refusal c event f g p q =
-    let same : fault_place f ≡ fault_place g = level (fault_place f) (fault_place g) (λ lt. q.1 f lt p.0) (λ lt. p.1 g lt q.0) in
+    let same : fault_place f ≡ fault_place g =
+        level (fault_place f) (fault_place g) (λ lt. q.1 f lt p.0) (λ lt. p.1 g lt q.0) in
     same_Some f g (sym (at_place f) ∙ ap (slice_get placed) same ∙ at_place g)
   where
     level : (m n : ℕ) → (m < n → ⊥) → (n < m → ⊥) → m ≡ n

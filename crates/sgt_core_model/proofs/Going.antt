@@ -36,11 +36,13 @@ all_edges c i = c.certifier.arcs ++ edges_of c i
 abbrev pub IsDecision : CoreState → ℕ → Type 0
 IsDecision c i = ((new : CoreState) × CommitsAt c i new) ⊎ ((new : CoreState) × RefusesAt c i new)
 
-unfoldable pub commits_so : (c : CoreState) (i : ℕ) → IsSound c → reaches (all_edges c i) i i ≡ false → (new : CoreState) × CommitsAt c i new
+unfoldable pub commits_so : (c : CoreState) (i : ℕ) → IsSound c → reaches (all_edges c i) i i ≡ false
+    → (new : CoreState) × CommitsAt c i new
 commits_so c i h e =
     let all = all_edges c i in
     let places = placed (reaches all i) c.certifier.order i in
-    let mid : State = record c.certifier { order = places; arcs = all; step = Some i; rulings = c.certifier.rulings ++ committed i ∷ [] } in (
+    let mid : State = record c.certifier { order = places; arcs = all; step = Some i; rulings =
+        c.certifier.rulings ++ committed i ∷ [] } in (
       decided c i mid (committed_block c i),
       record {
         arcs = edges_of c i;
@@ -56,12 +58,15 @@ commits_so c i h e =
       },
     )
 
-unfoldable pub refuses_so : (c : CoreState) (i : ℕ) → IsSound c → c.certifier.step ≡ None → Contains c.certifier.active i → reaches (all_edges c i) i i ≡ true
+unfoldable pub refuses_so : (c : CoreState) (i : ℕ) → IsSound c → c.certifier.step ≡ None
+    → Contains c.certifier.active i → reaches (all_edges c i) i i ≡ true
     → (new : CoreState) × RefusesAt c i new
 refuses_so c i h none active e =
     let out = uncommitted c.certifier i h.ordered.certifier none active in
     let new_edges = edges-new c i (edges_of c i) (edges_are c i h) in
-    let walk = cycle c.certifier i (edges_of c i) h.ordered.certifier out new_edges ((reaches-Decides (all_edges c i) i i).0 e) in
+    let walk =
+        cycle c.certifier i (edges_of c i) h.ordered.certifier out new_edges
+        ((reaches-Decides (all_edges c i) i i).0 e) in
     let mid : State = record c.certifier { step = Some i; rulings = c.certifier.rulings ++ refused i walk.0 ∷ [] } in (
       decided c i mid (refused_block c i),
       record {
@@ -74,11 +79,13 @@ refuses_so c i h none active e =
       },
     )
 
-unfoldable pub verdict_by : (c : CoreState) (i : ℕ) → IsSound c → c.certifier.step ≡ None → Contains c.certifier.active i → (t : Bool) → reaches (all_edges c i) i i ≡ t → IsDecision c i
+unfoldable pub verdict_by : (c : CoreState) (i : ℕ) → IsSound c → c.certifier.step ≡ None
+    → Contains c.certifier.active i → (t : Bool) → reaches (all_edges c i) i i ≡ t → IsDecision c i
 verdict_by c i h none active false e = inl (commits_so c i h e)
 verdict_by c i h none active true e = inr (refuses_so c i h none active e)
 
-unfoldable pub verdict : (c : CoreState) (i : ℕ) → IsSound c → c.certifier.step ≡ None → Contains c.certifier.active i → IsDecision c i
+unfoldable pub verdict : (c : CoreState) (i : ℕ) → IsSound c → c.certifier.step ≡ None → Contains c.certifier.active i
+    → IsDecision c i
 verdict c i h none active = verdict_by c i h none active (reaches (all_edges c i) i i) refl
 
 -- what is read at the site is found
@@ -90,11 +97,13 @@ unfoldable pub looked : (c : CoreState) (tx s : ℕ) (x : Name) (u : ℕ) → va
 looked c tx s x u value (Some v) e = (v, after_read c tx s x u, (u, value, refl, e))
 looked c tx s x u value None e =
     let r = entry.Read tx x u in
-    let logged : Contains (c.entries s ++ only_at s (r ∷ []) s) r = Contains-append_right (c.entries s) (only_at s (r ∷ []) s) r
+    let logged : Contains (c.entries s ++ only_at s (r ∷ []) s) r =
+        Contains-append_right (c.entries s) (only_at s (r ∷ []) s) r
     (subst (λ es. Contains es r) (sym (only_here s (r ∷ []))) (cons_here r [])) in
     absurd (unread (after_read c tx s x u) tx s x e r logged refl refl)
 
-unfoldable pub valued_by : (c : CoreState) (tx s : ℕ) (x : Name) → IsAllowed c (Read tx s x) → (o : Option ℕ) → value_at (items_at c s) (c.entries s) x ≡ o
+unfoldable pub valued_by : (c : CoreState) (tx s : ℕ) (x : Name) → IsAllowed c (Read tx s x) → (o : Option ℕ)
+    → value_at (items_at c s) (c.entries s) x ≡ o
     → (v : ℕ) × (new : CoreState) × ReadsSite c tx s x v new
 valued_by c tx s x allowed (Some u) e = looked c tx s x u e (look (after_read c tx s x u) tx s x) refl
 valued_by c tx s x allowed None e =
@@ -102,16 +111,20 @@ valued_by c tx s x allowed None e =
     let f : Some u.0 ≡ None = sym u.1 ∙ e in
     absurd cc
 
-unfoldable pub reads_site : (c : CoreState) (tx s : ℕ) (x : Name) → IsAllowed c (Read tx s x) → (v : ℕ) × (new : CoreState) × ReadsSite c tx s x v new
+unfoldable pub reads_site : (c : CoreState) (tx s : ℕ) (x : Name) → IsAllowed c (Read tx s x)
+    → (v : ℕ) × (new : CoreState) × ReadsSite c tx s x v new
 reads_site c tx s x allowed = valued_by c tx s x allowed (value_at (items_at c s) (c.entries s) x) refl
 
-unfoldable pub reads : (c : CoreState) (tx s : ℕ) (x : Name) (found : Option ℕ) → IsAllowed c (Read tx s x) → (v : ℕ) × (new : CoreState) × Reads c tx s x v found new
+unfoldable pub reads : (c : CoreState) (tx s : ℕ) (x : Name) (found : Option ℕ) → IsAllowed c (Read tx s x)
+    → (v : ℕ) × (new : CoreState) × Reads c tx s x v found new
 reads c tx s x (Some w) allowed = (w, c, (refl, refl))
 reads c tx s x None allowed = reads_site c tx s x allowed
 
 -- a decision with its reply
-unfoldable pub decides : (c : CoreState) (tx : ℕ) → IsKept c → IsAllowed c (Decide tx) → (reply : Reply) × (new : CoreState) × Serves c (Decide tx) reply new
-decides c tx k allowed = elim (verdict c tx k.sound (decide_idle c tx k allowed) (is_active c (Decide tx) tx allowed refl)) [
+unfoldable pub decides : (c : CoreState) (tx : ℕ) → IsKept c → IsAllowed c (Decide tx)
+    → (reply : Reply) × (new : CoreState) × Serves c (Decide tx) reply new
+decides c tx k allowed =
+    elim (verdict c tx k.sound (decide_idle c tx k allowed) (is_active c (Decide tx) tx allowed refl)) [
   | inl r ↦ (Yes, r.0, (allowed, r.1))
   | inr r ↦ (No, r.0, (allowed, r.1))
 ]
@@ -121,17 +134,23 @@ abbrev pub IsPart : Event → Type 0
 IsPart (Commit tx) = ⊥
 IsPart event = Unit {0}
 
-unfoldable pub goes_on : (c : CoreState) (event : Event) → IsKept c → IsPart event → IsAllowed c event → (reply : Reply) × (new : CoreState) × Serves c event reply new
-goes_on c Begin k part allowed = (Begun (suc c.certifier.begun), record c { certifier = with_begun c.certifier }, (allowed, (refl, refl)))
+unfoldable pub goes_on : (c : CoreState) (event : Event) → IsKept c → IsPart event → IsAllowed c event
+    → (reply : Reply) × (new : CoreState) × Serves c event reply new
+goes_on c Begin k part allowed = (Begun (suc c.certifier.begun), record c { certifier = with_begun c.certifier },
+    (allowed, (refl, refl)))
 goes_on c (Read tx s x) k part allowed =
     let r = reads c tx s x (look c tx s x) allowed in
     (Value r.0, r.1, (allowed, r.2))
 goes_on c (Put tx s x v) k part allowed = (Kept, with_change c tx s x (change.Put v), (allowed, refl))
-goes_on c (Add tx s x v) k part allowed = (Kept, with_change c tx s x (added_to (change_in (c.changes tx s) x) v), (allowed, refl))
-goes_on c (Gather tx s) k part allowed = (Gathered, record c { step = Some (record { tx = tx; gathered = s ∷ gathered_in c.step }) }, (allowed, refl))
+goes_on c (Add tx s x v) k part allowed = (Kept, with_change c tx s x (added_to (change_in (c.changes tx s) x) v),
+    (allowed, refl))
+goes_on c (Gather tx s) k part allowed =
+    (Gathered, record c { step = Some (record { tx = tx; gathered = s ∷ gathered_in c.step }) }, (allowed, refl))
 goes_on c (Decide tx) k part allowed = decides c tx k allowed
 goes_on c (Install tx s) k part allowed = (Installed, installed c tx s, (allowed, refl))
 goes_on c (Commit tx) k part allowed = absurd part
 goes_on c (Withdraw tx) k part allowed =
-    (Withdrawn, record (with_entries c (withdrawn_block c tx)) { certifier = with_withdrawn c.certifier tx }, (allowed, refl))
-goes_on c Close k part allowed = (Closed (length (serial c.certifier)), record c { certifier = with_closed c.certifier }, (allowed, (refl, refl)))
+    (Withdrawn, record (with_entries c (withdrawn_block c tx)) { certifier = with_withdrawn c.certifier tx },
+        (allowed, refl))
+goes_on c Close k part allowed =
+    (Closed (length (serial c.certifier)), record c { certifier = with_closed c.certifier }, (allowed, (refl, refl)))

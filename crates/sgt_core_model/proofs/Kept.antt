@@ -1,5 +1,6 @@
 -- What every state of the core keeps.
--- The log of a site is spoken of with the block that it still gets, so the writing of a block changes nothing of what is said.
+-- The log of a site is spoken of with the block that it still gets, so the writing of a block changes nothing of what
+-- is said.
 use Rattle.std.specs.Prelude.{◌≡◌, ◌≢◌, ◌<◌, ◌≤◌, ◌⊎◌, ◌↔◌, ℕ, suc, true, false, List, [], ◌∷◌, ◌++◌, length, AllPairs, Contains, Some, slice_get, count_by}
 use Rattle.std.specs.Option.{ForSome}
 use Rattle.sgt_names.specs.Name.{Name}
@@ -76,7 +77,8 @@ IsRuledBy rulings e n = (r : Ruling) × (slice_get rulings n ≡ Some r) × (rul
 abbrev pub IsFree : State → ℕ → Type 0
 IsFree s t = Contains s.active t × (s.step ≡ Some t → ⊥)
 
--- an entry is a read of a transaction that isn't decided, or it is decided, and an end of its transaction stands in the log
+-- an entry is a read of a transaction that isn't decided, or it is decided, and an end of its transaction stands in
+-- the log
 abbrev pub Stands : State → List Entry → Entry → Type 0
 Stands s log e =
     (IsRead e × IsFree s (tx_of e))
@@ -84,7 +86,8 @@ Stands s log e =
 
 -- two ends stand in the order of their decisions
 abbrev pub EndInRulingOrder : List Ruling → Entry → Entry → Type 0
-EndInRulingOrder rulings e f = IsEnd e → IsEnd f → (m n : ℕ) (q r : Ruling) → slice_get rulings m ≡ Some q → slice_get rulings n ≡ Some r
+EndInRulingOrder rulings e f = IsEnd e → IsEnd f → (m n : ℕ) (q r : Ruling) → slice_get rulings m ≡ Some q
+    → slice_get rulings n ≡ Some r
     → ruled q ≡ tx_of e → ruled r ≡ tx_of f → m ≤ n
 
 abbrev pub NotTwice : Entry → Entry → Type 0
@@ -158,14 +161,16 @@ IsThere c i s = ((e : Entry) × Contains (written c s) e × (tx_of e ≡ i)) ⊎
 abbrev pub IsDueBlock : CoreState → ℕ → ℕ → Type 0
 IsDueBlock c i s =
     (c.due s ≡ [])
-    ⊎ (((is_committed c i ≡ true) × (c.due s ≡ commit_block i (c.changes i s))) ⊎ ((is_committed c i ≡ false) × (c.due s ≡ refuse_block i (c.changes i s))))
+    ⊎ (((is_committed c i ≡ true) × (c.due s ≡ commit_block i (c.changes i s)))
+        ⊎ ((is_committed c i ≡ false) × (c.due s ≡ refuse_block i (c.changes i s))))
 
 -- the installs that were noted are the versions of the items
 pub record IsCounted (c : CoreState) : Type 0 where
   pub due : (i s : ℕ) → c.certifier.step ≡ Some i → IsDueBlock c i s
   pub counts : (s : ℕ) (x : Name) → version_at (c.entries s) x ≡ count_by (changes_item s x) c.certifier.installs
 
--- these are the installs that the logs tell, each once. A transaction changes nothing in a log in which its commit doesn't stand
+-- these are the installs that the logs tell, each once. A transaction changes nothing in a log in which its commit
+-- doesn't stand
 pub record AreInstalls (logs : ℕ → List Entry) (installs : List Install) : Type 0 where
   pub noted : (install : Install) → Contains installs install ↔ IsLoggedInstall logs install
   pub once : AllPairs (λ (a b : Install). (a.tx ≡ b.tx) × (a.site ≡ b.site) → ⊥) installs

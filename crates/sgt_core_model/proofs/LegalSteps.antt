@@ -37,7 +37,9 @@ any_here p (x ∷ xs) e c t =
     ]
 
 pub touches_own : (c : CoreState) (i s : ℕ) (e : Entry) → Contains (c.entries s) e → tx_of e ≡ i → touches c i s ≡ true
-touches_own c i s e m own = ap (λ b. b || is_some_change (c.changes i s)) (any_here (λ f. tx_of f == i) (c.entries s) e m (eq-eqb (tx_of e) i own))
+touches_own c i s e m own =
+    ap (λ b. b || is_some_change (c.changes i s))
+    (any_here (λ f. tx_of f == i) (c.entries s) e m (eq-eqb (tx_of e) i own))
 
 -- ---- at one site
 
@@ -54,26 +56,36 @@ pub cleared_there : (k : ℕ) (due : ℕ → List Entry) (s : ℕ) → (s ≡ k 
 cleared_there k due s ne = ap (λ b. cond b [] (due s)) (ne_eqb s k ne)
 
 -- the logs of the other sites stay
-pub unchanged_there : (c : CoreState) (k s : ℕ) (es : List Entry) → (s ≡ k → ⊥) → c.entries s ≡ c.entries s ++ only_at k es s
+pub unchanged_there : (c : CoreState) (k s : ℕ) (es : List Entry) → (s ≡ k → ⊥)
+    → c.entries s ≡ c.entries s ++ only_at k es s
 unchanged_there c k s es ne = sym (append-nil (c.entries s)) ∙ ap (λ xs. c.entries s ++ xs) (sym (only_there k es s ne))
 
 pub begin-legal : (c : CoreState) → IsLegal c → IsLegal (record c { certifier = with_begun c.certifier })
 begin-legal c h = record {
-  sites = λ s lt. site-state (items_at c s) c.certifier (with_begun c.certifier) (c.entries s) (c.due s) refl (λ j f. (Contains-append_left c.certifier.active (suc c.certifier.begun ∷ []) j f.0, f.1)) (h.sites s lt);
+  sites = λ s lt. site-state (items_at c s) c.certifier (with_begun c.certifier) (c.entries s) (c.due s) refl
+      (λ j f. (Contains-append_left c.certifier.active (suc c.certifier.begun ∷ []) j f.0, f.1)) (h.sites s lt);
   changes_known = h.changes_known;
   changes_once = h.changes_once;
 }
 
-pub read-legal_at : (c : CoreState) (t k : ℕ) (x : Name) (v : ℕ) → IsLegal c → IsRuled c.certifier → IsFree c.certifier t → Contains (names (items_at c k)) x → ((e : Entry) → Contains (c.entries k) e → tx_of e ≡ t → Reads x e → ⊥)
+pub read-legal_at : (c : CoreState) (t k : ℕ) (x : Name) (v : ℕ) → IsLegal c → IsRuled c.certifier
+    → IsFree c.certifier t → Contains (names (items_at c k)) x → ((e : Entry) → Contains (c.entries k) e → tx_of e ≡ t
+    → Reads x e → ⊥)
     → value_at (items_at c k) (c.entries k) x ≡ Some v → IsLegal (with_entries c (only_at k (entry.Read t x v ∷ [])))
 read-legal_at c t k x v h ruled_ free known fresh legal = record {
   sites = λ s lt. elim (cases_eq s k) [
     | inl here ↦
-        let at_k = site-read (items_at c k) c.certifier (c.entries k) (c.due k) t x v (h.sites k (subst (λ n. n < length c.items) here lt)) ruled_ free known fresh legal in
-        let at_k2 : IsLegalSite (items_at c k) c.certifier (c.entries k ++ only_at k (entry.Read t x v ∷ []) k) (c.due k)
-        = subst (λ es. IsLegalSite (items_at c k) c.certifier (c.entries k ++ es) (c.due k)) (sym (only_here k (entry.Read t x v ∷ []))) at_k in
-        subst (λ n. IsLegalSite (items_at c n) c.certifier (c.entries n ++ only_at k (entry.Read t x v ∷ []) n) (c.due n)) (sym here) at_k2
-    | inr there ↦ subst (λ es. IsLegalSite (items_at c s) c.certifier es (c.due s)) (unchanged_there c k s (entry.Read t x v ∷ []) there) (h.sites s lt)
+        let at_k =
+            site-read (items_at c k) c.certifier (c.entries k) (c.due k) t x v
+            (h.sites k (subst (λ n. n < length c.items) here lt)) ruled_ free known fresh legal in
+        let at_k2 : IsLegalSite (items_at c k) c.certifier (c.entries k ++ only_at k (entry.Read t x v ∷ []) k)
+            (c.due k)
+        = subst (λ es. IsLegalSite (items_at c k) c.certifier (c.entries k ++ es) (c.due k))
+            (sym (only_here k (entry.Read t x v ∷ []))) at_k in
+        subst (λ n. IsLegalSite (items_at c n) c.certifier (c.entries n ++ only_at k (entry.Read t x v ∷ []) n)
+            (c.due n)) (sym here) at_k2
+    | inr there ↦ subst (λ es. IsLegalSite (items_at c s) c.certifier es (c.due s))
+        (unchanged_there c k s (entry.Read t x v ∷ []) there) (h.sites s lt)
   ];
   changes_known = h.changes_known;
   changes_once = h.changes_once;
@@ -95,40 +107,53 @@ pub empty_is : (es : List Entry) → is_empty es ≡ true → es ≡ []
 empty_is [] t = refl
 empty_is (e ∷ es) t = absurd (true≢false (sym t))
 
-pub closing-legal : (c : CoreState) (i : ℕ) → ((s : ℕ) → s < length c.items → Contains (sites_of c) s) → IsLegal c → c.certifier.step ≡ Some i
+pub closing-legal : (c : CoreState) (i : ℕ) → ((s : ℕ) → s < length c.items → Contains (sites_of c) s) → IsLegal c
+    → c.certifier.step ≡ Some i
     → is_written c ≡ true → IsLegal (record c { certifier = with_finished c.certifier i; step = None; due = λ s. [] })
 closing-legal c i there h open_i done = record {
   sites = λ s lt.
-      let none : c.due s ≡ [] = empty_is (c.due s) (all_pass (λ n. is_empty (c.due n)) (sites_of c) s done (there s lt)) in
+      let none : c.due s ≡ [] =
+          empty_is (c.due s) (all_pass (λ n. is_empty (c.due n)) (sites_of c) s done (there s lt)) in
       site-state (items_at c s) c.certifier (with_finished c.certifier i) (c.entries s) [] refl
-      (λ j f. (member_filter (λ a. not (a == i)) c.certifier.active j f.0 (ap not (ne_eqb j i (λ same. f.1 (open_i ∙ ap Some (sym same))))), λ e. absurd cc))
+      (λ j f. (member_filter (λ a. not (a == i)) c.certifier.active j f.0
+          (ap not (ne_eqb j i (λ same. f.1 (open_i ∙ ap Some (sym same))))), λ e. absurd cc))
       (subst (IsLegalSite (items_at c s) c.certifier (c.entries s)) none (h.sites s lt));
   changes_known = h.changes_known;
   changes_once = h.changes_once;
 }
 
-pub install-legal : (c : CoreState) (k : ℕ) → IsLegal c → IsLegal (record (with_entries c (only_at k (c.due k))) { due = changed_at k [] c.due })
+pub install-legal : (c : CoreState) (k : ℕ) → IsLegal c
+    → IsLegal (record (with_entries c (only_at k (c.due k))) { due = changed_at k [] c.due })
 install-legal c k h = record {
   sites = λ s lt. elim (cases_eq s k) [
     | inl here ↦
-        let at_k = site-written (items_at c k) c.certifier (c.entries k) (c.due k) (h.sites k (subst (λ n. n < length c.items) here lt)) in
+        let at_k =
+            site-written (items_at c k) c.certifier (c.entries k) (c.due k)
+            (h.sites k (subst (λ n. n < length c.items) here lt)) in
         let with_due : IsLegalSite (items_at c k) c.certifier (c.entries k ++ c.due k) (changed_at k [] c.due k)
         = subst (IsLegalSite (items_at c k) c.certifier (c.entries k ++ c.due k)) (sym (cleared_here k c.due)) at_k in
-        let at_k2 : IsLegalSite (items_at c k) c.certifier (c.entries k ++ only_at k (c.due k) k) (changed_at k [] c.due k)
-        = subst (λ es. IsLegalSite (items_at c k) c.certifier (c.entries k ++ es) (changed_at k [] c.due k)) (sym (only_here k (c.due k))) with_due in
-        subst (λ n. IsLegalSite (items_at c n) c.certifier (c.entries n ++ only_at k (c.due k) n) (changed_at k [] c.due n)) (sym here) at_k2
+        let at_k2 : IsLegalSite (items_at c k) c.certifier (c.entries k ++ only_at k (c.due k) k)
+            (changed_at k [] c.due k)
+        = subst (λ es. IsLegalSite (items_at c k) c.certifier (c.entries k ++ es) (changed_at k [] c.due k))
+            (sym (only_here k (c.due k))) with_due in
+        subst (λ n. IsLegalSite (items_at c n) c.certifier (c.entries n ++ only_at k (c.due k) n)
+            (changed_at k [] c.due n)) (sym here) at_k2
     | inr other ↦
         let same : IsLegalSite (items_at c s) c.certifier (c.entries s ++ only_at k (c.due k) s) (c.due s)
-        = subst (λ es. IsLegalSite (items_at c s) c.certifier es (c.due s)) (unchanged_there c k s (c.due k) other) (h.sites s lt) in
-        subst (IsLegalSite (items_at c s) c.certifier (c.entries s ++ only_at k (c.due k) s)) (sym (cleared_there k c.due s other)) same
+        = subst (λ es. IsLegalSite (items_at c s) c.certifier es (c.due s)) (unchanged_there c k s (c.due k) other)
+            (h.sites s lt) in
+        subst (IsLegalSite (items_at c s) c.certifier (c.entries s ++ only_at k (c.due k) s))
+            (sym (cleared_there k c.due s other)) same
   ];
   changes_known = h.changes_known;
   changes_once = h.changes_once;
 }
 
-pub noted-legal : (c : CoreState) (i s : ℕ) (items : List Name) → IsLegal c → IsLegal (record c { certifier = with_install c.certifier i s items })
+pub noted-legal : (c : CoreState) (i s : ℕ) (items : List Name) → IsLegal c
+    → IsLegal (record c { certifier = with_install c.certifier i s items })
 noted-legal c i s items h = record {
-  sites = λ k lt. site-state (items_at c k) c.certifier (with_install c.certifier i s items) (c.entries k) (c.due k) refl (λ j f. f) (h.sites k lt);
+  sites = λ k lt. site-state (items_at c k) c.certifier (with_install c.certifier i s items) (c.entries k)
+      (c.due k) refl (λ j f. f) (h.sites k lt);
   changes_known = h.changes_known;
   changes_once = h.changes_once;
 }
@@ -141,14 +166,18 @@ none_due c s o none = empty (c.due s) (λ e m. let f : None ≡ Some (tx_of e) =
     empty [] h = refl
     empty (e ∷ es) h = absurd (h e (cons_here e es))
 
-idle_site : (c : CoreState) (s : ℕ) → IsOrdered c → IsLegal c → c.certifier.step ≡ None → s < length c.items → IsLegalSite (items_at c s) c.certifier (c.entries s) []
-idle_site c s o h none lt = subst (IsLegalSite (items_at c s) c.certifier (c.entries s)) (none_due c s o none) (h.sites s lt)
+idle_site : (c : CoreState) (s : ℕ) → IsOrdered c → IsLegal c → c.certifier.step ≡ None → s < length c.items
+    → IsLegalSite (items_at c s) c.certifier (c.entries s) []
+idle_site c s o h none lt = subst (IsLegalSite (items_at c s) c.certifier (c.entries s)) (none_due c s o none)
+    (h.sites s lt)
 
 free_idle : (s : State) (i : ℕ) → s.step ≡ None → Contains s.active i → IsFree s i
 free_idle s i none active = (active, λ e. let f : None ≡ Some i = sym none ∙ e in absurd cc)
 
-pub yes-legal : (c : CoreState) (i : ℕ) (arcs : List Arc) (mid : State) → IsOrdered c → IsRuled c.certifier → IsLegal c → c.certifier.step ≡ None
-    → Contains c.certifier.active i → Commits c.certifier i arcs mid → IsLegal (record c { certifier = mid; due = committed_block c i })
+pub yes-legal : (c : CoreState) (i : ℕ) (arcs : List Arc) (mid : State) → IsOrdered c → IsRuled c.certifier
+    → IsLegal c → c.certifier.step ≡ None
+    → Contains c.certifier.active i → Commits c.certifier i arcs mid
+        → IsLegal (record c { certifier = mid; due = committed_block c i })
 yes-legal c i arcs mid o ruled_ h none active m =
     let d : Decides c.certifier i (committed i) mid = record {
       rulings = ap (λ s. s.rulings) m.after;
@@ -156,15 +185,18 @@ yes-legal c i arcs mid o ruled_ h none active m =
       others = λ j ne f. subst (λ s. IsFree s j) (sym m.after) (f.0, λ e. ne (sym (same_Some i j e)));
     } in
     record {
-      sites = λ s lt. site-due (items_at c s) c.certifier mid (c.entries s) i (committed i) (as_changes i (c.changes i s)) (entry.Commit i) (touches c i s)
+      sites = λ s lt. site-due (items_at c s) c.certifier mid (c.entries s) i (committed i)
+          (as_changes i (c.changes i s)) (entry.Commit i) (touches c i s)
           (idle_site c s o h none lt) ruled_ (free_idle c.certifier i none active) d
           (committed-block (items_at c s) i (c.changes i s) (h.changes_known i s) (h.changes_once i s))
-          (either_blocks (as_changes i (c.changes i s)) (entry.Commit i) (committed-blocks i (c.changes i s))) (touches_own c i s);
+          (either_blocks (as_changes i (c.changes i s)) (entry.Commit i) (committed-blocks i (c.changes i s)))
+              (touches_own c i s);
       changes_known = h.changes_known;
       changes_once = h.changes_once;
     }
 
-pub no-legal : (c : CoreState) (i : ℕ) (arcs : List Arc) (walk : List Step) (mid : State) → IsOrdered c → IsRuled c.certifier → IsLegal c
+pub no-legal : (c : CoreState) (i : ℕ) (arcs : List Arc) (walk : List Step) (mid : State) → IsOrdered c
+    → IsRuled c.certifier → IsLegal c
     → c.certifier.step ≡ None → Contains c.certifier.active i → Refuses c.certifier i arcs walk mid
     → IsLegal (record c { certifier = mid; due = refused_block c i })
 no-legal c i arcs walk mid o ruled_ h none active m =
@@ -174,15 +206,19 @@ no-legal c i arcs walk mid o ruled_ h none active m =
       others = λ j ne f. subst (λ s. IsFree s j) (sym m.after) (f.0, λ e. ne (sym (same_Some i j e)));
     } in
     record {
-      sites = λ s lt. site-due (items_at c s) c.certifier mid (c.entries s) i (refused i walk) (as_wants i (c.changes i s)) (entry.Refuse i) (touches c i s)
+      sites = λ s lt. site-due (items_at c s) c.certifier mid (c.entries s) i (refused i walk)
+          (as_wants i (c.changes i s)) (entry.Refuse i) (touches c i s)
           (idle_site c s o h none lt) ruled_ (free_idle c.certifier i none active) d
           (refused-block (items_at c s) i walk (c.changes i s) (h.changes_known i s) (h.changes_once i s))
-          (either_blocks (as_wants i (c.changes i s)) (entry.Refuse i) (refused-blocks i walk (c.changes i s))) (touches_own c i s);
+          (either_blocks (as_wants i (c.changes i s)) (entry.Refuse i) (refused-blocks i walk (c.changes i s)))
+              (touches_own c i s);
       changes_known = h.changes_known;
       changes_once = h.changes_once;
     }
 
-pub withdraw-legal : (c : CoreState) (i : ℕ) → IsOrdered c → IsRuled c.certifier → IsLegal c → c.certifier.step ≡ None → Contains c.certifier.active i → IsLegal (record (with_entries c (withdrawn_block c i)) { certifier = with_withdrawn c.certifier i })
+pub withdraw-legal : (c : CoreState) (i : ℕ) → IsOrdered c → IsRuled c.certifier → IsLegal c → c.certifier.step ≡ None
+    → Contains c.certifier.active i
+    → IsLegal (record (with_entries c (withdrawn_block c i)) { certifier = with_withdrawn c.certifier i })
 withdraw-legal c i o ruled_ h none active =
     let d : Decides c.certifier i (withdrawn i) (with_withdrawn c.certifier i) = record {
       rulings = refl;
@@ -191,16 +227,23 @@ withdraw-legal c i o ruled_ h none active =
     } in
     record {
       sites = λ s lt.
-          let due = site-due (items_at c s) c.certifier (with_withdrawn c.certifier i) (c.entries s) i (withdrawn i) [] (entry.Withdraw i) (touches c i s) (idle_site c s o h none lt) ruled_ (free_idle c.certifier i none active) d
-          (withdrawn-block (items_at c s) i) (either_blocks [] (entry.Withdraw i) (withdrawn-blocks i)) (touches_own c i s) in
-          subst (IsLegalSite (items_at c s) (with_withdrawn c.certifier i) (c.entries s ++ withdrawn_block c i s)) (sym (none_due c s o none)) (site-written (items_at c s) (with_withdrawn c.certifier i) (c.entries s) (withdrawn_block c i s) due);
+          let due = site-due (items_at c s) c.certifier (with_withdrawn c.certifier i) (c.entries s) i (withdrawn i)
+              [] (entry.Withdraw i) (touches c i s) (idle_site c s o h none lt) ruled_
+              (free_idle c.certifier i none active) d
+          (withdrawn-block (items_at c s) i) (either_blocks [] (entry.Withdraw i) (withdrawn-blocks i))
+              (touches_own c i s) in
+          subst (IsLegalSite (items_at c s) (with_withdrawn c.certifier i) (c.entries s ++ withdrawn_block c i s))
+              (sym (none_due c s o none)) (site-written (items_at c s) (with_withdrawn c.certifier i) (c.entries s)
+              (withdrawn_block c i s) due);
       changes_known = h.changes_known;
       changes_once = h.changes_once;
     }
 
-pub close-legal : (c : CoreState) → IsLegal c → c.certifier.active ≡ [] → IsLegal (record c { certifier = with_closed c.certifier })
+pub close-legal : (c : CoreState) → IsLegal c → c.certifier.active ≡ []
+    → IsLegal (record c { certifier = with_closed c.certifier })
 close-legal c h none = record {
-  sites = λ s lt. site-state (items_at c s) c.certifier (with_closed c.certifier) (c.entries s) (c.due s) refl (λ j f. absurd (contains-none j (subst (λ ts. Contains ts j) none f.0))) (h.sites s lt);
+  sites = λ s lt. site-state (items_at c s) c.certifier (with_closed c.certifier) (c.entries s) (c.due s) refl
+      (λ j f. absurd (contains-none j (subst (λ ts. Contains ts j) none f.0))) (h.sites s lt);
   changes_known = h.changes_known;
   changes_once = h.changes_once;
 }

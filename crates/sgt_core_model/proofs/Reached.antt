@@ -20,7 +20,8 @@ module _ (E F : ℕ → ℕ → Type 0) (each : (a b : ℕ) → E a b → F a b)
   reaches_alike a b r = (r.0, leads_alike a r.0 b r.1)
 
 module _ (edge : ℕ → ℕ → Type 0) where
-  leads-on : (a : ℕ) (xs : List ℕ) (b : ℕ) (ys : List ℕ) (d : ℕ) → Leads edge a xs b → Leads edge b ys d → Leads edge a (xs ++ b ∷ ys) d
+  leads-on : (a : ℕ) (xs : List ℕ) (b : ℕ) (ys : List ℕ) (d : ℕ) → Leads edge a xs b → Leads edge b ys d
+      → Leads edge a (xs ++ b ∷ ys) d
   leads-on a [] b ys d first second = (first, second)
   leads-on a (c ∷ cs) b ys d first second = (first.0, leads-on c cs b ys d first.1 second)
 
@@ -48,7 +49,8 @@ module _ (edge : ℕ → ℕ → Type 0) where
 joins_more : (e : Arc) (es : List Arc) (a b : ℕ) → Joins es a b → Joins (e ∷ es) a b
 joins_more e es a b j = (j.0, contains-later e es _ j.1)
 
-leads_more : (e : Arc) (es : List Arc) (a : ℕ) (xs : List ℕ) (b : ℕ) → Leads (Joins es) a xs b → Leads (Joins (e ∷ es)) a xs b
+leads_more : (e : Arc) (es : List Arc) (a : ℕ) (xs : List ℕ) (b : ℕ) → Leads (Joins es) a xs b
+    → Leads (Joins (e ∷ es)) a xs b
 leads_more e es a [] b h = joins_more e es a b h
 leads_more e es a (c ∷ cs) b h = (joins_more e es a c h.0, leads_more e es c cs b h.1)
 
@@ -92,13 +94,15 @@ new_then e es b h = elim h [
   | inr both ↦ inr (inl refl, both.1)
 ]
 
-leads-through : (e : Arc) (es : List Arc) (a : ℕ) (xs : List ℕ) (b : ℕ) → Leads (Joins (e ∷ es)) a xs b → Through e es a b
+leads-through : (e : Arc) (es : List Arc) (a : ℕ) (xs : List ℕ) (b : ℕ) → Leads (Joins (e ∷ es)) a xs b
+    → Through e es a b
 leads-through e es a [] b h = elim (first_step e es a b h) [
   | inl new ↦ inr (inl new.0, inl (sym new.1))
   | inr old ↦ inl ([], old)
 ]
 leads-through e es a (c ∷ cs) b h = elim (first_step e es a c h.0) [
-  | inl new ↦ subst (λ t. Through e es t b) (sym new.0) (new_then e es b (subst (λ t. Through e es t b) new.1 (leads-through e es c cs b h.1)))
+  | inl new ↦ subst (λ t. Through e es t b) (sym new.0)
+      (new_then e es b (subst (λ t. Through e es t b) new.1 (leads-through e es c cs b h.1)))
   | inr old ↦ old_then e es a c b old (leads-through e es c cs b h.1)
 ]
 
@@ -118,7 +122,8 @@ reaches-Decides (e ∷ es) a b =
     let before = Decides-or (a == e.from) (reaches es a e.from) (Decides-eqb a e.from) (reaches-Decides es a e.from) in
     let behind = Decides-or (e.to == b) (reaches es e.to b) (Decides-eqb e.to b) (reaches-Decides es e.to b) in
     Decides-like (reaches (e ∷ es) a b) (through-reaches e es a b) (λ r. leads-through e es a r.0 b r.1)
-    (Decides-or (reaches es a b) (((a == e.from) || reaches es a e.from) && ((e.to == b) || reaches es e.to b)) (reaches-Decides es a b)
+    (Decides-or (reaches es a b) (((a == e.from) || reaches es a e.from) && ((e.to == b) || reaches es e.to b))
+        (reaches-Decides es a b)
     (Decides-and ((a == e.from) || reaches es a e.from) ((e.to == b) || reaches es e.to b) before behind))
 
 -- the test tells who is reached

@@ -1,4 +1,5 @@
--- Every run keeps what each state of the core keeps: one lemma for each event, and one place where all events are gone through.
+-- Every run keeps what each state of the core keeps: one lemma for each event, and one place where all events are
+-- gone through.
 use Rattle.std.proofs.Common.{◌≡◌, ◌<◌, ◌≤◌, ◌+◌, ℕ, zero, suc, Bool, true, false, cond, List, [], ◌∷◌, ◌++◌, length, refl, sym, ◌∙◌, arith, ◌⊎◌, inl, inr, Contains, Option, Some, None, subst, ap}
 use Rattle.std.specs.Prelude.{◌&&◌, ◌||◌, ◌==◌}
 use Rattle.std.specs.List.{list_all, list_any, range_with_len}
@@ -45,10 +46,12 @@ at_most a b out = omega (arith, out)
 pub below : (a b : ℕ) → (a ≤ b → ⊥) → b < a
 below a b out = omega (arith, out)
 
-pub is_active : (c : CoreState) (event : Event) (tx : ℕ) → IsAllowed c event → tx_in event ≡ Some tx → Contains c.certifier.active tx
+pub is_active : (c : CoreState) (event : Event) (tx : ℕ) → IsAllowed c event → tx_in event ≡ Some tx
+    → Contains c.certifier.active tx
 is_active c event tx allowed e = elim (contains_cases c.certifier.active tx) [
   | inl active ↦ active
-  | inr none ↦ absurd (allowed fault.Ended (tx, e, (at_most c.certifier.begun tx (λ lt. allowed fault.Unknown (tx, e, lt)), none)))
+  | inr none ↦ absurd
+      (allowed fault.Ended (tx, e, (at_most c.certifier.begun tx (λ lt. allowed fault.Unknown (tx, e, lt)), none)))
 ]
 
 pub none_open : (c : CoreState) → ((c.step ≡ None → ⊥) → ⊥) → c.step ≡ None
@@ -67,7 +70,8 @@ idle c h closed =
     ]
 
 -- if no other step is open and tx isn't decided, the certifier has no step open
-undecided : (c : CoreState) (tx : ℕ) → IsKept c → (IsOtherOpen c tx → ⊥) → (IsDecided c tx → ⊥) → c.certifier.step ≡ None
+undecided : (c : CoreState) (tx : ℕ) → IsKept c → (IsOtherOpen c tx → ⊥) → (IsDecided c tx → ⊥)
+    → c.certifier.step ≡ None
 undecided c tx h no_other not_decided =
     elim (option_cases c.certifier.step) [
       | inl none ↦ none
@@ -75,7 +79,8 @@ undecided c tx h no_other not_decided =
           elim (option_cases c.step) [
             | inl closed ↦ absurd (subst (StepIs (λ t. t ≡ some.0)) closed (h.together some.0 some.1))
             | inr open_step ↦
-                let own : open_step.0.tx ≡ some.0 = subst (StepIs (λ t. t ≡ some.0)) open_step.1 (h.together some.0 some.1) in
+                let own : open_step.0.tx ≡ some.0 =
+                    subst (StepIs (λ t. t ≡ some.0)) open_step.1 (h.together some.0 some.1) in
                 elim (cases_eq open_step.0.tx tx) [
                   | inl same ↦ absurd (not_decided (some.1 ∙ ap Some (sym own ∙ same)))
                   | inr other ↦ absurd (no_other (subst (StepIs (λ t. t ≡ tx → ⊥)) (sym open_step.1) other))
@@ -103,11 +108,13 @@ touching_there c i s hit = either (list_any (λ e. tx_of e == i) (c.entries s)) 
     logged (f ∷ fs) e =
         elim (cases_Bool (tx_of f == i)) [
           | inl own ↦ (f, cons_here f fs, eqb-true (tx_of f) i own)
-          | inr other ↦ let r = logged fs (subst (λ b. (b || list_any (λ e. tx_of e == i) fs) ≡ true) other e) in (r.0, contains-later f fs r.0 r.1, r.2)
+          | inr other ↦ let r = logged fs (subst (λ b. (b || list_any (λ e. tx_of e == i) fs) ≡ true) other e) in
+              (r.0, contains-later f fs r.0 r.1, r.2)
         ]
 
     either : (t : Bool) → list_any (λ e. tx_of e == i) (c.entries s) ≡ t → IsThere c i s
-    either true e = let r = logged (c.entries s) e in inl (r.0, Contains-append_left (c.entries s) (c.due s) r.0 r.1, r.2)
+    either true e = let r = logged (c.entries s) e in inl (r.0, Contains-append_left (c.entries s) (c.due s) r.0 r.1,
+        r.2)
     either false e = inr (subst (λ b. (b || is_some_change (c.changes i s)) ≡ true) e hit)
 
 -- where a Gather is allowed, its transaction isn't decided
@@ -129,19 +136,23 @@ name_cases (y ∷ ys) x =
       | inl hit ↦ inl (subst (Contains (y ∷ ys)) ((bytes_eq-Decides y x).0 hit) (cons_here y ys))
       | inr miss ↦ elim (name_cases ys x) [
         | inl later ↦ inl (contains-later y ys x later)
-        | inr none ↦ inr (λ c. elim (contains-cases y ys x c) [ inl is ↦ true≢false (sym ((bytes_eq-Decides y x).1 is) ∙ miss) | inr later ↦ none later ])
+        | inr none ↦ inr (λ c. elim (contains-cases y ys x c) [ inl is ↦ true≢false (sym ((bytes_eq-Decides y x).1 is)
+            ∙ miss) | inr later ↦ none later ])
       ]
     ]
 
 pub known_item : (c : CoreState) (s : ℕ) (x : Name) → ((IsOfSite c s x → ⊥) → ⊥) → Contains (names (items_at c s)) x
-known_item c s x twice = elim (name_cases (names (items_at c s)) x) [ inl known ↦ known | inr none ↦ absurd (twice none) ]
+known_item c s x twice = elim (name_cases (names (items_at c s)) x) [ inl known ↦ known
+    | inr none ↦ absurd (twice none) ]
 
 range_has : (low n k : ℕ) → k < n → Contains (range_with_len low n) (low + k)
 range_has low zero k lt = absurd (omega arith)
-range_has low (suc n) zero lt = let e : low ≡ low + 0 = omega arith in subst (Contains (low ∷ range_with_len (low + 1) n)) e (cons_here low (range_with_len (low + 1) n))
+range_has low (suc n) zero lt = let e : low ≡ low + 0 = omega arith in
+    subst (Contains (low ∷ range_with_len (low + 1) n)) e (cons_here low (range_with_len (low + 1) n))
 range_has low (suc n) (suc k) lt =
     let e : low + 1 + k ≡ low + suc k = omega arith in
-    contains-later low (range_with_len (low + 1) n) (low + suc k) (subst (Contains (range_with_len (low + 1) n)) e (range_has (low + 1) n k (omega arith)))
+    contains-later low (range_with_len (low + 1) n) (low + suc k)
+        (subst (Contains (range_with_len (low + 1) n)) e (range_has (low + 1) n k (omega arith)))
 
 pub is_site : (c : CoreState) (s : ℕ) → s < length c.items → Contains (sites_of c) s
 is_site c s lt = let e : 0 + s ≡ s = omega arith in subst (Contains (sites_of c)) e (range_has 0 (length c.items) s lt)
@@ -150,7 +161,8 @@ is_site c s lt = let e : 0 + s ≡ s = omega arith in subst (Contains (sites_of 
 
 -- the step closes, or it stays open, and is the core's
 ending-kept : (c : CoreState) (i : ℕ) → IsSound c → c.certifier.step ≡ Some i → (is_written c ≡ false → IsOwnOpen c i)
-    → ((s : ℕ) → IsThere c i s → Contains (gathered_in c.step) s) → IsCounted c → AreInstalls c.entries c.certifier.installs → IsKept (closed_if_written c i)
+    → ((s : ℕ) → IsThere c i s → Contains (gathered_in c.step) s) → IsCounted c
+        → AreInstalls c.entries c.certifier.installs → IsKept (closed_if_written c i)
 ending-kept c i h open_i own gathered counted installs =
     elim (cases_Bool (is_written c)) [
       | inl done ↦ rw done (record {
@@ -202,21 +214,27 @@ own_if_gathered c tx s twice =
     ]
 
 -- while a block of tx is due, its step is open
-still_open : (c : CoreState) (tx : ℕ) (last : Entry) (ops : ℕ → List Entry) → ((s : ℕ) → Contains (touched c tx) s → (IsGathered c tx s → ⊥) → ⊥)
+still_open : (c : CoreState) (tx : ℕ) (last : Entry) (ops : ℕ → List Entry)
+    → ((s : ℕ) → Contains (touched c tx) s → (IsGathered c tx s → ⊥) → ⊥)
     → list_all (λ s. is_empty (cond (touches c tx s) (ops s ++ last ∷ []) [])) (sites_of c) ≡ false → IsOwnOpen c tx
 still_open c tx last ops gathered left =
     let r = some_fails (λ s. is_empty (cond (touches c tx s) (ops s ++ last ∷ []) [])) (sites_of c) left in
-    own_if_gathered c tx r.0 (gathered r.0 (member_filter (touches c tx) (sites_of c) r.0 r.1 (due_touched (touches c tx r.0) (ops r.0 ++ last ∷ []) r.2)))
+    own_if_gathered c tx r.0
+        (gathered r.0
+        (member_filter (touches c tx) (sites_of c) r.0 r.1 (due_touched (touches c tx r.0) (ops r.0 ++ last ∷ []) r.2)))
 
 -- at its decision a transaction is there, with its block, only where it touches
 block_touches : (c : CoreState) (tx : ℕ) (mid : State) (last : Entry) (ops : ℕ → List Entry) (s : ℕ)
-    → IsThere (record c { certifier = mid; due = λ n. cond (touches c tx n) (ops n ++ last ∷ []) [] }) tx s → touches c tx s ≡ true
+    → IsThere (record c { certifier = mid; due = λ n. cond (touches c tx n) (ops n ++ last ∷ []) [] }) tx s
+        → touches c tx s ≡ true
 block_touches c tx mid last ops s there = elim there [
-  | inl logged ↦ elim (Contains-append_cases (c.entries s) (cond (touches c tx s) (ops s ++ last ∷ []) []) logged.0 logged.1) [
+  | inl logged ↦ elim (Contains-append_cases (c.entries s) (cond (touches c tx s) (ops s ++ last ∷ []) []) logged.0
+      logged.1) [
     | inl was ↦ touches_own c tx s logged.0 was logged.2
     | inr new ↦ only_if (touches c tx s) (ops s ++ last ∷ []) logged.0 new
   ]
-  | inr some ↦ ap (λ b. list_any (λ e. tx_of e == tx) (c.entries s) || b) some ∙ or_right (list_any (λ e. tx_of e == tx) (c.entries s))
+  | inr some ↦ ap (λ b. list_any (λ e. tx_of e == tx) (c.entries s) || b) some
+      ∙ or_right (list_any (λ e. tx_of e == tx) (c.entries s))
 ]
   where
     only_if : (t : Bool) (es : List Entry) (e : Entry) → Contains (cond t es []) e → t ≡ true
@@ -224,17 +242,21 @@ block_touches c tx mid last ops s there = elim there [
     only_if false es e m = absurd (contains-none e m)
 
 -- and there it is gathered
-pub block_gathered : (c : CoreState) (tx : ℕ) → IsSound c → ((s : ℕ) → Contains (touched c tx) s → (IsGathered c tx s → ⊥) → ⊥)
+pub block_gathered : (c : CoreState) (tx : ℕ) → IsSound c
+    → ((s : ℕ) → Contains (touched c tx) s → (IsGathered c tx s → ⊥) → ⊥)
     → (s : ℕ) → touches c tx s ≡ true → Contains (gathered_in c.step) s
 block_gathered c tx h gathered s hit =
-    let inside = below (length c.items) s (λ out. true≢false (sym hit ∙ untouched_outside c tx s h.walked h.legal out)) in
+    let inside =
+        below (length c.items) s (λ out. true≢false (sym hit ∙ untouched_outside c tx s h.walked h.legal out)) in
     elim (contains_cases (gathered_in c.step) s) [
       | inl is ↦ is
-      | inr none ↦ absurd (gathered s (member_filter (touches c tx) (sites_of c) s (is_site c s inside) hit) (λ g. none g.1))
+      | inr none ↦ absurd (gathered s (member_filter (touches c tx) (sites_of c) s (is_site c s inside) hit)
+          (λ g. none g.1))
     ]
 
 -- who stands in the longer log with another's entries put in stood there before
-there_before : (c : CoreState) (tx : ℕ) (more : ℕ → List Entry) → ((s : ℕ) (e : Entry) → Contains (more s) e → tx_of e ≡ tx) → (i s : ℕ) → (i ≡ tx → ⊥)
+there_before : (c : CoreState) (tx : ℕ) (more : ℕ → List Entry)
+    → ((s : ℕ) (e : Entry) → Contains (more s) e → tx_of e ≡ tx) → (i s : ℕ) → (i ≡ tx → ⊥)
     → IsThere (with_entries c more) i s → IsThere c i s
 there_before c tx more own i s other there = elim there [
   | inl logged ↦ elim (Contains-append_cases (c.entries s ++ more s) (c.due s) logged.0 logged.1) [
@@ -259,17 +281,20 @@ begin-kept c k allowed = record {
   };
   together = k.together;
   gathered = k.gathered;
-  counted = idle-counted c (with_begun c.certifier) c.step (idle c k (none_open c (allowed fault.StepOpen))) refl k.counted;
+  counted = idle-counted c (with_begun c.certifier) c.step (idle c k (none_open c (allowed fault.StepOpen))) refl
+      k.counted;
   installs = k.installs;
 }
 
 read_tx : (k tx : ℕ) (x : Name) (v s : ℕ) (e : Entry) → Contains (only_at k (entry.Read tx x v ∷ []) s) e → tx_of e ≡ tx
-read_tx k tx x v s e m = only_tx k (entry.Read tx x v ∷ []) tx (λ f n. elim (contains-cases (entry.Read tx x v) [] f n) [
+read_tx k tx x v s e m =
+    only_tx k (entry.Read tx x v ∷ []) tx (λ f n. elim (contains-cases (entry.Read tx x v) [] f n) [
   | inl is ↦ ap tx_of (sym is)
   | inr none ↦ absurd (contains-none f none)
 ]) s e m
 
-reads_site-kept : (c : CoreState) (tx s : ℕ) (x : Name) (v : ℕ) (new : CoreState) → IsKept c → IsAllowed c (Read tx s x) → look c tx s x ≡ None
+reads_site-kept : (c : CoreState) (tx s : ℕ) (x : Name) (v : ℕ) (new : CoreState) → IsKept c
+    → IsAllowed c (Read tx s x) → look c tx s x ≡ None
     → ReadsSite c tx s x v new → IsKept new
 reads_site-kept c tx s x v new k allowed none r =
     let active = is_active c (Read tx s x) tx allowed refl in
@@ -284,17 +309,21 @@ reads_site-kept c tx s x v new k allowed none r =
       };
       together = k.together;
       gathered = λ i t e there. k.gathered i t e
-          (there_before c tx (only_at s (entry.Read tx x r.0 ∷ [])) (read_tx s tx x r.0) i t (λ is. free (subst (λ j. c.certifier.step ≡ Some j) is e)) there);
+          (there_before c tx (only_at s (entry.Read tx x r.0 ∷ [])) (read_tx s tx x r.0) i t
+              (λ is. free (subst (λ j. c.certifier.step ≡ Some j) is e)) there);
       counted = grown-counted c (only_at s (entry.Read tx x r.0 ∷ [])) (read-none s tx x r.0) k.counted;
-      installs = grown-installs c.entries (only_at s (entry.Read tx x r.0 ∷ [])) c.certifier.installs (read-quiet s tx x r.0) k.installs;
+      installs = grown-installs c.entries (only_at s (entry.Read tx x r.0 ∷ [])) c.certifier.installs
+          (read-quiet s tx x r.0) k.installs;
     })
 
-reads-kept : (c : CoreState) (tx s : ℕ) (x : Name) (v : ℕ) (found : Option ℕ) (new : CoreState) → IsKept c → IsAllowed c (Read tx s x)
+reads-kept : (c : CoreState) (tx s : ℕ) (x : Name) (v : ℕ) (found : Option ℕ) (new : CoreState) → IsKept c
+    → IsAllowed c (Read tx s x)
     → look c tx s x ≡ found → Reads c tx s x v found new → IsKept new
 reads-kept c tx s x v (Some w) new k allowed is r = subst IsKept (sym r.1) k
 reads-kept c tx s x v None new k allowed is r = reads_site-kept c tx s x v new k allowed is r
 
-change-kept : (c : CoreState) (tx s : ℕ) (x : Name) (change : Change) → IsKept c → (IsOwnOpen c tx → ⊥) → ((IsOfSite c s x → ⊥) → ⊥)
+change-kept : (c : CoreState) (tx s : ℕ) (x : Name) (change : Change) → IsKept c → (IsOwnOpen c tx → ⊥)
+    → ((IsOfSite c s x → ⊥) → ⊥)
     → IsKept (with_change c tx s x change)
 change-kept c tx s x change k closed known = record {
   sound = record {
@@ -308,14 +337,17 @@ change-kept c tx s x change k closed known = record {
     | inl logged ↦ inl logged
     | inr some ↦
         let other : i ≡ tx → ⊥ = λ is. closed (k.together tx (subst (λ j. c.certifier.step ≡ Some j) is e)) in
-        inr (subst (λ b. is_some_change (cond b (changed_at s (put_in (x, change) (c.changes tx s)) (c.changes tx)) (c.changes i) t) ≡ true) (ne_eqb i tx other) some)
+        inr (subst
+            (λ b. is_some_change (cond b (changed_at s (put_in (x, change) (c.changes tx s)) (c.changes tx))
+            (c.changes i) t) ≡ true) (ne_eqb i tx other) some)
   ]);
   counted = change-counted c tx s x change (λ e. closed (k.together tx e)) k.counted;
   installs = k.installs;
 }
 
 -- another step is open, or none, while nothing is decided
-step-kept : (c : CoreState) (step : Option OpenStep) → IsKept c → c.certifier.step ≡ None → IsKept (record c { step = step })
+step-kept : (c : CoreState) (step : Option OpenStep) → IsKept c → c.certifier.step ≡ None
+    → IsKept (record c { step = step })
 step-kept c step k none = record {
   sound = record {
     ordered = same-ordered c c.changes step k.sound.ordered;
@@ -335,36 +367,48 @@ gather_idle c tx s k allowed = undecided c tx k (allowed fault.StepOpen) (gather
 pub decide_idle : (c : CoreState) (tx : ℕ) → IsKept c → IsAllowed c (Decide tx) → c.certifier.step ≡ None
 decide_idle c tx k allowed = undecided c tx k (allowed fault.StepOpen) (allowed fault.AlreadyDone)
 
-yes-kept : (c : CoreState) (tx : ℕ) (new : CoreState) → IsKept c → IsAllowed c (Decide tx) → CommitsAt c tx new → IsKept new
+yes-kept : (c : CoreState) (tx : ℕ) (new : CoreState) → IsKept c → IsAllowed c (Decide tx) → CommitsAt c tx new
+    → IsKept new
 yes-kept c tx new k allowed d =
     let h = k.sound in
     let none = decide_idle c tx k allowed in
     let active = is_active c (Decide tx) tx allowed refl in
-    subst IsKept (sym d.after) (ending-kept (record c { certifier = d.certifier; due = committed_block c tx }) tx (record {
+    subst IsKept (sym d.after) (ending-kept (record c { certifier = d.certifier; due = committed_block c tx }) tx
+        (record {
       ordered = yes-ordered c tx d.arcs d.certifier h.ordered none active d.edges d.commits;
       ruled = committed-ruled c.certifier tx d.arcs d.certifier h.ordered.certifier h.ruled none active d.commits;
       legal = yes-legal c tx d.arcs d.certifier h.ordered h.ruled h.legal none active d.commits;
       walked = yes-walked c tx d.arcs d.certifier h.walked h.legal (λ s. none_due c s h.ordered none) d.edges d.commits;
-    }) (ap (λ (s : State). s.step) d.commits.after) (still_open c tx (entry.Commit tx) (λ s. as_changes tx (c.changes tx s)) (λ s m g. allowed fault.NotGathered (s, m, g)))
+    }) (ap (λ (s : State). s.step) d.commits.after)
+        (still_open c tx (entry.Commit tx) (λ s. as_changes tx (c.changes tx s))
+        (λ s m g. allowed fault.NotGathered (s, m, g)))
     (λ s m. block_gathered c tx h (λ t n g. allowed fault.NotGathered (t, n, g)) s
     (block_touches c tx d.certifier (entry.Commit tx) (λ n. as_changes tx (c.changes tx n)) s m))
-    (yes-counted c tx d.arcs d.certifier d.commits k.counted) (subst (λ (s : State). AreInstalls c.entries s.installs) (sym d.commits.after) k.installs))
+    (yes-counted c tx d.arcs d.certifier d.commits k.counted) (subst (λ (s : State). AreInstalls c.entries s.installs)
+        (sym d.commits.after) k.installs))
 
-no-kept : (c : CoreState) (tx : ℕ) (new : CoreState) → IsKept c → IsAllowed c (Decide tx) → RefusesAt c tx new → IsKept new
+no-kept : (c : CoreState) (tx : ℕ) (new : CoreState) → IsKept c → IsAllowed c (Decide tx) → RefusesAt c tx new
+    → IsKept new
 no-kept c tx new k allowed d =
     let h = k.sound in
     let none = decide_idle c tx k allowed in
     let active = is_active c (Decide tx) tx allowed refl in
     let out = uncommitted c.certifier tx h.ordered.certifier none active in
-    subst IsKept (sym d.after) (ending-kept (record c { certifier = d.certifier; due = refused_block c tx }) tx (record {
+    subst IsKept (sym d.after) (ending-kept (record c { certifier = d.certifier; due = refused_block c tx }) tx
+        (record {
       ordered = no-ordered c tx d.arcs d.walk d.certifier h.ordered none active d.refuses;
-      ruled = refused-ruled c.certifier tx d.arcs d.walk d.certifier h.ordered.certifier h.ruled none active out d.refuses;
+      ruled = refused-ruled c.certifier tx d.arcs d.walk d.certifier h.ordered.certifier h.ruled none active out
+          d.refuses;
       legal = no-legal c tx d.arcs d.walk d.certifier h.ordered h.ruled h.legal none active d.refuses;
-      walked = no-walked c tx d.arcs d.walk d.certifier h.walked h.legal (λ s. none_due c s h.ordered none) d.edges d.refuses;
-    }) (ap (λ (s : State). s.step) d.refuses.after) (still_open c tx (entry.Refuse tx) (λ s. as_wants tx (c.changes tx s)) (λ s m g. allowed fault.NotGathered (s, m, g)))
+      walked = no-walked c tx d.arcs d.walk d.certifier h.walked h.legal (λ s. none_due c s h.ordered none) d.edges
+          d.refuses;
+    }) (ap (λ (s : State). s.step) d.refuses.after)
+        (still_open c tx (entry.Refuse tx) (λ s. as_wants tx (c.changes tx s))
+        (λ s m g. allowed fault.NotGathered (s, m, g)))
     (λ s m. block_gathered c tx h (λ t n g. allowed fault.NotGathered (t, n, g)) s
     (block_touches c tx d.certifier (entry.Refuse tx) (λ n. as_wants tx (c.changes tx n)) s m))
-    (no-counted c tx d.arcs d.walk d.certifier out d.refuses k.counted) (subst (λ (s : State). AreInstalls c.entries s.installs) (sym d.refuses.after) k.installs))
+    (no-counted c tx d.arcs d.walk d.certifier out d.refuses k.counted)
+        (subst (λ (s : State). AreInstalls c.entries s.installs) (sym d.refuses.after) k.installs))
 
 -- the install is noted, or there is nothing to note
 noted-sound : (c : CoreState) (tx s : ℕ) → IsSound c → IsSound (record c { certifier = noted c tx s })
@@ -402,7 +446,8 @@ install-kept c tx s k allowed =
       legal = install-legal mid s h.legal;
       walked = install-walked mid s inside h.walked;
     }) (noted-step c tx s ∙ open_tx) (λ left. k.together tx open_tx) (λ t there. k.gathered tx t open_tx (elim there [
-      | inl logged ↦ inl (logged.0, subst (λ es. Contains es logged.0) (moved_block c.entries c.due s t) logged.1, logged.2)
+      | inl logged ↦ inl (logged.0, subst (λ es. Contains es logged.0) (moved_block c.entries c.due s t) logged.1,
+          logged.2)
       | inr some ↦ inr some
     ])) (install-counted c tx s open_tx (install_due c tx s allowed) (k.sound.legal.changes_once tx s) k.counted)
     (install-installs c tx s open_tx (install_due c tx s allowed) inside k.sound.legal k.counted k.installs)
@@ -436,7 +481,8 @@ close-kept c k allowed =
         ordered = close-ordered c k.sound.ordered closed none;
         ruled = closed-ruled c.certifier k.sound.ruled;
         legal = close-legal c k.sound.legal none;
-        walked = same-walked c (with_closed c.certifier) c.changes c.step k.sound.walked (λ arc m. absurd (contains-none arc m)) refl;
+        walked = same-walked c (with_closed c.certifier) c.changes c.step k.sound.walked
+            (λ arc m. absurd (contains-none arc m)) refl;
       };
       together = k.together;
       gathered = λ i s e m. absurd (let f : Some i ≡ None = sym e ∙ closed in cc);
@@ -446,12 +492,16 @@ close-kept c k allowed =
 
 -- ---- all events
 
-pub serves-kept : (old : CoreState) (event : Event) (reply : Reply) (new : CoreState) → IsKept old → IsAllowed old event → Does old event reply new → IsKept new
+pub serves-kept : (old : CoreState) (event : Event) (reply : Reply) (new : CoreState) → IsKept old
+    → IsAllowed old event → Does old event reply new → IsKept new
 serves-kept old Begin (Begun tx) new k allowed d = subst IsKept (sym d.1) (begin-kept old k allowed)
 serves-kept old (Read tx s x) (Value v) new k allowed d = reads-kept old tx s x v (look old tx s x) new k allowed refl d
-serves-kept old (Put tx s x v) Kept new k allowed d = subst IsKept (sym d) (change-kept old tx s x _ k (allowed fault.StepOpen) (allowed fault.UnknownItem))
-serves-kept old (Add tx s x v) Kept new k allowed d = subst IsKept (sym d) (change-kept old tx s x _ k (allowed fault.StepOpen) (allowed fault.UnknownItem))
-serves-kept old (Gather tx s) Gathered new k allowed d = subst IsKept (sym d) (step-kept old _ k (gather_idle old tx s k allowed))
+serves-kept old (Put tx s x v) Kept new k allowed d =
+    subst IsKept (sym d) (change-kept old tx s x _ k (allowed fault.StepOpen) (allowed fault.UnknownItem))
+serves-kept old (Add tx s x v) Kept new k allowed d =
+    subst IsKept (sym d) (change-kept old tx s x _ k (allowed fault.StepOpen) (allowed fault.UnknownItem))
+serves-kept old (Gather tx s) Gathered new k allowed d =
+    subst IsKept (sym d) (step-kept old _ k (gather_idle old tx s k allowed))
 serves-kept old (Decide tx) Yes new k allowed d = yes-kept old tx new k allowed d
 serves-kept old (Decide tx) No new k allowed d = no-kept old tx new k allowed d
 serves-kept old (Write tx s) Installed new k allowed d = subst IsKept (sym d) (install-kept old tx s k allowed)
@@ -459,15 +509,20 @@ serves-kept old (Withdraw tx) Withdrawn new k allowed d = subst IsKept (sym d) (
 serves-kept old Close (Closed ranks) new k allowed d = subst IsKept (sym d.1) (close-kept old k allowed)
 serves-kept old _ _ new k allowed d = absurd d
 
-pub serves_all-kept : (old : CoreState) (events : List Event) (replies : List Reply) (new : CoreState) → IsKept old → ServesAll old events replies new → IsKept new
+pub serves_all-kept : (old : CoreState) (events : List Event) (replies : List Reply) (new : CoreState) → IsKept old
+    → ServesAll old events replies new → IsKept new
 serves_all-kept old [] [] new k r = subst IsKept (sym r) k
-serves_all-kept old (event ∷ events) (reply ∷ replies) new k r = serves_all-kept r.0 events replies new (serves-kept old event reply r.0 k r.1.0 r.1.1) r.2
+serves_all-kept old (event ∷ events) (reply ∷ replies) new k r =
+    serves_all-kept r.0 events replies new (serves-kept old event reply r.0 k r.1.0 r.1.1) r.2
 serves_all-kept old _ _ new k r = absurd r
 
-memory-kept : (old : CoreState) (event : Event) (new : CoreState) → IsKept old → IsAllowed old event → AfterMemory old event new → IsKept new
-memory-kept old (Gather tx s) new k allowed d = subst IsKept (sym d) (step-kept old None k (gather_idle old tx s k allowed))
+memory-kept : (old : CoreState) (event : Event) (new : CoreState) → IsKept old → IsAllowed old event
+    → AfterMemory old event new → IsKept new
+memory-kept old (Gather tx s) new k allowed d =
+    subst IsKept (sym d) (step-kept old None k (gather_idle old tx s k allowed))
 memory-kept old (Decide tx) new k allowed d = subst IsKept (sym d) (step-kept old None k (decide_idle old tx k allowed))
-memory-kept old (Commit tx) new k allowed d = subst IsKept (sym d) (step-kept old None k (idle old k (none_open old (allowed fault.StepOpen))))
+memory-kept old (Commit tx) new k allowed d =
+    subst IsKept (sym d) (step-kept old None k (idle old k (none_open old (allowed fault.StepOpen))))
 memory-kept old (Write tx s) new k allowed d = absurd d
 memory-kept old (Read tx s x) new k allowed d = subst IsKept (sym d.1) k
 memory-kept old Begin new k allowed d = subst IsKept (sym d) k
@@ -476,20 +531,24 @@ memory-kept old (Add tx s x v) new k allowed d = subst IsKept (sym d) k
 memory-kept old (Withdraw tx) new k allowed d = subst IsKept (sym d) k
 memory-kept old Close new k allowed d = subst IsKept (sym d) k
 
-pub may_step-kept : (old : CoreState) (event : Event) (reply : Reply) (new : CoreState) → IsKept old → MayStep old event reply new → IsKept new
+pub may_step-kept : (old : CoreState) (event : Event) (reply : Reply) (new : CoreState) → IsKept old
+    → MayStep old event reply new → IsKept new
 may_step-kept old event (Fault fault.Memory) new k r = memory-kept old event new k r.0 r.1
 may_step-kept old event (Fault f) new k r = subst IsKept (sym r.1) k
 may_step-kept old (Commit tx) reply new k r = serves_all-kept old _ _ new k r.1
 may_step-kept old event reply new k r = serves-kept old event reply new k r.0 r.1
 
-run-kept : (old : CoreState) (events : List Event) (replies : List Reply) (new : CoreState) → IsKept old → Run old events replies new → IsKept new
+run-kept : (old : CoreState) (events : List Event) (replies : List Reply) (new : CoreState) → IsKept old
+    → Run old events replies new → IsKept new
 run-kept old [] [] new k r = subst IsKept (sym r) k
-run-kept old (event ∷ events) (reply ∷ replies) new k r = run-kept r.0 events replies new (may_step-kept old event reply r.0 k r.1) r.2
+run-kept old (event ∷ events) (reply ∷ replies) new k r =
+    run-kept r.0 events replies new (may_step-kept old event reply r.0 k r.1) r.2
 run-kept old _ _ new k r = absurd r
 
 pub fresh-kept : (items : List (List Holding)) → IsKept (fresh items)
 fresh-kept items = record {
-  sound = record { ordered = fresh-ordered items; ruled = opening-ruled; legal = fresh-legal items; walked = fresh-walked items };
+  sound = record { ordered = fresh-ordered items; ruled = opening-ruled; legal = fresh-legal items; walked =
+      fresh-walked items };
   together = λ i e. absurd cc;
   gathered = λ i s e m. absurd cc;
   counted = fresh-counted items;
@@ -497,5 +556,6 @@ fresh-kept items = record {
 }
 
 -- what every run of fresh sites keeps
-pub runs-kept : (items : List (List Holding)) (events : List Event) (replies : List Reply) (c : CoreState) → Run (fresh items) events replies c → IsKept c
+pub runs-kept : (items : List (List Holding)) (events : List Event) (replies : List Reply) (c : CoreState)
+    → Run (fresh items) events replies c → IsKept c
 runs-kept items events replies c r = run-kept (fresh items) events replies c (fresh-kept items) r

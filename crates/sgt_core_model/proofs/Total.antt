@@ -30,11 +30,13 @@ no_fault c (Commit tx) f new s = s.1
 no_fault c (Withdraw tx) f new s = s.1
 no_fault c Close f new s = s.1
 
-unfoldable pub served_answer : (c : CoreState) (event : Event) (reply : Reply) (new : CoreState) → Serves c event reply new → IsAnswer reply
+unfoldable pub served_answer : (c : CoreState) (event : Event) (reply : Reply) (new : CoreState)
+    → Serves c event reply new → IsAnswer reply
 served_answer c event (Fault f) new s = no_fault c event f new s
 served_answer c event _ new s = tt
 
-unfoldable pub part-may : (c : CoreState) (event : Event) (reply : Reply) (new : CoreState) → IsPart event → Serves c event reply new → MayStep c event reply new
+unfoldable pub part-may : (c : CoreState) (event : Event) (reply : Reply) (new : CoreState) → IsPart event
+    → Serves c event reply new → MayStep c event reply new
 part-may c (Commit tx) reply new part s = absurd part
 part-may c event (Fault f) new part s = absurd (no_fault c event f new s)
 part-may c event reply new part s = s
@@ -51,7 +53,8 @@ unfoldable pub allowed-answered : (c : CoreState) (event : Event) → IsKept c �
 allowed-answered c (Commit tx) k allowed = commits c tx k allowed
 allowed-answered c event k allowed = part-answered c event k tt allowed
 
-unfoldable pub refused-answered : (c : CoreState) (event : Event) (f : CoreFault) → IsRefused c event f → MayStep c event (Fault f) c
+unfoldable pub refused-answered : (c : CoreState) (event : Event) (f : CoreFault) → IsRefused c event f
+    → MayStep c event (Fault f) c
 refused-answered c event fault.Memory r = absurd (no_memory c event r.0)
 refused-answered c event f r = (r, refl)
 
@@ -68,7 +71,8 @@ unfoldable pub answered : (c : CoreState) (event : Event) → IsKept c
     → (reply : Reply) × (new : CoreState) × MayStep c event reply new × (IsMemory reply → ⊥)
 answered c event k = elim (allowed_or_refused c event) [
   | inl allowed ↦ let r = allowed-answered c event k allowed in (r.0, r.1, r.2, answer-no_memory r.0 r.3)
-  | inr refused ↦ (Fault refused.0, c, refused-answered c event refused.0 refused.1, refused-no_memory c event refused.0 refused.1)
+  | inr refused ↦ (Fault refused.0, c, refused-answered c event refused.0 refused.1,
+      refused-no_memory c event refused.0 refused.1)
 ]
 
 -- each list of events has a run without want of memory
@@ -82,12 +86,14 @@ plays c (event ∷ events) k =
 
 -- from sites where nothing has happened
 unfoldable pub played : (items : List (List Holding)) (events : List Event)
-    → (replies : List Reply) × (new : CoreState) × Run (fresh items) events replies new × All (λ r. IsMemory r → ⊥) replies
+    → (replies : List Reply) × (new : CoreState) × Run (fresh items) events replies new × All (λ r. IsMemory r
+        → ⊥) replies
 played items events = plays (fresh items) events (fresh-kept items)
 
 -- ---- a decision as a whole
 
-decides_run : (c : CoreState) (tx : ℕ) (sites : List ℕ) (reply : Reply) (d : CoreState) → ServesAll c (parts_of_decision sites tx) (replies_of_decision sites reply) d
+decides_run : (c : CoreState) (tx : ℕ) (sites : List ℕ) (reply : Reply) (d : CoreState)
+    → ServesAll c (parts_of_decision sites tx) (replies_of_decision sites reply) d
     → Run c (parts_of_decision sites tx) (replies_of_decision sites reply) d
 decides_run c tx [] reply d a = (a.0, part-may c (Decide tx) reply a.0 tt a.1, a.2)
 decides_run c tx (s ∷ ss) reply d a = (a.0, a.1, decides_run a.0 tx ss reply d a.2)
@@ -98,7 +104,8 @@ pub decision-run : (c : CoreState) (tx : ℕ) (reply : Reply) (d : CoreState) �
 decision-run c tx (Fault f) d h answer = absurd answer
 decision-run c tx reply d h answer = decides_run c tx (touched c tx) reply d h.1
 
-pub decision-refused : (c : CoreState) (tx : ℕ) (reply : Reply) (d : CoreState) → MayDecide c tx reply d → (IsAnswer reply → ⊥) → MayStep c (Commit tx) reply d
+pub decision-refused : (c : CoreState) (tx : ℕ) (reply : Reply) (d : CoreState) → MayDecide c tx reply d
+    → (IsAnswer reply → ⊥) → MayStep c (Commit tx) reply d
 decision-refused c tx (Fault fault.Memory) d h out = h
 decision-refused c tx (Fault f) d h out = h
 decision-refused c tx reply d h out = absurd (out tt)

@@ -169,7 +169,8 @@ is_written c = list_all (λ s. is_empty (c.due s)) (sites_of c)
 
 -- the step of i is closed, and i with it, if no block is still due
 abbrev pub closed_if_written : CoreState → ℕ → CoreState
-closed_if_written c i = if is_written c then record c { certifier = with_finished c.certifier i; step = None; due = λ s. [] } else c
+closed_if_written c i = if is_written c then record c { certifier = with_finished c.certifier i; step = None; due =
+    λ s. [] } else c
 
 -- i was decided: the certifier is this one now, and these blocks are due
 abbrev pub decided : CoreState → ℕ → State → (ℕ → List Entry) → CoreState
@@ -181,7 +182,8 @@ is_committed c i = list_any (λ t. t == i) c.certifier.order
 
 -- the install of i at the site is noted, with the items that it changes there, if i is committed
 abbrev pub noted : CoreState → ℕ → ℕ → State
-noted c i s = if is_committed c i then with_install c.certifier i s (map (λ (d : Name × Change). d.0) (c.changes i s)) else c.certifier
+noted c i s = if is_committed c i then with_install c.certifier i s (map (λ (d : Name × Change). d.0) (c.changes i s))
+    else c.certifier
 
 -- the block due at the site is written
 abbrev pub installed : CoreState → ℕ → ℕ → CoreState

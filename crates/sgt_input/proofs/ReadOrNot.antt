@@ -1,5 +1,5 @@
--- Bytes are the lines of an input or have a first line that can't be read, where it is known of all lines whether an input may begin
--- with them.
+-- Bytes are the lines of an input or have a first line that can't be read, where it is known of all lines whether an
+-- input may begin with them.
 use Rattle.std.proofs.Common.{◌≡◌, ◌≢◌, ℕ, zero, suc, ◌+◌, ◌<◌, ◌≤◌, List, [], ◌∷◌, ◌++◌, length, take, refl, sym, ap, ◌∙◌, subst, arith, inl, inr, ◌⊎◌}
 use Rattle.std.proofs.lemmas.Bool.{cases_eq, cases_lt}
 use Rattle.std.proofs.lemmas.List.{append-nil, length-append, take-append-le}
@@ -34,7 +34,8 @@ cut (b ∷ bytes) =
       | inr other ↦
           elim (cut bytes) [
             | inl none ↦ inl (other, none)
-            | inr c ↦ inr (record { line = b ∷ c.line; more = c.more; none = (other, c.none); text = ap (λ cs. b ∷ cs) c.text })
+            | inr c ↦ inr (record { line = b ∷ c.line; more = c.more; none = (other, c.none); text =
+                ap (λ cs. b ∷ cs) c.text })
           ]
     ]
 
@@ -53,17 +54,22 @@ IsRead begins bytes = (lines : List (List ℕ)) × begins lines × (lines ≢ []
 abbrev pub HasUnreadable : (List (List ℕ) → Type 0) → List ℕ → Type 0
 HasUnreadable begins bytes = (n : ℕ) × (f : NotationFault) × IsFirstUnreadable begins bytes n f
 
-module _ (begins : List (List ℕ) → Type 0) (known : (lines : List (List ℕ)) → Decidable (begins lines)) (bytes : List ℕ) where
+module _ (begins : List (List ℕ) → Type 0) (known : (lines : List (List ℕ))
+    → Decidable (begins lines)) (bytes : List ℕ) where
   abbrev Told : Type 0
   Told = IsRead begins bytes ⊎ HasUnreadable begins bytes
 
-  module _ (before : List (List ℕ)) (rest : List ℕ) (text : bytes ≡ text_of_lines before ++ rest) (begun : begins before) where
+  module _ (before : List (List ℕ)) (rest : List ℕ) (text : bytes ≡ text_of_lines before ++ rest)
+      (begun : begins before) where
     blocked : (f : NotationFault) → Blocks begins before rest f → Told
-    blocked f blocks = inr (length before + 1, f, record { before = before; rest = rest; text = text; begun = begun; number = refl; blocks = blocks })
+    blocked f blocks =
+        inr (length before + 1, f, record { before = before; rest = rest; text = text; begun = begun; number =
+        refl; blocks = blocks })
 
     whole : rest ≡ [] → before ≢ [] → Told
     whole none some =
-        inl (before, begun, some, text ∙ ap (λ (t : List ℕ). text_of_lines before ++ t) none ∙ append-nil (text_of_lines before))
+        inl (before, begun, some, text ∙ ap (λ (t : List ℕ). text_of_lines before ++ t) none
+            ∙ append-nil (text_of_lines before))
 
     -- no LF comes any more
     ending : HasNot 10 rest → Told
@@ -74,11 +80,14 @@ module _ (begins : List (List ℕ) → Type 0) (known : (lines : List (List ℕ)
               elim (list_cases rest) [
                 | inl empty ↦
                     elim (list_cases before) [
-                      | inl nothing ↦ blocked NotALine (inr (record { none = no_lf rest none; short = short; empty = λ _. nothing }))
+                      | inl nothing ↦ blocked NotALine
+                          (inr (record { none = no_lf rest none; short = short; empty = λ _. nothing }))
                       | inr some ↦ whole empty (λ nothing. let same : some.0 ∷ some.1 ≡ [] = sym some.2 ∙ nothing in cc)
                     ]
                 | inr more ↦
-                    blocked NotALine (inr (record { none = no_lf rest none; short = short; empty = λ empty. let same : more.0 ∷ more.1 ≡ [] = sym more.2 ∙ empty in cc }))
+                    blocked NotALine
+                        (inr (record { none = no_lf rest none; short = short; empty =
+                        λ empty. let same : more.0 ∷ more.1 ≡ [] = sym more.2 ∙ empty in cc }))
               ]
         ]
 
@@ -90,16 +99,22 @@ module _ (begins : List (List ℕ) → Type 0) (known : (lines : List (List ℕ)
               let all = ap length c.text in
               let sum = length-append c.line (10 ∷ c.more) in
               let front : take (suc max_line) rest ≡ take (suc max_line) c.line =
-              ap (take (suc max_line)) c.text ∙ take-append-le (suc max_line) c.line (10 ∷ c.more) (omega (arith, long)) in
-              blocked TooLong (omega (arith, long, all, sum), subst HasNoLf (sym front) (no_lf (take (suc max_line) c.line) (front-none (suc max_line) c.line c.none)))
+              ap (take (suc max_line)) c.text
+                  ∙ take-append-le (suc max_line) c.line (10 ∷ c.more) (omega (arith, long)) in
+              blocked TooLong (omega (arith, long, all, sum),
+                  subst HasNoLf (sym front)
+                  (no_lf (take (suc max_line) c.line) (front-none (suc max_line) c.line c.none)))
           | inr short ↦
               elim (known (before ++ c.line ∷ [])) [
                 | inl goes ↦ on goes
-                | inr never ↦ blocked NotALine (inl (record { line = c.line; more = c.more; text = c.text; none = no_lf c.line c.none; short = short; not = never }))
+                | inr never ↦ blocked NotALine
+                    (inl (record { line = c.line; more = c.more; text = c.text; none = no_lf c.line c.none; short =
+                    short; not = never }))
               ]
         ]
 
-  told-from : (k : ℕ) (before : List (List ℕ)) (rest : List ℕ) → length rest ≤ k → bytes ≡ text_of_lines before ++ rest → begins before → Told
+  told-from : (k : ℕ) (before : List (List ℕ)) (rest : List ℕ) → length rest ≤ k
+      → bytes ≡ text_of_lines before ++ rest → begins before → Told
   told-from zero before rest size text begun =
       elim (cut rest) [
         | inl none ↦ ending before rest text begun none
@@ -116,7 +131,8 @@ module _ (begins : List (List ℕ) → Type 0) (known : (lines : List (List ℕ)
             let sum = length-append c.line (10 ∷ c.more) in
             going before rest text begun c (λ goes.
             told-from k (before ++ c.line ∷ []) c.more (omega (arith, size, all, sum))
-            (text ∙ ap (λ (t : List ℕ). text_of_lines before ++ t) c.text ∙ sym (text-one_line before c.line c.more)) goes)
+            (text ∙ ap (λ (t : List ℕ). text_of_lines before ++ t) c.text
+                ∙ sym (text-one_line before c.line c.more)) goes)
       ]
 
   -- there is always one of the two

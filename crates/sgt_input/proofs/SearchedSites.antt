@@ -37,7 +37,8 @@ IsUpTo Is most [] = Unit {0}
 IsUpTo Is zero (x ∷ xs) = ⊥
 IsUpTo Is (suc most) (x ∷ xs) = Is x × IsUpTo Is most xs
 
-pub up_to : {A : Type 0} (Is : A → Type 0) (most : ℕ) (xs : List A) → AllByRecursion Is xs → length xs ≤ most → IsUpTo Is most xs
+pub up_to : {A : Type 0} (Is : A → Type 0) (most : ℕ) (xs : List A) → AllByRecursion Is xs → length xs ≤ most
+    → IsUpTo Is most xs
 up_to Is most [] all few = tt
 up_to Is zero (x ∷ xs) all few = absurd (omega (arith, few))
 up_to Is (suc most) (x ∷ xs) all few = (all.0, up_to Is most xs all.1 (omega (arith, few)))
@@ -59,7 +60,8 @@ searched-lists {A} Is zero search Q each = decidable-as (λ q. ([], tt, q)) (λ 
     back [] is q = q
     back (x ∷ xs) is q = absurd is
 searched-lists {A} Is (suc most) search Q each =
-    one_of (each []) (searched-both Is (IsUpTo Is most) search (searched-lists Is most search) (λ p. Q (p.0 ∷ p.1)) (λ p. each (p.0 ∷ p.1)))
+    one_of (each []) (searched-both Is (IsUpTo Is most) search (searched-lists Is most search) (λ p. Q (p.0 ∷ p.1))
+        (λ p. each (p.0 ∷ p.1)))
   where
     one_of : Decidable (Q []) → Decidable ((p : A × List A) × (Is p.0 × IsUpTo Is most p.1) × Q (p.0 ∷ p.1))
         → Decidable ((xs : List A) × IsUpTo Is (suc most) xs × Q xs)
@@ -78,7 +80,8 @@ AreRising hs = IsRisingBy (λ (h : Holding). h.item) (slice_cmp nat_cmp) hs
 
 decidable-rising : (hs : List Holding) → Decidable (AreRising hs)
 decidable-rising hs =
-    decidable-AllPairs (λ (a b : Holding). slice_cmp nat_cmp a.item b.item ≡ Less) (λ a b. decidable-Less (slice_cmp nat_cmp a.item b.item)) hs
+    decidable-AllPairs (λ (a b : Holding). slice_cmp nat_cmp a.item b.item ≡ Less)
+        (λ a b. decidable-Less (slice_cmp nat_cmp a.item b.item)) hs
 
 pub searched-site_lines : IsSearched SiteLine IsSiteLine
 searched-site_lines Q each =
@@ -91,7 +94,10 @@ searched-site_lines Q each =
         rising = r.2.0;
       },
       r.2.1,
-    )) (λ r. ((r.0.site, r.0.items), (r.1.site, up_to IsHolding max_items r.0.items (recursion_from_All IsHolding r.0.items r.1.each) r.1.room), (r.1.rising, r.2)))
-    (searched-both IsSite (IsUpTo IsHolding max_items) searched-sites (searched-lists IsHolding max_items searched-holdings)
+    )) (λ r. ((r.0.site, r.0.items),
+        (r.1.site, up_to IsHolding max_items r.0.items (recursion_from_All IsHolding r.0.items r.1.each) r.1.room),
+        (r.1.rising, r.2)))
+    (searched-both IsSite (IsUpTo IsHolding max_items) searched-sites
+        (searched-lists IsHolding max_items searched-holdings)
     (λ (p : ℕ × List Holding). AreRising p.1 × Q (record { site = p.0; items = p.1 }))
     (λ p. decidable-both (decidable-rising p.1) (each (record { site = p.0; items = p.1 }))))

@@ -52,22 +52,26 @@ line-not_long e = absurd cc
 abbrev IsBehind : (xs ys : List (List ℕ)) (r s : List ℕ) → Type 0
 IsBehind xs ys r s = (zs : List (List ℕ)) × (ys ≡ xs ++ zs) × (r ≡ text_of_lines zs ++ s)
 
-two-ways : (xs ys : List (List ℕ)) (r s : List ℕ) → AllByRecursion (HasNot 10) xs → AllByRecursion (HasNot 10) ys → text_of_lines xs ++ r ≡ text_of_lines ys ++ s
+two-ways : (xs ys : List (List ℕ)) (r s : List ℕ) → AllByRecursion (HasNot 10) xs → AllByRecursion (HasNot 10) ys
+    → text_of_lines xs ++ r ≡ text_of_lines ys ++ s
     → IsBehind xs ys r s ⊎ IsBehind ys xs s r
 two-ways [] ys r s h g e = inl (ys, refl, e)
 two-ways (x ∷ xs) [] r s h g e = inr (x ∷ xs, refl, sym e)
 two-ways (x ∷ xs) (y ∷ ys) r s h g e =
-    let cut = cut_at_byte 10 x y (text_of_lines xs ++ r) (text_of_lines ys ++ s) h.0 g.0 (sym (line_front x xs r) ∙ e ∙ line_front y ys s) in
+    let cut = cut_at_byte 10 x y (text_of_lines xs ++ r) (text_of_lines ys ++ s) h.0 g.0 (sym (line_front x xs r) ∙ e
+        ∙ line_front y ys s) in
     longer cut.0 (two-ways xs ys r s h.1 g.1 cut.1)
   where
-    longer : x ≡ y → IsBehind xs ys r s ⊎ IsBehind ys xs s r → IsBehind (x ∷ xs) (y ∷ ys) r s ⊎ IsBehind (y ∷ ys) (x ∷ xs) s r
+    longer : x ≡ y → IsBehind xs ys r s ⊎ IsBehind ys xs s r
+        → IsBehind (x ∷ xs) (y ∷ ys) r s ⊎ IsBehind (y ∷ ys) (x ∷ xs) s r
     longer same (inl b) = inl (b.0, ap₂ (λ l ls. l ∷ ls) (sym same) b.1, b.2)
     longer same (inr b) = inr (b.0, ap₂ (λ l ls. l ∷ ls) same b.1, b.2)
 
 -- a text that is over goes on with nothing
 nothing-behind : (xs ys : List (List ℕ)) (r : List ℕ) → IsBehind xs ys [] r → (ys ≡ xs) × (r ≡ [])
 nothing-behind xs ys r ([], more, text) = (more ∙ append-nil xs, sym text)
-nothing-behind xs ys r (z ∷ zs, more, text) = absurd (no_line z (text_of_lines zs ++ r) (sym (text ∙ line_front z zs r)))
+nothing-behind xs ys r (z ∷ zs, more, text) =
+    absurd (no_line z (text_of_lines zs ++ r) (sym (text ∙ line_front z zs r)))
 
 -- ---- one of the two there is
 
@@ -81,21 +85,28 @@ record HasLine (limit : ℕ) (bytes : List ℕ) : Type 0 where
 
 -- what comes of bytes: they are over with no LF, or a line, or they are longer than the limit
 abbrev Comes : ℕ → List ℕ → Type 0
-Comes limit bytes = (HasNot 10 bytes × (length bytes ≤ limit)) ⊎ (HasLine limit bytes ⊎ ((limit < length bytes) × HasNot 10 (take (suc limit) bytes)))
+Comes limit bytes = (HasNot 10 bytes × (length bytes ≤ limit))
+    ⊎ (HasLine limit bytes ⊎ ((limit < length bytes) × HasNot 10 (take (suc limit) bytes)))
 
 comes : (limit : ℕ) (bytes : List ℕ) → Comes limit bytes
 comes limit [] = inl (tt, omega arith)
 comes zero (b ∷ bs) = by (b == 10) refl
   where
     by : (t : Bool) → (b == 10) ≡ t → Comes zero (b ∷ bs)
-    by true is = inr (inl (record { line = []; more = bs; none = tt; short = omega arith; text = ap (λ c. c ∷ bs) (eqb-true b 10 is) }))
+    by true is =
+        inr (inl (record { line = []; more = bs; none = tt; short = omega arith; text =
+        ap (λ c. c ∷ bs) (eqb-true b 10 is) }))
     by false is = inr (inr (omega arith, (eqb-false b 10 is, tt)))
 comes (suc k) (b ∷ bs) = by (b == 10) refl (comes k bs)
   where
     by : (t : Bool) → (b == 10) ≡ t → Comes k bs → Comes (suc k) (b ∷ bs)
-    by true is rest = inr (inl (record { line = []; more = bs; none = tt; short = omega arith; text = ap (λ c. c ∷ bs) (eqb-true b 10 is) }))
+    by true is rest =
+        inr (inl (record { line = []; more = bs; none = tt; short = omega arith; text =
+        ap (λ c. c ∷ bs) (eqb-true b 10 is) }))
     by false is (inl h) = inl ((eqb-false b 10 is, h.0), omega (arith, h.1))
-    by false is (inr (inl l)) = inr (inl (record { line = b ∷ l.line; more = l.more; none = (eqb-false b 10 is, l.none); short = omega (arith, l.short); text = ap (λ cs. b ∷ cs) l.text }))
+    by false is (inr (inl l)) =
+        inr (inl (record { line = b ∷ l.line; more = l.more; none = (eqb-false b 10 is, l.none); short =
+        omega (arith, l.short); text = ap (λ cs. b ∷ cs) l.text }))
     by false is (inr (inr h)) = inr (inr (omega (arith, h.0), (eqb-false b 10 is, h.1)))
 
 shorter : (limit k : ℕ) (rest : List ℕ) (l : HasLine limit rest) → length rest ≤ suc k → length l.more ≤ k
@@ -103,32 +114,39 @@ shorter limit k rest l size = omega (arith, size, ap length l.text, length-appen
 
 module _ (begins : List (List ℕ) → Type 0) (are : AreInputs begins) where
   -- an input that goes on with a line isn't blocked there
-  goes-on : (before : List (List ℕ)) (z more : List ℕ) (f : NotationFault) → begins (before ++ z ∷ []) → IsPlain z → Blocks begins before (z ++ 10 ∷ more) f → ⊥
+  goes-on : (before : List (List ℕ)) (z more : List ℕ) (f : NotationFault) → begins (before ++ z ∷ []) → IsPlain z
+      → Blocks begins before (z ++ 10 ∷ more) f → ⊥
   goes-on before z more NotALine begun plain (inl m) =
-      let same = cut_at_byte 10 m.line z m.more more (recursion_from_All (λ b. b ≢ 10) m.line m.none) plain.0 (sym m.text) in
+      let same = cut_at_byte 10 m.line z m.more more (recursion_from_All (λ b. b ≢ 10) m.line m.none) plain.0
+          (sym m.text) in
       m.not (subst (λ (t : List ℕ). begins (before ++ t ∷ [])) (sym same.0) begun)
   goes-on before z more NotALine begun plain (inr k) = never 10 (z ++ 10 ∷ more) z more k.none refl
   goes-on before z more TooLong begun plain long =
-      let same = next-one max_line (z ++ 10 ∷ more) next.Line next.TooLong z [] more (z ++ 10 ∷ more) (no_lf z plain.0, plain.1, refl) (long, refl) in
+      let same = next-one max_line (z ++ 10 ∷ more) next.Line next.TooLong z [] more (z ++ 10 ∷ more)
+          (no_lf z plain.0, plain.1, refl) (long, refl) in
       line-not_long same.0
   goes-on before z more Memory begun plain blocks = blocks
 
   -- nor where no byte comes, behind some line
-  at-end : (before : List (List ℕ)) (rest : List ℕ) (f : NotationFault) → rest ≡ [] → before ≢ [] → Blocks begins before rest f → ⊥
+  at-end : (before : List (List ℕ)) (rest : List ℕ) (f : NotationFault) → rest ≡ [] → before ≢ []
+      → Blocks begins before rest f → ⊥
   at-end before rest NotALine none some (inl m) = no_line m.line m.more (sym m.text ∙ none)
   at-end before rest NotALine none some (inr k) = some (k.empty none)
   at-end before rest TooLong none some long = absurd (omega (arith, long.0, ap length none))
   at-end before rest Memory none some blocks = blocks
 
   -- what isn't a line isn't too long
-  not-long : (before : List (List ℕ)) (rest : List ℕ) → Blocks begins before rest NotALine → IsLongerThan max_line rest → ⊥
+  not-long : (before : List (List ℕ)) (rest : List ℕ) → Blocks begins before rest NotALine
+      → IsLongerThan max_line rest → ⊥
   not-long before rest (inl m) long =
-      let same = next-one max_line rest next.Line next.TooLong m.line [] m.more rest (m.none, m.short, m.text) (long, refl) in
+      let same = next-one max_line rest next.Line next.TooLong m.line [] m.more rest (m.none, m.short, m.text) (long,
+          refl) in
       line-not_long same.0
   not-long before rest (inr k) long = absurd (omega (arith, k.short, long.0))
 
   -- one fault blocks
-  one-fault : (xs ys : List (List ℕ)) (rest : List ℕ) (f g : NotationFault) → Blocks begins xs rest f → Blocks begins ys rest g → f ≡ g
+  one-fault : (xs ys : List (List ℕ)) (rest : List ℕ) (f g : NotationFault) → Blocks begins xs rest f
+      → Blocks begins ys rest g → f ≡ g
   one-fault xs ys rest NotALine NotALine a b = refl
   one-fault xs ys rest TooLong TooLong a b = refl
   one-fault xs ys rest NotALine TooLong a b = absurd (not-long xs rest a b)
@@ -144,27 +162,34 @@ module _ (begins : List (List ℕ) → Type 0) (are : AreInputs begins) where
       (subst (λ (t : List ℕ). Blocks begins before t f) (line_front z zs s) blocks)
 
   -- what blocks behind the one blocks at the same place behind the other, or not at all
-  same-place : (xs ys : List (List ℕ)) (r s : List ℕ) (f : NotationFault) → begins ys → Blocks begins xs r f → IsBehind xs ys r s → (ys ≡ xs) × (r ≡ s)
+  same-place : (xs ys : List (List ℕ)) (r s : List ℕ) (f : NotationFault) → begins ys → Blocks begins xs r f
+      → IsBehind xs ys r s → (ys ≡ xs) × (r ≡ s)
   same-place xs ys r s f begun blocks ([], more, text) = (more ∙ append-nil xs, text)
   same-place xs ys r s f begun blocks (z ∷ zs, more, text) =
-      absurd (not-further xs z zs s f (subst begins more begun) (subst (λ (t : List ℕ). Blocks begins xs t f) text blocks))
+      absurd (not-further xs z zs s f (subst begins more begun)
+          (subst (λ (t : List ℕ). Blocks begins xs t f) text blocks))
 
   begins-no_lf : (xs : List (List ℕ)) → begins xs → AllByRecursion (HasNot 10) xs
   begins-no_lf xs begun = plain-no_lf xs (are.plain xs begun)
 
-  pub lines-one_fault : (bytes : List ℕ) (n m : ℕ) (f g : NotationFault) → IsFirstUnreadable begins bytes n f → IsFirstUnreadable begins bytes m g → (n ≡ m) × (f ≡ g)
-  lines-one_fault bytes n m f g u v = by (two-ways u.before v.before u.rest v.rest (begins-no_lf u.before u.begun) (begins-no_lf v.before v.begun) (sym u.text ∙ v.text))
+  pub lines-one_fault : (bytes : List ℕ) (n m : ℕ) (f g : NotationFault) → IsFirstUnreadable begins bytes n f
+      → IsFirstUnreadable begins bytes m g → (n ≡ m) × (f ≡ g)
+  lines-one_fault bytes n m f g u v =
+      by (two-ways u.before v.before u.rest v.rest (begins-no_lf u.before u.begun) (begins-no_lf v.before v.begun)
+      (sym u.text ∙ v.text))
     where
       same : v.before ≡ u.before → u.rest ≡ v.rest → (n ≡ m) × (f ≡ g)
       same lines rest =
           let number : n ≡ m = omega (arith, u.number, v.number, ap length lines) in
-          (number, one-fault u.before v.before u.rest f g u.blocks (subst (λ (t : List ℕ). Blocks begins v.before t g) (sym rest) v.blocks))
+          (number, one-fault u.before v.before u.rest f g u.blocks
+              (subst (λ (t : List ℕ). Blocks begins v.before t g) (sym rest) v.blocks))
 
       by : IsBehind u.before v.before u.rest v.rest ⊎ IsBehind v.before u.before v.rest u.rest → (n ≡ m) × (f ≡ g)
       by (inl b) = let p = same-place u.before v.before u.rest v.rest f v.begun u.blocks b in same p.0 p.1
       by (inr b) = let p = same-place v.before u.before v.rest u.rest g u.begun v.blocks b in same (sym p.0) (sym p.1)
 
-  pub input-no_fault : (bytes : List ℕ) (lines : List (List ℕ)) (n : ℕ) (f : NotationFault) → begins lines → lines ≢ [] → bytes ≡ text_of_lines lines
+  pub input-no_fault : (bytes : List ℕ) (lines : List (List ℕ)) (n : ℕ) (f : NotationFault) → begins lines
+      → lines ≢ [] → bytes ≡ text_of_lines lines
       → IsFirstUnreadable begins bytes n f → ⊥
   input-no_fault bytes lines n f begun some text u =
       by (two-ways u.before lines u.rest [] (begins-no_lf u.before u.begun) (begins-no_lf lines begun)
@@ -182,22 +207,29 @@ module _ (begins : List (List ℕ) → Type 0) (are : AreInputs begins) where
   Neither bytes = ((lines : List (List ℕ)) → begins lines → lines ≢ [] → bytes ≡ text_of_lines lines → ⊥)
       × ((n : ℕ) (f : NotationFault) → IsFirstUnreadable begins bytes n f → ⊥)
 
-  told : (bytes rest : List ℕ) (before : List (List ℕ)) (f : NotationFault) → bytes ≡ text_of_lines before ++ rest → begins before → Neither bytes → Blocks begins before rest f → ⊥
+  told : (bytes rest : List ℕ) (before : List (List ℕ)) (f : NotationFault) → bytes ≡ text_of_lines before ++ rest
+      → begins before → Neither bytes → Blocks begins before rest f → ⊥
   told bytes rest before f text begun neither blocks =
-      neither.1 (length before + 1) f (record { before = before; rest = rest; text = text; begun = begun; number = refl; blocks = blocks })
+      neither.1 (length before + 1) f (record { before = before; rest = rest; text = text; begun = begun; number =
+          refl; blocks = blocks })
 
-  over : (bytes rest : List ℕ) (before : List (List ℕ)) → bytes ≡ text_of_lines before ++ rest → begins before → Neither bytes
-      → (before ≡ []) ⊎ ((x : List ℕ) × (xs : List (List ℕ)) × (before ≡ x ∷ xs)) → HasNot 10 rest → length rest ≤ max_line → ⊥
+  over : (bytes rest : List ℕ) (before : List (List ℕ)) → bytes ≡ text_of_lines before ++ rest → begins before
+      → Neither bytes
+      → (before ≡ []) ⊎ ((x : List ℕ) × (xs : List (List ℕ)) × (before ≡ x ∷ xs)) → HasNot 10 rest
+          → length rest ≤ max_line → ⊥
   over bytes rest before text begun neither (inl none) h short =
-      told bytes rest before NotALine text begun neither (inr (record { none = no_lf rest h; short = short; empty = λ e. none }))
+      told bytes rest before NotALine text begun neither
+          (inr (record { none = no_lf rest h; short = short; empty = λ e. none }))
   over bytes rest before text begun neither (inr (x, xs, same)) h short =
-      told bytes rest before NotALine text begun neither (inr (record { none = no_lf rest h; short = short; empty = λ e. absurd (ends e) }))
+      told bytes rest before NotALine text begun neither
+          (inr (record { none = no_lf rest h; short = short; empty = λ e. absurd (ends e) }))
     where
       ends : rest ≡ [] → ⊥
       ends e = neither.0 before begun (λ none. nonempty x xs (sym same ∙ none))
           (text ∙ ap (λ (t : List ℕ). text_of_lines before ++ t) e ∙ append-nil (text_of_lines before))
 
-  pub input-or_fault : (k : ℕ) (bytes rest : List ℕ) (before : List (List ℕ)) → length rest ≤ k → bytes ≡ text_of_lines before ++ rest → begins before → Neither bytes → ⊥
+  pub input-or_fault : (k : ℕ) (bytes rest : List ℕ) (before : List (List ℕ)) → length rest ≤ k
+      → bytes ≡ text_of_lines before ++ rest → begins before → Neither bytes → ⊥
   input-or_fault zero bytes rest before size text begun neither = by (comes max_line rest)
     where
       by : Comes max_line rest → ⊥
@@ -207,11 +239,14 @@ module _ (begins : List (List ℕ) → Type 0) (are : AreInputs begins) where
   input-or_fault (suc k) bytes rest before size text begun neither =
       by (comes max_line rest) (λ (l : HasLine max_line rest) (goes : begins (before ++ l.line ∷ [])).
       input-or_fault k bytes l.more (before ++ l.line ∷ []) (shorter max_line k rest l size)
-      (text ∙ ap (λ (t : List ℕ). text_of_lines before ++ t) l.text ∙ sym (text-one_line before l.line l.more)) goes neither)
+      (text ∙ ap (λ (t : List ℕ). text_of_lines before ++ t) l.text ∙ sym (text-one_line before l.line l.more)) goes
+          neither)
     where
       by : Comes max_line rest → ((l : HasLine max_line rest) → begins (before ++ l.line ∷ []) → ⊥) → ⊥
       by (inl h) then = over bytes rest before text begun neither (list_cases before) h.0 h.1
       by (inr (inl l)) then =
           told bytes rest before NotALine text begun neither
-          (inl (record { line = l.line; more = l.more; text = l.text; none = no_lf l.line l.none; short = l.short; not = then l }))
-      by (inr (inr h)) then = told bytes rest before TooLong text begun neither (h.0, no_lf (take (max_line + 1) rest) h.1)
+          (inl (record { line = l.line; more = l.more; text = l.text; none = no_lf l.line l.none; short =
+              l.short; not = then l }))
+      by (inr (inr h)) then =
+          told bytes rest before TooLong text begun neither (h.0, no_lf (take (max_line + 1) rest) h.1)

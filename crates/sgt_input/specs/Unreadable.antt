@@ -30,7 +30,8 @@ Blocks begins before rest TooLong = IsLongerThan max_line rest
 Blocks begins before rest Memory = ⊥
 
 -- the first line that can't be read has this number, from 1, and this fault
-pub record IsFirstUnreadable (begins : List (List ℕ) → Type 0) (bytes : List ℕ) (n : ℕ) (fault : NotationFault) : Type 0 where
+pub record IsFirstUnreadable (begins : List (List ℕ) → Type 0) (bytes : List ℕ) (n : ℕ) (fault : NotationFault) : Type
+    0 where
   pub before : List (List ℕ)
   pub rest : List ℕ
   pub text : bytes ≡ text_of_lines before ++ rest

@@ -12,7 +12,8 @@ consumes_on : (a b c : Option (List ℕ)) (xs ys : List ℕ) → Consumes a b xs
 consumes_on None b c xs ys p q = tt
 consumes_on (Some us) None c xs ys p q = absurd p
 consumes_on (Some us) (Some bs) None xs ys p q = absurd q
-consumes_on (Some us) (Some bs) (Some cs) xs ys p q = p ∙ (ap (λ (ts : List ℕ). xs ++ ts) q ∙ sym (append_assoc xs ys cs))
+consumes_on (Some us) (Some bs) (Some cs) xs ys p q = p
+    ∙ (ap (λ (ts : List ℕ). xs ++ ts) q ∙ sym (append_assoc xs ys cs))
 
 leaves_on : (a b c : Option (List ℕ)) (xs ys : List ℕ) → Consumes a b xs → Leaves b ys c → Leaves a (xs ++ ys) c
 leaves_on None b c xs ys p q = tt
@@ -30,10 +31,12 @@ pub hears_none : (told : Option (List ℕ)) (given : List ℕ) (n : ℕ) → Hea
 hears_none told given n = record { bytes = []; gave = sym (append-nil given); took = consumes_none told; quiet = refl }
 
 pub speaks_none : (told : Option (List ℕ)) (written : List ℕ) (n : ℕ) → Speaks told told written written n n
-speaks_none told written n = record { bytes = []; wrote = sym (append-nil written); put = appends_none told; quiet = refl }
+speaks_none told written n = record { bytes = []; wrote = sym (append-nil written); put = appends_none told; quiet =
+    refl }
 
 -- these bytes, or these behind them
-pub hears_then : (a b c : Option (List ℕ)) (f g h : List ℕ) (k m n : ℕ) → Hears a b f g k m → Hears b c g h m n → Hears a c f h k n
+pub hears_then : (a b c : Option (List ℕ)) (f g h : List ℕ) (k m n : ℕ) → Hears a b f g k m → Hears b c g h m n
+    → Hears a c f h k n
 hears_then a b c f g h k m n p q = record {
   bytes = p.bytes ++ q.bytes;
   gave = q.gave ∙ (ap (λ (ts : List ℕ). ts ++ q.bytes) p.gave ∙ append_assoc f p.bytes q.bytes);
@@ -41,7 +44,8 @@ hears_then a b c f g h k m n p q = record {
   quiet = q.quiet ∙ p.quiet;
 }
 
-pub loses_then : (a b c : Option (List ℕ)) (f g h : List ℕ) (k m n reads : ℕ) → Hears a b f g k m → LosesReader b c g h m n reads → LosesReader a c f h k n reads
+pub loses_then : (a b c : Option (List ℕ)) (f g h : List ℕ) (k m n reads : ℕ) → Hears a b f g k m
+    → LosesReader b c g h m n reads → LosesReader a c f h k n reads
 loses_then a b c f g h k m n reads p q = record {
   bytes = p.bytes ++ q.bytes;
   gave = q.gave ∙ (ap (λ (ts : List ℕ). ts ++ q.bytes) p.gave ∙ append_assoc f p.bytes q.bytes);
@@ -49,7 +53,8 @@ loses_then a b c f g h k m n reads p q = record {
   fault = subst (λ x. (x < n) ⊎ (reads ≡ 0)) p.quiet q.fault;
 }
 
-pub speaks_then : (a b c : Option (List ℕ)) (f g h : List ℕ) (k m n : ℕ) → Speaks a b f g k m → Speaks b c g h m n → Speaks a c f h k n
+pub speaks_then : (a b c : Option (List ℕ)) (f g h : List ℕ) (k m n : ℕ) → Speaks a b f g k m → Speaks b c g h m n
+    → Speaks a c f h k n
 speaks_then a b c f g h k m n p q = record {
   bytes = p.bytes ++ q.bytes;
   wrote = q.wrote ∙ (ap (λ (ts : List ℕ). ts ++ q.bytes) p.wrote ∙ append_assoc f p.bytes q.bytes);
@@ -58,7 +63,8 @@ speaks_then a b c f g h k m n p q = record {
 }
 
 -- a read that failed
-pub loses_now : (a b : Option (List ℕ)) (f g : List ℕ) (k m reads : ℕ) → KeepsOrForgets a b → g ≡ f → (m ≡ k + 1) ⊎ (reads ≡ 0) → LosesReader a b f g k m reads
+pub loses_now : (a b : Option (List ℕ)) (f g : List ℕ) (k m reads : ℕ) → KeepsOrForgets a b → g ≡ f
+    → (m ≡ k + 1) ⊎ (reads ≡ 0) → LosesReader a b f g k m reads
 loses_now a b f g k m reads keeps same why = record {
   bytes = [];
   gave = same ∙ sym (append-nil f);

@@ -34,7 +34,8 @@ WritesAll bytes told told' written written' = Appends told told' bytes
     × (written' ≡ written ++ bytes)
 
 -- a write put the first n of the bytes behind those written before, or none
-abbrev pub WritesSo : {E : Type 0} → Result ℕ E → List ℕ → (told told' : Option (List ℕ)) → (written written' : List ℕ) → Type 0
+abbrev pub WritesSo : {E : Type 0} → Result ℕ E → List ℕ → (told told' : Option (List ℕ))
+    → (written written' : List ℕ) → Type 0
 WritesSo (Ok n) bytes told told' written written' =
     WritesAll (take n bytes) told told' written written'
 WritesSo (Err e) bytes told told' written written' = KeepsOrForgets told told'

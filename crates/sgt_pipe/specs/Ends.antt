@@ -12,7 +12,8 @@ pub record Hears (told told' : Option (List ℕ)) (given given' : List ℕ) (fai
   pub quiet : failures' ≡ failures
 
 -- it gave some bytes, and then it failed, or no read was left
-pub record LosesReader (told told' : Option (List ℕ)) (given given' : List ℕ) (failures failures' reads : ℕ) : Type 0 where
+pub record LosesReader (told told' : Option (List ℕ)) (given given' : List ℕ) (failures failures' reads : ℕ) : Type 0
+    where
   pub bytes : List ℕ
   pub gave : given' ≡ given ++ bytes
   pub left : Leaves told bytes told'
@@ -26,7 +27,8 @@ pub record Speaks (told told' : Option (List ℕ)) (written written' : List ℕ)
   pub quiet : failures' ≡ failures
 
 -- it took some bytes, and then it failed
-pub record LosesWriter (told told' : Option (List ℕ)) (written written' : List ℕ) (failures failures' : ℕ) : Type 0 where
+pub record LosesWriter (told told' : Option (List ℕ)) (written written' : List ℕ) (failures failures' : ℕ) : Type 0
+    where
   pub bytes : List ℕ
   pub wrote : written' ≡ written ++ bytes
   pub put : AppendsOrForgets told told' bytes

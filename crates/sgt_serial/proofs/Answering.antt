@@ -18,13 +18,17 @@ use Rattle.sgt_serial.specs.Report.{report_of}
 use Rattle.sgt_serial.specs.Text.{report_text}
 
 -- with want of memory nothing was written, and where the writer failed a front of the answer
-pub answered-front : (e : EngineFail) (told old new : Option (List ℕ)) (outcome : Outcome) (text : List ℕ) → IsAnswer told outcome text
-    → (e ≡ Memory → new ≡ old) → (e ≡ ReadFault → ⊥) → (e ≡ WriteFault → WritesFront old new text) → WroteAnswerFront told old new
-answered-front Memory told old new outcome text answer memory read write = inl (subst (λ held. AppendsOrForgets old held []) (sym (memory refl)) (wrote_nothing old))
+pub answered-front : (e : EngineFail) (told old new : Option (List ℕ)) (outcome : Outcome) (text : List ℕ)
+    → IsAnswer told outcome text
+    → (e ≡ Memory → new ≡ old) → (e ≡ ReadFault → ⊥) → (e ≡ WriteFault → WritesFront old new text)
+        → WroteAnswerFront told old new
+answered-front Memory told old new outcome text answer memory read write =
+    inl (subst (λ held. AppendsOrForgets old held []) (sym (memory refl)) (wrote_nothing old))
 answered-front ReadFault told old new outcome text answer memory read write = absurd (read refl)
 answered-front WriteFault told old new outcome text answer memory read write = inr (outcome, text, answer, write refl)
 
-pub no-answer : (told : Option (List ℕ)) (a : Audited) (line : ℕ) (fault : Fault) → a ≡ audited.No line fault → IfSome told (λ bytes. IsAudited bytes a)
+pub no-answer : (told : Option (List ℕ)) (a : Audited) (line : ℕ) (fault : Fault) → a ≡ audited.No line fault
+    → IfSome told (λ bytes. IsAudited bytes a)
     → IsAnswer told No (text_of (verdict.No line fault))
 no-answer None a line fault is h = (line, fault, tt, refl)
 no-answer (Some bytes) a line fault is h = (line, fault, subst (IsAudited bytes) is h, refl)

@@ -19,7 +19,8 @@ use Rattle.sgt_serial.specs.private.Values.{is_of, change_in, with_all}
 
 -- one change more is made
 pub with_all-next : (writes : List SiteChange) (w : SiteChange) (store : Store) (s : ℕ) (x : Name)
-    → with_all (writes ++ w ∷ []) store s x ≡ cond (is_of s x w) (value_with (with_all writes store s x) w.change) (with_all writes store s x)
+    → with_all (writes ++ w ∷ []) store s x ≡ cond (is_of s x w) (value_with (with_all writes store s x) w.change)
+        (with_all writes store s x)
 with_all-next writes w store s x =
     ap (fold value_with (store s x)) (filter_map-append (change_in s x) writes (w ∷ []))
     ∙ fold-append value_with (store s x) (filter_map (change_in s x) writes) (filter_map (change_in s x) (w ∷ []))
@@ -36,7 +37,8 @@ both false b h = absurd (false≢true h)
 is_of-is : (s : ℕ) (x : Name) (w : SiteChange) → is_of s x w ≡ true → (w.site ≡ s) × (w.item ≡ x)
 is_of-is s x w hit =
     let parts = both (w.site == s) (bytes_eq w.item x) hit in (
-      elim (cases_eq w.site s) [ inl same ↦ same | inr other ↦ absurd (false≢true (sym (ne_eqb w.site s other) ∙ parts.0)) ],
+      elim (cases_eq w.site s) [ inl same ↦ same
+          | inr other ↦ absurd (false≢true (sym (ne_eqb w.site s other) ∙ parts.0)) ],
       (bytes_eq-Decides w.item x).0 parts.1,
     )
 
@@ -49,7 +51,8 @@ changed-there (Some u) (Add v) there = refl
 abbrev IsThere : ℕ → Name → Option ℕ → SiteChange → Type 0
 IsThere s x o w = is_of s x w ≡ true → is_some o ≡ true
 
-keeps : (s : ℕ) (x : Name) (writes : List SiteChange) (o : Option ℕ) → All (IsThere s x o) writes → is_some (fold value_with o (filter_map (change_in s x) writes)) ≡ is_some o
+keeps : (s : ℕ) (x : Name) (writes : List SiteChange) (o : Option ℕ) → All (IsThere s x o) writes
+    → is_some (fold value_with o (filter_map (change_in s x) writes)) ≡ is_some o
 keeps s x [] o all = refl
 keeps s x (w ∷ writes) o all =
     elim (cases_Bool (is_of s x w)) [
@@ -61,8 +64,10 @@ keeps s x (w ∷ writes) o all =
     ]
 
 -- changes of items that are there leave the same items there
-pub with_all-keeps : (writes : List SiteChange) (store : Store) → All (Knows store) writes → (s : ℕ) (x : Name) → is_some (with_all writes store s x) ≡ is_some (store s x)
-with_all-keeps writes store all s x = keeps s x writes (store s x) (All-weaker (Knows store) (IsThere s x (store s x)) (λ w known hit.
+pub with_all-keeps : (writes : List SiteChange) (store : Store) → All (Knows store) writes → (s : ℕ) (x : Name)
+    → is_some (with_all writes store s x) ≡ is_some (store s x)
+with_all-keeps writes store all s x =
+    keeps s x writes (store s x) (All-weaker (Knows store) (IsThere s x (store s x)) (λ w known hit.
     let parts = is_of-is s x w hit in
     ap₂ (λ t y. is_some (store t y)) (sym parts.0) (sym parts.1) ∙ known) writes all)
 
@@ -75,4 +80,5 @@ is-value (Some u) v h = elim (cases_eq u v) [
 ]
 
 pub other-value : (o : Option ℕ) (v : ℕ) → not (option_eq nat_eq o (Some v)) ≡ true → o ≡ Some v → ⊥
-other-value o v h is = false≢true (ap not (sym (eq-eqb v v refl)) ∙ ap (λ p. not (option_eq nat_eq p (Some v))) (sym is) ∙ h)
+other-value o v h is =
+    false≢true (ap not (sym (eq-eqb v v refl)) ∙ ap (λ p. not (option_eq nat_eq p (Some v))) (sym is) ∙ h)

@@ -18,7 +18,8 @@ abbrev IsDecidable : {A : Type 0} → (A → Type 0) → Type 0
 IsDecidable {A} P = (x : A) → P x ⊎ (P x → ⊥)
 
 -- all elements have a property, or there is a first without it
-all-or-first : {A : Type 0} (P : A → Type 0) → IsDecidable P → (xs : List A) → All P xs ⊎ ((x : A) × IsFirstWithout P xs x)
+all-or-first : {A : Type 0} (P : A → Type 0) → IsDecidable P → (xs : List A)
+    → All P xs ⊎ ((x : A) × IsFirstWithout P xs x)
 all-or-first P decide [] = inl (All-nil P)
 all-or-first P decide (x ∷ xs) =
     elim (decide x) [
@@ -40,16 +41,19 @@ all-or-first P decide (x ∷ xs) =
 
 is-value : (o : Option ℕ) (v : ℕ) → (o ≡ Some v) ⊎ (o ≡ Some v → ⊥)
 is-value None v = inr (none-some v)
-is-value (Some u) v = elim (cases_eq u v) [ inl same ↦ inl (ap Some same) | inr other ↦ inr (λ e. other (same_Some u v e)) ]
+is-value (Some u) v =
+    elim (cases_eq u v) [ inl same ↦ inl (ap Some same) | inr other ↦ inr (λ e. other (same_Some u v e)) ]
 
 has-decidable : (store : Store) → IsDecidable (Has store)
 has-decidable store a = is-value (store a.site a.item) a.value
 
 knows-decidable : (store : Store) → IsDecidable (Knows store)
-knows-decidable store a = elim (cases_Bool (is_some (store a.site a.item))) [ inl there ↦ inl there | inr missing ↦ inr (λ e. false≢true (sym missing ∙ e)) ]
+knows-decidable store a = elim (cases_Bool (is_some (store a.site a.item))) [ inl there ↦ inl there
+    | inr missing ↦ inr (λ e. false≢true (sym missing ∙ e)) ]
 
 -- all transactions run as logged, or there is a first that differs
-all-or-differs : (sites : List SiteLog) (txs : List ℕ) (store : Store) → AllRunOn sites txs store ⊎ ((tx : ℕ) × (s : ℕ) × (x : Name) × DiffersIn sites txs store tx s x)
+all-or-differs : (sites : List SiteLog) (txs : List ℕ) (store : Store)
+    → AllRunOn sites txs store ⊎ ((tx : ℕ) × (s : ℕ) × (x : Name) × DiffersIn sites txs store tx s x)
 all-or-differs sites [] store = inl tt
 all-or-differs sites (t ∷ txs) store =
     elim (all-or-first (Has store) (has-decidable store) (reads_of sites t)) [
@@ -65,7 +69,8 @@ all-or-differs sites (t ∷ txs) store =
       | inr first ↦ inr (t, first.0.site, first.0.item, (0, refl, tt, inl (first.0.value, first.1)))
     ]
 
-pub agrees-or-differs : (b : Parts) → SerialAgrees b ⊎ ((tx : Option ℕ) × (s : ℕ) × (x : Name) × IsFirstDifference b tx s x)
+pub agrees-or-differs : (b : Parts)
+    → SerialAgrees b ⊎ ((tx : Option ℕ) × (s : ℕ) × (x : Name) × IsFirstDifference b tx s x)
 agrees-or-differs b =
     let txs = by_rank b.certificate.decisions in
     let store = initial_store b.sites in

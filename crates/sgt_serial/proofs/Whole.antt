@@ -16,7 +16,8 @@ text_of_runs logs order = text_of_lines (flat_map run_lines (map (run_of logs) o
 abbrev pub text_of_finals : List SiteValue → List ℕ
 text_of_finals finals = text_of_lines (map final_line finals)
 
-pub whole-text : (b : Parts) (logs : List SiteLog) (order : List ℕ) (finals : List SiteValue) → logs ≡ b.sites → order ≡ by_rank b.certificate.decisions → finals ≡ finals_of b.sites
+pub whole-text : (b : Parts) (logs : List SiteLog) (order : List ℕ) (finals : List SiteValue) → logs ≡ b.sites
+    → order ≡ by_rank b.certificate.decisions → finals ≡ finals_of b.sites
     → text_of_runs logs order ++ text_of_finals finals ≡ report_text (report_of b)
 whole-text b logs order finals at ranked last =
     let ranks = by_rank b.certificate.decisions in

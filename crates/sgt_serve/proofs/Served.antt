@@ -32,17 +32,23 @@ use Rattle.sgt_serve.proofs.Talks.{handed_more}
 use Rattle.sgt_serve.proofs.Ways.{deaf_as, silent_as}
 
 -- all was said, up to where it stopped
-all_ended : (t : Talk) (left : Option (List ℕ)) (rest written : List ℕ) → NoneLeft left → SaysStop stop.Ended t rest written → SaysAll t left rest written
+all_ended : (t : Talk) (left : Option (List ℕ)) (rest written : List ℕ) → NoneLeft left
+    → SaysStop stop.Ended t rest written → SaysAll t left rest written
 all_ended t left rest written none (tail, at, wrote) = (tail, inl (none, at), wrote)
 
-all_long : (t : Talk) (left : Option (List ℕ)) (rest written : List ℕ) → SaysStop stop.TooLong t rest written → SaysAll t left rest written
+all_long : (t : Talk) (left : Option (List ℕ)) (rest written : List ℕ) → SaysStop stop.TooLong t rest written
+    → SaysAll t left rest written
 all_long t left rest written (tail, at, wrote) = (tail, inr at, wrote)
 
-says_by : (s : Stop) (l : Last) (t : Talk) (left : Option (List ℕ)) (rest written : List ℕ) → t.sites ≢ [] → (s ≡ stop.Ended → NoneLeft left) → SaysStop s t rest written
+says_by : (s : Stop) (l : Last) (t : Talk) (left : Option (List ℕ)) (rest written : List ℕ) → t.sites ≢ []
+    → (s ≡ stop.Ended → NoneLeft left) → SaysStop s t rest written
     → SaysSo (ends_by s l) l t left rest written
-says_by stop.Ended last.Done t left rest written some none (tail, at, wrote) = (refl, some, tail, (none refl, at), wrote)
-says_by stop.Ended last.Memory t left rest written some none says = inl (refl, all_ended t left rest written (none refl) says)
-says_by stop.Ended last.Unwritten t left rest written some none says = (refl, all_ended t left rest written (none refl) says)
+says_by stop.Ended last.Done t left rest written some none (tail, at, wrote) =
+    (refl, some, tail, (none refl, at), wrote)
+says_by stop.Ended last.Memory t left rest written some none says =
+    inl (refl, all_ended t left rest written (none refl) says)
+says_by stop.Ended last.Unwritten t left rest written some none says =
+    (refl, all_ended t left rest written (none refl) says)
 says_by stop.TooLong last.Done t left rest written some none (tail, at, wrote) = (refl, tail, inl at, wrote)
 says_by stop.TooLong last.Memory t left rest written some none says = inl (refl, all_long t left rest written says)
 says_by stop.TooLong last.Unwritten t left rest written some none says = (refl, all_long t left rest written says)
@@ -50,8 +56,10 @@ says_by stop.ReadFault l t left rest written some none (part, wrote) = (refl, pa
 says_by stop.WriteFault l t left rest written some none (tail, may, less) = (refl, tail, inl may, less)
 says_by stop.Memory l t left rest written some none less = inr (inl less)
 
-pub is_served : (s : Stop) (l : Last) (result : Result Outcome ServeFail) (left : Option (List ℕ)) (sites : List SiteLine) (before kept' : Handed) (d : Desk) → result ≡ ends_by s l
-    → (s ≡ stop.Ended → NoneLeft left) → HasStopped s sites before d → ((c : CoreState) → StandsFor d.core c → ClosesSo l c d.kept kept')
+pub is_served : (s : Stop) (l : Last) (result : Result Outcome ServeFail) (left : Option (List ℕ))
+    (sites : List SiteLine) (before kept' : Handed) (d : Desk) → result ≡ ends_by s l
+    → (s ≡ stop.Ended → NoneLeft left) → HasStopped s sites before d
+        → ((c : CoreState) → StandsFor d.core c → ClosesSo l c d.kept kept')
     → Served result left d.given d.written before kept' × AreAnswered d.waits
 is_served s l result left sites before kept' d same none h closes =
     let (bundles, said, ends, more, says) = closes h.talk.last h.has.stands in (
@@ -63,12 +71,14 @@ is_served s l result left sites before kept' d same none h closes =
         fared = l;
         says = says_by s l h.talk left h.rest d.written (λ empty. h.has.some (sym h.has.over ∙ empty)) none h.says;
         last = bundles;
-        handed = more ∙ (ap (λ (ks : List (ℕ × List ℕ)). ks ++ handed_texts bundles) h.has.kept ∙ (append_assoc before.items (handed_texts h.talk.bundles) (handed_texts bundles)
+        handed = more ∙ (ap (λ (ks : List (ℕ × List ℕ)). ks ++ handed_texts bundles) h.has.kept
+            ∙ (append_assoc before.items (handed_texts h.talk.bundles) (handed_texts bundles)
             ∙ ap (λ (ks : List (ℕ × List ℕ)). before.items ++ ks) (sym (handed_more h.talk.bundles bundles))));
         said = h.has.said;
         cuts = h.has.cuts;
         said_last = said;
-        answers = says ∙ (ap (λ (xs : List (Result ℕ KeepFault)). xs ++ said) h.has.answers ∙ append_assoc before.answers h.has.said said);
+        answers = says ∙ (ap (λ (xs : List (Result ℕ KeepFault)). xs ++ said) h.has.answers
+            ∙ append_assoc before.answers h.has.said said);
         ends = ends;
       }),
       h.has.answered,
@@ -76,7 +86,8 @@ is_served s l result left sites before kept' d same none h closes =
 
 -- ---- its devices
 
-pub reader_by : (s : Stop) (l : Last) (result : Result Outcome ServeFail) (a b : Option (List ℕ)) (f g : List ℕ) (k m reads : ℕ) → result ≡ ends_by s l
+pub reader_by : (s : Stop) (l : Last) (result : Result Outcome ServeFail) (a b : Option (List ℕ)) (f g : List ℕ)
+    (k m reads : ℕ) → result ≡ ends_by s l
     → HearsSo s a b f g k m reads → LeavesReader result a b f g k m reads
 reader_by s l result a b f g k m reads same hears =
     subst (λ (r : Result Outcome ServeFail). LeavesReader r a b f g k m reads) (sym same) (by s l hears)
@@ -92,7 +103,8 @@ reader_by s l result a b f g k m reads same hears =
     by stop.WriteFault l p = p
     by stop.Memory l p = p
 
-pub writer_by : (s : Stop) (l : Last) (result : Result Outcome ServeFail) (a b : Option (List ℕ)) (f g : List ℕ) (k m : ℕ) → result ≡ ends_by s l
+pub writer_by : (s : Stop) (l : Last) (result : Result Outcome ServeFail) (a b : Option (List ℕ)) (f g : List ℕ)
+    (k m : ℕ) → result ≡ ends_by s l
     → SpeaksSo s a b f g k m → LeavesWriter result a b f g k m
 writer_by s l result a b f g k m same speaks =
     subst (λ (r : Result Outcome ServeFail). LeavesWriter r a b f g k m) (sym same) (by s l speaks)
@@ -119,7 +131,8 @@ yes_ended stop.Memory l e = absurd cc
 
 -- ---- a talk that has its sites alone
 
-served_front : (result : Result Outcome ServeFail) (left : Option (List ℕ)) (sites : List SiteLine) (history : History) (held written : List ℕ) (kept : Handed) → HasSites sites history held
+served_front : (result : Result Outcome ServeFail) (left : Option (List ℕ)) (sites : List SiteLine)
+    (history : History) (held written : List ℕ) (kept : Handed) → HasSites sites history held
     → SaysSo result last.Done (opened sites) left held written → Served result left history.given written kept kept
 served_front result left sites history held written kept h says = record {
   talk = opened sites;
@@ -137,22 +150,29 @@ served_front result left sites history held written kept h says = record {
   ends = (inl (refl, refl), refl);
 }
 
-pub served_memory : (left : Option (List ℕ)) (sites : List SiteLine) (history : History) (held : List ℕ) (kept : Handed) → HasSites sites history held
+pub served_memory : (left : Option (List ℕ)) (sites : List SiteLine) (history : History) (held : List ℕ)
+    (kept : Handed) → HasSites sites history held
     → Served (Err fail.Memory) left history.given history.written kept kept
-served_memory left sites history held kept h = served_front (Err fail.Memory) left sites history held history.written kept h (inr (inr (refl, h.written)))
+served_memory left sites history held kept h =
+    served_front (Err fail.Memory) left sites history held history.written kept h (inr (inr (refl, h.written)))
 
-pub served_ended : (left : Option (List ℕ)) (sites : List SiteLine) (history : History) (held : List ℕ) (kept : Handed) → NoneLeft left → HasSites sites history held → sites ≢ [] → held ≡ []
+pub served_ended : (left : Option (List ℕ)) (sites : List SiteLine) (history : History) (held : List ℕ)
+    (kept : Handed) → NoneLeft left → HasSites sites history held → sites ≢ [] → held ≡ []
     → Served (Ok outcome.Yes) left history.given history.written kept kept
 served_ended left sites history held kept end h some none =
-    served_front (Ok outcome.Yes) left sites history held history.written kept h (refl, some, [], (end, inl (none, refl)), h.written)
+    served_front (Ok outcome.Yes) left sites history held history.written kept h (refl, some, [],
+        (end, inl (none, refl)), h.written)
 
-pub served_unread : (l : Last) (left : Option (List ℕ)) (sites : List SiteLine) (history : History) (held : List ℕ) (kept : Handed) → l ≡ last.Done → HasSites sites history held
+pub served_unread : (l : Last) (left : Option (List ℕ)) (sites : List SiteLine) (history : History) (held : List ℕ)
+    (kept : Handed) → l ≡ last.Done → HasSites sites history held
     → IsPart held → Served (Err (fail.ReadFault l)) left history.given history.written kept kept
 served_unread l left sites history held kept done h part =
     served_front (Err (fail.ReadFault l)) left sites history held history.written kept h (done, part, h.written)
 
-told_so : (result : Result Outcome ServeFail) (left : Option (List ℕ)) (sites : List SiteLine) (old new : History) (held : List ℕ) (fault : NotationFault) → HasSites sites old held
-    → IsUnreadable sites left held fault → TellsFront result (length sites + 1) fault old new → SaysSo result last.Done (opened sites) left held new.written
+told_so : (result : Result Outcome ServeFail) (left : Option (List ℕ)) (sites : List SiteLine) (old new : History)
+    (held : List ℕ) (fault : NotationFault) → HasSites sites old held
+    → IsUnreadable sites left held fault → TellsFront result (length sites + 1) fault old new
+        → SaysSo result last.Done (opened sites) left held new.written
 told_so (Ok outcome.Yes) left sites old new held fault h not (tells, given, waits) = absurd tells
 told_so (Ok outcome.No) left sites old new held fault h not (tells, given, waits) = absurd tells
 told_so (Ok outcome.Unreadable) left sites old new held fault h not (wrote, given, waits) = (
@@ -171,25 +191,32 @@ told_so (Err fail.Memory) left sites old new held fault h not (same, given, wait
 told_so (Err (fail.ReadFault l)) left sites old new held fault h not (tells, given, waits) = absurd tells
 told_so (Err fail.BundleFault) left sites old new held fault h not (tells, given, waits) = absurd tells
 
-pub served_told : (result : Result Outcome ServeFail) (left : Option (List ℕ)) (sites : List SiteLine) (old new : History) (held : List ℕ) (fault : NotationFault) (kept : Handed)
+pub served_told : (result : Result Outcome ServeFail) (left : Option (List ℕ)) (sites : List SiteLine)
+    (old new : History) (held : List ℕ) (fault : NotationFault) (kept : Handed)
     → HasSites sites old held → IsUnreadable sites left held fault → TellsFront result (length sites + 1) fault old new
     → Served result left new.given new.written kept kept × AreAnswered new.waits
 served_told result left sites old new held fault kept h not tells = (
   subst (λ (given : List ℕ). Served result left given new.written kept kept) (sym tells.1)
-      (served_front result left sites old held new.written kept h (told_so result left sites old new held fault h not tells)),
+      (served_front result left sites old held new.written kept h
+          (told_so result left sites old new held fault h not tells)),
   subst AreAnswered (sym tells.2) h.answered,
 )
 
 -- the line is told, and the reader gave nothing
-pub deaf_told : (result : Result Outcome ServeFail) (number : ℕ) (fault : NotationFault) (old new : History) (a b : Option (List ℕ)) (k m reads : ℕ)
+pub deaf_told : (result : Result Outcome ServeFail) (number : ℕ) (fault : NotationFault) (old new : History)
+    (a b : Option (List ℕ)) (k m reads : ℕ)
     → TellsFront result number fault old new → b ≡ a → m ≡ k → LeavesReader result a b old.given new.given k m reads
-deaf_told (Ok o) number fault old new a b k m reads (tells, given, waits) told count = deaf_as a b old.given new.given k m told given count
-deaf_told (Err fail.Memory) number fault old new a b k m reads (tells, given, waits) told count = deaf_as a b old.given new.given k m told given count
+deaf_told (Ok o) number fault old new a b k m reads (tells, given, waits) told count =
+    deaf_as a b old.given new.given k m told given count
+deaf_told (Err fail.Memory) number fault old new a b k m reads (tells, given, waits) told count =
+    deaf_as a b old.given new.given k m told given count
 deaf_told (Err (fail.ReadFault l)) number fault old new a b k m reads (tells, given, waits) told count = absurd tells
-deaf_told (Err (fail.WriteFault l)) number fault old new a b k m reads (tells, given, waits) told count = deaf_as a b old.given new.given k m told given count
+deaf_told (Err (fail.WriteFault l)) number fault old new a b k m reads (tells, given, waits) told count =
+    deaf_as a b old.given new.given k m told given count
 deaf_told (Err fail.BundleFault) number fault old new a b k m reads (tells, given, waits) told count = absurd tells
 
-pub has_opened : (sites : List SiteLine) (kept : Handed) (core : Parts) (history : History) (gathered held : List ℕ) → HasSites sites history held → sites ≢ []
+pub has_opened : (sites : List SiteLine) (kept : Handed) (core : Parts) (history : History) (gathered held : List ℕ)
+    → HasSites sites history held → sites ≢ []
     → StandsFor core (opened sites).last → gathered ≡ [] → HasOpened sites kept (desk kept core history gathered held)
 has_opened sites kept core history gathered held h some stands none = record {
   talk = opened sites;
@@ -211,9 +238,12 @@ has_opened sites kept core history gathered held h some stands none = record {
 
 -- ---- a fault in front of the talk
 
-pub served_err : (e : ServeFail) (left : Option (List ℕ)) (sites : List SiteLine) (history : History) (held : List ℕ) (kept : Handed) → OpensSo (Err e) left sites history held
+pub served_err : (e : ServeFail) (left : Option (List ℕ)) (sites : List SiteLine) (history : History) (held : List ℕ)
+    (kept : Handed) → OpensSo (Err e) left sites history held
     → Served (Err e) left history.given history.written kept kept × AreAnswered history.waits
-served_err (fail.ReadFault l) left sites history held kept (done, h, part) = (served_unread l left sites history held kept done h part, h.answered)
-served_err fail.Memory left sites history held kept (some, h) = (served_memory left some history held kept h, h.answered)
+served_err (fail.ReadFault l) left sites history held kept (done, h, part) =
+    (served_unread l left sites history held kept done h part, h.answered)
+served_err fail.Memory left sites history held kept (some, h) =
+    (served_memory left some history held kept h, h.answered)
 served_err (fail.WriteFault l) left sites history held kept opens = absurd opens
 served_err fail.BundleFault left sites history held kept opens = absurd opens

@@ -23,7 +23,8 @@ use Rattle.sgt_courses.specs.Course.{IsUncut, cut_line}
 use Rattle.sgt_serve.specs.private.Turning.{Takes, cut_fault_of, uncut_by}
 use Rattle.sgt_serve.specs.Place.{PlaceSays}
 
-pub takes_reply : (old new : Parts) (line : List ℕ) (e : EventLine) (reply : Reply) (kept : Handed) → IsEventLine e → line ≡ event_text e
+pub takes_reply : (old new : Parts) (line : List ℕ) (e : EventLine) (reply : Reply) (kept : Handed) → IsEventLine e
+    → line ≡ event_text e
     → GoesOn (λ c d. MayAnswer c e reply d) old new → Takes old line (Replies reply) kept kept new
 takes_reply old new line e reply kept is text goes = (
   λ c stands.
@@ -32,16 +33,21 @@ takes_reply old new line e reply kept is text goes = (
   ([], refl, sym (append-nil kept.answers)),
 )
 
-pub takes_none : (old : Parts) (line : List ℕ) (kept : Handed) → SpellsNone IsEventLine event_text line → line ≢ cut_line → HasNoLf line
+pub takes_none : (old : Parts) (line : List ℕ) (kept : Handed) → SpellsNone IsEventLine event_text line
+    → line ≢ cut_line → HasNoLf line
     → length line ≤ max_line → Takes old line Unreadable kept kept old
 takes_none old line kept event cut one short = (
-  λ c stands. (c, [], (record { event = event; cut = cut; one = one; short = short }, refl, refl), sym (append-nil kept.items), stands),
+  λ c stands. (c, [], (record { event = event; cut = cut; one = one; short = short }, refl, refl),
+      sym (append-nil kept.items), stands),
   ([], refl, sym (append-nil kept.answers)),
 )
 
-pub takes_cut : (old next : Parts) (number : ℕ) (text : List ℕ) (kept kept' : Handed) → ((c : CoreState) → StandsFor old c → text ≡ text_of (bundle_of c))
-    → ((c : CoreState) → StandsFor old c → StandsFor next (fresh (last_values c))) → ((c : CoreState) → StandsFor old c → c.certifier.active ≡ [])
-    → kept'.items ≡ kept.items ++ (number, text) ∷ [] → kept'.answers ≡ kept.answers ++ Ok number ∷ [] → Takes old cut_line (Cut number) kept kept' next
+pub takes_cut : (old next : Parts) (number : ℕ) (text : List ℕ) (kept kept' : Handed)
+    → ((c : CoreState) → StandsFor old c → text ≡ text_of (bundle_of c))
+    → ((c : CoreState) → StandsFor old c → StandsFor next (fresh (last_values c)))
+        → ((c : CoreState) → StandsFor old c → c.certifier.active ≡ [])
+    → kept'.items ≡ kept.items ++ (number, text) ∷ [] → kept'.answers ≡ kept.answers ++ Ok number ∷ []
+        → Takes old cut_line (Cut number) kept kept' next
 takes_cut old next number text kept kept' spelled begins idle more says = (
   λ c stands. (
     fresh (last_values c),
@@ -61,11 +67,14 @@ said_as : (f : KeepFault) → PlaceSays (Uncut (uncut_by f)) (Err f ∷ [])
 said_as keep.Memory = inr refl
 said_as keep.Refused = refl
 
-pub takes_unkept : (old : Parts) (f : KeepFault) (told : CutFault) (kept kept' : Handed) → ((c : CoreState) → StandsFor old c → c.certifier.active ≡ []) → told ≡ uncut_by f
-    → kept'.items ≡ kept.items → kept'.answers ≡ kept.answers ++ Err f ∷ [] → Takes old cut_line (Uncut told) kept kept' old
+pub takes_unkept : (old : Parts) (f : KeepFault) (told : CutFault) (kept kept' : Handed)
+    → ((c : CoreState) → StandsFor old c → c.certifier.active ≡ []) → told ≡ uncut_by f
+    → kept'.items ≡ kept.items → kept'.answers ≡ kept.answers ++ Err f ∷ []
+        → Takes old cut_line (Uncut told) kept kept' old
 takes_unkept old f told kept kept' idle is same says =
     subst (λ (t : CutFault). Takes old cut_line (Uncut t) kept kept' old) (sym is) (
-      (λ c stands. (c, [], (refl, uncut_as c f (idle c stands), refl, refl), same ∙ sym (append-nil kept.items), stands)),
+      (λ c stands. (c, [], (refl, uncut_as c f (idle c stands), refl, refl), same ∙ sym (append-nil kept.items),
+          stands)),
       (Err f ∷ [], said_as f, says),
     )
 
@@ -78,9 +87,11 @@ silent_as : (f : CoreFault) → PlaceSays (Uncut (cut_fault_of f)) []
 silent_as core_fault.ActiveLeft = refl
 silent_as f = inl refl
 
-pub takes_refused : (old : Parts) (f : CoreFault) (told : CutFault) (kept : Handed) → ((c : CoreState) → StandsFor old c → RefusesBundle c f) → told ≡ cut_fault_of f
+pub takes_refused : (old : Parts) (f : CoreFault) (told : CutFault) (kept : Handed)
+    → ((c : CoreState) → StandsFor old c → RefusesBundle c f) → told ≡ cut_fault_of f
     → Takes old cut_line (Uncut told) kept kept old
 takes_refused old f told kept refused same = (
-  λ c stands. (c, [], (refl, subst (IsUncut c) (sym same) (refused_as c f (refused c stands)), refl, refl), sym (append-nil kept.items), stands),
+  λ c stands. (c, [], (refl, subst (IsUncut c) (sym same) (refused_as c f (refused c stands)), refl, refl),
+      sym (append-nil kept.items), stands),
   ([], subst (λ (t : CutFault). PlaceSays (Uncut t) []) (sym same) (silent_as f), sym (append-nil kept.answers)),
 )

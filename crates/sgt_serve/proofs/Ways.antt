@@ -14,7 +14,8 @@ use Rattle.sgt_names.proofs.Elements.{none-unless_some}
 
 -- ---- a result
 
-pub leaves_then : {A : Type 0} (r : Result A ServeFail) (a b c : Option (List ℕ)) (f g h : List ℕ) (k m n reads : ℕ) → Hears a b f g k m
+pub leaves_then : {A : Type 0} (r : Result A ServeFail) (a b c : Option (List ℕ)) (f g h : List ℕ) (k m n reads : ℕ)
+    → Hears a b f g k m
     → LeavesReader r b c g h m n reads → LeavesReader r a c f h k n reads
 leaves_then (Ok x) a b c f g h k m n reads p q = hears_then a b c f g h k m n p q
 leaves_then (Err fail.Memory) a b c f g h k m n reads p q = hears_then a b c f g h k m n p q
@@ -24,11 +25,13 @@ leaves_then (Err fail.BundleFault) a b c f g h k m n reads p q = hears_then a b 
 
 -- ---- it goes on
 
-pub hears_at : (o : Option Stop) (a b : Option (List ℕ)) (f g : List ℕ) (k m reads : ℕ) → ((s : Stop) → o ≡ Some s → ⊥) → HearsOr o a b f g k m reads → Hears a b f g k m
+pub hears_at : (o : Option Stop) (a b : Option (List ℕ)) (f g : List ℕ) (k m reads : ℕ)
+    → ((s : Stop) → o ≡ Some s → ⊥) → HearsOr o a b f g k m reads → Hears a b f g k m
 hears_at None a b f g k m reads not p = p
 hears_at (Some s) a b f g k m reads not p = absurd (not s refl)
 
-pub speaks_at : (o : Option Stop) (a b : Option (List ℕ)) (f g : List ℕ) (k m : ℕ) → ((s : Stop) → o ≡ Some s → ⊥) → SpeaksOr o a b f g k m → Speaks a b f g k m
+pub speaks_at : (o : Option Stop) (a b : Option (List ℕ)) (f g : List ℕ) (k m : ℕ) → ((s : Stop) → o ≡ Some s → ⊥)
+    → SpeaksOr o a b f g k m → Speaks a b f g k m
 speaks_at None a b f g k m not p = p
 speaks_at (Some s) a b f g k m not p = absurd (not s refl)
 
@@ -36,7 +39,8 @@ speaks_at (Some s) a b f g k m not p = absurd (not s refl)
 
 pub silent_as : (a b : Option (List ℕ)) (f g : List ℕ) (k m : ℕ) → b ≡ a → g ≡ f → m ≡ k → Speaks a b f g k m
 silent_as a b f g k m told written count =
-    subst (λ (x : Option (List ℕ)). Speaks a x f g k m) (sym told) (subst (λ (x : List ℕ). Speaks a a f x k m) (sym written)
+    subst (λ (x : Option (List ℕ)). Speaks a x f g k m) (sym told)
+        (subst (λ (x : List ℕ). Speaks a a f x k m) (sym written)
     (subst (λ (x : ℕ). Speaks a a f f k x) (sym count) (speaks_none a f k)))
 
 pub deaf_as : (a b : Option (List ℕ)) (f g : List ℕ) (k m : ℕ) → b ≡ a → g ≡ f → m ≡ k → Hears a b f g k m
@@ -45,6 +49,7 @@ deaf_as a b f g k m told given count =
     (subst (λ (x : ℕ). Hears a a f f k x) (sym count) (hears_none a f k)))
 
 -- a read that failed; or none was left, and none is
-pub loses_told : (a b : Option (List ℕ)) (f g : List ℕ) (k m old reads : ℕ) → KeepsOrForgets a b → g ≡ f → (m ≡ k + 1) ⊎ ((old ≡ 0) × (reads ≡ 0)) → LosesReader a b f g k m reads
+pub loses_told : (a b : Option (List ℕ)) (f g : List ℕ) (k m old reads : ℕ) → KeepsOrForgets a b → g ≡ f
+    → (m ≡ k + 1) ⊎ ((old ≡ 0) × (reads ≡ 0)) → LosesReader a b f g k m reads
 loses_told a b f g k m old reads keeps same (inl more) = loses_now a b f g k m reads keeps same (inl more)
 loses_told a b f g k m old reads keeps same (inr none) = loses_now a b f g k m reads keeps same (inr none.1)

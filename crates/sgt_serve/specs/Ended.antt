@@ -146,7 +146,8 @@ SaysSo (Err fail.Memory) fared t left rest written =
 
 -- what was given, written and handed out, beside what was handed out before, where this is the result
 -- and the reader tells that so much is left
-pub record Served (result : Result Outcome ServeFail) (left : Option (List ℕ)) (given written : List ℕ) (before after : Handed) : Type 0 where
+pub record Served (result : Result Outcome ServeFail) (left : Option (List ℕ)) (given written : List ℕ)
+    (before after : Handed) : Type 0 where
   pub talk : Talk
   pub is : IsTalk talk
   pub rest : List ℕ

@@ -28,43 +28,54 @@ decidable-allows : (second : Bool) (line : SectionLine) → Decidable (Allows se
 decidable-allows second (Logged e) = decidable-if (decidable-test (is_increment e)) (λ added. decidable-test second)
 decidable-allows second _ = inl tt
 
-pub decidable-line : (second : Bool) (l : List ℕ) → Decidable ((line : SectionLine) × IsLineIn second line × (l ≡ line_text line))
+pub decidable-line : (second : Bool) (l : List ℕ)
+    → Decidable ((line : SectionLine) × IsLineIn second line × (l ≡ line_text line))
 decidable-line second l =
     decidable-as (λ h. (h.0, (h.1, h.2.0), h.2.1)) (λ h. (h.0, h.1.0, (h.1.1, h.2)))
-    (searched-lines (λ line. Allows second line × (l ≡ line_text line)) (λ line. decidable-both (decidable-allows second line) (decidable-text l (line_text line))))
+    (searched-lines (λ line. Allows second line × (l ≡ line_text line))
+        (λ line. decidable-both (decidable-allows second line) (decidable-text l (line_text line))))
 
 -- ---- the rules of an entry
 
 decidable-ended : (es : List Entry) → Decidable (AllEnded es)
 decidable-ended es =
     decidable-All (λ e. Any (λ f. IsEnd f × (tx_of f ≡ tx_of e)) es)
-    (λ e. decidable-Any (λ f. IsEnd f × (tx_of f ≡ tx_of e)) (λ f. decidable-both (decidable-end f) (cases_eq (tx_of f) (tx_of e))) es) es
+    (λ e. decidable-Any (λ f. IsEnd f × (tx_of f ≡ tx_of e))
+        (λ f. decidable-both (decidable-end f) (cases_eq (tx_of f) (tx_of e))) es) es
 
 module _ (c : Certificate) (before : List SectionLine) where
   decidable-read : (e : Entry) → Decidable (Keeps c before (Logged e) fault.ReadValue)
   decidable-read (entry.Read tx x v) = decidable-value cases_eq (value_at (items_in before) (entries_in before) x) v
   decidable-read _ = inl tt
 
-  decidable-entry : (e : Entry) (f : Fault) → Decidable (Begins c.sites (before ++ Logged e ∷ [])) → Decidable (Keeps c before (Logged e) fault.Block) → Decidable (Keeps c before (Logged e) f)
+  decidable-entry : (e : Entry) (f : Fault) → Decidable (Begins c.sites (before ++ Logged e ∷ []))
+      → Decidable (Keeps c before (Logged e) fault.Block) → Decidable (Keeps c before (Logged e) f)
   decidable-entry e fault.Section section block = section
   decidable-entry e fault.Item section block =
-      decidable-ForSome (Contains (names (items_in before))) (λ x. decidable-Contains decidable-text (names (items_in before)) x) (item_of e)
+      decidable-ForSome (Contains (names (items_in before)))
+          (λ x. decidable-Contains decidable-text (names (items_in before)) x) (item_of e)
   decidable-entry e fault.Twice section block =
       decidable-All (λ f. (x : Name) → Repeats x f e → ⊥) (λ f. decidable-first f e) (entries_in before)
   decidable-entry e fault.ReadValue section block = decidable-read e
-  decidable-entry e fault.RankOrder section block = decidable-All (λ f. RiseInRank c.decisions f e) (λ f. decidable-rise c.decisions f e) (entries_in before)
+  decidable-entry e fault.RankOrder section block =
+      decidable-All (λ f. RiseInRank c.decisions f e) (λ f. decidable-rise c.decisions f e) (entries_in before)
   decidable-entry e fault.Block section block = block
   decidable-entry e fault.End section block =
       decidable-both (decidable-number c.decisions e)
-      (decidable-All (λ f. IsEnd f → tx_of f ≢ tx_of e) (λ f. decidable-if (decidable-end f) (λ ends. decidable-not (cases_eq (tx_of f) (tx_of e)))) (entries_in before))
-  decidable-entry e fault.DecisionOrder section block = decidable-All (λ f. EndInOrder c.decisions f e) (λ f. decidable-in_order c.decisions f e) (entries_in before)
+      (decidable-All (λ f. IsEnd f
+          → tx_of f ≢ tx_of e)
+          (λ f. decidable-if (decidable-end f) (λ ends. decidable-not (cases_eq (tx_of f) (tx_of e))))
+          (entries_in before))
+  decidable-entry e fault.DecisionOrder section block =
+      decidable-All (λ f. EndInOrder c.decisions f e) (λ f. decidable-in_order c.decisions f e) (entries_in before)
   decidable-entry e _ section block = inl tt
 
   -- ---- the block that is open
 
   goes-on : (f : Entry) (line : SectionLine) → Decidable ((e : Entry) × (line ≡ Logged e) × Continues f e)
   goes-on f (Logged e) =
-      decidable-as (λ on. (e, refl, on)) (λ h. let same = h.1 in let is : h.0 ≡ e = cc in subst (Continues f) is h.2) (decidable-continues f e)
+      decidable-as (λ on. (e, refl, on)) (λ h. let same = h.1 in let is : h.0 ≡ e = cc in subst (Continues f) is h.2)
+          (decidable-continues f e)
   goes-on f (Site k) = inr (λ h. let same = h.1 in cc)
   goes-on f (Initial x) = inr (λ h. let same = h.1 in cc)
   goes-on f (Final x) = inr (λ h. let same = h.1 in cc)
@@ -74,7 +85,8 @@ module _ (c : Certificate) (before : List SectionLine) where
       → Decidable ((f : Entry) → o ≡ Some (Logged f) → IsOpen f → (e : Entry) × (line ≡ Logged e) × Continues f e)
   decidable-block line (Some (Logged g)) =
       decidable-as
-      (λ on f e. let same : g ≡ f = cc in subst (λ f. IsOpen f → (e : Entry) × (line ≡ Logged e) × Continues f e) same on)
+      (λ on f e. let same : g ≡ f = cc in
+          subst (λ f. IsOpen f → (e : Entry) × (line ≡ Logged e) × Continues f e) same on)
       (λ all. all g refl) (decidable-if (decidable-open g) (λ opens. goes-on g line))
   decidable-block line _ = inl (λ f e. absurd cc)
 
@@ -91,16 +103,20 @@ module _ (c : Certificate) (before : List SectionLine) where
         (decidable-behind c (before ++ End ∷ []) (more-begun c before held End (below (lit< tt))))
     decidable-last _ below block = inl tt
 
-    decidable-other : (line : SectionLine) (f : Fault) → (fault_number fault.Section < fault_number f → Begins c.sites (before ++ line ∷ []))
+    decidable-other : (line : SectionLine) (f : Fault)
+        → (fault_number fault.Section < fault_number f → Begins c.sites (before ++ line ∷ []))
         → Decidable (Keeps c before line fault.Block) → Decidable (Keeps c before line f)
     decidable-other (Logged e) f below block = decidable-entry e f (decidable-begins c before held (Logged e)) block
     decidable-other End f below block = decidable-last f below block
     decidable-other (Final h) fault.NotEnded below block = decidable-ended (entries_in before)
-    decidable-other (Final h) fault.Final below block = decidable-value cases_eq (value_at (items_in before) (entries_in before) h.item) h.value
+    decidable-other (Final h) fault.Final below block =
+        decidable-value cases_eq (value_at (items_in before) (entries_in before) h.item) h.value
     decidable-other line fault.Section below block = decidable-begins c before held line
     decidable-other line fault.Block below block = block
     decidable-other _ _ below block = inl tt
 
     -- the rule of walks is asked for only where the sections go on with the line
-    pub decidable-keeps : (line : SectionLine) (f : Fault) → (fault_number fault.Section < fault_number f → Begins c.sites (before ++ line ∷ [])) → Decidable (Keeps c before line f)
+    pub decidable-keeps : (line : SectionLine) (f : Fault)
+        → (fault_number fault.Section < fault_number f → Begins c.sites (before ++ line ∷ []))
+        → Decidable (Keeps c before line f)
     decidable-keeps line f below = decidable-other line f below (decidable-block line (last_or None before))

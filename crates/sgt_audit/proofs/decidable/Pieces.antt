@@ -23,7 +23,8 @@ HoldsBegun _ = Unit {0}
 
 decidable-format : (l : List ℕ) → Decidable ((second : Bool) × (l ≡ format_line second))
 decidable-format l =
-    or_else (decidable-text l (format_line false)) (λ e. (false, e)) (λ not_first. or_else (decidable-text l (format_line true)) (λ e. (true, e)) (λ not_second.
+    or_else (decidable-text l (format_line false)) (λ e. (false, e))
+        (λ not_first. or_else (decidable-text l (format_line true)) (λ e. (true, e)) (λ not_second.
     inr (λ h. neither not_first not_second h.0 h.1)))
   where
     neither : (l ≡ format_line false → ⊥) → (l ≡ format_line true → ⊥) → (second : Bool) → l ≡ format_line second → ⊥
@@ -34,20 +35,25 @@ decidable-format l =
 of_certificate : (l : List ℕ) (f : Fault) → Decidable ((c : Certificate) × IsCertificate c × (l ≡ certificate_text c))
     → Decidable ((c : Certificate) → IsCertificate c → l ≡ certificate_text c → KeepsItself c.decisions f)
 of_certificate l f (inl (c, is, e)) =
-    decidable-as (λ keeps d is_d same. subst (λ (c : Certificate). KeepsItself c.decisions f) (certificate-one c d is is_d (sym e ∙ same)) keeps) (λ all. all c is e) (decidable-itself c.decisions f)
+    decidable-as (λ keeps d is_d same. subst (λ (c : Certificate). KeepsItself c.decisions f)
+        (certificate-one c d is is_d (sym e ∙ same)) keeps) (λ all. all c is e) (decidable-itself c.decisions f)
 of_certificate l f (inr none) = inl (λ c is e. absurd (none (c, is, e)))
 
 -- a rule of the section's line that the line spells, if it spells one
 module _ (second : Bool) (c : Certificate) (before : List SectionLine) (held : HasBegun c before) (l : List ℕ) where
-  of_line : (f : Fault) → (fault_number fault.Section < fault_number f → Rule (within second c before) (whole l) fault.Section)
+  of_line : (f : Fault)
+      → (fault_number fault.Section < fault_number f → Rule (within second c before) (whole l) fault.Section)
       → Decidable ((line : SectionLine) × IsLineIn second line × (l ≡ line_text line))
       → Decidable ((line : SectionLine) → IsLineIn second line → l ≡ line_text line → Keeps c before line f)
   of_line f below (inl (line, is, e)) =
-      decidable-as (λ keeps m is_m same. subst (λ k. Keeps c before k f) (line-one line m is.0 is_m.0 (sym e ∙ same)) keeps) (λ all. all line is e)
+      decidable-as (λ keeps m is_m same. subst (λ k. Keeps c before k f) (line-one line m is.0 is_m.0 (sym e ∙ same))
+          keeps) (λ all. all line is e)
       (decidable-keeps c before held line f (λ lt. below lt line is e))
   of_line f below (inr none) = inl (λ line is e. absurd (none (line, is, e)))
 
-  pub decidable-within : (f : Fault) → (fault_number fault.Section < fault_number f → Rule (within second c before) (whole l) fault.Section) → Decidable (Rule (within second c before) (whole l) f)
+  pub decidable-within : (f : Fault)
+      → (fault_number fault.Section < fault_number f → Rule (within second c before) (whole l) fault.Section)
+      → Decidable (Rule (within second c before) (whole l) f)
   decidable-within fault.Notation below = decidable-line second l
   decidable-within f below = of_line f below (decidable-line second l)
 
@@ -59,7 +65,8 @@ pub decidable-first : (l : List ℕ) (f : Fault) → Decidable (Rule start (whol
 decidable-first l fault.Format = decidable-format l
 decidable-first l _ = inl tt
 
-pub decidable-trailing : (second : Bool) (c : Certificate) (before : List SectionLine) (l : List ℕ) (f : Fault) → Decidable (Rule (complete second c before) (whole l) f)
+pub decidable-trailing : (second : Bool) (c : Certificate) (before : List SectionLine) (l : List ℕ) (f : Fault)
+    → Decidable (Rule (complete second c before) (whole l) f)
 decidable-trailing second c before l fault.Trailing = inr (λ h. h)
 decidable-trailing second c before l _ = inl tt
 
@@ -72,9 +79,11 @@ decidable-last (complete second c before) l fault.Truncated = inl tt
 decidable-last _ l fault.Truncated = inr (λ h. h)
 decidable-last _ l _ = inl tt
 
-pub decidable-rule : (s : Stage) (p : Piece) → HoldsBegun s → (f : Fault) → KeptBelow (Rule s p) (fault_number f) → Decidable (Rule s p f)
+pub decidable-rule : (s : Stage) (p : Piece) → HoldsBegun s → (f : Fault) → KeptBelow (Rule s p) (fault_number f)
+    → Decidable (Rule s p f)
 decidable-rule start (whole l) held f kept = decidable-first l f
 decidable-rule (headed second) (whole l) held f kept = decidable-certified second l f
-decidable-rule (within second c before) (whole l) held f kept = decidable-within second c before held l f (λ lt. kept fault.Section lt)
+decidable-rule (within second c before) (whole l) held f kept =
+    decidable-within second c before held l f (λ lt. kept fault.Section lt)
 decidable-rule (complete second c before) (whole l) held f kept = decidable-trailing second c before l f
 decidable-rule s (last l) held f kept = decidable-last s l f

@@ -35,7 +35,9 @@ decidable-fits log (Site k) = inr (λ h. h)
 decidable-fits log (Initial h) =
     decidable-as (λ f. (f.0.0, f.0.1, f.1.0, f.1.1)) (λ (f : Fits log (Initial h)). ((f.0, f.1), (f.2, f.3)))
     (decidable-both (decidable-both (decidable-empty log.entries) (decidable-empty log.finals))
-    (decidable-both (decidable-less (length log.items) max_items) (decidable-All (λ x. ComesBefore x h.item) (λ x. decidable-Less (slice_cmp nat_cmp x h.item)) (names log.items))))
+    (decidable-both (decidable-less (length log.items) max_items)
+        (decidable-All (λ x. ComesBefore x h.item) (λ x. decidable-Less (slice_cmp nat_cmp x h.item))
+        (names log.items))))
 decidable-fits log (Logged e) = decidable-empty log.finals
 decidable-fits log (Final h) = decidable-value decidable-text (slice_get (names log.items) (length log.finals)) h.item
 decidable-fits log End = cases_eq (length log.finals) (length log.items)
@@ -49,9 +51,12 @@ decidable-follows b None line = decidable-between b line
 decidable-follows b (Some log) line = decidable-fits log line
 
 -- what follows begins some sections with what was read
-begins-follows : (b : Begun) → IsBegun b → (line : SectionLine) → Decidable (MayFollow b b.current line) → Decidable (Begins b.sites (lines_read b ++ line ∷ []))
+begins-follows : (b : Begun) → IsBegun b → (line : SectionLine) → Decidable (MayFollow b b.current line)
+    → Decidable (Begins b.sites (lines_read b ++ line ∷ []))
 begins-follows b is line (inl may) = inl ((follow-decides b is line true (λ e. may, λ f. refl)).0 refl)
-begins-follows b is line (inr never) = inr (λ begins. false≢true ((follow-decides b is line false (λ e. absurd (false≢true e), λ f. absurd (never f))).1 begins))
+begins-follows b is line (inr never) =
+    inr (λ begins. false≢true ((follow-decides b is line false (λ e. absurd (false≢true e), λ f. absurd (never f))).1
+    begins))
 
 -- ---- what was read of the sections of a certificate
 
@@ -92,15 +97,18 @@ module _ (c : Certificate) (before : List SectionLine) (held : HasBegun c before
         begun = with_next b b.current line;
         is = added-begun b held.is line here b.current refl;
         sites = next-sites b b.current line ∙ held.sites;
-        lines = ap (λ (ls : List SectionLine). ls ++ line ∷ []) held.lines ∙ sym (added-lines b held.is line here b.current refl);
+        lines = ap (λ (ls : List SectionLine). ls ++ line ∷ []) held.lines
+            ∙ sym (added-lines b held.is line here b.current refl);
       }
 
-  decidable-whole : (current : Option SiteLog) → held.begun.current ≡ current → Decidable (AreSections held.begun.sites (lines_read held.begun))
+  decidable-whole : (current : Option SiteLog) → held.begun.current ≡ current
+      → Decidable (AreSections held.begun.sites (lines_read held.begun))
   decidable-whole None here = elim (cases_eq (length held.begun.whole) held.begun.sites) [
     | inl all ↦ inl (whole-sections held.begun held.is here all)
     | inr never ↦ inr (λ all. never (are-sections held.begun all).1)
   ]
-  decidable-whole (Some log) here = inr (λ all. let both : None ≡ Some log = sym (are-sections held.begun all).0 ∙ here in cc)
+  decidable-whole (Some log) here = inr (λ all. let both : None ≡ Some log = sym (are-sections held.begun all).0
+      ∙ here in cc)
 
   -- these lines are all the sections
   pub decidable-sections : Decidable (AreSections c.sites before)
@@ -116,13 +124,19 @@ module _ (c : Certificate) (before : List SectionLine) (held : HasBegun c before
   sections-of here = sym (held.lines ∙ whole-lines held.begun here)
     where
       whole-lines : (b : Begun) → b.current ≡ None → lines_read b ≡ sections_from 0 b.whole
-      whole-lines b none = ap (λ o. sections_from 0 b.whole ++ open_lines (length b.whole) o) none ∙ append-nil (sections_from 0 b.whole)
+      whole-lines b none = ap (λ o. sections_from 0 b.whole ++ open_lines (length b.whole) o) none
+          ∙ append-nil (sections_from 0 b.whole)
 
-  walks-behind : (current : Option SiteLog) → held.begun.current ≡ current → Decidable (length held.begun.whole ≡ c.sites) → Decidable WalksBehind
-  walks-behind (Some log) here count = inl (λ logs each e. let both : None ≡ Some log = sym (sections-whole held.begun logs (e ∙ held.lines)).0 ∙ here in cc)
-  walks-behind None here (inr never) = inl (λ logs each e. absurd (never (ap length (sections-whole held.begun logs (e ∙ held.lines)).1 ∙ each)))
+  walks-behind : (current : Option SiteLog) → held.begun.current ≡ current
+      → Decidable (length held.begun.whole ≡ c.sites) → Decidable WalksBehind
+  walks-behind (Some log) here count =
+      inl (λ logs each e. let both : None ≡ Some log = sym (sections-whole held.begun logs (e ∙ held.lines)).0
+      ∙ here in cc)
+  walks-behind None here (inr never) =
+      inl (λ logs each e. absurd (never (ap length (sections-whole held.begun logs (e ∙ held.lines)).1 ∙ each)))
   walks-behind None here (inl all) =
-      decidable-as (λ walks logs each e. subst (WalksOf c.decisions) (sections-whole held.begun logs (e ∙ held.lines)).1 walks) (λ behind. behind held.begun.whole all (sections-of here))
+      decidable-as (λ walks logs each e. subst (WalksOf c.decisions) (sections-whole held.begun logs (e
+          ∙ held.lines)).1 walks) (λ behind. behind held.begun.whole all (sections-of here))
       (decidable-walks c.decisions held.begun.whole)
 
   pub decidable-behind : Decidable WalksBehind

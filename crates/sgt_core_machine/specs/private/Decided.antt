@@ -47,7 +47,8 @@ MayRuleAt s table slot edges = (r : Running) → slice_get table slot ≡ Some (
 
 -- the transaction at this place of the table is decided with these edges, and each of its installs
 -- can be noted
-pub record RulesAt (old new : State) (table : List (Option Running)) (slot : ℕ) (edges : List Edge) (decided : Decided) : Type 0 where
+pub record RulesAt (old new : State) (table : List (Option Running)) (slot : ℕ) (edges : List Edge)
+    (decided : Decided) : Type 0 where
   pub running : Running
   pub runs : slice_get table slot ≡ Some (Some running)
   pub serves : Serves old (call.Decide running.handle edges decided) new

@@ -56,7 +56,8 @@ pub record IsPledgedAt (places : List Place) (table : List (Option Running)) (si
   pub pledge : IsPledgedFor place.site tx running.draft.touched
 
 -- its block is written there, and nothing else changes
-pub record WritesAt (verdict : Verdict) (old new : List Place) (table : List (Option Running)) (site slot tx : ℕ) : Type 0 where
+pub record WritesAt (verdict : Verdict) (old new : List Place) (table : List (Option Running))
+    (site slot tx : ℕ) : Type 0 where
   pub place : Place
   pub running : Running
   pub there : slice_get old site ≡ Some place

@@ -40,12 +40,14 @@ TakesNext n sites sites' held held' (Some (Unreadable NotALine)) = IsMisplaced s
 TakesNext n sites sites' held held' (Some _) = ⊥
 
 -- one more read: some bytes came; or it was the end; or the reader failed
-abbrev pub ReadsFront : Result (Option Opened) ServeFail → Bool → Option (List ℕ) → (held held' : List ℕ) → (old new : History) → Type 0
+abbrev pub ReadsFront : Result (Option Opened) ServeFail → Bool → Option (List ℕ) → (held held' : List ℕ)
+    → (old new : History) → Type 0
 ReadsFront result any left held held' old new =
     ReadsMore result any left held held' old new × (new.written ≡ old.written)
     × ((new.waits ≡ old.waits) ⊎ (new.waits ≡ old.waits ++ (old.given, old.written) ∷ []))
   where
-    ReadsMore : Result (Option Opened) ServeFail → Bool → Option (List ℕ) → (held held' : List ℕ) → (old new : History) → Type 0
+    ReadsMore : Result (Option Opened) ServeFail → Bool → Option (List ℕ) → (held held' : List ℕ)
+        → (old new : History) → Type 0
     ReadsMore (Ok None) any left held held' old new = (bytes : List ℕ) × (held' ≡ held ++ bytes)
         × (new.given ≡ old.given ++ bytes)
     ReadsMore (Ok (Some Ended)) any left held held' old new = NoneLeft left × (any ≡ true) × (held ≡ [])

@@ -107,7 +107,8 @@ SaysLast result stop line old new =
     × (new.given ≡ old.given) × (new.waits ≡ old.waits)
 
 -- the first n bytes that are held are answered as a line; or there was no memory for the answer
-abbrev pub TakesFront : {E : Type 0} → Result (Unit {0}) E → ℕ → (kept kept' : Handed) → (core core' : Parts) → (gathered gathered' held held' : List ℕ) → Type 0
+abbrev pub TakesFront : {E : Type 0} → Result (Unit {0}) E → ℕ → (kept kept' : Handed) → (core core' : Parts)
+    → (gathered gathered' held held' : List ℕ) → Type 0
 TakesFront (Ok u) n kept kept' core core' gathered gathered' held held' = (answer : Answer)
     × Takes core (take n held) answer kept kept' core'
     × (gathered' ≡ gathered ++ (answer_line (take n held) answer ++ 10 ∷ []))

@@ -15,7 +15,9 @@ returns-in_default-read_line-clause-all c lines s =
 
 pub returns-then-not-may_go_on-clause-all : goal.returns-then-not-may_go_on-clause-all
 returns-then-not-may_go_on-clause-all c lines s =
-    refuted c.may_go_on.result (c.may_go_on.ensures _ c.lines.invariant.1 c.lines.invariant.2) c.if-not-may_go_on.true (next-begins _ _ _ _ _ c.lines.invariant.0 lines s _ _ c.in-Some.ensures.some.0 c.in-Some.ensures.some.1 c.in-Some-read_line.read c.in-Some-read_line.ensures.0 c.in-Some-read_line.ensures.1)
+    refuted c.may_go_on.result (c.may_go_on.ensures _ c.lines.invariant.1 c.lines.invariant.2) c.if-not-may_go_on.true
+        (next-begins _ _ _ _ _ c.lines.invariant.0 lines s _ _ c.in-Some.ensures.some.0 c.in-Some.ensures.some.1
+        c.in-Some-read_line.read c.in-Some-read_line.ensures.0 c.in-Some-read_line.ensures.1)
 
 pub lines-init : goal.lines-init
 lines-init c = (ahead-none _ _ _ c.requires.none, c.requires.begun, c.requires.here)
@@ -27,9 +29,12 @@ lines-preserved c =
     let read = c.in-Some-read_line.read in
     let begins = (c.may_go_on.ensures b inv.1 inv.2).0 c.if-not-may_go_on.false in
     let next = c.in_ok-add.ensures.next in (
-      ahead-next _ _ _ _ _ _ _ _ read inv.0 c.in-Some.ensures.some.1 c.in-Some-read_line.ensures.0 c.in-Some-read_line.ensures.1 (ap (λ b. b.sites) next ∙ next-sites b b.current read) (ap lines_read next ∙ added-lines b inv.1 read begins b.current refl),
+      ahead-next _ _ _ _ _ _ _ _ read inv.0 c.in-Some.ensures.some.1 c.in-Some-read_line.ensures.0
+          c.in-Some-read_line.ensures.1 (ap (λ b. b.sites) next ∙ next-sites b b.current read) (ap lines_read next
+          ∙ added-lines b inv.1 read begins b.current refl),
       subst IsBegun (sym next) (added-begun b inv.1 read begins b.current refl),
-      subst (λ a. IsPlace a c.enter.new.self) (sym next) (c.in_ok-enter.ensures b inv.1 (begins-follow b read begins) inv.2),
+      subst (λ a. IsPlace a c.enter.new.self) (sym next)
+          (c.in_ok-enter.ensures b inv.1 (begins-follow b read begins) inv.2),
     )
 
 pub returns-then-not-is_empty-clause-all : goal.returns-then-not-is_empty-clause-all
@@ -41,4 +46,5 @@ returns-then-not-is_empty-clause-all c lines s =
 pub returns-clause-all : goal.returns-clause-all
 returns-clause-all c =
     let inv = c.lines.invariant in
-    all-spelled _ _ _ _ _ inv.0 c.is_complete.result (c.is_complete.ensures _ inv.1 inv.2) (empty-nil _ (empty _ _ c.is_empty.ensures c.if-not-is_empty.false))
+    all-spelled _ _ _ _ _ inv.0 c.is_complete.result (c.is_complete.ensures _ inv.1 inv.2)
+        (empty-nil _ (empty _ _ c.is_empty.ensures c.if-not-is_empty.false))

@@ -14,14 +14,16 @@ abbrev parts-of : Certificate → List SiteLog → Parts
 parts-of certificate sites = record { certificate = certificate; sites = sites }
 
 pub unreachable-requires : goal.unreachable-requires
-unreachable-requires g c = let kept = rw c.in-Ok-Ok.field-0-is at (c.in-Ok-Ok.ensures.kept refl) in none-kept _ kept c.in_default.is
+unreachable-requires g c = let kept = rw c.in-Ok-Ok.field-0-is at (c.in-Ok-Ok.ensures.kept refl) in
+    none-kept _ kept c.in_default.is
 
 pub unreachable-requires-in-None : goal.unreachable-requires-in-None
 unreachable-requires-in-None g c =
     let k = c.in-Ok-Ok.kept in
     let all = whole-bundle k (rw c.in-Ok-Ok.field-0-is at c.in-Ok-Ok.ensures.all) in
     let sections = kept-sections k all.1 c.in-Some.sections all.2.0 c.in-Some.is in
-    let same = ap₂ parts-of c.into_certificate-certificate.ensures (c.into_logs-logs.ensures ∙ ap (λ (s : Begun). s.whole) sections) in
+    let same = ap₂ parts-of c.into_certificate-certificate.ensures (c.into_logs-logs.ensures
+        ∙ ap (λ (s : Begun). s.whole) sections) in
     c.in-None.ensures (subst FitTogether (sym same) (kept-fit k all.0 all.1 all.2))
 
 pub returns-in-Some-new-clause-audited : goal.returns-in-Some-new-clause-audited
@@ -32,7 +34,8 @@ returns-in-Some-new-clause-audited g c =
     (λ bytes j.
     let b = judged-bundle k bytes j in
     let sections = kept-sections k b.0 c.in-Some.sections b.1.0 c.in-Some.is in
-    let same = ap₂ parts-of c.into_certificate-certificate.ensures (c.into_logs-logs.ensures ∙ ap (λ (s : Begun). s.whole) sections) in
+    let same = ap₂ parts-of c.into_certificate-certificate.ensures (c.into_logs-logs.ensures
+        ∙ ap (λ (s : Begun). s.whole) sections) in
     subst (λ p. Spells bytes p × IsValid p) (sym (c.in-Some-new.ensures.1 ∙ same)) (b.1.1, b.1.2)) told
 
 pub returns-in-Some-new-clause-valid : goal.returns-in-Some-new-clause-valid
@@ -40,5 +43,6 @@ returns-in-Some-new-clause-valid g c =
     let k = c.in-Ok-Ok.kept in
     let all = whole-bundle k (rw c.in-Ok-Ok.field-0-is at c.in-Ok-Ok.ensures.all) in
     let sections = kept-sections k all.1 c.in-Some.sections all.2.0 c.in-Some.is in
-    let same = ap₂ parts-of c.into_certificate-certificate.ensures (c.into_logs-logs.ensures ∙ ap (λ (s : Begun). s.whole) sections) in
+    let same = ap₂ parts-of c.into_certificate-certificate.ensures (c.into_logs-logs.ensures
+        ∙ ap (λ (s : Begun). s.whole) sections) in
     subst IsValid (sym (c.in-Some-new.ensures.1 ∙ same)) all.2.2

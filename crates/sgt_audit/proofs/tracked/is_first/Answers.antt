@@ -9,4 +9,6 @@ returns-in-Some c ds items entries k t listed =
     c.is_first.ensures ds items entries at.0 t at.1 at.2 k.ruling.number
 
 pub returns-in-None : goal.returns-in-None
-returns-in-None c ds items entries k t listed = end-first entries c.args.entry.now (placed-none (names items) c.args.entry.now c.args.known.now.place c.in-None.is listed (k.place items entries t))
+returns-in-None c ds items entries k t listed =
+    end-first entries c.args.entry.now (placed-none (names items) c.args.entry.now c.args.known.now.place c.in-None.is
+    listed (k.place items entries t))

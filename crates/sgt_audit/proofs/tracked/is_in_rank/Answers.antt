@@ -9,4 +9,6 @@ returns-in-Some c ds items entries once are k t listed =
     c.is_in_rank.ensures ds items entries at.0 once are t at.1 at.2 k.ruling.rank
 
 pub returns-in-None : goal.returns-in-None
-returns-in-None c ds items entries once are k t listed = end-in_rank ds entries c.args.entry.now (placed-none (names items) c.args.entry.now c.args.known.now.place c.in-None.is listed (k.place items entries t))
+returns-in-None c ds items entries once are k t listed =
+    end-in_rank ds entries c.args.entry.now
+    (placed-none (names items) c.args.entry.now c.args.known.now.place c.in-None.is listed (k.place items entries t))

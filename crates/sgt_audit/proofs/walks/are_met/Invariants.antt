@@ -6,4 +6,5 @@ use Rattle.sgt_audit.specs.Kept.{IsMet}
 use Rattle.sgt_audit.proofs.walks.are_met.Given as goal
 
 abbrev pub invariant-loop-edge : goal.invariant-loop-edge
-invariant-loop-edge l = (items : List Holding) (entries : List Entry) → TracksOpen l.certificate.decisions items entries l.state → All (IsMet entries) (take l.edge-index l.edges)
+invariant-loop-edge l = (items : List Holding) (entries : List Entry)
+    → TracksOpen l.certificate.decisions items entries l.state → All (IsMet entries) (take l.edge-index l.edges)

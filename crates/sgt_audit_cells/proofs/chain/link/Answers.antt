@@ -17,9 +17,11 @@ returns-clause-place c =
     let nodes = c.args.nodes.now.items in
     let x : Node = record { act = c.in-Some.act; before = c.args.last } in
     let items = c.in_ok-add.ensures.ok in
-    let place : c.in_ok-place.place ≡ suc (length nodes) = omega (arith, c.in_ok-place.ensures, c.len.ensures, c.args.nodes.now.ok.0) in
+    let place : c.in_ok-place.place ≡ suc (length nodes) =
+        omega (arith, c.in_ok-place.ensures, c.len.ensures, c.args.nodes.now.ok.0) in
     let long = ap length items ∙ length_push nodes x in (
       omega (arith, place, long),
-      ap (λ ns. chain ns c.in_ok-place.place) items ∙ ap (chain (nodes ++ x ∷ [])) place ∙ chain-last nodes c.requires.linked x c.requires.within
+      ap (λ ns. chain ns c.in_ok-place.place) items ∙ ap (chain (nodes ++ x ∷ [])) place
+          ∙ chain-last nodes c.requires.linked x c.requires.within
           ∙ ap (λ o. chain nodes c.args.last ++ option_to_list o) (sym c.in-Some.is),
     )

@@ -6,4 +6,5 @@ use Rattle.sgt_cert.specs.declared.certificate.Decision.TheVariants.{Refuse}
 use Rattle.sgt_audit_decisions.proofs.cycles.are_cycles.Given as goal
 
 abbrev pub invariant-loop-number : goal.invariant-loop-number
-invariant-loop-number l = (number tx : ℕ) (walk : List Step) → number < l.number → slice_get l.certificate.decisions number ≡ Some (Refuse tx walk) → IsCycle l.certificate.decisions number tx walk
+invariant-loop-number l = (number tx : ℕ) (walk : List Step) → number < l.number
+    → slice_get l.certificate.decisions number ≡ Some (Refuse tx walk) → IsCycle l.certificate.decisions number tx walk

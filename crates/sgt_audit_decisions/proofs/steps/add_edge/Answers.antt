@@ -7,7 +7,9 @@ use Rattle.sgt_audit_decisions.proofs.Grouping.{grouped-past, grouped-more}
 use Rattle.sgt_audit_decisions.proofs.steps.add_edge.Goals as goal
 
 pub returns-then-site-groups : goal.returns-then-site-groups
-returns-then-site-groups c edges is = grouped-past edges c.args.edge.now c.args.groups.now (omega (arith, c.if-site-groups.true, c.number-site.ensures.is)) is
+returns-then-site-groups c edges is =
+    grouped-past edges c.args.edge.now c.args.groups.now
+    (omega (arith, c.if-site-groups.true, c.number-site.ensures.is)) is
 
 pub returns : goal.returns
 returns c =
@@ -16,7 +18,9 @@ returns c =
     let n = c.number-site.result in
     let x = c.index-groups-site.result in
     let old = get_or groups n x in
-    let here : slice_get groups n ≡ Some old = element_at groups n x (omega arith) c.index-groups-site.is ∙ ap Some c.index-groups-site.is in
+    let here : slice_get groups n ≡ Some old = element_at groups n x (omega arith) c.index-groups-site.is
+        ∙ ap Some c.index-groups-site.is in
     on_ok_weaker c.add.result (λ more edges is.
     subst (λ k. AreGrouped (edges ++ edge ∷ []) (set groups k c.add.new.self)) (sym c.number-site.ensures.is)
-    (grouped-more edges edge groups old c.add.new.self (subst (λ k. slice_get groups k ≡ Some old) c.number-site.ensures.is here) more is)) c.add.ensures
+    (grouped-more edges edge groups old c.add.new.self
+        (subst (λ k. slice_get groups k ≡ Some old) c.number-site.ensures.is here) more is)) c.add.ensures

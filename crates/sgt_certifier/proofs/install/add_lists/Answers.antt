@@ -21,7 +21,9 @@ loop-touch-preserved c =
     elim c.if-is_changed.branch [
       | then-is_changed+then-not-has_site+in_ok-items+in_ok-push w ↦
           let one : Prepared = listed whole t.site in
-          let is : c.if-is_changed.lists.items ≡ lists ++ one ∷ [] = (let made = w.lists-is in let pushed = w.in_ok-push.ensures.items in let items = w.in_ok-items.ensures.ok ∙ w.touched_near.ensures.changed in cc) in
+          let is : c.if-is_changed.lists.items ≡ lists ++ one ∷ [] =
+              (let made = w.lists-is in let pushed = w.in_ok-push.ensures.items in let items =
+              w.in_ok-items.ensures.ok ∙ w.touched_near.ensures.changed in cc) in
           record {
             each = λ p m. elim (Contains-append_cases lists (one ∷ []) p (subst (λ xs. Contains xs p) is m)) [
               | inl was ↦ c.loop-touch.invariant.each p was
@@ -30,19 +32,27 @@ loop-touch-preserved c =
                 | inr none ↦ absurd (contains-none p none)
               ]
             ];
-            kept = λ p m. subst (λ xs. Contains xs p) (sym is) (Contains-append_left lists (one ∷ []) p (c.loop-touch.invariant.kept p m));
-            all = listed_next whole touched lists c.if-is_changed.lists.items n t here (λ p m. subst (λ xs. Contains xs p) (sym is) (Contains-append_left lists (one ∷ []) p m))
-                (λ hit. subst (λ xs. Contains xs one) (sym is) (Contains-append_right lists (one ∷ []) one (cons_here one []))) c.loop-touch.invariant.all;
+            kept = λ p m. subst (λ xs. Contains xs p) (sym is)
+                (Contains-append_left lists (one ∷ []) p (c.loop-touch.invariant.kept p m));
+            all = listed_next whole touched lists c.if-is_changed.lists.items n t here
+                (λ p m. subst (λ xs. Contains xs p) (sym is) (Contains-append_left lists (one ∷ []) p m))
+                (λ hit. subst (λ xs. Contains xs one) (sym is)
+                    (Contains-append_right lists (one ∷ []) one (cons_here one []))) c.loop-touch.invariant.all;
           }
       | else-is_changed w ↦
           let same : c.if-is_changed.lists.items ≡ lists = (let kept = w.lists-is in cc) in
           record {
             each = λ p m. c.loop-touch.invariant.each p (subst (λ xs. Contains xs p) same m);
             kept = λ p m. subst (λ xs. Contains xs p) (sym same) (c.loop-touch.invariant.kept p m);
-            all = listed_next whole touched lists c.if-is_changed.lists.items n t here (λ p m. subst (λ xs. Contains xs p) (sym same) m)
+            all = listed_next whole touched lists c.if-is_changed.lists.items n t here
+                (λ p m. subst (λ xs. Contains xs p) (sym same) m)
                 (λ hit. subst (λ xs. Contains xs (listed whole t.site)) (sym same) (elim w.else-is_changed.branch [
-                  | else-is_changed-via-then-is_changed+else-not-has_site v ↦ listed_at whole lists t.site c.loop-touch.invariant.each (subst (Any (λ (p : Prepared). p.site ≡ t.site)) v.as_slice.ensures.value (v.has_site.ensures.0 v.if-not-has_site.false))
-                  | else-is_changed-via-else-is_changed v ↦ absurd (true≢false (sym hit ∙ (sym c.is_changed.ensures ∙ v.if-is_changed.false)))
+                  | else-is_changed-via-then-is_changed+else-not-has_site v ↦ listed_at whole lists t.site
+                      c.loop-touch.invariant.each
+                      (subst (Any (λ (p : Prepared). p.site ≡ t.site)) v.as_slice.ensures.value
+                      (v.has_site.ensures.0 v.if-not-has_site.false))
+                  | else-is_changed-via-else-is_changed v ↦ absurd
+                      (true≢false (sym hit ∙ (sym c.is_changed.ensures ∙ v.if-is_changed.false)))
                 ])) c.loop-touch.invariant.all;
           }
     ]

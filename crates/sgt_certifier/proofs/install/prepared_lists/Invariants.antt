@@ -7,5 +7,6 @@ use Rattle.sgt_certifier.proofs.install.prepared_lists.Given as goal
 abbrev pub invariant-loop-part : goal.invariant-loop-part
 invariant-loop-part l = record {
   each : (p : Prepared) → Contains l.lists.items p → p.items ≡ changed_at l.draft.touched p.site;
-  all : (s : ℕ) → (changed_at (touched_in (take l.part-index l.parts)) s ≡ []) ⊎ Contains l.lists.items (record { site = s; items = changed_at l.draft.touched s });
+  all : (s : ℕ) → (changed_at (touched_in (take l.part-index l.parts)) s ≡ [])
+      ⊎ Contains l.lists.items (record { site = s; items = changed_at l.draft.touched s });
 }

@@ -11,7 +11,8 @@ returns-in_err-place_each-in-None-clause-wants c =
     let items = c.as_slice-in-None.ensures ∙ c.in_ok-items-in-None.ensures.ok in
     on-err c.from_residual-in_err-place_each-in-None.result _
     (not-placed c.args.counts.now c.args.expected.now.items c.args.touched.now c.args.site c.requires.placed
-    (λ all. c.in_err-place_each-in-None.ensures.err (subst (All (HasPlace c.args.counts.now c.args.site)) (sym items) all)))
+    (λ all. c.in_err-place_each-in-None.ensures.err
+        (subst (All (HasPlace c.args.counts.now c.args.site)) (sym items) all)))
 
 pub returns-in-Some-clause-items : goal.returns-in-Some-clause-items
 returns-in-Some-clause-items c =

@@ -9,7 +9,10 @@ pub returns-clause-shown : goal.returns-clause-shown
 returns-clause-shown c history s r = runs_installs opening history s r
 
 pub returns-clause-committed : goal.returns-clause-committed
-returns-clause-committed c history s install r m = (replays-good history s r).installed.committed install (subst (λ xs. Contains xs install) (sym (runs_installs opening history s r)) m)
+returns-clause-committed c history s install r m =
+    (replays-good history s r).installed.committed install
+    (subst (λ xs. Contains xs install) (sym (runs_installs opening history s r)) m)
 
 pub returns-clause-once : goal.returns-clause-once
-returns-clause-once c history s r = subst (AllPairs (λ a b. AreTwice a b → ⊥)) (runs_installs opening history s r) (replays-good history s r).installed.once
+returns-clause-once c history s r = subst (AllPairs (λ a b. AreTwice a b → ⊥)) (runs_installs opening history s r)
+    (replays-good history s r).installed.once

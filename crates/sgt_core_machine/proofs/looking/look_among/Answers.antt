@@ -14,7 +14,8 @@ loop-touch-preserved c =
     let n = c.loop-touch.touch-index in
     let t = c.touch-item.result in
     let at = element_at ts n t c.loop-touch-test.true c.touch-item.is in
-    find_further (λ (u : Touch). (u.site == c.args.site) && bytes_eq u.item c.args.item.now) ts n t at c.loop-touch.invariant (sym c.is_of.ensures ∙ c.if-is_of.false)
+    find_further (λ (u : Touch). (u.site == c.args.site) && bytes_eq u.item c.args.item.now) ts n t at
+        c.loop-touch.invariant (sym c.is_of.ensures ∙ c.if-is_of.false)
 
 pub returns-then-is_of : goal.returns-then-is_of
 returns-then-is_of c =
@@ -22,7 +23,14 @@ returns-then-is_of c =
     let n = c.loop-touch.touch-index in
     let t = c.touch-item.result in
     let at = element_at ts n t c.loop-touch-test.true c.touch-item.is in
-    c.seen_of.ensures ∙ ap (option_and_then look_of) (sym (find_first (λ (u : Touch). (u.site == c.args.site) && bytes_eq u.item c.args.item.now) ts n t at c.loop-touch.invariant (sym c.is_of.ensures ∙ c.if-is_of.true)))
+    c.seen_of.ensures
+        ∙ ap (option_and_then look_of)
+        (sym (find_first (λ (u : Touch). (u.site == c.args.site) && bytes_eq u.item c.args.item.now) ts n t at
+        c.loop-touch.invariant (sym c.is_of.ensures ∙ c.if-is_of.true)))
 
 pub returns : goal.returns
-returns c = ap (option_and_then look_of) (sym (ap (λ ts. touched_at ts (c.args.site, c.args.item.now)) (sym (take_all c.loop-touch.touch-index c.args.touched.now (omega Rattle.std.proofs.Common.arith))) ∙ c.loop-touch.invariant))
+returns c =
+    ap (option_and_then look_of)
+    (sym (ap (λ ts. touched_at ts (c.args.site, c.args.item.now))
+    (sym (take_all c.loop-touch.touch-index c.args.touched.now (omega Rattle.std.proofs.Common.arith)))
+    ∙ c.loop-touch.invariant))

@@ -19,15 +19,18 @@ loop-touch-preserved c =
     let same : t.site ≡ c.number.result = sym c.number.ensures.is in
     record {
       long = length-set flags _ _ ∙ long;
-      hit = subst (λ (k : ℕ). (s : ℕ) → get_or (set flags k true) s false ≡ true → (get_or c.args.flags.now s false ≡ true) ⊎ Touches touched s) same
+      hit = subst (λ (k : ℕ). (s : ℕ) → get_or (set flags k true) s false ≡ true
+          → (get_or c.args.flags.now s false ≡ true) ⊎ Touches touched s) same
           (set_hit c.args.flags.now flags touched n t at used c.loop-touch.invariant.hit);
-      kept = λ s on. subst (λ (k : ℕ). get_or (set flags k true) s false ≡ true) same (set_kept flags t.site s within (c.loop-touch.invariant.kept s on));
+      kept = λ s on. subst (λ (k : ℕ). get_or (set flags k true) s false ≡ true) same
+          (set_kept flags t.site s within (c.loop-touch.invariant.kept s on));
       each = λ k u upto there. subst (λ (j : ℕ). get_or (set flags j true) u.site false ≡ true) same
           (set_each flags touched n t at within c.loop-touch.invariant.each k u upto there);
     }
 
 pub returns-clause-marks : goal.returns-clause-marks
-returns-clause-marks c = set_all c.args.flags.now c.loop-touch.flags c.args.touched.now c.loop-touch.touch-index (omega arith) c.loop-touch.invariant.hit c.loop-touch.invariant.kept c.loop-touch.invariant.each
+returns-clause-marks c = set_all c.args.flags.now c.loop-touch.flags c.args.touched.now c.loop-touch.touch-index
+    (omega arith) c.loop-touch.invariant.hit c.loop-touch.invariant.kept c.loop-touch.invariant.each
 
 pub returns-clause-long : goal.returns-clause-long
 returns-clause-long c = c.loop-touch.invariant.long

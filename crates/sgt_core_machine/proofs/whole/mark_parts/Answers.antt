@@ -14,7 +14,8 @@ loop-part-preserved c =
     let flags = c.loop-part.flags in
     let new = c.mark_all.new.flags in
     let at = element_at ps n p c.loop-part-test.true c.part-item.is in
-    let marks = subst (λ (ts : List Touch). Marks flags new (Touches ts)) c.touched.ensures.all c.mark_all.ensures.marks in
+    let marks =
+        subst (λ (ts : List Touch). Marks flags new (Touches ts)) c.touched.ensures.all c.mark_all.ensures.marks in
     record {
       long = c.mark_all.ensures.long;
       hit = parts_hit c.args.flags.now flags new ps n p at marks c.loop-part.invariant.hit;
@@ -23,7 +24,8 @@ loop-part-preserved c =
     }
 
 pub returns : goal.returns
-returns c = parts_all c.args.flags.now c.loop-part.flags c.args.parts.now c.loop-part.part-index (omega arith) c.loop-part.invariant.hit c.loop-part.invariant.kept c.loop-part.invariant.each
+returns c = parts_all c.args.flags.now c.loop-part.flags c.args.parts.now c.loop-part.part-index
+    (omega arith) c.loop-part.invariant.hit c.loop-part.invariant.kept c.loop-part.invariant.each
 
 pub mark_all-requires-clause-long : goal.mark_all-requires-clause-long
 mark_all-requires-clause-long c = c.loop-part.invariant.long

@@ -10,5 +10,6 @@ invariant-loop-part l = record {
   hit : (s : ℕ) → get_or l.flags s false ≡ true
       → (get_or l.initial.flags s false ≡ true) ⊎ Any (λ (p : PartView). Touches p.touched s) l.parts;
   kept : (s : ℕ) → get_or l.initial.flags s false ≡ true → get_or l.flags s false ≡ true;
-  each : (k : ℕ) (p : PartView) → k < l.part-index → slice_get l.parts k ≡ Some p → (s : ℕ) → Touches p.touched s → get_or l.flags s false ≡ true;
+  each : (k : ℕ) (p : PartView) → k < l.part-index → slice_get l.parts k ≡ Some p → (s : ℕ) → Touches p.touched s
+      → get_or l.flags s false ≡ true;
 }

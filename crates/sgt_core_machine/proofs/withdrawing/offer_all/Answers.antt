@@ -16,7 +16,9 @@ loop-at-preserved c =
     let h = c.loop-at.invariant in
     let R = IsPledgedBy c.args.tx c.args.draft.now.touched in
     let long = h.long in
-    let there : slice_get now i ≡ Some c.index_mut.result.now = slice_get_read now (length now) i c.index_mut.result.now refl (omega (arith, long, c.loop-at-test.true)) c.index_mut.ensures.value in
+    let there : slice_get now i ≡ Some c.index_mut.result.now =
+        slice_get_read now (length now) i c.index_mut.result.now refl (omega (arith, long, c.loop-at-test.true))
+        c.index_mut.ensures.value in
     record {
       long = length-set now i c.offer.new.place ∙ long;
       done = done_more R old now i c.index_mut.result.now c.offer.new.place there h.done h.rest c.in-Ok.ensures.ok;
@@ -28,7 +30,8 @@ returns-clause-ok c =
     let h = c.loop-at.invariant in
     record {
       long = h.long;
-      each = λ k p q at_p at_q. let lt = slice_get_within c.args.places.now.items k p at_p in h.done k p q (omega (arith, lt, c.loop-at-test.false)) at_p at_q;
+      each = λ k p q at_p at_q. let lt = slice_get_within c.args.places.now.items k p at_p in
+          h.done k p q (omega (arith, lt, c.loop-at-test.false)) at_p at_q;
     }
 
 pub offer-requires : goal.offer-requires
@@ -37,7 +40,9 @@ offer-requires c =
     let i = c.loop-at.at in
     let h = c.loop-at.invariant in
     let long = h.long in
-    let there : slice_get now i ≡ Some c.index_mut.result.now = slice_get_read now (length now) i c.index_mut.result.now refl (omega (arith, long, c.loop-at-test.true)) c.index_mut.ensures.value in
+    let there : slice_get now i ≡ Some c.index_mut.result.now =
+        slice_get_read now (length now) i c.index_mut.result.now refl (omega (arith, long, c.loop-at-test.true))
+        c.index_mut.ensures.value in
     c.requires i c.index_mut.result.now (sym (h.rest i (omega arith)) ∙ there)
 
 pub returns-in-Err-clause-offered : goal.returns-in-Err-clause-offered
@@ -48,15 +53,22 @@ returns-in-Err-clause-offered c =
     let h = c.loop-at.invariant in
     let R = IsOffered c.args.tx in
     let long = h.long in
-    let there : slice_get now i ≡ Some c.index_mut.result.now = slice_get_read now (length now) i c.index_mut.result.now refl (omega (arith, long, c.loop-at-test.true)) c.index_mut.ensures.value in
-    let done : (k : ℕ) (p q : Place) → k < i → slice_get old k ≡ Some p → slice_get now k ≡ Some q → R p q = λ k p q lt at_p at_q. (h.done k p q lt at_p at_q).offered in
+    let there : slice_get now i ≡ Some c.index_mut.result.now =
+        slice_get_read now (length now) i c.index_mut.result.now refl (omega (arith, long, c.loop-at-test.true))
+        c.index_mut.ensures.value in
+    let done : (k : ℕ) (p q : Place) → k < i → slice_get old k ≡ Some p → slice_get now k ≡ Some q
+        → R p q = λ k p q lt at_p at_q. (h.done k p q lt at_p at_q).offered in
     record {
       long = length-set now i c.offer.new.place ∙ long;
       each = λ k p q at_p at_q. elim (cases_order k i) [
-        | inl is ↦ done_more R old now i c.index_mut.result.now c.offer.new.place there done h.rest c.in-Err.ensures.offered k p q (omega (arith, is)) at_p at_q
-        | inr (inl lt) ↦ done_more R old now i c.index_mut.result.now c.offer.new.place there done h.rest c.in-Err.ensures.offered k p q (omega (arith, lt)) at_p at_q
+        | inl is ↦ done_more R old now i c.index_mut.result.now c.offer.new.place there done h.rest
+            c.in-Err.ensures.offered k p q (omega (arith, is)) at_p at_q
+        | inr (inl lt) ↦ done_more R old now i c.index_mut.result.now c.offer.new.place there done h.rest
+            c.in-Err.ensures.offered k p q (omega (arith, lt)) at_p at_q
         | inr (inr gt) ↦
-            let same = rest_more R old now i c.index_mut.result.now c.offer.new.place there done h.rest c.in-Err.ensures.offered k (omega (arith, gt)) in
+            let same =
+                rest_more R old now i c.index_mut.result.now c.offer.new.place there done h.rest
+                c.in-Err.ensures.offered k (omega (arith, gt)) in
             subst (R p) (same_Some p q (sym at_p ∙ (sym same ∙ at_q))) (record { same = refl; pledge = inl refl })
       ];
     }

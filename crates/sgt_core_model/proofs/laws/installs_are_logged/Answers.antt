@@ -3,7 +3,8 @@ use Rattle.sgt_core_model.proofs.Runs.{runs-kept}
 use Rattle.sgt_core_model.proofs.laws.installs_are_logged.Goals as goal
 
 pub returns-clause-noted : goal.returns-clause-noted
-returns-clause-noted c items events replies state install r = (runs-kept items events replies state r).installs.noted install
+returns-clause-noted c items events replies state install r =
+    (runs-kept items events replies state r).installs.noted install
 
 pub returns-clause-committed : goal.returns-clause-committed
 returns-clause-committed c items events replies state install r m =

@@ -6,4 +6,5 @@ pub returns-clause-run : goal.returns-clause-run
 returns-clause-run c items events = played items events
 
 pub returns-clause-answered : goal.returns-clause-answered
-returns-clause-answered c items events replies state event r allowed = allowed-answered state event (runs-kept items events replies state r) allowed
+returns-clause-answered c items events replies state event r allowed =
+    allowed-answered state event (runs-kept items events replies state r) allowed

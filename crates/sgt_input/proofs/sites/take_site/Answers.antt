@@ -6,6 +6,7 @@ pub returns-then-from-len : goal.returns-then-from-len
 returns-then-from-len c =
     let read = c.in-Ok.ensures in
     let number = c.from.ensures ∙ c.number.ensures.is in (
-      other-site c.in-Ok.site _ _ read.0 read.1 (λ same. c.if-from-len.true (number ∙ same ∙ omega (arith, c.args.sites.now.ok, c.len.ensures))),
+      other-site c.in-Ok.site _ _ read.0 read.1 (λ same. c.if-from-len.true (number ∙ same
+          ∙ omega (arith, c.args.sites.now.ok, c.len.ensures))),
       refl,
     )

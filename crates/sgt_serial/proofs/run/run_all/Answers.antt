@@ -21,14 +21,17 @@ returns-in_err-run_one-clause-differs c tx s x e =
     let at = element_at order i t (omega arith) c.tx-item.is in
     let own : c.in_ok-run.run' ≡ run_of sites t = c.in_ok-run.ensures in
     let passed = err_from_is_err_and c.from_residual-in_err-run_one.result c.from_residual-in_err-run_one.ensures.1 in
-    let here = c.in_err-run_one.ensures.differs tx s x (same-fail c.in_err-run_one.field-0.0 (Differs tx s x) (ap Err (sym passed.2) ∙ sym passed.1 ∙ e)) in (
+    let here =
+        c.in_err-run_one.ensures.differs tx s x (same-fail c.in_err-run_one.field-0.0 (Differs tx s x)
+        (ap Err (sym passed.2) ∙ sym passed.1 ∙ e)) in (
       t,
       here.0 ∙ ap (λ (r : SerialTx). Some r.tx) own,
       (
         i,
         at,
         so_far.as_logged,
-        turn-differs sites order i t at (store_of c.args.store.now) (store_of c.loop-tx.store) c.in_ok-run.run' so_far.as_logged so_far.after own s x here.1,
+        turn-differs sites order i t at (store_of c.args.store.now) (store_of c.loop-tx.store) c.in_ok-run.run'
+            so_far.as_logged so_far.after own s x here.1,
       ),
     )
 
@@ -47,7 +50,11 @@ loop-tx-preserved c =
     let ran = c.in_ok-run_one.ensures in
     record {
       operations = so_far.operations;
-      runs = c.in_ok-push.ensures.items ∙ turn-runs sites order i t at first now run so_far.as_logged so_far.after own c.loop-tx.runs.items so_far.runs;
-      as_logged = turn-as_logged sites order i t at first now run so_far.as_logged so_far.after own ran.reads ran.writes;
-      after = λ s x. turn-after sites order i t at first now run so_far.as_logged so_far.after own (store_of c.run_one.new.store) s x (ran.after s x);
+      runs = c.in_ok-push.ensures.items
+          ∙ turn-runs sites order i t at first now run so_far.as_logged so_far.after own c.loop-tx.runs.items
+          so_far.runs;
+      as_logged = turn-as_logged sites order i t at first now run so_far.as_logged so_far.after own ran.reads
+          ran.writes;
+      after = λ s x. turn-after sites order i t at first now run so_far.as_logged so_far.after own
+          (store_of c.run_one.new.store) s x (ran.after s x);
     }

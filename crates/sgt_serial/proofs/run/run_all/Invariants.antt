@@ -11,5 +11,6 @@ invariant-loop-tx l = record {
   operations : AreOperationsOf l.sites l.operations;
   runs : l.runs.items ≡ map (run_of l.sites) (take l.tx-index l.order);
   as_logged : AllRunOn l.sites (take l.tx-index l.order) (store_of l.fn.store);
-  after : (s : ℕ) (x : Name) → store_of l.store s x ≡ store_after_all l.sites (take l.tx-index l.order) (store_of l.fn.store) s x;
+  after : (s : ℕ) (x : Name)
+      → store_of l.store s x ≡ store_after_all l.sites (take l.tx-index l.order) (store_of l.fn.store) s x;
 }

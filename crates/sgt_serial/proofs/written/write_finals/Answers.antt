@@ -11,7 +11,8 @@ pub loop-value-init : goal.loop-value-init
 loop-value-init g c =
     let xs = c.args.finals.now in
     record {
-      passed = passes-none (g.W.Sink.holds c.args.writer.now) c.args.out.now.items (text_of_lines (map final_line xs)) (text_of_lines (map final_line xs)) refl;
+      passed = passes-none (g.W.Sink.holds c.args.writer.now) c.args.out.now.items (text_of_lines (map final_line xs))
+          (text_of_lines (map final_line xs)) refl;
       capacity = omega arith;
       quiet = refl;
     }
@@ -26,8 +27,11 @@ loop-value-preserved g c =
     let so_far = c.loop-value.invariant in
     let call = c.in_ok-write_final.ensures in
     record {
-      passed = passes-more (holds c.args.writer.now) (holds c.loop-value.writer) (holds c.write_final.new.writer) c.args.out.now.items c.loop-value.out.items c.write_final.new.out.items
-          (with_lf (final_line x)) (text_of_lines (map final_line (drop i xs))) (text_of_lines (map final_line (drop (i + 1) xs))) (text_of_lines (map final_line xs)) (ap (λ ys. text_of_lines (map final_line ys)) (drop_next xs i x at)) so_far.passed call.ok;
+      passed = passes-more (holds c.args.writer.now) (holds c.loop-value.writer) (holds c.write_final.new.writer)
+          c.args.out.now.items c.loop-value.out.items c.write_final.new.out.items
+          (with_lf (final_line x)) (text_of_lines (map final_line (drop i xs)))
+              (text_of_lines (map final_line (drop (i + 1) xs))) (text_of_lines (map final_line xs))
+              (ap (λ ys. text_of_lines (map final_line ys)) (drop_next xs i x at)) so_far.passed call.ok;
       capacity = omega (arith, so_far.capacity, call.capacity);
       quiet = call.fails ∙ so_far.quiet;
     }
@@ -40,8 +44,12 @@ returns-in_err-write_final-clause-err g c =
     let x = c.value-item.result in
     let at = element_at xs i x (omega arith) c.value-item.is in
     on-err c.from_residual.result
-    (passes-front (holds c.args.writer.now) (holds c.loop-value.writer) (holds c.write_final.new.writer) c.args.out.now.items c.loop-value.out.items
-    (with_lf (final_line x)) (text_of_lines (map final_line (drop i xs))) (text_of_lines (map final_line (drop (i + 1) xs))) (text_of_lines (map final_line xs)) (ap (λ ys. text_of_lines (map final_line ys)) (drop_next xs i x at)) c.loop-value.invariant.passed c.in_err-write_final.ensures.err)
+    (passes-front (holds c.args.writer.now) (holds c.loop-value.writer) (holds c.write_final.new.writer)
+        c.args.out.now.items c.loop-value.out.items
+    (with_lf (final_line x)) (text_of_lines (map final_line (drop i xs)))
+        (text_of_lines (map final_line (drop (i + 1) xs))) (text_of_lines (map final_line xs))
+        (ap (λ ys. text_of_lines (map final_line ys)) (drop_next xs i x at)) c.loop-value.invariant.passed
+        c.in_err-write_final.ensures.err)
 
 pub returns-clause-ok : goal.returns-clause-ok
 returns-clause-ok g c =
@@ -50,4 +58,5 @@ returns-clause-ok g c =
     let i = c.loop-value.value-index in
     let end : length xs ≤ i = omega arith in
     passes-all (holds c.args.writer.now) (holds c.loop-value.writer) c.args.out.now.items c.loop-value.out.items
-    (text_of_lines (map final_line (drop i xs))) (text_of_lines (map final_line xs)) (ap (λ ys. text_of_lines (map final_line ys)) (drop_of_length-le xs end)) c.loop-value.invariant.passed
+    (text_of_lines (map final_line (drop i xs))) (text_of_lines (map final_line xs))
+        (ap (λ ys. text_of_lines (map final_line ys)) (drop_of_length-le xs end)) c.loop-value.invariant.passed

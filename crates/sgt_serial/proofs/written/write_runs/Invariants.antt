@@ -9,7 +9,8 @@ use Rattle.sgt_serial.proofs.written.write_runs.Given as goal
 
 abbrev pub invariant-loop-tx : goal.invariant-loop-tx
 invariant-loop-tx g l = record {
-  passed : IsPassed (g.W.Sink.holds l.fn.writer) (g.W.Sink.holds l.writer) l.fn.out.items l.out.items (text_of_lines (flat_map run_lines (map (run_of l.logs) (drop l.tx-index l.order))))
+  passed : IsPassed (g.W.Sink.holds l.fn.writer) (g.W.Sink.holds l.writer) l.fn.out.items l.out.items
+      (text_of_lines (flat_map run_lines (map (run_of l.logs) (drop l.tx-index l.order))))
       (text_of_lines (flat_map run_lines (map (run_of l.logs) l.order)));
   capacity : vec_capacity l.fn.out ≤ vec_capacity l.out;
   quiet : g.W.Sink.failures l.writer ≡ g.W.Sink.failures l.fn.writer;

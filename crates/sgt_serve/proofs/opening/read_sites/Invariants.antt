@@ -7,7 +7,8 @@ use Rattle.sgt_serve.proofs.opening.read_sites.Given as goal
 abbrev pub invariant-lines : goal.invariant-lines
 invariant-lines g l = record {
   has : HasSites l.sites.items l.pipe.history l.inbox.held;
-  hears : Hears (g.R.Source.tells l.fn.pipe.reader) (g.R.Source.tells l.pipe.reader) l.fn.pipe.history.given l.pipe.history.given (g.R.Source.failures l.fn.pipe.reader) (g.R.Source.failures l.pipe.reader);
+  hears : Hears (g.R.Source.tells l.fn.pipe.reader) (g.R.Source.tells l.pipe.reader) l.fn.pipe.history.given
+      l.pipe.history.given (g.R.Source.failures l.fn.pipe.reader) (g.R.Source.failures l.pipe.reader);
   writer : l.pipe.writer ≡ l.fn.pipe.writer;
   asks : g.R.Source.asked l.pipe.reader + l.inbox.reads ≡ g.R.Source.asked l.fn.pipe.reader + l.fn.inbox.reads;
 }

@@ -15,9 +15,12 @@ lines-init g c = record {
 
 pub lines-preserved : goal.lines-preserved
 lines-preserved g c = record {
-  comes = λ sites before h. comes_at _ _ _ c.in_default.not-Some c.go_on.ensures.stops sites before (c.lines.invariant.comes sites before h);
-  hears = hears_then _ _ _ _ _ _ _ _ _ c.lines.invariant.hears (hears_at _ _ _ _ _ _ _ _ c.in_default.not-Some c.go_on.ensures.hears);
-  speaks = speaks_then _ _ _ _ _ _ _ _ _ c.lines.invariant.speaks (speaks_at _ _ _ _ _ _ _ c.in_default.not-Some c.go_on.ensures.speaks);
+  comes = λ sites before h. comes_at _ _ _ c.in_default.not-Some c.go_on.ensures.stops sites before
+      (c.lines.invariant.comes sites before h);
+  hears = hears_then _ _ _ _ _ _ _ _ _ c.lines.invariant.hears
+      (hears_at _ _ _ _ _ _ _ _ c.in_default.not-Some c.go_on.ensures.hears);
+  speaks = speaks_then _ _ _ _ _ _ _ _ _ c.lines.invariant.speaks
+      (speaks_at _ _ _ _ _ _ _ c.in_default.not-Some c.go_on.ensures.speaks);
   asks = c.go_on.ensures.asks ∙ c.lines.invariant.asks;
 }
 

@@ -10,7 +10,8 @@ returns-in-Some-clause-follows c is b s =
     let cert = c.args.certificate.now in
     let begins = (c.may_go_on.ensures b s.begun s.place).0 c.if-not-may_go_on.false in
     let known = c.look_up-known.ensures in (
-      within-breaks c.args.self.now.second cert (lines_read b) c.args.line.now is c.in-Some.fault (c.in-Some.ensures.judged cert b s known begins),
+      within-breaks c.args.self.now.second cert (lines_read b) c.args.line.now is c.in-Some.fault
+          (c.in-Some.ensures.judged cert b s known begins),
       λ same. c.in-Some.ensures.not_walks cert b s known begins (ap Some same),
     )
 
@@ -18,13 +19,15 @@ pub returns-clause-follows : goal.returns-clause-follows
 returns-clause-follows c is b s =
     let cert = c.args.certificate.now in
     let old = c.args.self.now in
-    let new : Alone = record { second = old.second; place = c.enter.new.self; state = c.enter_line.new.state; met = c.meets_steps-self.result } in
+    let new : Alone = record { second = old.second; place = c.enter.new.self; state = c.enter_line.new.state; met =
+        c.meets_steps-self.result } in
     let begins = (c.may_go_on.ensures b s.begun s.place).0 c.if-not-may_go_on.false in
     let kept = c.in_default.ensures.judged cert b s c.look_up-known.ensures begins in (
       c.args.line.now,
       is,
       refl,
       kept,
-      next-stands cert b c.args.line.now old new s begins kept c.in_ok-enter.ensures (c.in_ok-enter_line.ensures cert.decisions c.look_up-known.ensures),
+      next-stands cert b c.args.line.now old new s begins kept c.in_ok-enter.ensures
+          (c.in_ok-enter_line.ensures cert.decisions c.look_up-known.ensures),
       c.meets_steps-self.ensures b s.open_site,
     )

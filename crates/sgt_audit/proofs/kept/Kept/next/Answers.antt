@@ -6,4 +6,5 @@ returns-in-Some-clause-follows c s here =
     rw read.1 (c.follow_other.ensures.follows read.0 s here)
 
 pub returns-in-None-clause-follows : goal.returns-in-None-clause-follows
-returns-in-None-clause-follows c s here = c.unread.ensures c.args.line.now s (rw c.in-None.is at c.read_line.ensures) here
+returns-in-None-clause-follows c s here =
+    c.unread.ensures c.args.line.now s (rw c.in-None.is at c.read_line.ensures) here

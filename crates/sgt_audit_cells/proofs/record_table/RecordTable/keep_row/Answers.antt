@@ -16,4 +16,5 @@ returns c =
     let found = some-at t.slots.items n (omega (arith, c.if-number-len.false, c.len.ensures, t.slots.ok.0)) in
     let is_slot : slot ≡ found.0 = c.index.ensures ∙ get_or_from_slice_get t.slots.items n found.0 slot found.1 in
     let next : Slot = record slot { row = c.in_ok-row.row } in
-    map-set of t.slots.items n next ∙ set-same _ n (of slot) (slice_get-map of t.slots.items n ∙ ap (option_map of) (found.1 ∙ ap Some (sym is_slot))) ∙ c.self.view_is
+    map-set of t.slots.items n next ∙ set-same _ n (of slot) (slice_get-map of t.slots.items n
+        ∙ ap (option_map of) (found.1 ∙ ap Some (sym is_slot))) ∙ c.self.view_is

@@ -10,4 +10,5 @@ loop-item-preserved c =
     let at = element_at _ _ _ c.loop-item-test.true c.item-item.is in
     let fresh = fresh-at items _ _ c.requires.once at in
     subst (λ xs. CountsEach c.args.site xs c.args.self.now c.add.new.self) (sym (take_next items _ _ at))
-    (counts-next c.args.site _ c.item-item.result c.args.self.now c.loop-item.self c.add.new.self c.loop-item.invariant fresh c.add.ensures.here c.add.ensures.others)
+    (counts-next c.args.site _ c.item-item.result c.args.self.now c.loop-item.self c.add.new.self
+        c.loop-item.invariant fresh c.add.ensures.here c.add.ensures.others)

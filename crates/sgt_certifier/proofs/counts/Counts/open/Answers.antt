@@ -10,6 +10,7 @@ loop-row-preserved c =
     let pushed = c.in_ok-push.ensures.items ∙ ap (λ row. rows ++ row ∷ []) c.new.ensures in
     record {
       same = λ s. ap (λ rs. or_nothing (slice_get rs s)) pushed ∙ row-pushed rows s ∙ c.loop-row.invariant.same s;
-      long = let more = ap length pushed in let split = length-append rows ([] ∷ []) in omega (arith, more, split, c.loop-row.invariant.long);
+      long = let more = ap length pushed in let split = length-append rows ([] ∷ []) in
+          omega (arith, more, split, c.loop-row.invariant.long);
       more = omega (arith, c.loop-row.invariant.more);
     }

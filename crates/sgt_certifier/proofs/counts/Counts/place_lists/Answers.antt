@@ -13,8 +13,10 @@ loop-list-preserved c =
       widens = widens-more _ _ _ c.loop-list.invariant.widens more;
       placed = All-next (HavePlaces new) c.args.lists.now _ _ at
           (subst (All (HasPlace new c.list-item.result.site)) c.as_slice.ensures c.in_ok-place_each.ensures.ok)
-          (places-kept c.loop-list.self new (take c.loop-list.list-index c.args.lists.now) more c.loop-list.invariant.placed);
+          (places-kept c.loop-list.self new (take c.loop-list.list-index c.args.lists.now) more
+              c.loop-list.invariant.placed);
     }
 
 pub returns-clause-ok : goal.returns-clause-ok
-returns-clause-ok c = All-whole (HavePlaces c.loop-list.self) c.args.lists.now _ c.loop-list-test.false c.loop-list.invariant.placed
+returns-clause-ok c =
+    All-whole (HavePlaces c.loop-list.self) c.args.lists.now _ c.loop-list-test.false c.loop-list.invariant.placed

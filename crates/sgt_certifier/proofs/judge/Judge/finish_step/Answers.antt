@@ -11,7 +11,8 @@ use Rattle.sgt_certifier.proofs.judge.Judge.finish_step.Goals as goal
 pub overflow_sub-place : goal.overflow_sub-place
 overflow_sub-place c =
     let p = parts_of c.self.inside in
-    let open_tx : p.step ≡ Some c.args.tx = c.in-Some.is ∙ ap Some (sym c.number.ensures.is ∙ (c.if-number.false ∙ c.number-2.ensures.is)) in
+    let open_tx : p.step ≡ Some c.args.tx = c.in-Some.is
+        ∙ ap Some (sym c.number.ensures.is ∙ (c.if-number.false ∙ c.number-2.ensures.is)) in
     let place = open_place p c.args.tx c.self.invariant.good open_tx in
     let at : c.number-3.result - c.self.inside.before - 1 ≡ place.0 = omega (arith, place.1, c.number-3.ensures.is) in
     omega (arith, place.1, c.number-3.ensures.is)
@@ -19,7 +20,8 @@ overflow_sub-place c =
 pub overflow_sub-place-2 : goal.overflow_sub-place-2
 overflow_sub-place-2 c =
     let p = parts_of c.self.inside in
-    let open_tx : p.step ≡ Some c.args.tx = c.in-Some.is ∙ ap Some (sym c.number.ensures.is ∙ (c.if-number.false ∙ c.number-2.ensures.is)) in
+    let open_tx : p.step ≡ Some c.args.tx = c.in-Some.is
+        ∙ ap Some (sym c.number.ensures.is ∙ (c.if-number.false ∙ c.number-2.ensures.is)) in
     let place = open_place p c.args.tx c.self.invariant.good open_tx in
     let at : c.number-3.result - c.self.inside.before - 1 ≡ place.0 = omega (arith, place.1, c.number-3.ensures.is) in
     omega (arith, place.1, c.number-3.ensures.is)
@@ -27,7 +29,8 @@ overflow_sub-place-2 c =
 pub index_mut-requires : goal.index_mut-requires
 index_mut-requires c =
     let p = parts_of c.self.inside in
-    let open_tx : p.step ≡ Some c.args.tx = c.in-Some.is ∙ ap Some (sym c.number.ensures.is ∙ (c.if-number.false ∙ c.number-2.ensures.is)) in
+    let open_tx : p.step ≡ Some c.args.tx = c.in-Some.is
+        ∙ ap Some (sym c.number.ensures.is ∙ (c.if-number.false ∙ c.number-2.ensures.is)) in
     let place = open_place p c.args.tx c.self.invariant.good open_tx in
     let at : c.number-3.result - c.self.inside.before - 1 ≡ place.0 = omega (arith, place.1, c.number-3.ensures.is) in
     omega (arith, at, slice_get_within p.flags place.0 true place.2, c.self.inside.flags.ok)
@@ -35,7 +38,8 @@ index_mut-requires c =
 pub overflow_sub-self : goal.overflow_sub-self
 overflow_sub-self c =
     let p = parts_of c.self.inside in
-    let open_tx : p.step ≡ Some c.args.tx = c.in-Some.is ∙ ap Some (sym c.number.ensures.is ∙ (c.if-number.false ∙ c.number-2.ensures.is)) in
+    let open_tx : p.step ≡ Some c.args.tx = c.in-Some.is
+        ∙ ap Some (sym c.number.ensures.is ∙ (c.if-number.false ∙ c.number-2.ensures.is)) in
     let place = open_place p c.args.tx c.self.invariant.good open_tx in
     let at : c.number-3.result - c.self.inside.before - 1 ≡ place.0 = omega (arith, place.1, c.number-3.ensures.is) in
     omega (arith, c.self.invariant.running, flagged_less p.before p.flags place.0 place.2)
@@ -43,19 +47,26 @@ overflow_sub-self c =
 pub invariant_of-self : goal.invariant_of-self
 invariant_of-self c =
     let p = parts_of c.self.inside in
-    let q : Parts = record p { flags = slice_set c.self.inside.flags.items (c.number-3.result - c.self.inside.before - 1) false; step = None; noted = c.clear.new.self.items } in
-    let open_tx : p.step ≡ Some c.args.tx = c.in-Some.is ∙ ap Some (sym c.number.ensures.is ∙ (c.if-number.false ∙ c.number-2.ensures.is)) in
+    let q : Parts =
+        record p { flags = slice_set c.self.inside.flags.items (c.number-3.result - c.self.inside.before - 1) false;
+        step = None; noted = c.clear.new.self.items } in
+    let open_tx : p.step ≡ Some c.args.tx = c.in-Some.is
+        ∙ ap Some (sym c.number.ensures.is ∙ (c.if-number.false ∙ c.number-2.ensures.is)) in
     let place = open_place p c.args.tx c.self.invariant.good open_tx in
     let at : c.number-3.result - c.self.inside.before - 1 ≡ place.0 = omega (arith, place.1, c.number-3.ensures.is) in
     let flags : q.flags ≡ slice_set p.flags place.0 false = ap (λ k. slice_set c.self.inside.flags.items k false) at in
     let ends = finished_ends p q c.args.tx place.0 open_tx place.1 refl refl refl flags refl refl refl refl refl in
-    finished_kept p q c.args.tx place.0 _ _ _ _ _ _ c.self.invariant ends refl flags place.2 c.clear.ensures.items refl refl
+    finished_kept p q c.args.tx place.0 _ _ _ _ _ _ c.self.invariant ends refl flags place.2 c.clear.ensures.items
+        refl refl
 
 pub returns-clause-ok : goal.returns-clause-ok
 returns-clause-ok c =
     let p = parts_of c.self.inside in
-    let q : Parts = record p { flags = slice_set c.self.inside.flags.items (c.number-3.result - c.self.inside.before - 1) false; step = None; noted = c.clear.new.self.items } in
-    let open_tx : p.step ≡ Some c.args.tx = c.in-Some.is ∙ ap Some (sym c.number.ensures.is ∙ (c.if-number.false ∙ c.number-2.ensures.is)) in
+    let q : Parts =
+        record p { flags = slice_set c.self.inside.flags.items (c.number-3.result - c.self.inside.before - 1) false;
+        step = None; noted = c.clear.new.self.items } in
+    let open_tx : p.step ≡ Some c.args.tx = c.in-Some.is
+        ∙ ap Some (sym c.number.ensures.is ∙ (c.if-number.false ∙ c.number-2.ensures.is)) in
     let place = open_place p c.args.tx c.self.invariant.good open_tx in
     let at : c.number-3.result - c.self.inside.before - 1 ≡ place.0 = omega (arith, place.1, c.number-3.ensures.is) in
     let flags : q.flags ≡ slice_set p.flags place.0 false = ap (λ k. slice_set c.self.inside.flags.items k false) at in
@@ -63,4 +74,6 @@ returns-clause-ok c =
     subst (λ (v : State). Ends v c.args.tx (state_of q)) c.self.view_is ends
 
 pub returns-clause-few : goal.returns-clause-few
-returns-clause-few c = subst (λ (v : State). length v.installs ≤ max_sites) c.self.view_is (notes_few (parts_of c.self.inside) _ _ _ c.self.invariant)
+returns-clause-few c =
+    subst (λ (v : State). length v.installs ≤ max_sites) c.self.view_is
+    (notes_few (parts_of c.self.inside) _ _ _ c.self.invariant)

@@ -12,7 +12,9 @@ returns-then-is_admitted c =
     let graph = c.self.inside.graph in
     let s = state_of (parts_of c.self.inside) in
     let here = member_here graph c.order-order.ensures.ordered in
-    let known : IsKnown s c.args.node = inl (member_known c.self.inside.before graph.generation graph.order c.args.node here (c.is_admitted.ensures.0 c.if-is_admitted.true)) in (
+    let known : IsKnown s c.args.node =
+        inl (member_known c.self.inside.before graph.generation graph.order c.args.node here
+        (c.is_admitted.ensures.0 c.if-is_admitted.true)) in (
       λ told. subst (λ (v : State). IsKnown v c.args.node) c.self.view_is known,
       λ k. c.if-is_admitted.true,
     )
@@ -29,7 +31,11 @@ returns-else-is_admitted c =
       λ known.
           let mine : IsKnown s c.args.node = subst (λ (v : State). IsKnown v c.args.node) (sym c.self.view_is) known in
           elim mine [
-            | inl now ↦ absurd (true≢false (sym (c.is_admitted.ensures.1 (known_member c.self.inside.before graph.generation graph.order c.args.node here now.0 now.1)) ∙ c.if-is_admitted.false))
+            | inl now ↦ absurd
+                (true≢false
+                (sym (c.is_admitted.ensures.1
+                (known_member c.self.inside.before graph.generation graph.order c.args.node here now.0 now.1))
+                ∙ c.if-is_admitted.false))
             | inr older ↦ lt-ltb c.args.node.generation c.generation.result (omega (arith, older, c.generation.ensures))
           ],
     )

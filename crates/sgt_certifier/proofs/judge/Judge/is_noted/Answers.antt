@@ -9,6 +9,8 @@ returns c =
     let p = parts_of c.self.inside in
     let open_tx = subst (λ (v : State). v.step ≡ Some c.args.tx) (sym c.self.view_is) c.requires in
     let noted = is_noted p.step p.noted c.args.tx c.args.site open_tx in (
-      λ told. subst (λ (v : State). IsNoted v c.args.tx c.args.site) c.self.view_is (noted.0 (subst (λ xs. Contains xs c.args.site) c.as_slice.ensures.value (c.is_among.ensures.0 told))),
-      λ is. c.is_among.ensures.1 (subst (λ xs. Contains xs c.args.site) (sym c.as_slice.ensures.value) (noted.1 (subst (λ (v : State). IsNoted v c.args.tx c.args.site) (sym c.self.view_is) is))),
+      λ told. subst (λ (v : State). IsNoted v c.args.tx c.args.site) c.self.view_is
+          (noted.0 (subst (λ xs. Contains xs c.args.site) c.as_slice.ensures.value (c.is_among.ensures.0 told))),
+      λ is. c.is_among.ensures.1 (subst (λ xs. Contains xs c.args.site) (sym c.as_slice.ensures.value)
+          (noted.1 (subst (λ (v : State). IsNoted v c.args.tx c.args.site) (sym c.self.view_is) is))),
     )

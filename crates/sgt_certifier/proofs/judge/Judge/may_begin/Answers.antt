@@ -8,4 +8,5 @@ pub returns-in-Ok-clause-ok : goal.returns-in-Ok-clause-ok
 returns-in-Ok-clause-ok c =
     let s = state_of (parts_of c.self.inside) in
     let idle : s.step ≡ None = c.in_default.is in
-    subst (λ (v : State). IsAllowed v begin) c.self.view_is (begin_allowed s (omega (arith, c.self.invariant.window)) idle (omega (arith, c.in-Ok.ensures.0)))
+    subst (λ (v : State). IsAllowed v begin) c.self.view_is
+        (begin_allowed s (omega (arith, c.self.invariant.window)) idle (omega (arith, c.in-Ok.ensures.0)))

@@ -11,4 +11,5 @@ returns-in-Ok c =
     rw (← c.self.view_is) (sym (ap or_zero (found_here _ _ _ _ c.self.invariant found here)))
 
 pub returns-in-Err : goal.returns-in-Err
-returns-in-Err c = rw (← c.self.view_is) (sym (ap or_zero (found_gap _ _ _ (rw c.as_slice.ensures.value at c.in-Err.ensures.absent))))
+returns-in-Err c =
+    rw (← c.self.view_is) (sym (ap or_zero (found_gap _ _ _ (rw c.as_slice.ensures.value at c.in-Err.ensures.absent))))

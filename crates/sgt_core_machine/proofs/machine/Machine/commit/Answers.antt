@@ -7,10 +7,13 @@ use Rattle.sgt_core_machine.proofs.WholeGoing.{AreWhole, commit_refused, committ
 use Rattle.sgt_core_machine.proofs.machine.Machine.commit.Goals as goal
 
 pub decide_whole-requires-clause-whole : goal.decide_whole-requires-clause-whole
-decide_whole-requires-clause-whole c = subst (λ (xs : List ℕ). AreWhole (parts_of c.args.self.now) c.args.tx xs) (sym c.as_slice.ensures.value) c.in-Ok.ensures.ok
+decide_whole-requires-clause-whole c = subst (λ (xs : List ℕ). AreWhole (parts_of c.args.self.now) c.args.tx xs)
+    (sym c.as_slice.ensures.value) c.in-Ok.ensures.ok
 
 pub returns-in-Err : goal.returns-in-Err
-returns-in-Err c = commit_refused (parts_of c.args.self.now) c.args.tx c.in-Err.fault c.refused.result c.refused.ensures c.in-Err.ensures.err
+returns-in-Err c =
+    commit_refused (parts_of c.args.self.now) c.args.tx c.in-Err.fault c.refused.result c.refused.ensures
+    c.in-Err.ensures.err
 
 pub returns-in-Fault : goal.returns-in-Fault
 returns-in-Fault c =
@@ -18,7 +21,8 @@ returns-in-Fault c =
     let last = parts_of c.decide_whole.new.self in
     let sites = c.as_slice.result.now in
     committing_stops first last c.args.tx sites c.in-Fault.fault c.refused-in-Fault.result c.refused-in-Fault.ensures
-    (subst (λ (r : Reply). GoesOn (λ x y. DecidesWhole x c.args.tx sites r y) first last) c.in-Fault.is c.decide_whole.ensures)
+    (subst (λ (r : Reply). GoesOn (λ x y. DecidesWhole x c.args.tx sites r y) first last) c.in-Fault.is
+        c.decide_whole.ensures)
 
 pub returns-in_default : goal.returns-in_default
 returns-in_default c =
@@ -27,6 +31,10 @@ returns-in_default c =
     let last = parts_of c.install_all.new.self in
     let tx = c.args.tx in
     let verdict = c.decide_whole.result in
-    committing first mid last tx c.whole_sites.new.sites.items c.in-Ok.ensures.ok verdict (λ f e. c.in_default.not-Fault f e)
-    (subst (λ (xs : List ℕ). GoesOn (λ x y. DecidesWhole x tx xs verdict y) first mid) c.as_slice.ensures.value c.decide_whole.ensures)
-    (subst (λ (xs : List ℕ). (x : CoreState) → StandsFor mid x → AwaitsBlocks x tx xs → (y : CoreState) × InstallsAll x tx xs y × StandsFor last y) c.as_slice-in_default.ensures.value c.install_all.ensures)
+    committing first mid last tx c.whole_sites.new.sites.items c.in-Ok.ensures.ok verdict
+        (λ f e. c.in_default.not-Fault f e)
+    (subst (λ (xs : List ℕ). GoesOn (λ x y. DecidesWhole x tx xs verdict y) first mid) c.as_slice.ensures.value
+        c.decide_whole.ensures)
+    (subst (λ (xs : List ℕ). (x : CoreState) → StandsFor mid x → AwaitsBlocks x tx xs
+        → (y : CoreState) × InstallsAll x tx xs y × StandsFor last y) c.as_slice-in_default.ensures.value
+        c.install_all.ensures)

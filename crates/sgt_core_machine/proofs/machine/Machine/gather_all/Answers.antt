@@ -20,7 +20,9 @@ loop-site-preserved c =
     let at = slice_get_read sites (length sites) i c.site-item.result refl c.loop-site-test.true c.site-item.is in
     record {
       stands = goes_stands _ _ _ c.loop-site.invariant.stands c.gather.ensures;
-      gathered = gathering_on (parts_of c.args.self.now) (parts_of c.loop-site.self) (parts_of c.gather.new.self) c.args.tx sites c.requires.whole i c.site-item.result at c.gather.result c.loop-site.invariant.gathered c.gather.ensures c.in-Gathered.is;
+      gathered = gathering_on (parts_of c.args.self.now) (parts_of c.loop-site.self) (parts_of c.gather.new.self)
+          c.args.tx sites c.requires.whole i c.site-item.result at c.gather.result c.loop-site.invariant.gathered
+          c.gather.ensures c.in-Gathered.is;
     }
 
 pub returns-in_default-clause-err : goal.returns-in_default-clause-err
@@ -28,8 +30,11 @@ returns-in_default-clause-err c =
     let sites = c.args.sites.now in
     let i = c.loop-site.site-index in
     let at = slice_get_read sites (length sites) i c.site-item.result refl c.loop-site-test.true c.site-item.is in
-    gathering_stops (parts_of c.args.self.now) (parts_of c.loop-site.self) (parts_of c.gather.new.self) c.args.tx sites c.requires.whole i c.site-item.result at c.gather.result c.loop-site.invariant.gathered c.gather.ensures c.in_default.not-Gathered
+    gathering_stops (parts_of c.args.self.now) (parts_of c.loop-site.self) (parts_of c.gather.new.self) c.args.tx
+        sites c.requires.whole i c.site-item.result at c.gather.result c.loop-site.invariant.gathered c.gather.ensures
+        c.in_default.not-Gathered
 
 pub returns-clause-ok : goal.returns-clause-ok
 returns-clause-ok c =
-    subst (λ xs. GoesOn (λ d e. GathersAll d c.args.tx xs e) (parts_of c.args.self.now) (parts_of c.loop-site.self)) (take_all c.loop-site.site-index c.args.sites.now c.loop-site-test.false) c.loop-site.invariant.gathered
+    subst (λ xs. GoesOn (λ d e. GathersAll d c.args.tx xs e) (parts_of c.args.self.now) (parts_of c.loop-site.self))
+        (take_all c.loop-site.site-index c.args.sites.now c.loop-site-test.false) c.loop-site.invariant.gathered

@@ -13,13 +13,15 @@ use Rattle.sgt_core_machine.proofs.WholeCommits.{whole_refused}
 use Rattle.sgt_core_machine.proofs.machine.Machine.whole_sites.Goals as goal
 
 pub returns-in-Err-clause-err : goal.returns-in-Err-clause-err
-returns-in-Err-clause-err c = λ d s. whole_refused d c.args.tx c.in-Err.fault (c.in-Err.ensures.err d s (Commit c.args.tx) refl)
+returns-in-Err-clause-err c =
+    λ d s. whole_refused d c.args.tx c.in-Err.fault (c.in-Err.ensures.err d s (Commit c.args.tx) refl)
 
 pub returns-then-is_some-clause-err : goal.returns-then-is_some-clause-err
 returns-then-is_some-clause-err c = λ d s.
     let m = parts_of c.args.self.now in
     let slot = c.in-Ok.ensures.ok in
-    step_refused d c.args.tx (slot_begun m d c.args.tx _ s slot) (slot_active m d c.args.tx _ s slot) (Commit c.args.tx) refl
+    step_refused d c.args.tx (slot_begun m d c.args.tx _ s slot) (slot_active m d c.args.tx _ s slot)
+        (Commit c.args.tx) refl
     (some_open m d m.step (sym c.is_some.ensures ∙ c.if-is_some.true) s.step)
 
 pub touched_sites-requires-clause-slot : goal.touched_sites-requires-clause-slot
@@ -39,8 +41,11 @@ returns-in-Ok-touched_sites-clause-ok c = λ d s.
     let slot = c.in-Ok.ensures.ok in
     let runs = ap (λ t. slice_get t c.in-Ok.slot) c.as_slice.ensures.value ∙ slot.1.1 in
     let none = none_of m.step (sym c.is_some.ensures ∙ c.if-is_some.false) in
-    let long : c.len.result ≡ length c.args.self.now.places.items = omega (arith, c.len.ensures, c.args.self.now.places.ok.0) in
-    whole_sites m d s c.args.tx _ slot none c.touched_sites.new.sites.items (subst (λ n. AreTouched slot.1.0.draft.touched n c.touched_sites.new.sites.items) long (c.in-Ok-touched_sites.ensures _ runs))
+    let long : c.len.result ≡ length c.args.self.now.places.items =
+        omega (arith, c.len.ensures, c.args.self.now.places.ok.0) in
+    whole_sites m d s c.args.tx _ slot none c.touched_sites.new.sites.items
+        (subst (λ n. AreTouched slot.1.0.draft.touched n c.touched_sites.new.sites.items) long
+        (c.in-Ok-touched_sites.ensures _ runs))
 
 pub returns-in-Err-touched_sites-clause-err : goal.returns-in-Err-touched_sites-clause-err
 returns-in-Err-touched_sites-clause-err c = λ d s.

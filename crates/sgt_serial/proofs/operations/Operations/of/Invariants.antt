@@ -6,4 +6,5 @@ use Rattle.sgt_serial.proofs.operations.Operations.of.Given as goal
 
 -- what was gathered, and what is still to come
 abbrev pub invariant-loop-place : goal.invariant-loop-place
-invariant-loop-place l = l.own.items ++ entries_in l.logs l.self l.place l.place-end ≡ filter (is_by l.fn.tx) (all_entries l.logs)
+invariant-loop-place l = l.own.items ++ entries_in l.logs l.self l.place l.place-end ≡ filter (is_by l.fn.tx)
+    (all_entries l.logs)

@@ -5,4 +5,5 @@ use Rattle.sgt_serial.specs.private.Operations.{entry_at}
 use Rattle.sgt_serial.proofs.sorted.Sorted.new.Given as goal
 
 abbrev pub invariant-loop-number : goal.invariant-loop-number
-invariant-loop-number l = l.entries.items ≡ flat_map (λ s. map (entry_at s) (entries_of l.sites s)) (range_with_len 0 l.number)
+invariant-loop-number l = l.entries.items ≡ flat_map (λ s. map (entry_at s) (entries_of l.sites s))
+    (range_with_len 0 l.number)

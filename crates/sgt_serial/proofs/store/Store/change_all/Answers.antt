@@ -18,7 +18,8 @@ returns-then-not-change-clause-known c =
       place = c.loop-write.write-index;
       at = element_at c.args.writes.now c.loop-write.write-index w (omega arith) c.write-item.is;
       before = so_far.known;
-      without = λ known. false≢true (c.if-not-change.ensures.known ∙ ap is_some (so_far.after w.site w.item) ∙ keeps ∙ known);
+      without = λ known. false≢true (c.if-not-change.ensures.known ∙ ap is_some (so_far.after w.site w.item) ∙ keeps
+          ∙ known);
     }
 
 pub loop-write-preserved : goal.loop-write-preserved
@@ -30,10 +31,12 @@ loop-write-preserved c =
     let writes = c.args.writes.now in
     let at = element_at writes i w (omega arith) c.write-item.is in
     let keeps = with_all-keeps (take i writes) first so_far.known w.site w.item in
-    let known : Knows first w = sym keeps ∙ ap is_some (sym (so_far.after w.site w.item)) ∙ sym c.if-not-change.ensures.known in
+    let known : Knows first w = sym keeps ∙ ap is_some (sym (so_far.after w.site w.item))
+        ∙ sym c.if-not-change.ensures.known in
     record {
       known = All-next (Knows first) writes i w at known so_far.known;
       after = λ s x.
           c.if-not-change.ensures.after s x ∙ ap (λ o. cond (is_of s x w) (value_with o w.change) o) (so_far.after s x)
-          ∙ sym (with_all-next (take i writes) w first s x) ∙ ap (λ ws. with_all ws first s x) (sym (take_next writes i w at));
+          ∙ sym (with_all-next (take i writes) w first s x)
+              ∙ ap (λ ws. with_all ws first s x) (sym (take_next writes i w at));
     }

@@ -23,4 +23,5 @@ returns-then-ne c =
     }
 
 pub returns : goal.returns
-returns c = All-whole (Has (store_of c.args.self.now)) c.args.values.now c.loop-value.value-index (omega arith) c.loop-value.invariant
+returns c = All-whole (Has (store_of c.args.self.now)) c.args.values.now c.loop-value.value-index
+    (omega arith) c.loop-value.invariant

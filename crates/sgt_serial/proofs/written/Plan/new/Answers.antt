@@ -8,7 +8,8 @@ pub returns : goal.returns
 returns c = record {
   sites = c.in_ok-order.ensures.sites;
   order = c.in_ok-order.ensures.order;
-  operations = subst (λ (logs : List SiteLog). AreOperationsOf logs c.in_ok-operations.operations) (c.as_slice.ensures.value ∙ c.in_ok-order.ensures.sites) c.in_ok-operations.ensures;
+  operations = subst (λ (logs : List SiteLog). AreOperationsOf logs c.in_ok-operations.operations)
+      (c.as_slice.ensures.value ∙ c.in_ok-order.ensures.sites) c.in_ok-operations.ensures;
   finals = c.in_ok-finals.ensures ∙ ap finals_of (c.as_slice-2.ensures.value ∙ c.in_ok-order.ensures.sites);
   empty = c.in_ok-out.ensures.items;
   room = omega (arith, c.in_ok-out.ensures.exact);
