@@ -9,8 +9,6 @@ mod laws;
 mod naming;
 mod options;
 mod ranks;
-#[cfg(test)]
-mod tests;
 mod yes;
 
 pub use answer::{Answer, cyclic_text, faulty_text, serial_text, unread_text};

@@ -7,8 +7,6 @@ mod engine;
 mod link;
 mod links;
 mod setting;
-#[cfg(test)]
-mod tests;
 mod text;
 
 pub use engine::check_kept;

@@ -7,8 +7,6 @@ mod laws;
 mod order;
 mod roll;
 mod run;
-#[cfg(test)]
-mod tests;
 mod texts;
 
 pub use engine::check_against;

@@ -4,8 +4,6 @@
 mod evidence;
 mod laws;
 mod lines;
-#[cfg(test)]
-mod tests;
 mod values;
 mod writers;
 

@@ -9,8 +9,6 @@ mod nearest;
 mod rows;
 mod shown;
 mod sorting;
-#[cfg(test)]
-mod tests;
 mod walking;
 
 pub use edge::Edge;

@@ -11,8 +11,6 @@ mod plain;
 mod quick;
 mod round;
 mod search;
-#[cfg(test)]
-mod tests;
 
 pub use asked::Asked;
 pub use checking::goes_forward;

@@ -4,8 +4,6 @@
 mod cycle;
 mod picture;
 mod places;
-#[cfg(test)]
-mod tests;
 mod told;
 mod word;
 

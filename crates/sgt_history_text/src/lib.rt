@@ -12,8 +12,6 @@ mod operations;
 mod reading;
 mod shallow;
 mod table;
-#[cfg(test)]
-mod tests;
 mod values;
 mod wanted;
 mod whole;

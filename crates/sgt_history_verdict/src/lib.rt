@@ -10,8 +10,6 @@ mod laws;
 mod quick;
 mod step;
 mod steps;
-#[cfg(test)]
-mod tests;
 
 pub use along::line_behind;
 pub use anomaly::{Anomaly, anomaly_of};

@@ -8,8 +8,6 @@ mod one_line;
 mod strings;
 mod tail;
 mod telling;
-#[cfg(test)]
-mod tests;
 mod transaction;
 mod walk;
 

@@ -1,9 +1,6 @@
 //! What small histories are decided to be.
 
-use crate::anomaly::{Anomaly, anomaly_of};
-use crate::deciding::{Decided, Verdict, decide};
-use crate::step::Step;
-use crate::steps::steps_of;
+use sgt_history_verdict::{Anomaly, Decided, Step, Verdict, anomaly_of, decide, steps_of};
 use sgt_history::{Conflict, Flaw, History, Kind, Operation};
 use sgt_history_faults::Fault;
 use std::alloc::{AllocError, Global};

@@ -3,9 +3,7 @@
 ghost use Rattle.std.specs.Prelude.{All, IfOk};
 ghost use Rattle.sgt_history_graph.specs.Graph.{JoinsNodes};
 
-use crate::edge::Edge;
-use crate::shown::shown_cycle;
-use crate::sorting::{Ordered, order};
+use sgt_history_graph::{Edge, Ordered, order, shown_cycle};
 use std::alloc::{AllocError, Global};
 use std::test::Fail;
 

@@ -1,6 +1,6 @@
 use Rattle.std.proofs.Common.{All}
 use Rattle.sgt_history_graph.specs.Graph.{JoinsNodes}
-use Rattle.sgt_history_kept.proofs.tests.edges_of.Given as goal
+use Rattle.sgt_check_tests.proofs.kept.edges_of.Given as goal
 
 abbrev pub invariant-loop-pair : goal.invariant-loop-pair
 invariant-loop-pair l = All (JoinsNodes l.fn.lines) l.edges.items

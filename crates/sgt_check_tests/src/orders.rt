@@ -1,6 +1,6 @@
 //! Small histories, orders and their answers.
 
-use crate::engine::check_against;
+use sgt_check_order::check_against;
 use sgt_names::{EngineFail, MemSink, MemSource, Outcome};
 use std::alloc::{AllocError, Global};
 use std::test::Fail;

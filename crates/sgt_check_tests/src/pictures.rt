@@ -1,6 +1,6 @@
 //! The pictures of small answers.
 
-use crate::picture_of;
+use sgt_history_picture::picture_of;
 use std::test::Fail;
 
 #[test]

@@ -1,7 +1,6 @@
 //! Small histories and their answers.
 
-use crate::engine::check;
-use crate::options::Options;
+use sgt_check::{Options, check};
 use sgt_names::{EngineFail, MemSink, MemSource, Outcome};
 use std::alloc::{AllocError, Global};
 use std::test::Fail;

@@ -1,7 +1,6 @@
 //! What stands behind the fault of a small history.
 
-use crate::evidence::{Evidence, evidence_of};
-use crate::lines::{operation_at, transaction_of};
+use sgt_history_evidence::{Evidence, evidence_of, operation_at, transaction_of};
 use sgt_history::{Flaw, History, Kind, Operation};
 use sgt_history_faults::{Fault, Judged, judge};
 use std::alloc::{AllocError, Global};

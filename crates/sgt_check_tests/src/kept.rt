@@ -3,11 +3,7 @@
 ghost use Rattle.std.specs.Prelude.{All, IfOk};
 ghost use Rattle.sgt_history_graph.specs.Graph.{JoinsNodes};
 
-use crate::asked::Asked;
-use crate::checking::goes_forward;
-use crate::deciding::{Kept, decide_kept};
-use crate::passed::{Reason, first_unkept};
-use crate::round::is_round;
+use sgt_history_kept::{Asked, Kept, Reason, decide_kept, first_unkept, goes_forward, is_round};
 use sgt_history_graph::Edge;
 use sgt_history_time::Times;
 use std::alloc::{AllocError, Global};

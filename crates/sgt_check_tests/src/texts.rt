@@ -1,6 +1,6 @@
 //! What no clause says: that texts are read where memory can be had.
 
-use crate::{HistoryText, LineFault, MAX_HISTORY_LINE, Names, Reading, Wanted, read_history};
+use sgt_history_text::{HistoryText, LineFault, MAX_HISTORY_LINE, Names, Reading, Wanted, read_history};
 use sgt_history::{Kind, Operation};
 use sgt_names::MemSource;
 use std::alloc::Global;

@@ -1,6 +1,6 @@
 //! What each mistake is told as.
 
-use crate::{Asked, Tail, Unread, answered, unreadable};
+use sgt_history_words::{Asked, Tail, Unread, answered, unreadable};
 use std::alloc::Global;
 use std::test::Fail;
 

@@ -1,6 +1,6 @@
 //! Small histories and their answers.
 
-use crate::engine::check_kept;
+use sgt_check_kept::check_kept;
 use sgt_check::Options;
 use sgt_history_text::Wanted;
 use sgt_names::{EngineFail, MemSink, MemSource, Outcome};
