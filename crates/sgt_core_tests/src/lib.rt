@@ -1,4 +1,4 @@
-//! Tests of the core and of its replay.
+//! Tests of the core, of its replay, and of the service over a pipe.
 #![tactic(auto)]
 
 #[cfg(test)]
@@ -11,3 +11,5 @@ mod growths;
 mod inputs;
 #[cfg(test)]
 mod rows;
+#[cfg(test)]
+mod talks;

@@ -10,8 +10,6 @@ mod opening;
 mod places;
 mod stop;
 mod talking;
-#[cfg(test)]
-mod tests;
 mod turning;
 mod writing;
 

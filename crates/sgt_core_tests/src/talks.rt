@@ -1,9 +1,9 @@
 //! A talk in memory.
 
-use crate::{
+use sgt_names::{MemSink, MemSource, Outcome};
+use sgt_serve::{
     Bundles, Handed, HandedBundle, KeepFault, Last, MemBundles, NoBundles, Pipe, ServeFail, serve,
 };
-use sgt_names::{MemSink, MemSource, Outcome};
 use std::test::Fail;
 
 // Replies, a cut that is refused, two that are made, a line that asks nothing, and a last line without its LF.
