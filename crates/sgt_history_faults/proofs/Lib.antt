@@ -10,3 +10,4 @@ pub mod GivenNext
 pub mod GivenWhole
 pub mod Decided
 pub mod Ready
+mod Shuffled

@@ -48,12 +48,12 @@ fn earlier(one: Option<Fault>, other: Option<Fault>) -> Option<Fault>
 }
 
 /// What a history is judged to be, by its touches and the first fault that isn't found by them.
-fn judged_by(touches: Vec<Touch>, before: Option<Fault>) -> Judged
+fn judged_by(alloc: Global, touches: Vec<Touch>, before: Option<Fault>) -> Judged
     requires { (h : List (Transaction ℕ ℕ)) × IsReadyFor h touches.items before }
     ensures { (h : List (Transaction ℕ ℕ)) → IsReadyFor h touches.items before → IsJudged h result }
 {
     let mut touches = touches;
-    sort_touches(&mut touches);
+    sort_touches(alloc, &mut touches);
     match judge_touches(touches.as_slice(), before) {
         Some(fault) => Judged::Faulty(fault),
         None => Judged::Faultless(touches),
@@ -67,5 +67,5 @@ pub fn judge(alloc: Global, history: &History) -> Result<Judged, AllocError>
     let values = first_of_values(alloc, history)?;
     let collected = collect(alloc, history)?;
     let first = earlier(collected.first, values);
-    Ok(judged_by(collected.touches, first))
+    Ok(judged_by(alloc, collected.touches, first))
 }

@@ -7,6 +7,7 @@ mod first;
 mod giving;
 mod judging;
 mod mine;
+mod rows;
 mod scanning;
 mod sorting;
 mod touch;
