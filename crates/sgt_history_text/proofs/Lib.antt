@@ -17,3 +17,5 @@ mod Solid
 mod Telling
 mod Objects
 pub mod Keys
+mod PlainTexts
+mod PlainLines

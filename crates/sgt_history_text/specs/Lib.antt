@@ -9,3 +9,4 @@ pub mod Table
 pub mod Built
 pub mod Reading
 pub mod Ids
+pub mod Plain

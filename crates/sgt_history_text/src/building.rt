@@ -1,6 +1,6 @@
 //! A history that grows by transactions, its items and values numbered.
 
-ghost use Rattle.std.specs.Prelude.{◌≡◌, ◌++◌, ◌∷◌, [], List, All, IfOk, OnOk, map};
+ghost use Rattle.std.specs.Prelude.{◌≡◌, ◌++◌, ◌∷◌, [], List, All, IfOk, OnOk, Option, map};
 ghost use Rattle.std.specs.Bool.{MatchBool};
 ghost use Rattle.json.specs.Json.{Json};
 ghost use Rattle.json.specs.Tree.{HasNumbers};
@@ -9,12 +9,14 @@ ghost use Rattle.sgt_history.specs.Transaction.{Transaction, WritesPositive};
 ghost use Rattle.sgt_history.specs.declared.history.Operation.{Operation};
 ghost use Rattle.sgt_history_text.specs.Built.{AreKept, IsAdded, IsBuilt, IsNumbered, IsNumberedOperation, IsNumberedValue};
 ghost use Rattle.sgt_history_text.specs.Line.{IsOperation};
-ghost use Rattle.sgt_history_text.specs.Name.{IsId, IsValue};
+ghost use Rattle.sgt_history_text.specs.Name.{IsId, IsValue, compact};
+ghost use Rattle.sgt_history_text.specs.Plain.{IsPlain, MeanEach, Means, MeansLine, MeansValue};
 ghost use Rattle.sgt_history_text.specs.Parsed.{seen, seen_operation, seen_transaction};
 ghost use Rattle.sgt_history.specs.Transaction.{renamed_value};
 ghost use Rattle.std.specs.Prelude.{IfSome};
 
 use crate::line::Lent;
+use crate::plain::Plain;
 use crate::table::{Interned, Table};
 use json::{Value, to_vec};
 use sgt_history::{History, Operation};
@@ -39,6 +41,17 @@ pub(crate) fn no_lines(alloc: Global) -> Result<Builder, AllocError>
         items: Table::new(alloc)?,
         values: Table::new(alloc)?,
     })
+}
+
+/// The number of the value that the text is the compact one of.
+fn number_of_text(alloc: Global, names: &mut Table, text: &[u8]) -> Result<u32, AllocError>
+    ensures { (js : List Json) (j : Json) → AreKept names.old js → HasNumbers j → text.now ≡ compact j
+        → IfOk result (λ n. IsNumbered js j names.new n) }
+{
+    match names.intern(alloc, text)? {
+        Interned::Old(number) => Ok(number),
+        Interned::New(number) => Ok(number),
+    }
 }
 
 /// The number of a value.
@@ -138,6 +151,92 @@ pub(crate) fn add(
         Interned::Old(_) => Ok(false),
         Interned::New(_) => {
             builder.history.close(lent.commits)?;
+            Ok(true)
+        }
+    }
+}
+
+/// The number of the value that is given, if one is, by its text.
+fn number_of_given(
+    alloc: Global,
+    names: &mut Table,
+    given: Option<&[u8]>,
+) -> Result<Option<u32>, AllocError>
+    ensures { (js : List Json) (v : Option Json) → AreKept names.old js → IfSome v HasNumbers → MeansValue given.entry v
+        → IfOk result (λ n. IsNumberedValue js v names.new n) }
+{
+    match given {
+        Some(text) => Ok(Some(number_of_text(alloc, names, text)?)),
+        None => Ok(None),
+    }
+}
+
+/// The operation, with numbers, by the texts of its item and value.
+fn numbered_plain(
+    alloc: Global,
+    items: &mut Table,
+    values: &mut Table,
+    plain: &Operation<&[u8], &[u8]>,
+) -> Result<Operation<u32, u32>, AllocError>
+    requires { IsPlain plain.now }
+    ensures positive { IfOk result WritesPositive }
+    ensures numbered { (js vs : List Json) (p : Operation Json Json) → Means plain.now p → AreKept items.old js → AreKept values.old vs
+        → IfOk result (λ o. IsNumberedOperation js vs p items.new values.new o) }
+{
+    Ok(Operation {
+        version: plain.version,
+        item: number_of_text(alloc, items, plain.item)?,
+        kind: plain.kind,
+        value: number_of_given(alloc, values, plain.value)?,
+    })
+}
+
+/// One operation more of the line that is being read, by texts.
+fn push_plain(
+    alloc: Global,
+    builder: &mut Builder,
+    plain: &Operation<&[u8], &[u8]>,
+) -> Result<(), AllocError>
+    requires { IsPlain plain.now }
+    ensures { (ids : List Json) (h : List (Transaction Json Json)) (begun : List (Operation Json Json)) (p : Operation Json Json)
+        → IsBuilt builder.old ids h begun → Means plain.now p → OnOk result (IsBuilt builder.new ids h (begun ++ p ∷ [])) }
+{
+    let operation = numbered_plain(alloc, &mut builder.items, &mut builder.values, plain)?;
+    builder.history.push(operation)?;
+    Ok(())
+}
+
+/// All operations of the line, by texts.
+fn push_all_plain(
+    alloc: Global,
+    builder: &mut Builder,
+    operations: &[Operation<&[u8], &[u8]>],
+) -> Result<(), AllocError>
+    requires { All IsPlain operations.now }
+    ensures { (ids : List Json) (h : List (Transaction Json Json)) (ps : List (Operation Json Json)) → IsBuilt builder.old ids h []
+        → MeanEach operations.now ps → OnOk result (IsBuilt builder.new ids h ps) }
+{
+    for operation in operations {
+        push_plain(alloc, builder, operation)?;
+    }
+    Ok(())
+}
+
+/// The transaction of a line in the plain layout, unless an earlier one has its id: false then.
+pub(crate) fn add_plain(
+    alloc: Global,
+    builder: &mut Builder,
+    plain: &Plain<'_>,
+) -> Result<bool, AllocError>
+    requires { (id : Json) × (t : Transaction Json Json) × MeansLine plain.now id t }
+    ensures { (ids : List Json) (h : List (Transaction Json Json)) (id : Json) (t : Transaction Json Json) → IsBuilt builder.old ids h []
+        → MeansLine plain.now id t → IfOk result (λ new. IsAdded ids h id t builder.new new) }
+{
+    push_all_plain(alloc, builder, plain.operations.as_slice())?;
+    match builder.ids.intern(alloc, plain.id)? {
+        Interned::Old(_) => Ok(false),
+        Interned::New(_) => {
+            builder.history.close(plain.commits)?;
             Ok(true)
         }
     }

@@ -9,6 +9,7 @@ mod moment;
 mod moments;
 mod names;
 mod operations;
+mod plain;
 mod reading;
 mod shallow;
 mod table;

@@ -1,6 +1,6 @@
 //! The history that all lines of a reader spell.
 
-ghost use Rattle.std.specs.Prelude.{◌≡◌, ◌≢◌, ◌+◌, [], length, ℕ, List, Option, Err, IfOk, IfSome, IsErrOf};
+ghost use Rattle.std.specs.Prelude.{◌≡◌, ◌≢◌, ◌+◌, [], length, ℕ, List, Option, Err, IfOk, IfSome, IsErrOf, MatchOption};
 ghost use Rattle.json.specs.Json.{Json};
 ghost use Rattle.sgt_history.specs.Transaction.{Transaction};
 ghost use Rattle.sgt_names.specs.Limits.{most_reads};
@@ -10,12 +10,13 @@ ghost use Rattle.sgt_history_text.specs.Reading.{IsReading, IsStop, IsToldOf, st
 ghost use Rattle.sgt_history_text.specs.Text.{Spells};
 ghost use Rattle.sgt_history_text.specs.declared.wanted.Wanted.{Wanted};
 
-use crate::building::{Builder, add, no_lines};
+use crate::building::{Builder, add, add_plain, no_lines};
 use crate::fault::{LineFault, MAX_HISTORY_LINE};
 use crate::line::{parsed, transaction};
 use crate::moment::moment;
 use crate::moments::{Moments, add_moment, no_moments};
 use crate::names::Names;
+use crate::plain::plain_line;
 use crate::wanted::Wanted;
 use json::Scratch;
 use sgt_history::History;
@@ -52,8 +53,36 @@ pub enum HistoryText {
     Unreadable { line: u64, fault: LineFault },
 }
 
-/// One line more, given without its LF, or why it can't be read. Err: memory ran out.
-fn take_line(
+/// One line more, given without its LF, where it is in the plain layout and nothing is wanted of it besides, or why it can't be read. None
+/// says nothing of the line, and nothing was added then.
+fn take_plain(
+    alloc: Global,
+    builder: &mut Builder,
+    moments: &Moments,
+    line: &[u8],
+) -> Result<Option<Option<LineFault>>, AllocError>
+    ensures { (w : Wanted) (lines : List (List ℕ)) (ids : List Json) (h : List (Transaction Json Json)) → IsBuilt builder.old ids h []
+        → AreMoments w moments.now lines h → IfOk result (λ found. MatchOption found (IsBuilt builder.new ids h [])
+        (IsTaken w lines ids h line.now builder.new moments.now)) }
+{
+    if moments.wanted.real_time {
+        return Ok(None);
+    }
+    if moments.wanted.sessions {
+        return Ok(None);
+    }
+    let Some(plain) = plain_line(alloc, line)? else {
+        return Ok(None);
+    };
+    if add_plain(alloc, builder, &plain)? {
+        Ok(Some(None))
+    } else {
+        Ok(Some(Some(LineFault::IdAgain)))
+    }
+}
+
+/// One line more, given without its LF, by its tokens, or why it can't be read. Err: memory ran out.
+fn take_tokens(
     alloc: Global,
     builder: &mut Builder,
     moments: &mut Moments,
@@ -78,6 +107,23 @@ fn take_line(
     } else {
         Ok(Some(LineFault::IdAgain))
     }
+}
+
+/// One line more, given without its LF, or why it can't be read. Err: memory ran out.
+fn take_line(
+    alloc: Global,
+    builder: &mut Builder,
+    moments: &mut Moments,
+    scratch: &mut Scratch,
+    line: &[u8],
+) -> Result<Option<LineFault>, AllocError>
+    ensures { (w : Wanted) (lines : List (List ℕ)) (ids : List Json) (h : List (Transaction Json Json)) → IsBuilt builder.old ids h []
+        → AreMoments w moments.old lines h → IfOk result (IsTaken w lines ids h line.now builder.new moments.new) }
+{
+    if let Some(taken) = take_plain(alloc, builder, moments, line)? {
+        return Ok(taken);
+    }
+    take_tokens(alloc, builder, moments, scratch, line)
 }
 
 /// Where the reading of lines stops.

@@ -8,7 +8,7 @@ use Rattle.sgt_history_text.specs.Shallow.{read_members}
 use Rattle.sgt_history_text.proofs.Solid.{transaction_back, transaction_on}
 use Rattle.sgt_history_text.proofs.Spelled.{line_back, line_from}
 use Rattle.sgt_history_text.proofs.Telling.{entry_session, entry_times, lacks, line_with, same_commits, session_numbers}
-use Rattle.sgt_history_text.proofs.reading.take_line.Goals as goal
+use Rattle.sgt_history_text.proofs.reading.take_tokens.Goals as goal
 
 pub returns-in_default : goal.returns-in_default
 returns-in_default c = λ w lines ids h built moments id t is.

@@ -1,0 +1,299 @@
+//! Lines in the plain layout: `{"tx":ID,"end":END,"ops":[OPERATION,..]}`, with no space, no escape and no other member. They are read at once,
+//! with no tokens and no copies. That a line isn't found to be one says nothing of it: who asks has another way.
+
+ghost use Rattle.std.specs.Prelude.{ℕ, ◌≡◌, ◌≢◌, ◌≤◌, ◌<◌, ◌-◌, ◌++◌, ◌∷◌, [], List, All, IfOk, IfSome, MatchOption, codes, decimal, drop, get_or, length, take, IsTrue, ◌^◌};
+ghost use Rattle.json.specs.Json.{Json, string};
+ghost use Rattle.sgt_history.specs.Transaction.{Transaction};
+ghost use Rattle.sgt_history_text.specs.Line.{IsLine};
+ghost use Rattle.sgt_history_text.specs.Name.{IsKey, IsValue, compact};
+ghost use Rattle.sgt_history_text.specs.Plain.{IsBare, IsCompactOf, IsPlain, MeansLine, end_text, kind_text, operation_text, operation_texts, tx_text, value_text};
+ghost use Rattle.sgt_notation.specs.Private.{Spans};
+
+use crate::fault::{MOST_ID_BYTES, MOST_ITEM_BYTES};
+use crate::values::may_have;
+use crate::whole::is_within;
+use core::dec2flt::read_digits;
+use sgt_history::{Kind, Operation};
+use std::alloc::{AllocError, Global};
+
+/// So many operations have room without a growth.
+const ROOM: usize = 8;
+
+/// A transaction whose id, items and values are lent as they stand in the line: as JSON writes them compact.
+#[derive(Drop)]
+pub(crate) struct Plain<'a> {
+    pub id: &'a [u8],
+    pub commits: bool,
+    pub operations: Vec<Operation<&'a [u8], &'a [u8]>>,
+}
+
+/// The place behind this byte.
+#[inline(always)]
+fn byte_at(bytes: &[u8], from: usize, byte: u8) -> Option<usize>
+    ensures { IfSome result (Spans bytes.now from (byte ∷ [])) }
+{
+    if *bytes.get(from)? == byte {
+        Some(from + 1)
+    } else {
+        None
+    }
+}
+
+/// What stands from this place on.
+#[inline(always)]
+fn from_place(bytes: &[u8], from: usize) -> Option<&[u8]>
+    ensures { IfSome result (λ rest. (from ≤ length bytes.now) × (rest.now ≡ drop from bytes.now)) }
+{
+    let (_, rest) = bytes.split_at_checked(from)?;
+    Some(rest)
+}
+
+/// What stands behind the word.
+#[inline(always)]
+fn behind<'a>(bytes: &'a [u8], word: &[u8]) -> Option<&'a [u8]>
+    ensures { MatchOption result ((rest : List ℕ) → bytes.entry.now ≢ word.now ++ rest)
+        (λ r. bytes.entry.now ≡ word.now ++ r.now) }
+{
+    bytes.strip_prefix(word)
+}
+
+/// The place behind this word.
+#[inline(always)]
+fn word_at(bytes: &[u8], from: usize, word: &[u8]) -> Option<usize>
+    ensures { IfSome result (Spans bytes.now from word.now) }
+{
+    let rest = from_place(bytes, from)?;
+    let _last = behind(rest, word)?;
+    Some(from + word.len())
+}
+
+/// What stands between these places.
+#[inline(always)]
+fn between(bytes: &[u8], from: usize, to: usize) -> Option<&[u8]>
+    ensures { IfSome result (λ text. text.now ≡ take (to - from) (drop from bytes.now)) }
+{
+    if from <= to && to <= bytes.len() {
+        Some(&bytes[from..to])
+    } else {
+        None
+    }
+}
+
+/// Whether a string may have the byte as it is.
+#[inline(always)]
+fn is_bare(byte: u8) -> bool
+    ensures { IsTrue result → IsBare byte }
+{
+    byte >= b' ' && byte != b'"' && byte != b'\\'
+}
+
+/// The place, from here on, of the first byte that a string may not have as it is.
+#[inline(always)]
+fn bare_end(bytes: &[u8], from: usize) -> usize
+    requires { from ≤ length bytes.now }
+    ensures behind { from ≤ result }
+    ensures within { result ≤ length bytes.now }
+    ensures bare { (k : ℕ) → from ≤ k → k < result → IsBare (get_or bytes.now k 0) }
+{
+    let mut at = from;
+    while at < bytes.len() && is_bare(bytes[at]) {
+        at += 1;
+    }
+    at
+}
+
+/// A string with no escape: how many bytes it has, and the place behind it.
+#[inline(always)]
+fn string_at(bytes: &[u8], from: usize) -> Option<(usize, usize)>
+    ensures { IfSome result (λ r. (s : List ℕ) × (length s ≡ r.0) × Spans bytes.now from (compact (string s)) r.1) }
+{
+    let open = byte_at(bytes, from, b'"')?;
+    let end = bare_end(bytes, open);
+    let to = byte_at(bytes, end, b'"')?;
+    Some((end - open, to))
+}
+
+/// A whole number of up to 19 digits, and how many it has.
+#[inline(always)]
+fn front_number(bytes: &[u8]) -> Option<(u64, usize)>
+    ensures { IfSome result (λ r. (r.0 < 2 ^ 64) × Spans bytes.now 0 (decimal r.0) r.1) }
+{
+    let (n, value) = read_digits(bytes, 0, 0);
+    if n == 0 || n > 19 || (n > 1 && bytes[0] == b'0') {
+        return None;
+    }
+    Some((value, n))
+}
+
+/// A whole number of up to 19 digits, and the place behind it.
+#[inline(always)]
+fn number_at(bytes: &[u8], from: usize) -> Option<(u64, usize)>
+    ensures { IfSome result (λ r. (r.0 < 2 ^ 64) × Spans bytes.now from (decimal r.0) r.1) }
+{
+    let (value, n) = front_number(from_place(bytes, from)?)?;
+    Some((value, from + n))
+}
+
+/// A string of so many bytes, or a whole number, and the place behind it.
+#[inline(always)]
+fn key_at(bytes: &[u8], from: usize, least: usize, most: usize) -> Option<(&[u8], usize)>
+    ensures { IfSome result (λ r. IsCompactOf (IsKey least most) r.0.now × Spans bytes.entry.now from r.0.now r.1) }
+{
+    if let Some((length, to)) = string_at(bytes, from) {
+        if !is_within(length as u64, least as u64, most as u64) {
+            return None;
+        }
+        return Some((between(bytes, from, to)?, to));
+    }
+    let (_, to) = number_at(bytes, from)?;
+    Some((between(bytes, from, to)?, to))
+}
+
+/// A value of an item that is a string or a whole number, and the place behind it.
+fn value_at(bytes: &[u8], from: usize) -> Option<(&[u8], usize)>
+    ensures { IfSome result (λ r. IsCompactOf IsValue r.0.now × Spans bytes.entry.now from r.0.now r.1) }
+{
+    if let Some((_, to)) = string_at(bytes, from) {
+        return Some((between(bytes, from, to)?, to));
+    }
+    let (_, to) = number_at(bytes, from)?;
+    Some((between(bytes, from, to)?, to))
+}
+
+/// A comma and a value, or nothing, and the place behind it.
+#[inline(always)]
+fn given_at(bytes: &[u8], from: usize) -> Option<(Option<&[u8]>, usize)>
+    requires { from ≤ length bytes.now }
+    ensures { IfSome result (λ r. IfSome r.0 (λ v. IsCompactOf IsValue v.now) × Spans bytes.entry.now from (value_text r.0) r.1) }
+{
+    let Some(at) = byte_at(bytes, from, b',') else {
+        return Some((None, from));
+    };
+    let (value, to) = value_at(bytes, at)?;
+    Some((Some(value), to))
+}
+
+/// The front of an operation, and the place behind it.
+#[inline(always)]
+fn kind_at(bytes: &[u8], from: usize) -> Option<(Kind, usize)>
+    ensures { IfSome result (λ r. Spans bytes.now from (kind_text r.0) r.1) }
+{
+    if let Some(to) = word_at(bytes, from, b"[\"r\",") {
+        return Some((Kind::Read, to));
+    }
+    let to = word_at(bytes, from, b"[\"w\",")?;
+    Some((Kind::Write, to))
+}
+
+/// An operation, and the place behind it.
+#[inline(always)]
+fn operation_at(bytes: &[u8], from: usize) -> Option<(Operation<&[u8], &[u8]>, usize)>
+    ensures { IfSome result (λ r. IsPlain r.0 × Spans bytes.entry.now from (operation_text r.0) r.1) }
+{
+    let (kind, at) = kind_at(bytes, from)?;
+    let (item, at) = key_at(bytes, at, 0, MOST_ITEM_BYTES)?;
+    let (version, at) = number_at(bytes, byte_at(bytes, at, b',')?)?;
+    if !may_have(kind, version) {
+        return None;
+    }
+    let (value, at) = given_at(bytes, at)?;
+    let to = byte_at(bytes, at, b']')?;
+    Some((
+        Operation {
+            version,
+            item,
+            kind,
+            value,
+        },
+        to,
+    ))
+}
+
+/// The operations of an array whose opening bracket is passed, and the place behind the closing one.
+fn operations_at<'a>(
+    alloc: Global,
+    bytes: &'a [u8],
+    from: usize,
+) -> Result<Option<(Vec<Operation<&'a [u8], &'a [u8]>>, usize)>, AllocError>
+    requires { from ≤ length bytes.now }
+    ensures { IfOk result (λ found. IfSome found
+        (λ r. All IsPlain r.0.items × Spans bytes.entry.now from (operation_texts r.0.items) r.1)) }
+{
+    let mut operations = Vec::with_capacity(alloc, ROOM)?;
+    if let Some(to) = byte_at(bytes, from, b']') {
+        return Ok(Some((operations, to)));
+    }
+    let mut at = from;
+    for _ in 0..bytes.len() {
+        let Some((operation, behind)) = operation_at(bytes, at) else {
+            return Ok(None);
+        };
+        operations.push(operation)?;
+        let Some(next) = byte_at(bytes, behind, b',') else {
+            let Some(to) = byte_at(bytes, behind, b']') else {
+                return Ok(None);
+            };
+            return Ok(Some((operations, to)));
+        };
+        at = next;
+    }
+    Ok(None)
+}
+
+/// How the transaction ends, with the word in front of its operations, and the place behind it.
+#[inline(always)]
+fn end_at(bytes: &[u8], from: usize) -> Option<(bool, usize)>
+    ensures { IfSome result (λ r. Spans bytes.now from (end_text r.0) r.1) }
+{
+    if let Some(to) = word_at(bytes, from, b",\"end\":\"commit\",\"ops\":[") {
+        return Some((true, to));
+    }
+    let to = word_at(bytes, from, b",\"end\":\"abort\",\"ops\":[")?;
+    Some((false, to))
+}
+
+/// The id and the end of the transaction, and the place where its operations begin.
+#[inline(always)]
+fn head_at(line: &[u8]) -> Option<((&[u8], bool), usize)>
+    ensures { IfSome result (λ r. IsCompactOf (IsKey 1 256) r.0.0.now × (r.1 ≤ length line.entry.now)
+        × Spans line.entry.now 0 (tx_text ++ (r.0.0.now ++ end_text r.0.1)) r.1) }
+{
+    let at = word_at(line, 0, b"{\"tx\":")?;
+    let (id, at) = key_at(line, at, 1, MOST_ID_BYTES)?;
+    let (commits, to) = end_at(line, at)?;
+    Some(((id, commits), to))
+}
+
+/// Whether a line's end is here: its closing bracket, and no byte more.
+fn is_end(line: &[u8], from: usize) -> bool
+    ensures { IsTrue result → Spans line.now from (125 ∷ []) (length line.now) }
+{
+    match byte_at(line, from, b'}') {
+        Some(to) => to == line.len(),
+        None => false,
+    }
+}
+
+/// The transaction of a line in this layout. None says nothing of the line.
+pub(crate) fn plain_line<'a>(alloc: Global, line: &'a [u8]) -> Result<Option<Plain<'a>>, AllocError>
+    ensures { IfOk result (λ found. IfSome found
+        (λ p. (id : Json) × (t : Transaction Json Json) × IsLine line.entry.now id t × MeansLine p id t)) }
+{
+    let Ok(_) = std::str::from_utf8(line) else {
+        return Ok(None);
+    };
+    let Some(((id, commits), at)) = head_at(line) else {
+        return Ok(None);
+    };
+    let Some((operations, to)) = operations_at(alloc, line, at)? else {
+        return Ok(None);
+    };
+    if !is_end(line, to) {
+        return Ok(None);
+    }
+    Ok(Some(Plain {
+        id,
+        commits,
+        operations,
+    }))
+}
