@@ -14,7 +14,6 @@ use Rattle.sgt_names.proofs.Lists.{tails}
 use Rattle.json.specs.Value.{value_view}
 use Rattle.json.specs.declared.value.Value.{Value}
 use Rattle.sgt_history_text.specs.Shallow.{AfterValue, Closes, Enters, IsFront, IsScalar, NoValue, ReadsAs, arrays, empty, leaf, map_items}
-use Rattle.sgt_history_text.proofs.Keys.{heads_are}
 
 -- one value stands in front at most
 pub same_front : (i j : Json) (r s : List Token) → json_tokens i ++ r ≡ json_tokens j ++ s → (i ≡ j) × (r ≡ s)
@@ -37,6 +36,9 @@ IsOther (token.number s) = ⊥
 IsOther (token.boolean b) = ⊥
 IsOther token.null = ⊥
 IsOther bad = Unit {0}
+
+pub heads_are : (t u : Token) (ts us : List Token) → t ∷ ts ≡ u ∷ us → t ≡ u
+heads_are t u ts us e = cc
 
 pub no_value : (t : Token) (ts : List Token) → IsOther t → NoValue (t ∷ ts)
 no_value t ts other rest (null, e) = subst IsOther (heads_are t token.null ts _ e) other

@@ -22,6 +22,7 @@ use Rattle.sgt_history_text.specs.declared.table.Interned.{Interned}
 use Rattle.sgt_history_text.specs.declared.table.Interned.TheVariants.{Old, New}
 use Rattle.sgt_history_text.proofs.Kept.{kept_at, kept_new, key_numbers}
 use Rattle.sgt_history_text.proofs.Trees.{same_tokens}
+use Rattle.sgt_history_text.proofs.Fronts.{heads_are}
 use Rattle.sgt_history_text.proofs.Objects.{no_tokens}
 
 -- ---- one token
@@ -39,9 +40,6 @@ token-of (number s) k = record { t = spec.number s; is = refl; key = λ n. n }
 token-of (string s) k = record { t = spec.string s; is = refl; key = λ n. n }
 token-of (array js) k = absurd k
 token-of (object ms) k = absurd k
-
-pub heads_are : (t u : Token) (ts us : List Token) → t ∷ ts ≡ u ∷ us → t ≡ u
-heads_are t u ts us e = cc
 
 module _ (ts : List Token) (id : Json) (is : IsId id) (text : ts ≡ json_tokens id) where
   pub no_token : ts ≡ [] → ⊥
