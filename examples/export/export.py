@@ -560,7 +560,7 @@ def sections_of(site, section_of, count):
 
 
 def entries_of(site, places, names, value_of):
-    """The lines of the text for these places, each with its line of the log."""
+    """The lines of the text for these places, as `text_lines` gives them."""
     spelled_items = [f"[{names.get(item.name)}]=" for item in site.all_items]
     tx_of = array("I", bytes(4 * len(site.change_kinds)))
     for end, tx in enumerate(site.end_txs):
@@ -569,31 +569,34 @@ def entries_of(site, places, names, value_of):
     for place in places:
         at, kind = divmod(place, 3)
         if kind == 0:
-            yield f"r{site.read_txs[at]}{spelled_items[site.read_items[at]]}{value_of(site.read_values[at])}\n", site.read_lines[at]
+            yield f"r{site.read_txs[at]}{spelled_items[site.read_items[at]]}{value_of(site.read_values[at])}\n", site.read_lines[at], None
         elif kind == 1:
             yield (f"{chr(site.change_kinds[at])}{tx_of[at]}{spelled_items[site.change_items[at]]}{value_of(site.change_values[at])}\n",
-                   site.change_lines[at])
+                   site.change_lines[at], None)
         else:
-            yield f"{chr(site.end_kinds[at])}{site.end_txs[at]}\n", site.end_lines[at]
+            yield f"{chr(site.end_kinds[at])}{site.end_txs[at]}\n", site.end_lines[at], None
 
 
 def text_lines(log, names, places):
-    """The lines of the text, each with its line of the log or 0. `places` gets the name of each section's site."""
+    """The lines of the text, each with its line of the log or 0, and its item where that says a value at the start or the end.
+
+    `places` gets the name of each section's site."""
     has_increments = any(kind in b"dq" for site in log.sites.values() for kind in set(site.change_kinds))
-    yield "sgt 2\n" if has_increments else "sgt 1\n", 0
+    yield "sgt 2\n" if has_increments else "sgt 1\n", 0, None
     value_of = log.values.number
     for site in log.sites.values():
         items = sorted(told_items(site), key=lambda item: names[item.name])
         parts = [items[first : first + MOST_ITEMS] for first in range(0, max(len(items), 1), MOST_ITEMS)]
         section_of = {site.items[item.name]: n for n, part in enumerate(parts) for item in part}
         for part, entries in zip(parts, sections_of(site, section_of, len(parts))):
-            yield f"site {len(places)}\n", 0
+            yield f"site {len(places)}\n", 0, None
             for item in part:
-                yield f"item {names[item.name]}={value_of(item.initial)}\n", item.start
+                yield f"item {names[item.name]}={value_of(item.initial)}\n", item.start, item.name
             yield from entries_of(site, entries, names, value_of)
             for item in part:
-                yield f"final {names[item.name]}={value_of(item.now if item.final is None else item.final)}\n", item.finish
-            yield "end\n", 0
+                final = item.now if item.final is None else item.final
+                yield f"final {names[item.name]}={value_of(final)}\n", item.finish, item.name
+            yield "end\n", 0, None
             places.append(site.name)
 
 
@@ -601,17 +604,19 @@ def write_text(log, path, out, told):
     """Writes the text, and into `told` the names, where there is such a file."""
     names, places, write = short_names(log), [], out.write
     if told is None:
-        for text, _ in text_lines(log, names, places):
+        for text, _, _ in text_lines(log, names, places):
             write(text)
         return
     told.write('{"lines": {')
-    mark = ""
-    for number, (text, line) in enumerate(text_lines(log, names, places), 1):
+    mark, held = "", {}
+    for number, (text, line, item) in enumerate(text_lines(log, names, places), 1):
         write(text)
         if line:
             told.write(f'{mark}"{number}": {line}')
             mark = ", "
-    rest = {"log": path, "sites": places, "transactions": log.numbers, "items": names,
+            if item is not None:
+                held[number] = item
+    rest = {"held": held, "log": path, "sites": places, "transactions": log.numbers, "items": names,
             "values": None if log.values.are_numbers else log.values.numbers, "least": log.values.least}
     told.write("}, " + json.dumps(rest)[1:] + "\n")
 
