@@ -11,11 +11,22 @@ import sys
 import tempfile
 
 
+def numbers(words):
+    """LINES, SITES, ITEMS and SEED; or the program's own words, and the end."""
+    if words in (["--help"], ["-h"]):
+        print(__doc__.strip())
+        sys.exit()
+    if not 1 <= len(words) <= 4 or not all(word.isdecimal() for word in words):
+        sys.exit(__doc__)
+    lines, sites, items, seed = [int(word) for word in words] + [16, 64, 1][len(words) - 1 :]
+    if not 1 <= sites <= 64 or not 1 <= items <= 999:
+        sys.exit("make_bundle.py: 1 to 64 sites, and 1 to 999 items a site")
+    return lines, sites, items, seed
+
+
 def main():
-    wanted = int(sys.argv[1])
-    site_count = int(sys.argv[2]) if len(sys.argv) > 2 else 16
-    item_count = int(sys.argv[3]) if len(sys.argv) > 3 else 64
-    rng = random.Random(int(sys.argv[4]) if len(sys.argv) > 4 else 1)
+    wanted, site_count, item_count, seed = numbers(sys.argv[1:])
+    rng = random.Random(seed)
     names = [f"i{n:03}" for n in range(item_count)]
     first = [[rng.randrange(1000) for _ in names] for _ in range(site_count)]
     values = [list(row) for row in first]

@@ -71,7 +71,7 @@ class Names:
         self.transactions = {str(number): plain(name) for name, number in told["transactions"].items()}
         self.items = {short: plain(item) for item, short in told["items"].items()}
         self.values = told["values"] and {str(number): value for value, number in told["values"].items()}
-        self.is_signed, self.sites, self.lines = told["least"] < 0, [plain(name) for name in told["sites"]], dict(told["lines"])
+        self.is_signed, self.sites, self.lines = told["least"] < 0, [plain(name) for name in told["sites"]], {text: int(line) for text, line in told["lines"].items()}
         self.held, self.log, self.shift, self.named = dict(told["held"]), str(told["log"]), 0, set()
 
     def t(self, text):
