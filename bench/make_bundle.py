@@ -19,8 +19,8 @@ def numbers(words):
     if not 1 <= len(words) <= 4 or not all(word.isdecimal() for word in words):
         sys.exit(__doc__)
     lines, sites, items, seed = [int(word) for word in words] + [16, 64, 1][len(words) - 1 :]
-    if not 1 <= sites <= 64 or not 1 <= items <= 999:
-        sys.exit("make_bundle.py: 1 to 64 sites, and 1 to 999 items a site")
+    if not 1 <= sites <= 64 or not 1 <= items <= 1000:
+        sys.exit("make_bundle.py: 1 to 64 sites, and 1 to 1000 items a site")
     return lines, sites, items, seed
 
 

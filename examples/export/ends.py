@@ -1,8 +1,9 @@
 """A common order of the ends of all sites, where the sites logged them in different ones: as after a two-phase commit.
 
 An end stands in the text with its transaction's changes directly in front of it. It may stand wherever nothing in conflict with these
-is passed: behind all reads up to `lows`, in front of the read `ups`. What has to stand before what is then a graph, and an order of
-that graph is taken in which transactions stand as they were decided, each at its first end, as far as that can be.
+is passed: behind as many reads as `lows` says, and in front of the others from `ups` on. So there is a graph of what has to stand
+before what, and an order of that graph is taken in which transactions stand as they were decided, each at its first end, as far as
+that can be.
 """
 import bisect
 import heapq
@@ -41,10 +42,12 @@ class Span:
         for change in site.changes_of(end):
             item = site.change_items[change]
             low = max(low, self.last_read[item])
-            self.unread[item].append(end)
             is_write = site.change_kinds[change] in CHANGES
             before = self.adders[item] if is_write and self.adders[item] else [self.writer[item]]
             self.edges.extend((other, end) for other in before if other is not None)
+            if site.end_kinds[end] == ord("n"):
+                continue  # (nobody sees what a refused one asked for: others may pass it)
+            self.unread[item].append(end)
             if is_write:
                 self.writer[item], self.adders[item] = end, []
             else:
