@@ -7,6 +7,7 @@ that can be.
 """
 import bisect
 import heapq
+from array import array
 
 CHANGES = b"wp"
 
@@ -15,9 +16,10 @@ class Span:
     """Of each end of a site: how many reads have to stand in front of it (`lows`), and may (`ups`)."""
 
     def __init__(self, site):
-        self.site, self.edges = site, []
+        # (an edge is an end that has to stand before another, which is at the same place of `behind`)
+        self.site, self.before, self.behind = site, array("I"), array("I")
         count = len(site.end_txs)
-        self.lows, self.ups = [0] * count, [len(site.read_txs)] * count
+        self.lows, self.ups = array("I", [0]) * count, array("I", [len(site.read_txs)]) * count
         items = len(site.all_items)
         self.last_read, self.unread = [0] * items, [[] for _ in range(items)]
         self.writer, self.adders, self.own = [None] * items, [[] for _ in range(items)], {}
@@ -27,6 +29,7 @@ class Span:
             read = slot
             self.meet(end)
         self.read_up_to(read, len(site.read_txs))
+        del self.last_read, self.unread, self.writer, self.adders, self.own
 
     def read_up_to(self, first, last):
         for read in range(first, last):
@@ -44,7 +47,10 @@ class Span:
             low = max(low, self.last_read[item])
             is_write = site.change_kinds[change] in CHANGES
             before = self.adders[item] if is_write and self.adders[item] else [self.writer[item]]
-            self.edges.extend((other, end) for other in before if other is not None)
+            for other in before:
+                if other is not None:
+                    self.before.append(other)
+                    self.behind.append(end)
             if site.end_kinds[end] == ord("n"):
                 continue  # (nobody sees what a refused one asked for: others may pass it)
             self.unread[item].append(end)
@@ -68,7 +74,7 @@ class Prefix:
         return count > 0
 
     def freed(self, placed):
-        while self.at < len(self.row) and self.row[self.at] in placed:
+        while self.at < len(self.row) and placed[self.row[self.at]]:
             self.at += 1
             yield from self.waiting.pop(self.at, ())
 
@@ -77,11 +83,11 @@ class Search:
     """Places the transactions one by one. A `careful` one keeps a refused transaction behind all that ended before it at a site."""
 
     def __init__(self, spans, decided, careful):
-        self.decided, self.placed = decided, {}
-        self.waits, self.behind, self.rows = dict.fromkeys(decided, 0), {}, {}
+        self.decided, self.placed, self.count = decided, array("I", [0]) * len(decided), 0
+        self.waits, self.behind, self.rows = array("I", [0]) * len(decided), {}, {}
         for span in spans:
             self.enter(span, careful)
-        self.ready = [(decided[tx][0], tx) for tx, count in self.waits.items() if not count]
+        self.ready = [(decided[tx], tx) for tx in self.rows if not self.waits[tx]]
         heapq.heapify(self.ready)
         while self.ready:
             self.place(heapq.heappop(self.ready)[1])
@@ -89,23 +95,24 @@ class Search:
     def enter(self, span, careful):
         txs = span.site.end_txs
         by_up = sorted(range(len(txs)), key=span.ups.__getitem__)
-        ups = [span.ups[end] for end in by_up]
-        rows = [Prefix([txs[end] for end in by_up])] + ([Prefix(txs)] if careful else [])
+        ups = array("I", (span.ups[end] for end in by_up))
+        rows = [Prefix(array("I", (txs[end] for end in by_up)))] + ([Prefix(txs)] if careful else [])
         for end, tx in enumerate(txs):
             self.rows.setdefault(tx, []).extend(rows)
             self.waits[tx] += rows[0].wait(bisect.bisect_left(ups, span.lows[end]), tx)
             if careful and span.site.end_kinds[end] == ord("n"):
                 self.waits[tx] += rows[1].wait(end, tx)
-        for before, end in span.edges:
+        for before, end in zip(span.before, span.behind):
             self.behind.setdefault(txs[before], []).append(txs[end])
             self.waits[txs[end]] += 1
 
     def place(self, tx):
-        self.placed[tx] = len(self.placed)
+        self.count += 1
+        self.placed[tx] = self.count
         for freed in (*self.behind.get(tx, ()), *(it for row in self.rows[tx] for it in row.freed(self.placed))):
             self.waits[freed] -= 1
             if not self.waits[freed]:
-                heapq.heappush(self.ready, (self.decided[freed][0], freed))
+                heapq.heappush(self.ready, (self.decided[freed], freed))
 
 
 def settle(sites, names, decided):
@@ -113,30 +120,30 @@ def settle(sites, names, decided):
     spans = [Span(site) for site in sites]
     for careful in (True, False):
         search = Search(spans, decided, careful)
-        if len(search.placed) == len(decided):
+        if search.count == len(search.rows):
             for span in spans:
                 place_ends(span, search.placed)
             return []
-    return told_circle(spans, names, decided, search.placed)
+    first = min((tx for tx in search.rows if not search.placed[tx]), key=decided.__getitem__)
+    return told_circle(spans, names, first, search.placed)
 
 
 def place_ends(span, order):
     """An end that is to stand in front of others is moved there; none is moved back but behind what it has to follow."""
     site = span.site
     row = sorted(range(len(site.end_txs)), key=lambda end: order[site.end_txs[end]])
-    slots, least = [0] * len(row), len(site.read_txs)
+    slots, least = array("I", [0]) * len(row), len(site.read_txs)
     for at in range(len(row) - 1, -1, -1):
         least = slots[at] = min(least, site.end_slots[row[at]])
     low = 0
     for at, end in enumerate(row):
         low = max(low, span.lows[end])
         slots[at] = max(slots[at], low)
-    site.row = list(zip(row, slots))
+    site.row = array("I", row), slots
 
 
-def told_circle(spans, names, decided, placed):
+def told_circle(spans, names, tx, placed):
     """Transactions of which each has to end before the next: a line for each, the last one leads back to the first."""
-    tx = min((it for it in decided if it not in placed), key=lambda it: decided[it][0])
     met = {}
     while tx not in met:
         met[tx] = blocker(spans, tx, placed)
@@ -154,12 +161,12 @@ def blocker(spans, tx, placed):
     """Who has to end before the transaction and can't yet: it, where, and the ends of the two there."""
     for span in spans:
         txs = span.site.end_txs
-        for before, end in span.edges:
-            if txs[end] == tx and txs[before] not in placed:
+        for before, end in zip(span.before, span.behind):
+            if txs[end] == tx and not placed[txs[before]]:
                 return txs[before], span, before, end
         for end in (end for end, it in enumerate(txs) if it == tx):
             for before, up in enumerate(span.ups):
-                if up < span.lows[end] and txs[before] not in placed:
+                if up < span.lows[end] and not placed[txs[before]]:
                     return txs[before], span, before, end
     raise AssertionError("nothing is in the way")
 

@@ -167,7 +167,8 @@ class Log:
 
     def __init__(self):
         self.sites, self.numbers, self.names = {}, {}, [""]
-        self.decided = {}  # transaction: (a number that rises, how, the line)
+        # of each transaction that was decided: a number that rises, how, and the line
+        self.decided, self.hows, self.decided_lines, self.decisions = array("I", [0]), bytearray(1), array("I", [0]), 0
         self.values, self.notes, self.is_crossed = Values(), Notes(), False
 
     def site(self, name):
@@ -180,6 +181,9 @@ class Log:
         number = self.numbers.setdefault(name, len(self.names))
         if number == len(self.names):
             self.names.append(name)
+            self.decided.append(0)
+            self.hows.append(0)
+            self.decided_lines.append(0)
         return number
 
     def take(self, act, site, tx, item, value, line):
@@ -197,7 +201,7 @@ class Log:
     def sites_of(self, tx):
         """Of an end without a site: all that its transaction is at."""
         found = [site for site in self.sites.values() if tx in site.parts]
-        if not found and tx in self.decided:
+        if not found and self.decided[tx]:
             raise Bad("an end of a transaction that has ended everywhere")
         return found or [self.site(next(iter(self.sites), "0"))]
 
@@ -281,9 +285,8 @@ class Log:
         part = site.part(tx)
         if how == "commit" and part.flaw:
             raise Bad(part.flaw)
-        decided, first, told = self.decided.setdefault(tx, (len(self.decided) + 1, how, line))
-        if first != how:
-            raise Bad(f"{self.names[tx]} has the end {how} at site {site.name}, and the end {first} in line {told}")
+        self.decide(site, tx, LETTERS[how], line)
+        decided = self.decided[tx]
         self.is_crossed = self.is_crossed or decided < site.latest
         site.latest = decided
         site.end_txs.append(tx)
@@ -299,6 +302,15 @@ class Log:
                 self.put_change(site, tx, number, item, own, how == "commit")
         del site.parts[tx]
         site.ended.add(tx)
+
+    def decide(self, site, tx, letter, line):
+        """A transaction is decided at its first end, in one way."""
+        if not self.decided[tx]:
+            self.decisions += 1
+            self.decided[tx], self.hows[tx], self.decided_lines[tx] = self.decisions, ord(letter), line
+        elif self.hows[tx] != ord(letter):
+            how, first = (next(it for it in LETTERS if LETTERS[it] == one) for one in (letter, chr(self.hows[tx])))
+            raise Bad(f"{self.names[tx]} has the end {how} at site {site.name}, and the end {first} in line {self.decided_lines[tx]}")
 
     def put_change(self, site, tx, number, item, own, is_committed):
         letter, value, line = own
@@ -524,7 +536,7 @@ def short_names(log):
 def places_of(site):
     """The place of each entry in the order of the text: a read 3n, a change 3n + 1, an end 3n + 2."""
     read = 0
-    for end, slot in site.row if site.row is not None else enumerate(site.end_slots):
+    for end, slot in zip(*site.row) if site.row is not None else enumerate(site.end_slots):
         while read < slot:
             yield 3 * read
             read += 1
