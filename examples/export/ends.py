@@ -152,7 +152,8 @@ def told_circle(spans, names, tx, placed):
     first = tx
     while not circle or tx != first:
         before, span, one, other = met[tx]
-        circle.append(f"{names[before]} has to end before {names[tx]} at site {span.site.name}: {reason(span, names, one, other)}")
+        circle.append(f"{names[before]} has to end before {names[tx]} at site {span.site.name} (lines {span.site.end_lines[one]} and "
+                      f"{span.site.end_lines[other]}): {reason(span, names, one, other)}")
         tx = before
     return circle[::-1]
 
@@ -178,9 +179,9 @@ def reason(span, names, before, end):
     for change in site.changes_of(end):
         first = mine.get(site.change_items[change])
         if first is not None and (site.change_kinds[first] in CHANGES or site.change_kinds[change] in CHANGES):
-            return f"both wrote {item_of(site, site.change_items[change])}, in lines {site.change_lines[first]} and {site.change_lines[change]}"
+            return f"both wrote {item_of(site, site.change_items[change])}"
     up = span.ups[before]
-    told = f"{read_of(site, names, up)} what {names[site.end_txs[before]]} wrote"
+    told = f"{read_of(site, names, up)}, which {names[site.end_txs[before]]} wrote"
     if up == low and site.read_txs[low] == site.end_txs[end]:
         return told
     if site.read_txs[low] == site.end_txs[end]:
