@@ -38,9 +38,10 @@ _sgt() {
         replay) _arguments $help $progress '--strict[status 1 where an event was refused]' \
             '--bundle=[write the bundle to this file]:file:_files' '1:events:_files' ;;
         run) _arguments $help '--workers=[how many scripts run at once]:number:({1..16})' \
-            '--tries=[how often a script is tried]:number:({1..4})' '--bundle=[write the bundle to this file]:file:_files' \
-            '1:scripts:_files' ;;
-        serve) _arguments $help '--bundles=[write each bundle into this folder]:folder:_path_files -/' '1:events:_files' ;;
+            '--tries=[how often a script is tried]:number:({1..4})' \
+            '--bundle=[write the bundle to this file]:file:_files' '1:scripts:_files' ;;
+        serve) _arguments $help '--bundles=[write each bundle into this folder]:folder:_path_files -/' \
+            '1:events:_files' ;;
         certify) _arguments $help '1:logs:_files' ;;
         check) _arguments $help $progress $quiet \
             '(--against)--order[write an order that serves]' '(--against)--real-time[the order has to keep real time]' \

@@ -1,10 +1,10 @@
-"""Answers of `sgt certify` and `sgt explain`, told with the transactions, items, values and lines of the log that was exported."""
+"""Answers of `sgt certify` and `sgt explain`, told with the transactions, items, values and lines of the log."""
 import json
 import re
 import sys
 
 ENTRY = r"(?:[rwdpq]\d+\[\w+\]=\d+|[cna]\d+|(?:item|final) \w+=\d+|site \d+)"
-HOLES = {"t": r"(\d+)", "i": r"([a-z][a-z0-9_]*)", "s": r"(\d+)", "v": r"(\d+)", "l": r"(\d+)", "e": f"({ENTRY})", "*": "(.*?)"}
+HOLES = {"i": r"([a-z][a-z0-9_]*)", "e": f"({ENTRY})", "*": "(.*?)", **dict.fromkeys("tsvl", r"(\d+)")}
 KINDS = {"rw": ("read", "wrote"), "wr": ("wrote", "read"), "ww": ("wrote", "wrote")}
 ENDS = {"c": "committed", "n": "was refused", "a": "was withdrawn"}
 ACTS = {"r": "read", "w": "wrote", "p": "asked to write"}
@@ -65,13 +65,14 @@ transaction <t> has rank <*>
 
 
 class Names:
-    """What the numbers, names and lines of a text stand for. `shift` is 1 where lines are counted with the certificate's."""
+    """What the numbers, names and lines of a text stand for. `shift` is 1 where lines are counted with line 2."""
 
     def __init__(self, told):
         self.transactions = {str(number): plain(name) for name, number in told["transactions"].items()}
         self.items = {short: plain(item) for item, short in told["items"].items()}
         self.values = told["values"] and {str(number): value for value, number in told["values"].items()}
-        self.is_signed, self.sites, self.lines = told["least"] < 0, [plain(name) for name in told["sites"]], {text: int(line) for text, line in told["lines"].items()}
+        self.is_signed, self.sites = told["least"] < 0, [plain(name) for name in told["sites"]]
+        self.lines = {text: int(line) for text, line in told["lines"].items()}
         self.held, self.log, self.shift, self.named = dict(told["held"]), str(told["log"]), 0, set()
 
     def t(self, text):
@@ -113,7 +114,7 @@ class Names:
 
 
 def plain(name):
-    """A name as it can be shown in a line."""
+    """A name, or words, as they can be shown in a line."""
     return name if name.isprintable() else json.dumps(name)[1:-1]
 
 

@@ -1,9 +1,9 @@
 """A common order of the ends of all sites, where the sites logged them in different ones: as after a two-phase commit.
 
-An end stands in the text with its transaction's changes directly in front of it. It may stand wherever nothing in conflict with these
-is passed: behind as many reads as `lows` says, and in front of the others from `ups` on. So there is a graph of what has to stand
-before what, and an order of that graph is taken in which transactions stand as they were decided, each at its first end, as far as
-that can be.
+An end stands in the text with its transaction's changes directly in front of it. It may stand wherever nothing in
+conflict with these is passed: behind as many reads as `lows` says, and in front of the others from `ups` on. So there
+is a graph of what has to stand before what, and an order of that graph is taken in which transactions stand as they
+were decided, each at its first end, as far as that can be.
 """
 import bisect
 import heapq
@@ -80,7 +80,9 @@ class Prefix:
 
 
 class Search:
-    """Places the transactions one by one. A `careful` one keeps a refused transaction behind all that ended before it at a site."""
+    """Places the transactions one by one.
+
+    A `careful` search keeps a refused transaction behind all that ended before it at a site."""
 
     def __init__(self, spans, decided, careful):
         self.decided, self.placed, self.count = decided, array("I", [0]) * len(decided), 0
@@ -116,7 +118,9 @@ class Search:
 
 
 def settle(sites, names, decided):
-    """Gives each site its ends in a common order. Where there is none the sites stay as they are, and what is in the way is told."""
+    """Gives each site its ends in a common order.
+
+    Where there is none the sites stay as they are, and what is in the way is told."""
     spans = [Span(site) for site in sites]
     for careful in (True, False):
         search = Search(spans, decided, careful)
@@ -129,7 +133,7 @@ def settle(sites, names, decided):
 
 
 def place_ends(span, order):
-    """An end that is to stand in front of others is moved there; none is moved back but behind what it has to follow."""
+    """Moves each end in front of those that it is to precede, and none back but behind what it has to follow."""
     site = span.site
     row = sorted(range(len(site.end_txs)), key=lambda end: order[site.end_txs[end]])
     slots, least = array("I", [0]) * len(row), len(site.read_txs)
@@ -152,8 +156,9 @@ def told_circle(spans, names, tx, placed):
     first = tx
     while not circle or tx != first:
         before, span, one, other = met[tx]
-        circle.append(f"{names[before]} has to end before {names[tx]} at site {span.site.name} (lines {span.site.end_lines[one]} and "
-                      f"{span.site.end_lines[other]}): {reason(span, names, one, other)}")
+        lines = f"lines {span.site.end_lines[one]} and {span.site.end_lines[other]}"
+        circle.append(f"{names[before]} has to end before {names[tx]} at site {span.site.name} ({lines}): "
+                      f"{reason(span, names, one, other)}")
         tx = before
     return circle[::-1]
 

@@ -4,10 +4,10 @@
     export.py LOG.jsonl [NAMES.json] > LOGS
     export.py --trace NAMES.json < ANSWER
 
-LOG.jsonl (or - for standard input) has an event a line, in the order in which the events took effect; docs/EXPORT.md says what the
-events are. NAMES.json gets what the names, numbers and values of the text stand for, and the line of the log that each line of the
-text came from. With --trace an answer of `sgt certify` or `sgt explain` is told with the names and lines of the log. Status 1 and a
-message: the log has something that the text can't hold.
+LOG.jsonl (or - for standard input) has an event a line, in the order in which the events took effect; docs/EXPORT.md
+says what the events are. NAMES.json gets what the names, numbers and values of the text stand for, and the line of the
+log that each line of the text came from. With --trace an answer of `sgt certify` or `sgt explain` is told with the
+names and lines of the log. Status 1 and a message: the log has something that the text can't hold.
 """
 import contextlib
 import datetime
@@ -18,6 +18,7 @@ import sys
 from array import array
 
 sys.dont_write_bytecode = True  # (a checkout stays as it is)
+import answers
 import ends
 
 NAME = re.compile(r"[a-z][a-z0-9_]{0,15}")
@@ -52,7 +53,7 @@ class Notes:
     def tell(self):
         for kind, (count, texts) in self.kinds.items():
             for text in texts:
-                print(f"export.py: {kind}: {text}", file=sys.stderr)
+                print(f"export.py: {kind}: {answers.plain(text)}", file=sys.stderr)
             if count > len(texts):
                 print(f"export.py: {kind}: {count - len(texts)} more", file=sys.stderr)
 
@@ -104,11 +105,12 @@ class Part:
 class Item:
     """An item of a site: its values as far as they are known, who changed it last, and who wants to."""
 
-    __slots__ = ("name", "initial", "start", "now", "final", "finish", "changes", "changer", "writers", "adders", "is_used", "is_open")
+    __slots__ = ("name", "initial", "start", "now", "final", "finish", "changes", "changer", "writers", "adders",
+                 "is_used", "is_open")
 
     def __init__(self, name):
-        # (`start` and `finish` are the lines of the log that tell the values at the start and at the end; as long as the value
-        # at the start is open, `now` is the sum of the increments)
+        # (`start` and `finish` are the lines of the log that tell the values at the start and at the end; as long as
+        # the value at the start is open, `now` is the sum of the increments)
         self.name, self.initial, self.start, self.now, self.final, self.finish = name, None, 0, None, None, 0
         self.changes, self.changer, self.writers, self.adders = 0, None, {}, {}
         self.is_used, self.is_open = False, True
@@ -137,7 +139,8 @@ class Site:
         # ends, each with how many reads stand in front of it, and its changes from this one on
         self.end_txs, self.end_kinds, self.end_lines = array("I"), bytearray(), array("I")
         self.end_slots, self.end_firsts = array("I"), array("I")
-        self.change_kinds, self.change_items, self.change_values, self.change_lines = bytearray(), array("I"), [], array("I")
+        self.change_kinds, self.change_items = bytearray(), array("I")
+        self.change_values, self.change_lines = [], array("I")
         self.row = None  # the ends in the order of the text, where that isn't that of the log
 
     def item(self, name):
@@ -221,8 +224,8 @@ class Log:
         if number in part.reads:
             before, first, at = part.reads[number]
             if before != item.changes or value != first:
-                part.flaw = part.flaw or (f"not repeatable: {self.names[tx]} read {item.name} in lines {at} and {line}, "
-                                          f"{self.writer_between(item, before, at)}")
+                found = f"not repeatable: {self.names[tx]} read {item.name} in lines {at} and {line}, "
+                part.flaw = part.flaw or found + self.writer_between(item, before, at)
             return
         item.is_used = True
         if item.is_open:
@@ -239,7 +242,8 @@ class Log:
             item.learn(value - change, line)
         left = change if letter == "w" else self.sum_of(item.now, change)
         if not same(value, left):
-            part.flaw = part.flaw or (f"own read: {self.names[tx]} read {item.name} in line {line}, and not what it left in line {at}")
+            found = f"own read: {self.names[tx]} read {item.name} in line {line}, and not what it left in line {at}"
+            part.flaw = part.flaw or found
 
     def writer_between(self, item, before, at):
         if before != item.changes:
@@ -265,7 +269,7 @@ class Log:
         part.asked[number] = (letter, value, line)
 
     def overlap(self, site, item, tx, letter, line):
-        """Tells of a change of an item that another has changed and not ended; two increments may stand beside each other."""
+        """Tells of a change of an item that another has changed and not ended; but not of two increments."""
         for open_ones in (item.writers, item.adders) if letter == "w" else (item.writers,):
             other = next((other for other in open_ones if other != tx), None)
             if other is not None:
@@ -310,7 +314,8 @@ class Log:
             self.decided[tx], self.hows[tx], self.decided_lines[tx] = self.decisions, ord(letter), line
         elif self.hows[tx] != ord(letter):
             how, first = (next(it for it in LETTERS if LETTERS[it] == one) for one in (letter, chr(self.hows[tx])))
-            raise Bad(f"{self.names[tx]} has the end {how} at site {site.name}, and the end {first} in line {self.decided_lines[tx]}")
+            raise Bad(f"{self.names[tx]} has the end {how} at site {site.name}, "
+                      f"and the end {first} in line {self.decided_lines[tx]}")
 
     def put_change(self, site, tx, number, item, own, is_committed):
         letter, value, line = own
@@ -331,8 +336,8 @@ class Log:
                     item.learn(item.final, item.finish)
             missing = sorted(item.name for item in site.all_items if item.is_used and item.final is None)
             if missing:
-                self.notes.add("no value at the end", f"of {len(missing)} items at site {site.name}, {missing[0]} the first: "
-                               "what was written last is believed")
+                self.notes.add("no value at the end", f"of {len(missing)} items at site {site.name}, {missing[0]} the "
+                               "first: what was written last is believed")
         self.values.settle()
         if self.is_crossed:
             for told in ends.settle(list(self.sites.values()), self.names, self.decided):
@@ -517,8 +522,8 @@ class Held:
         """By their positions; those of one position in the order of the lines."""
         order = array("I", sorted(range(len(self.ats)), key=self.ats.__getitem__))
         self.ats = None
-        for place in order:
-            yield self.lines[place], (self.acts[place], self.sites[place], self.txs[place], self.items[place], self.values[place])
+        for at in order:
+            yield self.lines[at], (self.acts[at], self.sites[at], self.txs[at], self.items[at], self.values[at])
 
 
 def told_items(site):
@@ -549,7 +554,9 @@ def places_of(site):
 
 
 def sections_of(site, section_of, count):
-    """The places of the entries of each section. An end stands in each section that its transaction touched, or in all."""
+    """The places of the entries of each section.
+
+    An end stands in each section that its transaction touched, or in all."""
     if count == 1:
         return [array("Q", places_of(site))]
     found, touched, open_ones = [array("Q") for _ in range(count)], {}, []
@@ -581,16 +588,17 @@ def entries_of(site, places, names, value_of):
     for place in places:
         at, kind = divmod(place, 3)
         if kind == 0:
-            yield f"r{site.read_txs[at]}{spelled_items[site.read_items[at]]}{value_of(site.read_values[at])}\n", site.read_lines[at], None
+            item, value = spelled_items[site.read_items[at]], value_of(site.read_values[at])
+            yield f"r{site.read_txs[at]}{item}{value}\n", site.read_lines[at], None
         elif kind == 1:
-            yield (f"{chr(site.change_kinds[at])}{tx_of[at]}{spelled_items[site.change_items[at]]}{value_of(site.change_values[at])}\n",
-                   site.change_lines[at], None)
+            item, value = spelled_items[site.change_items[at]], value_of(site.change_values[at])
+            yield f"{chr(site.change_kinds[at])}{tx_of[at]}{item}{value}\n", site.change_lines[at], None
         else:
             yield f"{chr(site.end_kinds[at])}{site.end_txs[at]}\n", site.end_lines[at], None
 
 
 def text_lines(log, names, places):
-    """The lines of the text, each with its line of the log or 0, and its item where that says a value at the start or the end.
+    """The lines of the text, each with its line of the log or 0, and with its item if it says the first or last value.
 
     `places` gets the name of each section's site."""
     has_increments = any(kind in b"dq" for site in log.sites.values() for kind in set(site.change_kinds))
@@ -649,8 +657,6 @@ def main(words):
     for stream in (sys.stdout, sys.stderr):
         stream.reconfigure(encoding="utf-8", errors="backslashreplace")
     if words and words[0] == "--trace" and len(words) == 2:
-        import answers
-
         answers.trace(words[1])
     elif len(words) in (1, 2) and (words[0] == "-" or not words[0].startswith("-")):
         export(words[0], words[1] if len(words) == 2 else None)
@@ -672,4 +678,4 @@ if __name__ == "__main__":
     except MemoryError:
         sys.exit("export.py: want of memory")
     except (Bad, OSError, ValueError) as why:
-        sys.exit(f"export.py: {why}")
+        sys.exit(f"export.py: {answers.plain(str(why))}")
