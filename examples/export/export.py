@@ -212,7 +212,7 @@ class Log:
         if act == FINAL:
             item.final, item.finish = value, line
             return
-        if item.is_used or not item.is_open:
+        if item.is_used or item.writers or item.adders or not item.is_open:
             raise Bad(f"a value of {item.name} at the start, behind another one or behind the item's first use")
         item.learn(value, line)
 
@@ -259,7 +259,6 @@ class Log:
             if type(value) is not int:
                 raise Bad("an increment by what is no whole number")
             self.values.has_increment = True
-        item.is_used = True
         own = part.asked.get(number)
         if own is None or letter == "w":
             self.overlap(site, item, tx, letter, line)
@@ -319,6 +318,7 @@ class Log:
 
     def put_change(self, site, tx, number, item, own, is_committed):
         letter, value, line = own
+        item.is_used = True
         if is_committed:
             item.changes, item.changer, item.is_open = item.changes + 1, (tx, line), item.is_open and letter == "d"
             item.now = value if letter == "w" else self.sum_of(item.now, value)
