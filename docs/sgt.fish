@@ -1,4 +1,4 @@
-# Completions of sgt for fish: a file of a folder of fish_complete_path.
+# Completions of sgt for fish: source this file, or put it into a folder of fish_complete_path.
 
 # Options of one command: __sgt COMMAND WORDS OF complete
 function __sgt

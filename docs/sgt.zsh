@@ -1,5 +1,5 @@
 #compdef sgt
-# Completions of sgt for zsh: a file named _sgt in a folder of fpath.
+# Completions of sgt for zsh: a file named _sgt in a folder of fpath, or to be sourced behind compinit.
 
 _sgt() {
     local curcontext=$curcontext state line
