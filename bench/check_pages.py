@@ -48,6 +48,9 @@ def options():
     return sorted({*(f"--{name}" for name in named), "--help", "--version"} - set(refused))
 
 
+COMPLETIONS = ("docs/sgt.bash", "docs/sgt.zsh", "docs/sgt.fish")
+
+
 def rewritten():
     """The words in a command's place that are made into other words before."""
     return re.findall(r'word == "(\w+)"', text_of(f"{LINE}/line.rt"))
@@ -131,11 +134,14 @@ def long_pages():
 
 
 def missing_words():
-    for page in ("docs/sgt.1", "docs/sgt.bash"):
-        text = re.sub(r"\\f[A-Z]", " ", text_of(page).replace("\\-", "-")).replace("Fl -", "--").replace("| -", "| --")
+    for page in ("docs/sgt.1", *COMPLETIONS):
+        text = re.sub(r"\\f[A-Z]", " ", text_of(page).replace("\\-", "-")).replace("Fl -", "--").replace("| -", "| --").replace(" -l ", " --")
         for word in commands() + options():
             if not re.search(rf"(?<![\w-]){re.escape(word)}(?![\w-])", text):
                 yield f"{page}: nothing of {word}"
+    for page in COMPLETIONS:
+        for word in set(topics()) - set(text_of(page).replace("'", " ").split()):
+            yield f"{page}: nothing of {word}"
     for word in commands():
         if f"`sgt {word}" not in text_of("README.md"):
             yield f"README.md: nothing of sgt {word}"

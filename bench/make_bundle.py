@@ -11,83 +11,118 @@ import sys
 import tempfile
 
 
+def numbers(words):
+    """LINES, SITES, ITEMS and SEED; or the program's own words, and the end."""
+    if words in (["--help"], ["-h"]):
+        print(__doc__.strip())
+        sys.exit()
+    if not 1 <= len(words) <= 4 or not all(word.isdecimal() for word in words):
+        sys.exit(__doc__)
+    lines, sites, items, seed = [int(word) for word in words] + [16, 64, 1][len(words) - 1 :]
+    if not 1 <= sites <= 64 or not 1 <= items <= 1000:
+        sys.exit("make_bundle.py: 1 to 64 sites, and 1 to 1000 items a site")
+    return lines, sites, items, seed
+
+
+class Bundle:
+    """The logs and decisions so far, each in a file of its own."""
+
+    def __init__(self, site_count, item_count, rng):
+        self.rng, self.names = rng, [f"i{n:03}" for n in range(item_count)]
+        self.first = [[rng.randrange(1000) for _ in self.names] for _ in range(site_count)]
+        self.values = [list(row) for row in self.first]
+        self.logs = [tempfile.TemporaryFile("w+", buffering=1 << 20) for _ in range(site_count)]
+        self.decisions = tempfile.TemporaryFile("w+", buffering=1 << 20)
+        self.lines, self.tx, self.rank, self.decided = 2 + site_count * (2 + 2 * item_count), 0, 0, 0
+
+    def decide(self, text):
+        self.decisions.write(("," if self.decided else "") + text)
+        self.decided += 1
+
+    def read(self, at, site, item):
+        self.logs[site].write(f"r{at}[{self.names[item]}]={self.values[site][item]}\n")
+
+    def write(self, at, site, item):
+        self.values[site][item] = self.rng.randrange(10 ** self.rng.choice([1, 3, 6, 12]))
+        self.logs[site].write(f"w{at}[{self.names[item]}]={self.values[site][item]}\n")
+
+    def refusal(self, site):
+        """Two transactions: the second one would close a cycle of two steps."""
+        one, other = self.rng.sample(range(len(self.names)), 2)
+        a, b = self.tx + 1, self.tx + 2
+        self.read(a, site, one)
+        self.read(b, site, other)
+        self.write(a, site, other)
+        self.logs[site].write(f"c{a}\np{b}[{self.names[one]}]=7\nn{b}\n")
+        self.decide(f'{{"commit":{a},"rank":{self.rank}}}')
+        self.decide(f'{{"refuse":{b},"walk":[{{"item":"{self.names[other]}","kind":"rw","site":{site},"to":{a}}},'
+                    f'{{"item":"{self.names[one]}","kind":"rw","site":{site},"to":{b}}}]}}')
+        self.tx, self.rank, self.lines = self.tx + 2, self.rank + 1, self.lines + 6
+
+    def crossed(self, site):
+        """Two transactions whose ranks stand against their decisions."""
+        one, other = self.rng.sample(range(len(self.names)), 2)
+        a, b = self.tx + 1, self.tx + 2
+        self.read(a, site, one)
+        self.write(b, site, one)
+        self.logs[site].write(f"c{b}\n")
+        self.write(a, site, other)
+        self.logs[site].write(f"c{a}\n")
+        self.decide(f'{{"commit":{b},"rank":{self.rank + 1}}}')
+        self.decide(f'{{"commit":{a},"rank":{self.rank}}}')
+        self.tx, self.rank, self.lines = self.tx + 2, self.rank + 2, self.lines + 5
+
+    def withdrawal(self, site):
+        self.tx += 1
+        self.read(self.tx, site, self.rng.randrange(len(self.names)))
+        self.logs[site].write(f"a{self.tx}\n")
+        self.decide(f'{{"withdraw":{self.tx}}}')
+        self.lines += 2
+
+    def commit(self, site):
+        """One transaction, at this site and perhaps at another."""
+        self.tx += 1
+        rng, count = self.rng, len(self.names)
+        for at in {site, rng.randrange(len(self.logs))} if rng.random() < 0.3 else {site}:
+            items = sorted(rng.sample(range(count), min(count, rng.choice([1, 2, 2, 3]))))
+            changed = [item for item in items if rng.random() < 0.5]
+            for item in items:
+                self.read(self.tx, at, item)
+            for item in changed:
+                self.write(self.tx, at, item)
+            self.logs[at].write(f"c{self.tx}\n")
+            self.lines += len(items) + len(changed) + 1
+        self.decide(f'{{"commit":{self.tx},"rank":{self.rank}}}')
+        self.rank += 1
+
+    def tell(self, out):
+        out.write('sgt 1\n{"decisions":[')
+        copy(self.decisions, out)
+        out.write(f'],"sites":{len(self.logs)}}}\n')
+        for site, log in enumerate(self.logs):
+            items = zip(self.names, self.first[site])
+            out.write(f"site {site}\n" + "".join(f"item {name}={value}\n" for name, value in items))
+            copy(log, out)
+            finals = zip(self.names, self.values[site])
+            out.write("".join(f"final {name}={value}\n" for name, value in finals) + "end\n")
+
+
 def main():
-    wanted = int(sys.argv[1])
-    site_count = int(sys.argv[2]) if len(sys.argv) > 2 else 16
-    item_count = int(sys.argv[3]) if len(sys.argv) > 3 else 64
-    rng = random.Random(int(sys.argv[4]) if len(sys.argv) > 4 else 1)
-    names = [f"i{n:03}" for n in range(item_count)]
-    first = [[rng.randrange(1000) for _ in names] for _ in range(site_count)]
-    values = [list(row) for row in first]
-    logs = [tempfile.TemporaryFile("w+", buffering=1 << 20) for _ in range(site_count)]
-    decisions = tempfile.TemporaryFile("w+", buffering=1 << 20)
-    lines, tx, rank, decided = 2 + site_count * (2 + 2 * item_count), 0, 0, 0
-
-    def decide(text):
-        nonlocal decided
-        decisions.write(("," if decided else "") + text)
-        decided += 1
-
-    def read(at, site, item):
-        logs[site].write(f"r{at}[{names[item]}]={values[site][item]}\n")
-
-    def write(at, site, item):
-        values[site][item] = rng.randrange(10 ** rng.choice([1, 3, 6, 12]))
-        logs[site].write(f"w{at}[{names[item]}]={values[site][item]}\n")
-
-    while lines < wanted:
+    wanted, site_count, item_count, seed = numbers(sys.argv[1:])
+    rng = random.Random(seed)
+    bundle = Bundle(site_count, item_count, rng)
+    while bundle.lines < wanted:
         turn = rng.random()
         site = rng.randrange(site_count)
         if turn < 0.02 and item_count > 1:
-            one, other = rng.sample(range(item_count), 2)
-            a, b = tx + 1, tx + 2
-            read(a, site, one)
-            read(b, site, other)
-            write(a, site, other)
-            logs[site].write(f"c{a}\np{b}[{names[one]}]=7\nn{b}\n")
-            decide(f'{{"commit":{a},"rank":{rank}}}')
-            decide(f'{{"refuse":{b},"walk":[{{"item":"{names[other]}","kind":"rw","site":{site},"to":{a}}},'
-                   f'{{"item":"{names[one]}","kind":"rw","site":{site},"to":{b}}}]}}')
-            tx, rank, lines = tx + 2, rank + 1, lines + 6
+            bundle.refusal(site)
         elif turn < 0.05 and item_count > 1:
-            one, other = rng.sample(range(item_count), 2)
-            a, b = tx + 1, tx + 2
-            read(a, site, one)
-            write(b, site, one)
-            logs[site].write(f"c{b}\n")
-            write(a, site, other)
-            logs[site].write(f"c{a}\n")
-            decide(f'{{"commit":{b},"rank":{rank + 1}}}')
-            decide(f'{{"commit":{a},"rank":{rank}}}')
-            tx, rank, lines = tx + 2, rank + 2, lines + 5
+            bundle.crossed(site)
         elif turn < 0.075:
-            tx += 1
-            read(tx, site, rng.randrange(item_count))
-            logs[site].write(f"a{tx}\n")
-            decide(f'{{"withdraw":{tx}}}')
-            lines += 2
+            bundle.withdrawal(site)
         else:
-            tx += 1
-            for at in {site, rng.randrange(site_count)} if rng.random() < 0.3 else {site}:
-                items = sorted(rng.sample(range(item_count), min(item_count, rng.choice([1, 2, 2, 3]))))
-                changed = [item for item in items if rng.random() < 0.5]
-                for item in items:
-                    read(tx, at, item)
-                for item in changed:
-                    write(tx, at, item)
-                logs[at].write(f"c{tx}\n")
-                lines += len(items) + len(changed) + 1
-            decide(f'{{"commit":{tx},"rank":{rank}}}')
-            rank += 1
-
-    out = sys.stdout
-    out.write('sgt 1\n{"decisions":[')
-    copy(decisions, out)
-    out.write(f'],"sites":{site_count}}}\n')
-    for site in range(site_count):
-        out.write(f"site {site}\n" + "".join(f"item {name}={value}\n" for name, value in zip(names, first[site])))
-        copy(logs[site], out)
-        out.write("".join(f"final {name}={value}\n" for name, value in zip(names, values[site])) + "end\n")
+            bundle.commit(site)
+    bundle.tell(sys.stdout)
 
 
 def copy(file, out):

@@ -48,7 +48,7 @@ any_member p [] h = absurd (true≢false (sym h))
 any_member p (x ∷ xs) h = elim (cases_Bool (p x)) [
   | inl hit ↦ (x, Rattle.sgt_certifier.proofs.Members.cons_here x xs, hit)
   | inr miss ↦ let r = any_member p xs (subst (λ b. (b || list_any p xs) ≡ true) miss h) in
-      (r.0, Rattle.sgt_certifier.proofs.Members.cons_later x xs r.0 r.1, r.2)
+      (r.0, Rattle.sgt_names.proofs.Elements.contains-later x xs r.0 r.1, r.2)
 ]
 
 some_member : (cs : List (Name × Change)) → is_some_change cs ≡ true → (d : Name × Change) × Contains cs d

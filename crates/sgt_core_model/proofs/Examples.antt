@@ -216,7 +216,7 @@ unfolding play
 own_write_and_empty_transaction-log = refl
 
 -- ---- a kept read is read again, and not logged again; a withdrawal; blocks by rising name; a later write in
-    the stead of an earlier one
+-- the stead of an earlier one
 
 abbrev withdrawn : Played
 withdrawn =

@@ -7,4 +7,4 @@ pub mod Unlisted
 pub mod Neighbours
 pub mod Slices
 pub mod Once
-mod Touching
+pub mod Touching

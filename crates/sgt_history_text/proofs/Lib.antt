@@ -1,20 +1,20 @@
 mod Cut
 mod Tries
 pub mod Lookups
-mod Trees
-mod Parts
+pub mod Trees
+pub mod Parts
 mod Spelled
 mod Kept
 mod Named
 mod Grown
 mod Entries
-mod Going
+pub mod Going
 mod Ending
 mod Fronts
 mod Opened
 mod Gathered
-mod Solid
-mod Telling
+pub mod Solid
+pub mod Telling
 mod Objects
 pub mod Keys
 mod PlainTexts

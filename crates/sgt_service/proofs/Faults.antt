@@ -18,7 +18,7 @@ use Rattle.sgt_service_settle.specs.Fault.{IsUnsettled}
 use Rattle.sgt_service.specs.Bundle.{IsToldAlone}
 use Rattle.sgt_service.specs.Operations.{IsOfOperation}
 use Rattle.sgt_service.specs.Tries.{IsStopped}
-use Rattle.sgt_service_locks.proofs.Faults.{commit_of_call, withdraw_of_call}
+pub use Rattle.sgt_service_locks.proofs.Faults.{commit_of_call, withdraw_of_call}
 
 pub item_of_change : (names : List (List Name)) (s : ℕ) (x : Name) (f : ServiceFault) → RefusesItem names s x f → IsOfChange f
 item_of_change names s x (fault.Site site.UnknownItem) r = tt

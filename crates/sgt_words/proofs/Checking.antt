@@ -10,7 +10,6 @@ use Rattle.sgt_words.specs.Words.{Says, command_of}
 use Rattle.sgt_words.specs.declared.check.CheckWanted.{CheckWanted}
 use Rattle.sgt_words.specs.declared.choice.Choice.{Choice}
 use Rattle.sgt_words.specs.declared.choice.Choice.TheVariants.{Check}
-use Rattle.sgt_explain_decisions.proofs.Placing.{if-none}
 
 module _ {A : Type 0} (P : A → Type 0) where
   any_later : (x : A) (xs : List A) → Any P xs → Any P (x ∷ xs)
@@ -84,6 +83,11 @@ pub neither : (word : List ℕ) → (word ≡ codes "--order" → ⊥) → (word
 neither word a b c (inl (inl is)) = a is
 neither word a b c (inl (inr is)) = b is
 neither word a b c (inr is) = c is
+
+-- what holds at all holds where nothing is found
+pub on_none : {A : Type 0} (o : Option A) (P : Type 0) → P → IfNone o P
+on_none None P p = p
+on_none (Some a) P p = tt
 
 -- a thing is wanted or not, as its word stands there or not
 same : (a b : Bool) (S : Type 0) → IsTrue a ↔ S → IsTrue b ↔ S → a ≡ b

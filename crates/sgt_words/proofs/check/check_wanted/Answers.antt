@@ -1,12 +1,11 @@
 use Rattle.std.proofs.Common.{◌≡◌, ◌∷◌, ◌++◌, [], List, ℕ, map, string_bytes, subst, sym, take}
 use Rattle.sgt_words.specs.Check.{IsCheckOption, SaysCheck}
-use Rattle.sgt_words.proofs.Checking.{no_option, words_more}
-use Rattle.sgt_explain_decisions.proofs.Placing.{if-none}
+use Rattle.sgt_words.proofs.Checking.{no_option, on_none, words_more}
 use Rattle.sgt_words.proofs.check.check_wanted.Goals as goal
 
 pub returns-in_err-wanted-clause-none : goal.returns-in_err-wanted-clause-none
 returns-in_err-wanted-clause-none c =
-    if-none c.from_residual.result _
+    on_none c.from_residual.result _
     (no_option c.args.options.now c.loop-option.option-index c.option-item.result c.loop-option-test.true c.option-item.is
     (λ is. c.in_err-wanted.ensures.none (subst IsCheckOption (sym c.as_str.ensures.value) is)))
 
