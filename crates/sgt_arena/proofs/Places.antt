@@ -64,31 +64,42 @@ module _ {X : Type 0} where
   filled-empty zero = refl
   filled-empty (suc n) = ap (λ l. None ∷ l) (filled-empty n)
 
-  filled-push : (xs : List X) (n : ℕ) (w : X) → length xs < n → set (filled xs n) (length xs) (Some w) ≡ filled (xs ++ w ∷ []) n
+  filled-push : (xs : List X) (n : ℕ) (w : X) → length xs < n
+      → set (filled xs n) (length xs) (Some w) ≡ filled (xs ++ w ∷ []) n
   unfolding filled
   filled-push xs zero w lt = absurd (omega arith)
   filled-push [] (suc n) w lt = refl
   filled-push (x ∷ xs) (suc n) w lt = ap (λ l. Some x ∷ l) (filled-push xs n w (omega arith))
 
-  filled-set : (xs : List X) (n i : ℕ) (w : X) → i < length xs → length xs ≤ n → set (filled xs n) i (Some w) ≡ filled (set xs i w) n
+  filled-set : (xs : List X) (n i : ℕ) (w : X) → i < length xs → length xs ≤ n
+      → set (filled xs n) i (Some w) ≡ filled (set xs i w) n
   unfolding filled
   filled-set [] n i w lt le = absurd (omega arith)
   filled-set (x ∷ xs) zero i w lt le = absurd (omega arith)
   filled-set (x ∷ xs) (suc n) zero w lt le = refl
   filled-set (x ∷ xs) (suc n) (suc i) w lt le = ap (λ l. Some x ∷ l) (filled-set xs n i w (omega arith) (omega arith))
 
-  filled-dropped : (xs : List X) (n : ℕ) → length xs ≤ n → replicate (length xs) None ++ drop (length xs) (filled xs n) ≡ replicate n None
+  filled-dropped : (xs : List X) (n : ℕ) → length xs ≤ n
+      → replicate (length xs) None ++ drop (length xs) (filled xs n) ≡ replicate n None
   unfolding filled
   filled-dropped [] n le = filled-empty n
   filled-dropped (x ∷ xs) zero le = absurd (omega arith)
   filled-dropped (x ∷ xs) (suc n) le = ap (λ l. None ∷ l) (filled-dropped xs n (omega arith))
 
   -- a block by the values that its places hold
-  pub is_block : (b : Inside X) (xs : List X) → (b.cells.at ≡ b.base.ptr) × (b.deed.at ≡ b.base.ptr) × (b.deed.len ≡ block_places) × (b.deed.alloc ≡ b.alloc) → b.len ≡ length xs → b.len ≤ block_places
+  pub is_block : (b : Inside X) (xs : List X) → (b.cells.at ≡ b.base.ptr) × (b.deed.at ≡ b.base.ptr)
+      × (b.deed.len ≡ block_places) × (b.deed.alloc ≡ b.alloc) → b.len ≡ length xs → b.len ≤ block_places
       → b.cells.slots ≡ filled xs block_places → IsBlock b × (somes b.cells.slots ≡ xs)
   is_block b xs memory count fits places =
-      let are : somes b.cells.slots ≡ xs = ap somes places ∙ somes-filled xs block_places (omega arith) in
-      (record { memory = memory; count = (count ∙ sym (ap length are), fits); places = places ∙ ap (λ l. filled l block_places) (sym are) }, are)
+      let are : somes b.cells.slots ≡ xs = ap somes places ∙ somes-filled xs block_places (omega arith) in (
+        record {
+          memory = memory;
+          count = (count ∙ sym (ap length are), fits);
+          places = places
+              ∙ ap (λ l. filled l block_places) (sym are);
+        },
+        are,
+      )
 
 module _ {X : Type 0} (b : Inside X) (h : IsBlock b) where
   few : length (somes b.cells.slots) ≤ block_places
@@ -103,30 +114,43 @@ module _ {X : Type 0} (b : Inside X) (h : IsBlock b) where
 
   -- one value is written over
   pub item_written : (i : ℕ) (w : X) → i < length (somes b.cells.slots)
-      → let d = record b { cells = with_slots b.cells (set b.cells.slots i (Some w)) } in IsBlock d × (somes d.cells.slots ≡ set (somes b.cells.slots) i w)
+      → let d = record b { cells = with_slots b.cells (set b.cells.slots i (Some w)) } in
+      IsBlock d × (somes d.cells.slots ≡ set (somes b.cells.slots) i w)
   item_written i w lt =
       let xs = somes b.cells.slots in let count = h.count.0 in let fits = h.count.1 in
-      is_block (record b { cells = with_slots b.cells (set b.cells.slots i (Some w)) }) (set xs i w) h.memory (h.count.0 ∙ sym (length-set xs i w)) h.count.1
+      is_block (record b { cells = with_slots b.cells (set b.cells.slots i (Some w)) }) (set xs i w) h.memory
+      (h.count.0 ∙ sym (length-set xs i w)) h.count.1
       (ap (λ l. set l i (Some w)) h.places ∙ filled-set xs block_places i w lt few)
 
   -- one value is written behind the others
-  pub item_pushed : (w : X) (cells : Cells X) → b.len < block_places → (cells.at ≡ b.cells.at) × (cells.slots ≡ set b.cells.slots b.len (Some w))
-      → let d = record b { len = b.len + 1; cells = cells } in IsBlock d × (somes d.cells.slots ≡ somes b.cells.slots ++ w ∷ [])
+  pub item_pushed : (w : X) (cells : Cells X) → b.len < block_places
+      → (cells.at ≡ b.cells.at) × (cells.slots ≡ set b.cells.slots b.len (Some w))
+      → let d = record b { len = b.len + 1; cells = cells } in
+      IsBlock d × (somes d.cells.slots ≡ somes b.cells.slots ++ w ∷ [])
   item_pushed w cells room new =
       let xs = somes b.cells.slots in let count = h.count.0 in let more = length-append xs (w ∷ []) in
-      is_block (record b { len = b.len + 1; cells = cells }) (xs ++ w ∷ []) (new.0 ∙ h.memory.0, h.memory.1, h.memory.2, h.memory.3) (omega arith) (omega arith)
+      is_block (record b { len = b.len + 1; cells = cells }) (xs ++ w ∷ []) (
+        new.0 ∙ h.memory.0,
+        h.memory.1,
+        h.memory.2,
+        h.memory.3,
+      ) (omega arith) (omega arith)
       (new.1 ∙ (λ i. set (h.places i) (h.count.0 i) (Some w)) ∙ filled-push xs block_places w (omega arith))
 
   pub first_held : HoldsFirst b.cells.slots b.len
-  first_held i lt = let count = h.count.0 in let x = value_of (somes b.cells.slots) i (omega arith) in (x.0, place_shows i ∙ x.1)
+  first_held i lt = let count = h.count.0 in let x = value_of (somes b.cells.slots) i (omega arith) in
+      (x.0, place_shows i ∙ x.1)
 
   -- all values are dropped
-  pub items_dropped : (cells : Cells X) → (cells.at ≡ b.cells.at) × (cells.slots ≡ replicate b.len None ++ drop b.len b.cells.slots)
+  pub items_dropped : (cells : Cells X)
+      → (cells.at ≡ b.cells.at) × (cells.slots ≡ replicate b.len None ++ drop b.len b.cells.slots)
       → let d = record b { len = 0; cells = cells } in IsBlock d × (somes d.cells.slots ≡ [])
   items_dropped cells new =
       let xs = somes b.cells.slots in let count = h.count.0 in let fits = h.count.1 in
-      is_block (record b { len = 0; cells = cells }) [] (new.0 ∙ h.memory.0, h.memory.1, h.memory.2, h.memory.3) refl (omega arith)
-      (new.1 ∙ (λ i. replicate (h.count.0 i) None ++ drop (h.count.0 i) (h.places i)) ∙ filled-dropped xs block_places few ∙ sym (filled-empty block_places))
+      is_block (record b { len = 0; cells = cells }) [] (new.0 ∙ h.memory.0, h.memory.1, h.memory.2, h.memory.3) refl
+      (omega arith)
+      (new.1 ∙ (λ i. replicate (h.count.0 i) None ++ drop (h.count.0 i) (h.places i))
+      ∙ filled-dropped xs block_places few ∙ sym (filled-empty block_places))
 
 -- the places where the first j values have been dropped
 abbrev pub dropped : {X : Type 0} → ℕ → List (Option X) → List (Option X)
@@ -134,7 +158,8 @@ dropped j cs = replicate j None ++ drop j cs
 
 module _ {X : Type 0} where
   pub length-dropped : (j : ℕ) (cs : List (Option X)) → j ≤ length cs → length (dropped j cs) ≡ length cs
-  length-dropped j cs le = let none : Option X = None in omega (arith, length-append (replicate j none) (drop j cs), length-replicate j none, length-drop j cs)
+  length-dropped j cs le = let none : Option X = None in
+      omega (arith, length-append (replicate j none) (drop j cs), length-replicate j none, length-drop j cs)
 
   pub get_or-dropped : (j : ℕ) (cs : List (Option X)) → j < length cs → get_or (dropped j cs) j None ≡ get_or cs j None
   get_or-dropped j [] h = absurd (omega arith)

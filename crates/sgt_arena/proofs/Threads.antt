@@ -36,18 +36,26 @@ module _ (R : RattleType) where
   pub cells_send : IsSend R → IsSend (cells.the_row R)
   cells_send send =
       let S = cells.the_type R in let all : AllSend (fields S) = (search sendable, tt) in
-      owning_send S all (λ d. owned_anywhere send d.at d.slots) (λ k. quiet (to S) (exits_of k (fields S)) ((struct_send (shape S) all).leaving k))
+      owning_send S all (λ d. owned_anywhere send d.at d.slots)
+      (λ k. quiet (to S) (exits_of k (fields S)) ((struct_send (shape S) all).leaving k))
 
   pub cells_sync : IsSync R → IsSync (cells.the_row R)
   cells_sync sync =
       let S = cells.the_type R in
-      record { shared = λ d b o κ. ((struct_sync (shape S) (search sendable, tt)).shared (to S d) b o κ, lent_anywhere sync d.at d.slots κ) }
+      record {
+        shared = λ d b o κ. (
+          (struct_sync (shape S) (search sendable, tt)).shared (to S d) b o κ,
+          lent_anywhere sync d.at d.slots κ,
+        );
+      }
 
   module _ (A : RattleType) (g : Ghosts A.Denot) where
     pub deed_send : FreesAnywhere A.Denot g → IsSend (deed.the_row R A g)
     deed_send free =
         let S = deed.the_type R A g in let all : AllSend (fields S) = (search sendable, tt) in
-        owning_send S all (λ d. free.frees d.alloc _ d.at) (λ k. quiet (to S) (exits_of k (fields S)) ((struct_send (shape S) all).leaving k))
+        owning_send S all (λ d. free.frees d.alloc _ d.at)
+        (λ k. quiet (to S) (exits_of k (fields S)) ((struct_send (shape S) all).leaving k))
 
     pub deed_sync : IsSync (deed.the_row R A g)
-    deed_sync = let S = deed.the_type R A g in record { shared = λ d b o κ. ((struct_sync (shape S) (search sendable, tt)).shared (to S d) b o κ, tt) }
+    deed_sync = let S = deed.the_type R A g in
+        record { shared = λ d b o κ. ((struct_sync (shape S) (search sendable, tt)).shared (to S d) b o κ, tt) }

@@ -7,9 +7,9 @@ use crate::limits::{BLOCK_PLACES, MAX_PLACES};
 use std::alloc::Global;
 use std::marker::Model;
 
-/// The values of a window, placed one after another, at most `MAX_PLACES`, in blocks of 64 places each. A block is allocated
-/// when its first place is asked for, and no value moves after it was placed. Closing the window drops them all, frees the
-/// blocks and begins the next window.
+/// The values of a window, placed one after another, at most `MAX_PLACES`, in blocks of 64 places each. A block is
+/// allocated when its first place is asked for, and no value moves after it was placed. Closing the window drops them
+/// all, frees the blocks and begins the next window.
 pub struct Arena<T> {
     blocks: Vec<Block<T>>,
     len: usize,
@@ -102,9 +102,9 @@ impl<T> Arena<T> {
         self.generation
     }
 
-    /// Makes room, so that as many more values can be placed without taking memory. It errs with G1 where the window would
-    /// then hold more than `MAX_PLACES`, else with G2 where that room isn't there and memory is refused; after an Err the
-    /// arena is as it was.
+    /// Makes room, so that as many more values can be placed without taking memory. It errs with G1 where the window
+    /// would then hold more than `MAX_PLACES`, else with G2 where that room isn't there and memory is refused; after
+    /// an Err the arena is as it was.
     pub fn reserve(&mut self, more: usize) -> Result<(), ArenaFault>
         ensures same { SameValues self.old self.new }
         ensures kept { self.old.room ≤ self.new.room }
@@ -130,9 +130,9 @@ impl<T> Arena<T> {
         Ok(())
     }
 
-    /// Places a value behind the others and gives its handle. It errs with G1 where the window is full, else with G2 where
-    /// no room is left and memory is refused; the Err hands the value back, and the arena is as it was. A call takes
-    /// constant time but where it allocates a block.
+    /// Places a value behind the others and gives its handle. It errs with G1 where the window is full, else with G2
+    /// where no room is left and memory is refused; the Err hands the value back, and the arena is as it was. A call
+    /// takes constant time but where it allocates a block.
     pub fn place(&mut self, value: T) -> Result<Handle, Refused<T>>
         ensures ok { OnOk result (self.new.items ≡ self.old.items ++ value ∷ []) }
         ensures handle { IfOk result
@@ -169,8 +169,8 @@ impl<T> Arena<T> {
         block.get(index % BLOCK_PLACES)
     }
 
-    /// The value under a handle, where there is one in the present window, for writing; no other value changes. Constant
-    /// time.
+    /// The value under a handle, where there is one in the present window, for writing; no other value changes.
+    /// Constant time.
     pub fn get_mut(&mut self, handle: Handle) -> Option<&mut T>
         ensures* writes_back { sem 𝓛 (lends_get T.row self.entry handle result) }
         ensures value { option_copied_mut result ≡ get self.old handle }
@@ -193,9 +193,9 @@ impl<T> Arena<T> {
         block.get_mut(index % BLOCK_PLACES)
     }
 
-    /// Drops all values in the order of placing, frees the blocks and begins the next window, in which no handle that was
-    /// given before shows anything. It errs with G3 in the window of the greatest number, 4,294,967,295, and the arena is
-    /// then as it was.
+    /// Drops all values in the order of placing, frees the blocks and begins the next window, in which no handle that
+    /// was given before shows anything. It errs with G3 in the window of the greatest number, 4,294,967,295, and the
+    /// arena is then as it was.
     pub fn close(&mut self) -> Result<(), ArenaFault>
     where
         T: Drop,

@@ -1,5 +1,5 @@
-//! Keeps the values of a window under handles. Until the window is closed a handle shows the value that it was given for;
-//! from then on the arena shows nothing under it.
+//! Keeps the values of a window under handles. Until the window is closed a handle shows the value that it was given
+//! for; from then on the arena shows nothing under it.
 //!
 //! What the docs say of costs is no clause.
 #![tactic(auto)]

@@ -14,7 +14,7 @@ IsOther _ = Unit {0}
 
 pub read-of : (l : List ℕ) (r : Result Certificate CertFault) → IfOk r (λ c. IsCertificate c × (l ≡ certificate_text c))
     → ((c : Certificate) → IsCertificate c → l ≡ certificate_text c
-        → MatchResult r (λ found. found ≡ c) (λ e. e ≡ cert.Memory)) → IsReadingOf l r
+    → MatchResult r (λ found. found ≡ c) (λ e. e ≡ cert.Memory)) → IsReadingOf l r
 read-of l (Ok c) ok only = ok
 read-of l (Err cert.Memory) ok only = tt
 read-of l (Err cert.NotJson) ok only = λ c is same. subst IsOther (only c is same) tt

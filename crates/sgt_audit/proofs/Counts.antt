@@ -15,5 +15,10 @@ module _ {A : Type 0} (p : A → Bool) (xs : List A) (i n : ℕ) (lt : i < lengt
 
   -- the count is no more than there are
   pub count-few : (x : A) (r : Bool) (m : ℕ) → x ≡ get_or xs i x → r ≡ p x → m ≡ bool_byte r → n + m ≤ length xs
-  count-few x r m at is one = omega (arith, lt, count-next x r m at is one, count_by-le-length p (take (i + 1) xs),
-      length-take (i + 1) xs)
+  count-few x r m at is one = omega (
+    arith,
+    lt,
+    count-next x r m at is one,
+    count_by-le-length p (take (i + 1) xs),
+    length-take (i + 1) xs,
+  )

@@ -8,18 +8,18 @@ use Rattle.sgt_audit.specs.Faults.{fault_number}
 abbrev fault_of : ℕ → Fault
 fault_of n =
     cond (n == 1) fault.Format
-        (cond (n == 2) fault.Notation
-        (cond (n == 3) fault.Certificate
-        (cond (n == 4) fault.Ranks (cond (n == 5) fault.DecidedTwice (cond (n == 6) fault.WalkShape
+    (cond (n == 2) fault.Notation
+    (cond (n == 3) fault.Certificate
+    (cond (n == 4) fault.Ranks (cond (n == 5) fault.DecidedTwice (cond (n == 6) fault.WalkShape
     (cond (n == 7) fault.Section
-        (cond (n == 8) fault.Item
-        (cond (n == 9) fault.Twice
-        (cond (n == 10) fault.ReadValue (cond (n == 11) fault.RankOrder (cond (n == 12) fault.Block
+    (cond (n == 8) fault.Item
+    (cond (n == 9) fault.Twice
+    (cond (n == 10) fault.ReadValue (cond (n == 11) fault.RankOrder (cond (n == 12) fault.Block
     (cond (n == 13) fault.End
-        (cond (n == 14) fault.DecisionOrder
-        (cond (n == 15) fault.NotEnded
-        (cond (n == 16) fault.Final
-        (cond (n == 17) fault.WalkStep (cond (n == 18) fault.Truncated fault.Trailing)))))))))))))))))
+    (cond (n == 14) fault.DecisionOrder
+    (cond (n == 15) fault.NotEnded
+    (cond (n == 16) fault.Final
+    (cond (n == 17) fault.WalkStep (cond (n == 18) fault.Truncated fault.Trailing)))))))))))))))))
 
 back : (f : Fault) → fault_of (fault_number f) ≡ f
 back fault.Format = refl

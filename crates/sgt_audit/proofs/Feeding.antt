@@ -43,9 +43,12 @@ fault-read m n lines l f none (s, stands, same, counts) breaks = (
 -- it stays the first one
 pub found-read : (f : found.FirstFault) (lines : List (List ℕ)) (l : List ℕ) → HasRead (Found f) lines
     → HasRead (Found f) (lines ++ l ∷ [])
-found-read f lines l (m, first, le, counts) =
-    (m, λ rest. subst (λ t. FirstFault t m f.fault) (sym (text-one_line lines l rest)) (first (l ++ 10 ∷ rest)),
-    omega (arith, length-append lines (l ∷ [])), counts)
+found-read f lines l (m, first, le, counts) = (
+  m,
+  λ rest. subst (λ t. FirstFault t m f.fault) (sym (text-one_line lines l rest)) (first (l ++ 10 ∷ rest)),
+  omega (arith, length-append lines (l ∷ [])),
+  counts,
+)
 
 -- ---- the verdict
 
@@ -64,25 +67,35 @@ pub end-judged : (m : Machine) (n : ℕ) (j : Result Kept found.FirstFault) (lin
     → IsJudged j (text_of_lines lines)
 end-judged m n j lines (s, stands, same, counts) few ends =
     text-judged s [] n (faultless m.progress s stands) (λ k d lt. absurd (omega arith)) (text_of_lines lines) j
-        (ends s stands)
-    (ap text_of_lines (sym same) ∙ sym (append-nil (text_of_lines (lines_so_far s))), counts few
-        ∙ ap (λ ls. length ls + 1) (sym same))
+    (ends s stands) (
+      ap text_of_lines (sym same) ∙ sym (append-nil (text_of_lines (lines_so_far s))),
+      counts few
+          ∙ ap (λ ls. length ls + 1) (sym same),
+    )
 
 -- ---- the certificate's line
 
 pub first-read : (second : Bool) (m : Machine) (l : List ℕ) (c : Certificate) → l ≡ certificate_text c
     → Follows (headed second) l m.progress None → HasRead (Going m 3) (bundle_lines second c [])
-first-read second m l c same (t, stands, lines) = (t, stands, lines ∙ ap (λ x. format_line second ∷ x ∷ []) same,
-    λ _. refl)
+first-read second m l c same (t, stands, lines) = (
+  t,
+  stands,
+  lines ∙ ap (λ x. format_line second ∷ x ∷ []) same,
+  λ _. refl,
+)
 
 pub first-fault : (second : Bool) (m : Machine) (l : List ℕ) (c : Certificate) (f : Fault)
     → m.progress ≡ at.Headed second → HasNoLf (certificate_text c) → l ≡ certificate_text c
     → ((s : Stage) → Stands m.progress s → Breaks (Rule s (whole l)) f)
     → HasRead (Found (record { line = 2; fault = f })) (bundle_lines second c [])
 first-fault second m l c f here none same breaks =
-    fault-read m 2 (format_line second ∷ []) (certificate_text c) f none (headed second,
-        subst (λ p. Stands p (headed second)) (sym here) refl, refl, λ _. refl)
-        (λ s stands. subst (λ l. Breaks (Rule s (whole l)) f) same (breaks s stands))
+    fault-read m 2 (format_line second ∷ []) (certificate_text c) f none (
+      headed second,
+      subst (λ p. Stands p (headed second)) (sym here) refl,
+      refl,
+      λ _. refl,
+    )
+    (λ s stands. subst (λ l. Breaks (Rule s (whole l)) f) same (breaks s stands))
 
 -- ---- the fault that is known
 

@@ -44,13 +44,13 @@ allowed-at second logs allowed s log at =
     All-from_at (AllowsEntry second) log.entries (λ n e at_e is.
     let here = list_any-from_Any is_increment log.entries (Any-from_at IsIncrement log.entries n e at_e is) in
     allowed (list_any-from_Any (λ (log : SiteLog). list_any is_increment log.entries) logs
-        (Any-from_at HasIncrement logs s log at here)))
+    (Any-from_at HasIncrement logs s log at here)))
 
 pub all-allowed : (second : Bool) (logs : List SiteLog) → ((s : ℕ) (log : SiteLog) → slice_get logs s ≡ Some log
     → All (AllowsEntry second) log.entries) → IsTrue (has_increments logs) → IsTrue second
 all-allowed second logs each some =
     let l = Any_at HasIncrement logs (Any-from_list_any (λ (log : SiteLog). list_any is_increment log.entries) logs
-        some) in
+    some) in
     let e = Any_at IsIncrement l.1.entries (Any-from_list_any is_increment l.1.entries l.3) in
     All_at (AllowsEntry second) l.1.entries e.0 e.1 (each l.0 l.1 l.2) e.2 e.3
 
@@ -93,12 +93,12 @@ module _ (second : Bool) where
     section-allowed : All (AllowsEntry second) log.entries → AllByRecursion (Allows second) (section_lines k log)
     section-allowed h =
         let front =
-            AllByRecursion-append (Allows second) items entries
-            (AllByRecursion-map (Allows second) Initial (λ h. tt) log.items)
-            (logged-allowed log.entries (recursion_from_All (AllowsEntry second) log.entries h)) in
+        AllByRecursion-append (Allows second) items entries
+        (AllByRecursion-map (Allows second) Initial (λ h. tt) log.items)
+        (logged-allowed log.entries (recursion_from_All (AllowsEntry second) log.entries h)) in
         let body =
-            AllByRecursion-append (Allows second) (items ++ entries) finals front
-            (AllByRecursion-map (Allows second) Final (λ h. tt) log.finals) in
+        AllByRecursion-append (Allows second) (items ++ entries) finals front
+        (AllByRecursion-map (Allows second) Final (λ h. tt) log.finals) in
         (tt, AllByRecursion-append (Allows second) (items ++ entries ++ finals) (End ∷ []) body (tt, tt))
 
     allowed-section : AllByRecursion (Allows second) (section_lines k log) → All (AllowsEntry second) log.entries
@@ -106,21 +106,21 @@ module _ (second : Bool) where
         let body = (front-all (Allows second) (items ++ entries ++ finals) (End ∷ []) h.1).0 in
         let front = (front-all (Allows second) (items ++ entries) finals body).0 in
         All-from_recursion (AllowsEntry second) log.entries
-            (entries-allowed log.entries (front-all (Allows second) items entries front).1)
+        (entries-allowed log.entries (front-all (Allows second) items entries front).1)
 
   sections-allowed : (k : ℕ) (logs : List SiteLog) → ((s : ℕ) (log : SiteLog) → slice_get logs s ≡ Some log
       → All (AllowsEntry second) log.entries) → AllByRecursion (Allows second) (sections_from k logs)
   sections-allowed k [] h = tt
   sections-allowed k (log ∷ logs) h =
       AllByRecursion-append (Allows second) (section_lines k log) (sections_from (suc k) logs)
-          (section-allowed k log (h 0 log refl)) (sections-allowed (suc k) logs (λ s l at. h (suc s) l at))
+      (section-allowed k log (h 0 log refl)) (sections-allowed (suc k) logs (λ s l at. h (suc s) l at))
 
   allowed-sections : (k : ℕ) (logs : List SiteLog) → AllByRecursion (Allows second) (sections_from k logs)
       → (s : ℕ) (log : SiteLog) → slice_get logs s ≡ Some log → All (AllowsEntry second) log.entries
   allowed-sections k [] h s log at = absurd cc
   allowed-sections k (l ∷ logs) h zero log at =
       subst (λ (l : SiteLog). All (AllowsEntry second) l.entries) (same_Some l log at)
-          (allowed-section k l (front-all (Allows second) (section_lines k l) (sections_from (suc k) logs) h).0)
+      (allowed-section k l (front-all (Allows second) (section_lines k l) (sections_from (suc k) logs) h).0)
   allowed-sections k (l ∷ logs) h (suc s) log at =
       allowed-sections (suc k) logs (front-all (Allows second) (section_lines k l) (sections_from (suc k) logs) h).1 s
       log at
@@ -130,7 +130,7 @@ module _ (second : Bool) where
       → (IsTrue (has_increments logs) → IsTrue second) → All (IsLineIn second) (sections_from k logs)
   lines-allowed k logs is allowed =
       All-from_recursion (IsLineIn second) (sections_from k logs)
-          (lines-in second (sections_from k logs) is (sections-allowed k logs (allowed-at second logs allowed)))
+      (lines-in second (sections_from k logs) is (sections-allowed k logs (allowed-at second logs allowed)))
 
   pub logs-allowed : (k : ℕ) (logs : List SiteLog) → All (IsLineIn second) (sections_from k logs)
       → IsTrue (has_increments logs) → IsTrue second

@@ -226,9 +226,9 @@ module _ (c : Certificate) (ds : List Decision) (before : List SectionLine) (e :
               pub entry-kept : InOrderIn ds entries → KeptBelow rule 17
               entry-kept ordered =
                   let upto-15 =
-                      kept-next rule 14 fault.DecisionOrder refl upto-14
-                      (subst (InOrderIn c.decisions) (sym at_entries)
-                      (subst (λ ds. InOrderIn ds entries) (sym same) ordered)) in
+                  kept-next rule 14 fault.DecisionOrder refl upto-14
+                  (subst (InOrderIn c.decisions) (sym at_entries)
+                  (subst (λ ds. InOrderIn ds entries) (sym same) ordered)) in
                   kept-next rule 16 fault.Final refl (kept-next rule 15 fault.NotEnded refl upto-15 tt) tt
 
 -- ---- a final value, and the end
@@ -249,14 +249,14 @@ module _ (c : Certificate) (before : List SectionLine) (h : Holding) (log : Site
   final-12 =
       let upto-8 = kept-next final_rule 7 fault.Section refl (final-7 c before h) begins in
       kept-next final_rule 11 fault.RankOrder refl
-          (kept-next final_rule 10 fault.ReadValue refl
-          (kept-next final_rule 9 fault.Twice refl (kept-next final_rule 8 fault.Item refl upto-8 tt) tt) tt) tt
+      (kept-next final_rule 10 fault.ReadValue refl
+      (kept-next final_rule 9 fault.Twice refl (kept-next final_rule 8 fault.Item refl upto-8 tt) tt) tt) tt
 
   module _ (goes : ContinuesLog log (Final h)) where
     final-15 : KeptBelow final_rule 15
     final-15 =
         let upto-13 =
-            kept-next final_rule 12 fault.Block refl final-12 (λ f last. goes f (o.last f last).0 (o.last f last).1) in
+        kept-next final_rule 12 fault.Block refl final-12 (λ f last. goes f (o.last f last).0 (o.last f last).1) in
         kept-next final_rule 14 fault.DecisionOrder refl (kept-next final_rule 13 fault.End refl upto-13 tt) tt
 
     pub final-ended : (AllEnded entries → ⊥) → Breaks final_rule fault.NotEnded
@@ -287,14 +287,14 @@ module _ (c : Certificate) (before : List SectionLine) (log : SiteLog) (entries 
   end-12 =
       let upto-8 = kept-next end_rule 7 fault.Section refl (end-7 c before) begins in
       kept-next end_rule 11 fault.RankOrder refl
-          (kept-next end_rule 10 fault.ReadValue refl
-          (kept-next end_rule 9 fault.Twice refl (kept-next end_rule 8 fault.Item refl upto-8 tt) tt) tt) tt
+      (kept-next end_rule 10 fault.ReadValue refl
+      (kept-next end_rule 9 fault.Twice refl (kept-next end_rule 8 fault.Item refl upto-8 tt) tt) tt) tt
 
   module _ (goes : ContinuesLog log End) where
     end-15 : KeptBelow end_rule 15
     end-15 =
         let upto-13 =
-            kept-next end_rule 12 fault.Block refl end-12 (λ f last. goes f (o.last f last).0 (o.last f last).1) in
+        kept-next end_rule 12 fault.Block refl end-12 (λ f last. goes f (o.last f last).0 (o.last f last).1) in
         kept-next end_rule 14 fault.DecisionOrder refl (kept-next end_rule 13 fault.End refl upto-13 tt) tt
 
     pub end-ended : (AllEnded entries → ⊥) → Breaks end_rule fault.NotEnded
@@ -317,10 +317,10 @@ site-kept c before k closed begins =
     let rule = Keeps c before (Site k) in
     let upto-8 = kept-next rule 7 fault.Section refl (site-7 c before k) begins in
     let upto-12 =
-        kept-next rule 11 fault.RankOrder refl
-        (kept-next rule 10 fault.ReadValue refl
-        (kept-next rule 9 fault.Twice refl (kept-next rule 8 fault.Item refl upto-8 tt) tt) tt) tt in
+    kept-next rule 11 fault.RankOrder refl
+    (kept-next rule 10 fault.ReadValue refl
+    (kept-next rule 9 fault.Twice refl (kept-next rule 8 fault.Item refl upto-8 tt) tt) tt) tt in
     let upto-13 = kept-next rule 12 fault.Block refl upto-12 (λ f last is_open. absurd (closed f last)) in
     kept-next rule 16 fault.Final refl
-        (kept-next rule 15 fault.NotEnded refl
-        (kept-next rule 14 fault.DecisionOrder refl (kept-next rule 13 fault.End refl upto-13 tt) tt) tt) tt
+    (kept-next rule 15 fault.NotEnded refl
+    (kept-next rule 14 fault.DecisionOrder refl (kept-next rule 13 fault.End refl upto-13 tt) tt) tt) tt

@@ -52,13 +52,16 @@ module _ (ds : List Decision) (whole : List SiteLog) (log : SiteLog) (here : Lis
   met-here all = All-from_at (IsMet log.entries) here (λ n e at.
       let both = (are e).0 (Contains-from_at here n e at) in
       All_in (Holds (whole ++ log ∷ [])) (edges_in ds) e all both.0 log (ap (slice_get (whole ++ log ∷ [])) both.1
-          ∙ middle_at whole log []))
+      ∙ middle_at whole log []))
 
 pub none-met : (ds : List Decision) (w : Walks) → AreStepsOf ds w.steps → w.met ≡ true → MeansMet ds [] w
 none-met ds w steps met = record {
   steps = steps;
-  met = (λ h. All-from_at (λ (e : Edge). (log : SiteLog) → slice_get [] e.step.label.site ≡ Some log
-      → IsMet log.entries e) (edges_in ds) (λ n e at log found. absurd (none-some log found)), λ h. met);
+  met = (
+    λ h. All-from_at (λ (e : Edge). (log : SiteLog) → slice_get [] e.step.label.site ≡ Some log
+        → IsMet log.entries e) (edges_in ds) (λ n e at log found. absurd (none-some log found)),
+    λ h. met,
+  );
 }
 
 -- ---- one more line
@@ -66,37 +69,37 @@ none-met ds w steps met = record {
 -- the open log is whole with the end of its section
 module _ (ds : List Decision) (b : Begun) (s : SiteState) (old new : Walks) (here : List Edge) (are : (site : ℕ)
     → s.section - 1 ≡ site → AreStepsAt ds site here) (same : new.steps ≡ old.steps) (is : MeansMet ds b.whole old)
-    where
-  section-at : (log : SiteLog) → TracksCurrent ds (length b.whole) (Some log) s → AreStepsAt ds (length b.whole) here
-  section-at log t = let n = t.0 in are (length b.whole) (omega arith)
+  where
+    section-at : (log : SiteLog) → TracksCurrent ds (length b.whole) (Some log) s → AreStepsAt ds (length b.whole) here
+    section-at log t = let n = t.0 in are (length b.whole) (omega arith)
 
-  steps-same : AreStepsOf ds new.steps
-  steps-same = subst (AreStepsOf ds) (sym same) is.steps
+    steps-same : AreStepsOf ds new.steps
+    steps-same = subst (AreStepsOf ds) (sym same) is.steps
 
-  pub met-ended : (o : Option SiteLog) → MayFollow b o End → TracksCurrent ds (length b.whole) o s → new.met ≡ old.met
-      → ((log : SiteLog) → TracksOpen ds log.items log.entries s → All (IsMet log.entries) here)
-      → MeansMet ds (with_next b o End).whole new
-  met-ended None fits t met all = absurd fits
-  met-ended (Some log) fits t met all =
-      let at = section-at log t in
-      record {
-        steps = steps-same;
-        met = (
-          λ h. met-more ds b.whole log here at (is.met.0 (sym met ∙ h)) (all log t.1),
-          λ m. met ∙ is.met.1 (met-front ds b.whole log here at m),
-        );
-      }
+    pub met-ended : (o : Option SiteLog) → MayFollow b o End → TracksCurrent ds (length b.whole) o s → new.met ≡ old.met
+        → ((log : SiteLog) → TracksOpen ds log.items log.entries s → All (IsMet log.entries) here)
+        → MeansMet ds (with_next b o End).whole new
+    met-ended None fits t met all = absurd fits
+    met-ended (Some log) fits t met all =
+        let at = section-at log t in
+        record {
+          steps = steps-same;
+          met = (
+            λ h. met-more ds b.whole log here at (is.met.0 (sym met ∙ h)) (all log t.1),
+            λ m. met ∙ is.met.1 (met-front ds b.whole log here at m),
+          );
+        }
 
-  pub met-missed : (o : Option SiteLog) → MayFollow b o End → TracksCurrent ds (length b.whole) o s → new.met ≡ false
-      → ((log : SiteLog) → TracksOpen ds log.items log.entries s → All (IsMet log.entries) here → ⊥)
-      → MeansMet ds (with_next b o End).whole new
-  met-missed None fits t met miss = absurd fits
-  met-missed (Some log) fits t met miss =
-      let at = section-at log t in
-      record {
-        steps = steps-same;
-        met = (λ h. absurd (false≢true (sym met ∙ h)), λ m. absurd (miss log t.1 (met-here ds b.whole log here at m)));
-      }
+    pub met-missed : (o : Option SiteLog) → MayFollow b o End → TracksCurrent ds (length b.whole) o s → new.met ≡ false
+        → ((log : SiteLog) → TracksOpen ds log.items log.entries s → All (IsMet log.entries) here → ⊥)
+        → MeansMet ds (with_next b o End).whole new
+    met-missed None fits t met miss = absurd fits
+    met-missed (Some log) fits t met miss =
+        let at = section-at log t in
+        record {
+          steps = steps-same;
+          met = (λ h. absurd (false≢true (sym met ∙ h)), λ m. absurd (miss log t.1 (met-here ds b.whole log here at m)));
+        }
 
 -- ---- all logs are whole
 
@@ -127,10 +130,13 @@ walks-decide c logs w spelled each is = (
   λ h tx walk here. walk-logged logs tx walk (λ e has.
       let there = edge-there c.decisions tx walk e here has in
       let within = All_in (λ (f : Edge). f.step.label.site < c.sites) (edges_in c.decisions) e
-          (certificate-within c spelled) there in
-      let log = within_at logs e.step.label.site (omega arith) in
-      (log.0, log.1, All_in (λ (f : Edge). (l : SiteLog) → slice_get logs f.step.label.site ≡ Some l
-          → IsMet l.entries f) (edges_in c.decisions) e (is.met.0 h) there log.0 log.1)),
+      (certificate-within c spelled) there in
+      let log = within_at logs e.step.label.site (omega arith) in (
+        log.0,
+        log.1,
+        All_in (λ (f : Edge). (l : SiteLog) → slice_get logs f.step.label.site ≡ Some l
+            → IsMet l.entries f) (edges_in c.decisions) e (is.met.0 h) there log.0 log.1,
+      )),
   λ walks. is.met.1 (All-from_at (λ (f : Edge). (l : SiteLog) → slice_get logs f.step.label.site ≡ Some l
       → IsMet l.entries f) (edges_in c.decisions) (λ n e at log found.
       let by = edge-found c.decisions e (Contains-from_at (edges_in c.decisions) n e at) in
@@ -146,10 +152,13 @@ pub met-walks : (c : Certificate) (logs : List SiteLog) → IsCertificate c → 
 met-walks c logs spelled each met tx walk here = walk-logged logs tx walk (λ e has.
     let there = edge-there c.decisions tx walk e here has in
     let within = All_in (λ (f : Edge). f.step.label.site < c.sites) (edges_in c.decisions) e
-        (certificate-within c spelled) there in
-    let log = within_at logs e.step.label.site (omega arith) in
-    (log.0, log.1, All_in (λ (f : Edge). (l : SiteLog) → slice_get logs f.step.label.site ≡ Some l
-        → IsMet l.entries f) (edges_in c.decisions) e met there log.0 log.1))
+    (certificate-within c spelled) there in
+    let log = within_at logs e.step.label.site (omega arith) in (
+      log.0,
+      log.1,
+      All_in (λ (f : Edge). (l : SiteLog) → slice_get logs f.step.label.site ≡ Some l
+          → IsMet l.entries f) (edges_in c.decisions) e met there log.0 log.1,
+    ))
 
 pub walks-met : (c : Certificate) (logs : List SiteLog)
     → ((tx : ℕ) (walk : List Step) → Contains c.decisions (Refuse tx walk) → AreLogged logs tx walk)

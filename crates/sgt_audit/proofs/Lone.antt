@@ -55,10 +55,10 @@ kept-7 c before End = end-7 c before
 pub next-stands : (c : Certificate) (b : Begun) (line : SectionLine) (old new : Alone) → StandsAlone c b old
     → Begins b.sites (lines_read b ++ line ∷ []) → KeptBelow (Keeps c (lines_read b) line) 17
     → ((a : Begun) → IsBegun a → MayFollow a a.current line → IsPlace a old.place
-        → IsPlace (with_next a a.current line) new.place)
+    → IsPlace (with_next a a.current line) new.place)
     → ((a : Begun) → IsDecidedOnce c.decisions → IsBegun a → MayFollow a a.current line
-        → AdmitsLine c.decisions a.current line → Tracks c.decisions a old.state
-        → Tracks c.decisions (with_next a a.current line) new.state)
+    → AdmitsLine c.decisions a.current line → Tracks c.decisions a old.state
+    → Tracks c.decisions (with_next a a.current line) new.state)
     → StandsAlone c (with_next b b.current line) new
 next-stands c b line old new s begins kept place state = record {
   once = s.once;
@@ -85,8 +85,13 @@ module _ (ds : List Decision) (log : SiteLog) (is : IsOpenLog log) where
   first = record { sites = 2; whole = []; current = Some log }
 
   first-begun : IsBegun first
-  first-begun = record { some = omega arith; few = omega arith; logs = λ n d within. absurd (omega arith); room =
-      (omega arith, is) }
+  first-begun = record {
+    some = omega arith;
+    few = omega arith;
+    logs = λ n d within. absurd (omega arith);
+    room =
+        (omega arith, is);
+  }
 
   pub first-begins : (line : SectionLine) → Fits log line → Begins 2 (lines_read first ++ line ∷ [])
   first-begins line fits = (follow-decides first first-begun line true (λ h. fits, λ h. refl)).0 refl

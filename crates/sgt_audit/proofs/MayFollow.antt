@@ -29,7 +29,7 @@ split-whole k [] logs rest e = (logs, refl, ap (λ j. sections_from j logs) (add
 split-whole k (w ∷ ws) [] rest e = absurd cc
 split-whole k (w ∷ ws) (l ∷ ls) rest e =
     let one = section-one k l w (sections_from (suc k) ls) (sections_from (suc k) ws ++ rest) (e
-        ∙ append_assoc (section_lines k w) (sections_from (suc k) ws) rest) in
+    ∙ append_assoc (section_lines k w) (sections_from (suc k) ws) rest) in
     let later = split-whole (suc k) ws ls rest one.1 in
     let place : k + suc (length ws) ≡ suc k + length ws = omega arith in
     (later.0, ap₂ (λ z zs. z ∷ zs) one.0 later.1, ap (λ j. sections_from j later.0) place ∙ later.2)
@@ -40,7 +40,7 @@ sections-append k [] more = ap (λ j. sections_from j more) (sym (add-zero k))
 sections-append k (w ∷ ws) more =
     let place : suc k + length ws ≡ k + suc (length ws) = omega arith in
     ap (λ (ls : List SectionLine). section_lines k w ++ ls) (sections-append (suc k) ws more
-        ∙ ap (λ j. sections_from (suc k) ws ++ sections_from j more) place)
+    ∙ ap (λ j. sections_from (suc k) ws ++ sections_from j more) place)
     ∙ sym (append_assoc (section_lines k w) (sections_from (suc k) ws) (sections_from (k + suc (length ws)) more))
 
 -- ---- the lines of one section, kind after kind
@@ -93,7 +93,7 @@ end-final a e = cc
 -- a whole section that begins with the items, entries and finals of another
 module _ (l : SiteLog) (log : SiteLog) (rest behind : List SectionLine)
     (e : map Initial l.items ++ (map Logged l.entries ++ (map Final l.finals ++ (End ∷ rest))) ≡ map Initial log.items
-        ++ (map Logged log.entries ++ (map Final log.finals ++ behind))) where
+    ++ (map Logged log.entries ++ (map Final log.finals ++ behind))) where
   items-begin : (zs : List Holding) × (l.items ≡ log.items ++ zs)
       × (map Initial zs ++ (map Logged l.entries ++ (map Final l.finals ++ (End ∷ rest))) ≡ map Logged log.entries ++
       (map Final log.finals ++ behind))
@@ -108,7 +108,7 @@ module _ (l : SiteLog) (log : SiteLog) (rest behind : List SectionLine)
         (map Final log.finals ++ behind))
     items-are =
         let more = all-map Initial items-begin.0 (map Logged l.entries ++ (map Final l.finals ++ (End ∷ rest)))
-            (map Logged log.entries ++ (map Final log.finals ++ behind)) no_item items-begin.2 in
+        (map Logged log.entries ++ (map Final log.finals ++ behind)) no_item items-begin.2 in
         (items-begin.1 ∙ ap (λ (zs : List Holding). log.items ++ zs) more.0 ∙ append-nil log.items, more.1)
 
     entries-begin : (zs : List Entry) × (l.entries ≡ log.entries ++ zs)
@@ -121,8 +121,8 @@ module _ (l : SiteLog) (log : SiteLog) (rest behind : List SectionLine)
       finals-begin : (zs : List Holding) × (l.finals ≡ log.finals ++ zs) × (map Final zs ++ (End ∷ rest) ≡ behind)
       finals-begin =
           let more =
-              all-map Logged entries-begin.0 (map Final l.finals ++ (End ∷ rest)) (map Final log.finals ++ behind)
-              no_entry entries-begin.2 in
+          all-map Logged entries-begin.0 (map Final l.finals ++ (End ∷ rest)) (map Final log.finals ++ behind)
+          no_entry entries-begin.2 in
           prefix-map Final final-one l.finals log.finals (End ∷ rest) behind (end-not Final end-final rest) more.1
 
 -- what stands behind is the next final, or the end
@@ -151,11 +151,12 @@ module _ (l : SiteLog) (log : SiteLog) (rest more : List SectionLine) (shaped : 
       → NotFrom Initial (map Logged log.entries ++ (map Final log.finals ++ (line ∷ more)))
       → NotFrom Logged (map Final log.finals ++ (line ∷ more))
       → (l.items ≡ log.items) × ((zs : List Holding) × (l.finals ≡ log.finals ++ zs)
-          × (((zs ≡ []) × (line ≡ End)) ⊎ ((h : Holding) × (hs : List Holding) × (zs ≡ h ∷ hs) × (line ≡ Final h))))
+      × (((zs ≡ []) × (line ≡ End)) ⊎ ((h : Holding) × (hs : List Holding) × (zs ≡ h ∷ hs) × (line ≡ Final h))))
   finals-goes line e no_item no_entry =
-      let finals = finals-begin l log rest (line ∷ more) e no_item no_entry in
-      ((items-are l log rest (line ∷ more) e no_item).0,
-          (finals.0, finals.1, next-final finals.0 rest more line finals.2))
+      let finals = finals-begin l log rest (line ∷ more) e no_item no_entry in (
+        (items-are l log rest (line ∷ more) e no_item).0,
+        (finals.0, finals.1, next-final finals.0 rest more line finals.2),
+      )
 
   -- so it is none of the other lines
   finals-only : (line : SectionLine) → Goes line
@@ -168,9 +169,9 @@ module _ (l : SiteLog) (log : SiteLog) (rest more : List SectionLine) (shaped : 
   site-follows : (k : ℕ) → Goes (Site k) → ⊥
   site-follows k e =
       finals-only (Site k) e
-          (after_items log.entries log.finals (Site k ∷ more)
-          (λ h rs e. other-initial h (heads (Site k) (Initial h) more rs e)))
-          (after_entries log.finals (Site k ∷ more) (λ h rs e. other-logged h (heads (Site k) (Logged h) more rs e)))
+      (after_items log.entries log.finals (Site k ∷ more)
+      (λ h rs e. other-initial h (heads (Site k) (Initial h) more rs e)))
+      (after_entries log.finals (Site k ∷ more) (λ h rs e. other-logged h (heads (Site k) (Logged h) more rs e)))
       other-end other-final
     where
       other-initial : (h : Holding) → Site k ≡ Initial h → ⊥
@@ -224,8 +225,8 @@ module _ (l : SiteLog) (log : SiteLog) (rest more : List SectionLine) (shaped : 
           (initial-only
           (subst (λ fs. NotFrom Initial (map Logged log.entries ++ (map Final fs ++ (Initial h ∷ more)))) (sym some.2)
           (after_items log.entries [] (Final some.0 ∷ (map Final some.1 ++ (Initial h ∷ more)))
-              (λ a rs same. final-initial a (heads (Final some.0) (Initial a) (map Final some.1 ++ (Initial h ∷ more))
-              rs same)))))
+          (λ a rs same. final-initial a (heads (Final some.0) (Initial a) (map Final some.1 ++ (Initial h ∷ more))
+          rs same)))))
     ]
       where
         final-initial : {x : Holding} (a : Holding) → Final x ≡ Initial a → ⊥
@@ -236,20 +237,20 @@ module _ (l : SiteLog) (log : SiteLog) (rest more : List SectionLine) (shaped : 
     initial-next =
         let begin = items-begin l log rest (Initial h ∷ more) e in
         let here = begin.2
-            ∙ ap₂ (λ (es : List Entry) (fs : List Holding). map Logged es ++ (map Final fs ++ (Initial h ∷ more)))
-            initial-no_entries initial-no_finals in
+        ∙ ap₂ (λ (es : List Entry) (fs : List Holding). map Logged es ++ (map Final fs ++ (Initial h ∷ more)))
+        initial-no_entries initial-no_finals in
         elim (list_cases begin.0) [
           | inl none ↦ absurd (after_items l.entries l.finals (End ∷ rest) (end-not Initial end-initial rest) h more
               (subst (λ (zs : List Holding). map Initial zs ++
               (map Logged l.entries ++ (map Final l.finals ++ (End ∷ rest))) ≡ Initial h ∷ more) none here))
           | inr some ↦
               let first =
-                  subst (λ (zs : List Holding). map Initial zs ++
-                  (map Logged l.entries ++ (map Final l.finals ++ (End ∷ rest))) ≡ Initial h ∷ more) some.2 here in
+              subst (λ (zs : List Holding). map Initial zs ++
+              (map Logged l.entries ++ (map Final l.finals ++ (End ∷ rest))) ≡ Initial h ∷ more) some.2 here in
               let same =
-                  initial-one some.0 h
-                  (heads (Initial some.0) (Initial h)
-                  (map Initial some.1 ++ (map Logged l.entries ++ (map Final l.finals ++ (End ∷ rest)))) more first) in
+              initial-one some.0 h
+              (heads (Initial some.0) (Initial h)
+              (map Initial some.1 ++ (map Logged l.entries ++ (map Final l.finals ++ (End ∷ rest)))) more first) in
               (some.1, begin.1 ∙ ap (λ (zs : List Holding). log.items ++ zs) (some.2 ∙ ap (λ z. z ∷ some.1) same))
         ]
 
@@ -269,10 +270,10 @@ module _ (l : SiteLog) (log : SiteLog) (rest more : List SectionLine) (shaped : 
     | inl none ↦ none
     | inr some ↦ absurd (finals-only (Logged x) e
         (after_items log.entries log.finals (Logged x ∷ more)
-            (λ a rs same. logged-initial a (heads (Logged x) (Initial a) more rs same)))
+        (λ a rs same. logged-initial a (heads (Logged x) (Initial a) more rs same)))
         (subst (λ fs. NotFrom Logged (map Final fs ++ (Logged x ∷ more))) (sym some.2)
-            (λ a rs same. final-logged a (heads (Final some.0) (Logged a) (map Final some.1 ++ (Logged x ∷ more)) rs
-            same)))
+        (λ a rs same. final-logged a (heads (Final some.0) (Logged a) (map Final some.1 ++ (Logged x ∷ more)) rs
+        same)))
         logged-end logged-final)
   ]
     where
@@ -290,14 +291,14 @@ module _ (l : SiteLog) (log : SiteLog) (rest more : List SectionLine) (shaped : 
 
   final-goes : (h : Holding) → Goes (Final h)
       → (l.items ≡ log.items) × ((zs : List Holding) × (l.finals ≡ log.finals ++ zs)
-          × (((zs ≡ []) × (Final h ≡ End)) ⊎ ((x : Holding) × (hs : List Holding) × (zs ≡ x ∷ hs)
-          × (Final h ≡ Final x))))
+      × (((zs ≡ []) × (Final h ≡ End)) ⊎ ((x : Holding) × (hs : List Holding) × (zs ≡ x ∷ hs)
+      × (Final h ≡ Final x))))
   final-goes h e =
       finals-goes (Final h) e
-          (after_items log.entries log.finals (Final h ∷ more)
-          (λ a rs same. final-initial a (heads (Final h) (Initial a) more rs same)))
-          (after_entries log.finals (Final h ∷ more)
-          (λ a rs same. final-logged a (heads (Final h) (Logged a) more rs same)))
+      (after_items log.entries log.finals (Final h ∷ more)
+      (λ a rs same. final-initial a (heads (Final h) (Initial a) more rs same)))
+      (after_entries log.finals (Final h ∷ more)
+      (λ a rs same. final-logged a (heads (Final h) (Logged a) more rs same)))
     where
       final-initial : (a : Holding) → Final h ≡ Initial a → ⊥
       final-initial a same = cc
@@ -313,11 +314,11 @@ module _ (l : SiteLog) (log : SiteLog) (rest more : List SectionLine) (shaped : 
         | inr next ↦
             let same = final-one h next.0 next.3 in
             let finals = goes.1.1 ∙ ap (λ (zs : List Holding). log.finals ++ zs) (next.2
-                ∙ ap (λ z. z ∷ next.1) (sym same)) in
+            ∙ ap (λ z. z ∷ next.1) (sym same)) in
             let listed = ap names (sym goes.0) ∙ sym shaped.finals ∙ ap names finals
-                ∙ map-append (λ (h : Holding). h.item) log.finals (h ∷ next.1) in
+            ∙ map-append (λ (h : Holding). h.item) log.finals (h ∷ next.1) in
             ap₂ slice_get listed (sym (length-map log.finals (λ (h : Holding). h.item)))
-                ∙ middle_at (names log.finals) h.item (names next.1)
+            ∙ middle_at (names log.finals) h.item (names next.1)
       ]
     where
       final-end : Final h ≡ End → ⊥
@@ -326,13 +327,13 @@ module _ (l : SiteLog) (log : SiteLog) (rest more : List SectionLine) (shaped : 
   end-follows : Goes End → Fits log End
   end-follows e =
       let goes =
-          finals-goes End e (after_items log.entries log.finals (End ∷ more) (end-not Initial end-initial more))
-          (after_entries log.finals (End ∷ more) (end-not Logged end-logged more)) in
+      finals-goes End e (after_items log.entries log.finals (End ∷ more) (end-not Initial end-initial more))
+      (after_entries log.finals (End ∷ more) (end-not Logged end-logged more)) in
       elim goes.1.2 [
         | inl last ↦
             let finals = goes.1.1 ∙ ap (λ (zs : List Holding). log.finals ++ zs) last.0 ∙ append-nil log.finals in
             ap length (sym finals) ∙ sym (length-map l.finals (λ (h : Holding). h.item)) ∙ ap length shaped.finals
-                ∙ length-map l.items (λ (h : Holding). h.item) ∙ ap length goes.0
+            ∙ length-map l.items (λ (h : Holding). h.item) ∙ ap length goes.0
         | inr next ↦ absurd (end-final next.0 next.3)
       ]
 
@@ -362,18 +363,18 @@ module _ (sites : ℕ) (whole : List SiteLog) (line : SectionLine) (logs : List 
   follow-open log l ls shape e =
       let rest = sections_from (suc (0 + length whole)) ls in
       follows l log rest more shape line (tails (Site (0 + length whole)) (Site (length whole))
-          (map Initial l.items ++ (map Logged l.entries ++ (map Final l.finals ++ (End ∷ rest))))
-          (map Initial log.items ++ (map Logged log.entries ++ (map Final log.finals ++ (line ∷ more))))
-          (sym (section_spread (0 + length whole) l rest) ∙ e ∙ spread (length whole) log (line ∷ more)))
+      (map Initial l.items ++ (map Logged l.entries ++ (map Final l.finals ++ (End ∷ rest))))
+      (map Initial log.items ++ (map Logged log.entries ++ (map Final log.finals ++ (line ∷ more))))
+      (sym (section_spread (0 + length whole) l rest) ∙ e ∙ spread (length whole) log (line ∷ more)))
 
   follow-between : (line : SectionLine) (l : SiteLog) (ls : List SiteLog) (current : Option SiteLog)
       → logs ≡ whole ++ l ∷ ls → sections_from (0 + length whole) (l ∷ ls) ≡ line ∷ more
       → FitsBetween (record { sites = sites; whole = whole; current = current }) line
   follow-between (Site k) l ls current all e =
       let same =
-          site-one (0 + length whole) k
-          (heads (Site (0 + length whole)) (Site k) _ more
-          (sym (section_spread (0 + length whole) l (sections_from (suc (0 + length whole)) ls)) ∙ e)) in
+      site-one (0 + length whole) k
+      (heads (Site (0 + length whole)) (Site k) _ more
+      (sym (section_spread (0 + length whole) l (sections_from (suc (0 + length whole)) ls)) ∙ e)) in
       (omega arith, omega (arith, shaped.each, ap length all, length-append whole (l ∷ ls)))
     where
       site-one : (j k : ℕ) → Site j ≡ Site k → k ≡ j
@@ -387,21 +388,21 @@ module _ (sites : ℕ) (whole : List SiteLog) (line : SectionLine) (logs : List 
 follow-at : (sites : ℕ) (whole : List SiteLog) (current : Option SiteLog) (line : SectionLine) (logs : List SiteLog)
     (more : List SectionLine) → IsShaped sites logs → (tail : List SiteLog) → logs ≡ whole ++ tail
     → sections_from (0 + length whole) tail ≡ open_lines (length whole) current ++ line ∷ more
-        → MayFollow (record { sites = sites; whole = whole; current = current }) current line
+    → MayFollow (record { sites = sites; whole = whole; current = current }) current line
 follow-at sites whole current line logs more shaped [] all e =
     absurd (no_cons (open_lines (length whole) current) more line e)
 follow-at sites whole None line logs more shaped (l ∷ ls) all e =
     follow-between sites whole line logs more shaped line l ls None all e
 follow-at sites whole (Some log) line logs more shaped (l ∷ ls) all e =
     let shape = All_at IsShapedLog logs (length whole) l shaped.logs (ap (λ ms. slice_get ms (length whole)) all
-        ∙ middle_at whole l ls) in
+    ∙ middle_at whole l ls) in
     follow-open sites whole line logs more shaped log l ls shape e
 
 pub begins-follow : (b : Begun) (line : SectionLine) → Begins b.sites (lines_read b ++ line ∷ [])
     → MayFollow b b.current line
 begins-follow b line (logs, more, shaped, e) =
     let split = split-whole 0 b.whole logs (open_lines (length b.whole) b.current ++ line ∷ more) (e
-        ∙ regroup (sections_from 0 b.whole) (open_lines (length b.whole) b.current) more line) in
+    ∙ regroup (sections_from 0 b.whole) (open_lines (length b.whole) b.current) more line) in
     follow-at b.sites b.whole b.current line logs more shaped split.0 split.1 split.2
 
 -- ---- what was read begins some sections
@@ -416,7 +417,7 @@ completed-shaped log o = record {
   rising = o.rising;
   finals = map-append (λ (h : Holding). h.item) log.finals (drop (length log.finals) log.items)
       ∙ ap₂ (λ (xs ys : List (List ℕ)). xs ++ ys) o.finals
-          (sym (drop-map (λ (h : Holding). h.item) (length log.finals) log.items))
+      (sym (drop-map (λ (h : Holding). h.item) (length log.finals) log.items))
       ∙ take-append-drop (length log.finals) (names log.items);
 }
 
@@ -431,7 +432,7 @@ completed-lines k log rest =
     ap (λ fs. (Site k ∷ map Initial log.items ++ map Logged log.entries ++ fs ++ End ∷ []) ++ rest)
     (map-append Final log.finals (drop (length log.finals) log.items))
     ∙ grouped (Site k ∷ map Initial log.items ++ map Logged log.entries) (map Final log.finals)
-        (map Final (drop (length log.finals) log.items)) End rest
+    (map Final (drop (length log.finals) log.items)) End rest
 
 -- the logs that are still to come, as if they were empty
 abbrev filling : Begun → Option SiteLog → List SiteLog
@@ -512,17 +513,17 @@ fits-lines : (k : ℕ) (log : SiteLog) (line : SectionLine) → Fits log line �
 fits-lines k log (Site j) f not_end = absurd f
 fits-lines k log (Initial h) f not_end =
     ap (λ (ls : List SectionLine). Site k ∷ ls ++ map Logged log.entries ++ map Final log.finals)
-        (map-append Initial log.items (h ∷ []))
+    (map-append Initial log.items (h ∷ []))
     ∙ one-initial (Site k) (Initial h) (map Initial log.items) (map Logged log.entries) (map Final log.finals)
-        (ap (map Logged) f.0) (ap (map Final) f.1)
+    (ap (map Logged) f.0) (ap (map Final) f.1)
 fits-lines k log (Logged e) f not_end =
     ap (λ (ls : List SectionLine). Site k ∷ map Initial log.items ++ ls ++ map Final log.finals)
-        (map-append Logged log.entries (e ∷ []))
+    (map-append Logged log.entries (e ∷ []))
     ∙ one-logged (Site k) (Logged e) (map Initial log.items) (map Logged log.entries) (map Final log.finals)
-        (ap (map Final) f)
+    (ap (map Final) f)
 fits-lines k log (Final h) f not_end =
     ap (λ (ls : List SectionLine). Site k ∷ map Initial log.items ++ map Logged log.entries ++ ls)
-        (map-append Final log.finals (h ∷ []))
+    (map-append Final log.finals (h ∷ []))
     ∙ one-final (Site k) (Final h) (map Initial log.items) (map Logged log.entries) (map Final log.finals)
 fits-lines k log End f not_end = absurd (not_end refl)
 
@@ -561,14 +562,14 @@ more-lines : (b : Begun) (log : SiteLog) (line : SectionLine) → b.current ≡ 
     → sections_from 0 b.whole ++ open_lines (length b.whole) (Some (with_line log line)) ≡ lines_read b ++ line ∷ []
 more-lines b log line is f not_end =
     ap (λ (ls : List SectionLine). sections_from 0 b.whole ++ ls) (fits-lines (length b.whole) log line f not_end)
-        ∙ sym (append_assoc (sections_from 0 b.whole) (open_lines (length b.whole) (Some log)) (line ∷ []))
+    ∙ sym (append_assoc (sections_from 0 b.whole) (open_lines (length b.whole) (Some log)) (line ∷ []))
     ∙ ap (λ o. (sections_from 0 b.whole ++ open_lines (length b.whole) o) ++ line ∷ []) (sym is)
 
 pub next-lines : (b : Begun) (current : Option SiteLog) (line : SectionLine) → b.current ≡ current
     → MayFollow b current line → lines_read (with_next b current line) ≡ lines_read b ++ line ∷ []
 next-lines b None (Site k) is f =
     ap (λ j. sections_from 0 b.whole ++ Site j ∷ []) (sym f.0)
-        ∙ ap (λ (ls : List SectionLine). ls ++ Site k ∷ []) (sym (append-nil (sections_from 0 b.whole)))
+    ∙ ap (λ (ls : List SectionLine). ls ++ Site k ∷ []) (sym (append-nil (sections_from 0 b.whole)))
     ∙ ap (λ o. (sections_from 0 b.whole ++ open_lines (length b.whole) o) ++ Site k ∷ []) (sym is)
 next-lines b None (Initial h) is f = absurd f
 next-lines b None (Logged h) is f = absurd f
@@ -580,27 +581,47 @@ next-lines b (Some log) (Logged h) is f = more-lines b log (Logged h) is f (logg
 next-lines b (Some log) (Final h) is f = more-lines b log (Final h) is f (final-end h)
 next-lines b (Some log) End is f =
     append-nil (sections_from 0 (b.whole ++ log ∷ [])) ∙ sections-append 0 b.whole (log ∷ [])
-        ∙ ap (λ (ls : List SectionLine). sections_from 0 b.whole ++ ls)
-        (append-nil (section_lines (0 + length b.whole) log)
-        ∙ ap (λ k. section_lines k log) (zero-add (length b.whole)))
+    ∙ ap (λ (ls : List SectionLine). sections_from 0 b.whole ++ ls)
+    (append-nil (section_lines (0 + length b.whole) log)
+    ∙ ap (λ k. section_lines k log) (zero-add (length b.whole)))
     ∙ sym (append_assoc (sections_from 0 b.whole) (open_lines (length b.whole) (Some log)) (End ∷ []))
     ∙ ap (λ o. (sections_from 0 b.whole ++ open_lines (length b.whole) o) ++ End ∷ []) (sym is)
 
 pub next-begun : (b : Begun) (current : Option SiteLog) (line : SectionLine) → IsBegun b → HasRoomFor b current
     → MayFollow b current line → IsBegun (with_next b current line)
-next-begun b None (Site k) is room f = record { some = is.some; few = is.few; logs = is.logs; room =
-    (omega arith, no_log-open) }
+next-begun b None (Site k) is room f = record {
+  some = is.some;
+  few = is.few;
+  logs = is.logs;
+  room =
+      (omega arith, no_log-open);
+}
 next-begun b None (Initial h) is room f = absurd f
 next-begun b None (Logged h) is room f = absurd f
 next-begun b None (Final h) is room f = absurd f
 next-begun b None End is room f = absurd f
 next-begun b (Some log) (Site k) is room f = absurd f
-next-begun b (Some log) (Initial h) is room f = record { some = is.some; few = is.few; logs = is.logs; room =
-    (room.0, fits-open log (Initial h) f (initial-end h) room.1) }
-next-begun b (Some log) (Logged h) is room f = record { some = is.some; few = is.few; logs = is.logs; room =
-    (room.0, fits-open log (Logged h) f (logged-end h) room.1) }
-next-begun b (Some log) (Final h) is room f = record { some = is.some; few = is.few; logs = is.logs; room =
-    (room.0, fits-open log (Final h) f (final-end h) room.1) }
+next-begun b (Some log) (Initial h) is room f = record {
+  some = is.some;
+  few = is.few;
+  logs = is.logs;
+  room =
+      (room.0, fits-open log (Initial h) f (initial-end h) room.1);
+}
+next-begun b (Some log) (Logged h) is room f = record {
+  some = is.some;
+  few = is.few;
+  logs = is.logs;
+  room =
+      (room.0, fits-open log (Logged h) f (logged-end h) room.1);
+}
+next-begun b (Some log) (Final h) is room f = record {
+  some = is.some;
+  few = is.few;
+  logs = is.logs;
+  room =
+      (room.0, fits-open log (Final h) f (final-end h) room.1);
+}
 next-begun b (Some log) End is room f = record {
   some = is.some;
   few = is.few;
@@ -628,12 +649,12 @@ not-ended : (k j : ℕ) (l log : SiteLog) (rest : List SectionLine)
 not-ended k j l log rest e =
     let e1 = sym (section_spread j l rest) ∙ e ∙ sym (append-nil (open_lines k (Some log))) ∙ spread k log [] in
     let e2 = tails (Site j) (Site k)
-        (map Initial l.items ++ (map Logged l.entries ++ (map Final l.finals ++ (End ∷ rest))))
-        (map Initial log.items ++ (map Logged log.entries ++ (map Final log.finals ++ []))) e1 in
+    (map Initial l.items ++ (map Logged l.entries ++ (map Final l.finals ++ (End ∷ rest))))
+    (map Initial log.items ++ (map Logged log.entries ++ (map Final log.finals ++ []))) e1 in
     let finals =
-        finals-begin l log rest [] e2
-        (after_items log.entries log.finals [] (λ a rs same. nothing (Initial a) rs same))
-        (after_entries log.finals [] (λ a rs same. nothing (Logged a) rs same)) in
+    finals-begin l log rest [] e2
+    (after_items log.entries log.finals [] (λ a rs same. nothing (Initial a) rs same))
+    (after_entries log.finals [] (λ a rs same. nothing (Logged a) rs same)) in
     no_cons (map Final finals.0) rest End (sym finals.2)
   where
     nothing : (x : SectionLine) (rs : List SectionLine) → [] ≡ x ∷ rs → ⊥
@@ -665,8 +686,8 @@ follow-decides b is line r test = (
   λ h.
       let f = test.0 h in
       subst (Begins b.sites) (next-lines b b.current line refl f)
-          (begins-sites b b.current line
-          (begun-begins (with_next b b.current line) (next-begun b b.current line is is.room f))),
+      (begins-sites b b.current line
+      (begun-begins (with_next b b.current line) (next-begun b b.current line is is.room f))),
   λ begins. test.1 (begins-follow b line begins),
 )
   where

@@ -43,14 +43,14 @@ module _ (bytes : List ℕ) (b : Parts) (s : Spells bytes b) where
   behind-first =
       s.text ∙ first_line (format_line s.second) (certificate_text b.certificate ∷ map line_text lines)
       ∙ ap (λ (t : List ℕ). format_line s.second ++ 10 ∷ t)
-          (first_line (certificate_text b.certificate) (map line_text lines))
+      (first_line (certificate_text b.certificate) (map line_text lines))
 
   -- the first line
   at-start : (rest : List ℕ) (next : Piece) (f : Fault) → bytes ≡ rest → ComesNext rest next → Rule start next f
   at-start rest next f text comes =
       subst (λ p. Rule start p f)
-          (sym (comes_line (format_line s.second) (certificate_text b.certificate ++ 10 ∷ body) rest next
-          (format-one_line s.second) (sym text ∙ behind-first) comes)) (holds f)
+      (sym (comes_line (format_line s.second) (certificate_text b.certificate ++ 10 ∷ body) rest next
+      (format-one_line s.second) (sym text ∙ behind-first) comes)) (holds f)
     where
       holds : (f : Fault) → Rule start (whole (format_line s.second)) f
       holds fault.Format = (s.second, refl)
@@ -60,17 +60,17 @@ module _ (bytes : List ℕ) (b : Parts) (s : Spells bytes b) where
     cut-first : (second ≡ s.second) × (rest ≡ certificate_text b.certificate ++ 10 ∷ body)
     cut-first =
         let cut =
-            cut_at_byte 10 (format_line second) (format_line s.second) rest
-            (certificate_text b.certificate ++ 10 ∷ body) (format-one_line second) (format-one_line s.second)
-            (sym text ∙ behind-first) in
+        cut_at_byte 10 (format_line second) (format_line s.second) rest
+        (certificate_text b.certificate ++ 10 ∷ body) (format-one_line second) (format-one_line s.second)
+        (sym text ∙ behind-first) in
         (format-one second s.second cut.0, cut.1)
 
     -- the second
     at-second : (next : Piece) (f : Fault) → IsOfSpelling f → ComesNext rest next → Rule (headed second) next f
     at-second next f of comes =
         subst (λ p. Rule (headed second) p f)
-            (sym (comes_line (certificate_text b.certificate) body rest next
-            (certificate-one_line b.certificate s.certificate) cut-first.1 comes)) (holds f of)
+        (sym (comes_line (certificate_text b.certificate) body rest next
+        (certificate-one_line b.certificate s.certificate) cut-first.1 comes)) (holds f of)
       where
         holds : (f : Fault) → IsOfSpelling f → Rule (headed second) (whole (certificate_text b.certificate)) f
         holds fault.Certificate of = (b.certificate, s.certificate, refl)
@@ -94,8 +94,10 @@ module _ (bytes : List ℕ) (b : Parts) (s : Spells bytes b) where
     none-left : rest ≡ [] → At (complete s.second b.certificate before)
     none-left none next f of comes =
         subst (λ p. Rule (complete s.second b.certificate before) p f)
-            (one_piece rest (last []) next (subst (λ t. ComesNext t (last [])) (sym none) (refl,
-            All-nil (λ x. x ≡ 10 → ⊥))) comes) (holds f)
+        (one_piece rest (last []) next (subst (λ t. ComesNext t (last [])) (sym none) (
+          refl,
+          All-nil (λ x. x ≡ 10 → ⊥),
+        )) comes) (holds f)
       where
         holds : (f : Fault) → Rule (complete s.second b.certificate before) (last []) f
         holds fault.Trailing = refl
@@ -105,8 +107,8 @@ module _ (bytes : List ℕ) (b : Parts) (s : Spells bytes b) where
         → rest ≡ text_of_lines (map line_text (line ∷ more)) → At (within s.second b.certificate before)
     one-left line more same is next f of comes =
         subst (λ p. Rule (within s.second b.certificate before) p f)
-            (sym (comes_line (line_text line) (text_of_lines (map line_text more)) rest next
-            (line-one_line line good.0) (is ∙ first_line (line_text line) (map line_text more)) comes)) (holds f of)
+        (sym (comes_line (line_text line) (text_of_lines (map line_text more)) rest next
+        (line-one_line line good.0) (is ∙ first_line (line_text line) (map line_text more)) comes)) (holds f of)
       where
         behind : (xs : List SectionLine) → AllByRecursion (IsLineIn s.second) (xs ++ line ∷ more)
             → IsLineIn s.second line
@@ -149,51 +151,51 @@ module _ (bytes : List ℕ) (b : Parts) (s : Spells bytes b) where
         from [] same is = none-left is
         from (line ∷ more) same is =
             let one = sections-one 0 logs b.sites (line ∷ more) [] (shaped.each
-                ∙ sym s.shape.each) (ap (λ (ls : List SectionLine). ls ++ line ∷ more) all ∙ sym same
-                ∙ sym (append-nil lines)) in
+            ∙ sym s.shape.each) (ap (λ (ls : List SectionLine). ls ++ line ∷ more) all ∙ sym same
+            ∙ sym (append-nil lines)) in
             absurd (no_more line more one.1)
 
   -- the format and the certificate are the bundle's
   module _ (second : Bool) (c : Certificate) (before : List SectionLine) (rest : List ℕ)
       (is : AreLinesOf second c before) (text : bytes ≡ text_of_lines (lines_so_far (within second c before)) ++ rest)
-      where
-    first-two : text_of_lines (lines_so_far (within second c before)) ++ rest ≡ format_line second ++ 10 ∷
-        (certificate_text c ++ 10 ∷ (text_of_lines (map line_text before) ++ rest))
-    first-two =
-        line_front (format_line second) (certificate_text c ∷ map line_text before) rest
-        ∙ ap (λ (t : List ℕ). format_line second ++ 10 ∷ t)
-            (line_front (certificate_text c) (map line_text before) rest)
+    where
+      first-two : text_of_lines (lines_so_far (within second c before)) ++ rest ≡ format_line second ++ 10 ∷
+          (certificate_text c ++ 10 ∷ (text_of_lines (map line_text before) ++ rest))
+      first-two =
+          line_front (format_line second) (certificate_text c ∷ map line_text before) rest
+          ∙ ap (λ (t : List ℕ). format_line second ++ 10 ∷ t)
+          (line_front (certificate_text c) (map line_text before) rest)
 
-    one-format : second ≡ s.second
-    one-format = (cut-first second (certificate_text c ++ 10 ∷ (text_of_lines (map line_text before) ++ rest)) (text
-        ∙ first-two)).0
+      one-format : second ≡ s.second
+      one-format = (cut-first second (certificate_text c ++ 10 ∷ (text_of_lines (map line_text before) ++ rest)) (text
+          ∙ first-two)).0
 
-    cut-second : (c ≡ b.certificate) × (text_of_lines (map line_text before) ++ rest ≡ body)
-    cut-second =
-        let front =
-            (cut-first second (certificate_text c ++ 10 ∷ (text_of_lines (map line_text before) ++ rest)) (text
-            ∙ first-two)).1 in
-        let cut =
-            cut_at_byte 10 (certificate_text c) (certificate_text b.certificate)
-            (text_of_lines (map line_text before) ++ rest) body (certificate-one_line c is.certificate)
-            (certificate-one_line b.certificate s.certificate) front in
-        (certificate-one c b.certificate is.certificate s.certificate cut.0, cut.1)
+      cut-second : (c ≡ b.certificate) × (text_of_lines (map line_text before) ++ rest ≡ body)
+      cut-second =
+          let front =
+          (cut-first second (certificate_text c ++ 10 ∷ (text_of_lines (map line_text before) ++ rest)) (text
+          ∙ first-two)).1 in
+          let cut =
+          cut_at_byte 10 (certificate_text c) (certificate_text b.certificate)
+          (text_of_lines (map line_text before) ++ rest) body (certificate-one_line c is.certificate)
+          (certificate-one_line b.certificate s.certificate) front in
+          (certificate-one c b.certificate is.certificate s.certificate cut.0, cut.1)
 
-    within-kept : (AreSections c.sites before → ⊥) → (next : Piece) (f : Fault) → IsOfSpelling f → ComesNext rest next
-        → Rule (within second c before) next f
-    within-kept miss next f of comes =
-        subst (λ t. Rule (within t c before) next f) (sym one-format)
-        (subst (λ d. Rule (within s.second d before) next f) (sym cut-second.0)
-        (at-within before (subst (λ t. All (IsLineIn t) before) one-format is.each) rest (sym cut-second.1)
-        (λ all. miss (subst (λ d. AreSections d.sites before) (sym cut-second.0) all)) next f of comes))
+      within-kept : (AreSections c.sites before → ⊥) → (next : Piece) (f : Fault) → IsOfSpelling f → ComesNext rest next
+          → Rule (within second c before) next f
+      within-kept miss next f of comes =
+          subst (λ t. Rule (within t c before) next f) (sym one-format)
+          (subst (λ d. Rule (within s.second d before) next f) (sym cut-second.0)
+          (at-within before (subst (λ t. All (IsLineIn t) before) one-format is.each) rest (sym cut-second.1)
+          (λ all. miss (subst (λ d. AreSections d.sites before) (sym cut-second.0) all)) next f of comes))
 
-    complete-kept : AreSections c.sites before → (next : Piece) (f : Fault) → IsOfSpelling f → ComesNext rest next
-        → Rule (complete second c before) next f
-    complete-kept all next f of comes =
-        subst (λ t. Rule (complete t c before) next f) (sym one-format)
-        (subst (λ d. Rule (complete s.second d before) next f) (sym cut-second.0)
-        (at-complete before (subst (λ t. All (IsLineIn t) before) one-format is.each) rest (sym cut-second.1)
-        (subst (λ d. AreSections d.sites before) cut-second.0 all) next f of comes))
+      complete-kept : AreSections c.sites before → (next : Piece) (f : Fault) → IsOfSpelling f → ComesNext rest next
+          → Rule (complete second c before) next f
+      complete-kept all next f of comes =
+          subst (λ t. Rule (complete t c before) next f) (sym one-format)
+          (subst (λ d. Rule (complete s.second d before) next f) (sym cut-second.0)
+          (at-complete before (subst (λ t. All (IsLineIn t) before) one-format is.each) rest (sym cut-second.1)
+          (subst (λ d. AreSections d.sites before) cut-second.0 all) next f of comes))
 
   kept-at : (stage : Stage) (rest : List ℕ) (next : Piece) (f : Fault) → IsSpelled stage
       → bytes ≡ text_of_lines (lines_so_far stage) ++ rest → IsOfSpelling f → ComesNext rest next → Rule stage next f
@@ -240,7 +242,7 @@ module _ (rule : Fault → Type 0) (decide : (f : Fault) → IsOfSpelling f → 
   all-or-broken : KeptOrBroken
   all-or-broken =
       judge fault.Format tt
-          (λ r1. judge fault.Notation tt (λ r2. judge fault.Certificate tt (λ r3. judge fault.Section tt (λ r7.
+      (λ r1. judge fault.Notation tt (λ r2. judge fault.Certificate tt (λ r3. judge fault.Section tt (λ r7.
       judge fault.Truncated tt (λ r18. judge fault.Trailing tt (λ r19. inl (each-kept rule r1 r2 r3 r7 r18 r19)))))))
 
 decidable-of : (s : Stage) (p : Piece) → HoldsBegun s → (f : Fault) → IsOfSpelling f → Decidable (Rule s p f)
@@ -284,11 +286,11 @@ next-stage : (s : Stage) (l : List ℕ) → Reached s → ((f : Fault) → IsOfS
     → (t : Stage) × Reached t × (lines_so_far t ≡ lines_so_far s ++ l ∷ [])
 next-stage start l good rules =
     let first = rules fault.Format tt in
-        (headed first.0, record { spelled = tt; begun = tt }, ap (λ x. x ∷ []) (sym first.1))
+    (headed first.0, record { spelled = tt; begun = tt }, ap (λ x. x ∷ []) (sym first.1))
 next-stage (headed second) l good rules =
     let certified = rules fault.Certificate tt in
     let t = some-or-all second certified.0 [] certified.1 (All-nil (IsLineIn second))
-        (none-begun certified.0 certified.1) in
+    (none-begun certified.0 certified.1) in
     (t.0, t.1, t.2 ∙ ap (λ x. format_line second ∷ x ∷ []) (sym certified.2))
 next-stage (within second c before) l good rules =
     let noted = rules fault.Notation tt in
@@ -297,7 +299,7 @@ next-stage (within second c before) l good rules =
     let held = more-begun c before good.begun line (rules fault.Section tt line noted.1 noted.2) in
     let spelled = map-append line_text before (line ∷ []) ∙ ap (λ x. map line_text before ++ x ∷ []) (sym noted.2) in
     let t = some-or-all second c (before ++ line ∷ []) lines.certificate
-        (All-push (IsLineIn second) before line lines.each noted.1) held in
+    (All-push (IsLineIn second) before line lines.each noted.1) held in
     (t.0, t.1, t.2 ∙ ap (λ (ls : List (List ℕ)). format_line second ∷ certificate_text c ∷ ls) spelled)
 next-stage (complete second c before) l good rules = absurd (rules fault.Trailing tt)
 
@@ -331,12 +333,12 @@ ends-well bytes (within second c before) l good text rules = absurd (rules fault
 ends-well bytes (complete second c before) l good text rules =
     let lines = text_of_lines (lines_so_far (complete second c before)) in
     inl (spells-all bytes second c before good.0 good.1 (text
-        ∙ ap (λ (t : List ℕ). lines ++ t) (rules fault.Trailing tt) ∙ append-nil lines))
+    ∙ ap (λ (t : List ℕ). lines ++ t) (rules fault.Trailing tt) ∙ append-nil lines))
 
 module _ (bytes : List ℕ) (s : Stage) (rest : List ℕ) (good : Reached s)
     (text : bytes ≡ text_of_lines (lines_so_far s) ++ rest)
     (further : (t : Stage) (more : List ℕ) → length more < length rest → Reached t
-        → bytes ≡ text_of_lines (lines_so_far t) ++ more → Judged bytes) where
+    → bytes ≡ text_of_lines (lines_so_far t) ++ more → Judged bytes) where
   at-piece : (next : Piece) → ComesNext rest next → ((f : Fault) → IsOfSpelling f → Rule s next f) → Judged bytes
   at-piece (last l) comes rules =
       ends-well bytes s l good.spelled (text ∙ ap (λ (t : List ℕ). text_of_lines (lines_so_far s) ++ t) comes.0) rules
@@ -344,7 +346,7 @@ module _ (bytes : List ℕ) (s : Stage) (rest : List ℕ) (good : Reached s)
       let t = next-stage s l good rules in
       further t.0 more (omega (arith, ap length is, length-append l (10 ∷ more))) t.1
       (text ∙ ap (λ (x : List ℕ). text_of_lines (lines_so_far s) ++ x) is
-          ∙ sym (text-one_line (lines_so_far s) l more) ∙ ap (λ ls. text_of_lines ls ++ more) (sym t.2))
+      ∙ sym (text-one_line (lines_so_far s) l more) ∙ ap (λ ls. text_of_lines ls ++ more) (sym t.2))
 
   at-rest : Judged bytes
   at-rest =
@@ -353,8 +355,16 @@ module _ (bytes : List ℕ) (s : Stage) (rest : List ℕ) (good : Reached s)
         | inl rules ↦ at-piece next.0 next.1 rules
         | inr broken ↦ inr (
           broken.0,
-          record { of_spelling = broken.1; stage = s; rest = rest; next = next.0; text = text; spelled = good.spelled;
-              comes = next.1; broken = broken.2 },
+          record {
+            of_spelling = broken.1;
+            stage = s;
+            rest = rest;
+            next = next.0;
+            text = text;
+            spelled = good.spelled;
+            comes = next.1;
+            broken = broken.2;
+          },
         )
       ]
 

@@ -43,13 +43,18 @@ stage-of : (second : Bool) (c : Certificate) (b : Begun) (before : List SectionL
     → (t : Stage) × IsStageOf second c before t × (lines_so_far t ≡ lines_so_far (within second c before))
 stage-of second c b before m =
     let at_lines = λ (n : ℕ). λ (e : n ≡ c.sites). subst (λ k. AreSections k (lines_read b)
-        → AreSections c.sites before) (sym e) (subst (AreSections c.sites) (sym m.lines)) in
+    → AreSections c.sites before) (sym e) (subst (AreSections c.sites) (sym m.lines)) in
     elim (all-or-not b m.begun) [
       | inl all ↦ (complete second c before, inr (refl, at_lines b.sites m.sites all), refl)
-      | inr miss ↦ (within second c before,
-          inl (refl,
+      | inr miss ↦ (
+        within second c before,
+        inl (
+          refl,
           λ all. miss (subst (λ k. AreSections k (lines_read b)) (sym m.sites)
-          (subst (AreSections c.sites) m.lines all))), refl)
+              (subst (AreSections c.sites) m.lines all)),
+        ),
+        refl,
+      )
     ]
 
 one-more : (second : Bool) (c : Certificate) (before : List SectionLine) (line : SectionLine) (l : List ℕ)
@@ -236,15 +241,18 @@ pub line-unread : (k : Kept) (l : List ℕ) (s : Stage) → IsAt k s → (IsComp
 line-unread k l s here miss none =
     let open_yet = at-open k s here miss in
     subst (λ s. Breaks (Rule s (whole l)) fault.Notation) (sym open_yet.1)
-    (record { broken = λ (line, is, same). none line is same; least =
-        below-notation k.second k.certificate open_yet.0 (whole l) })
+    (record {
+      broken = λ (line, is, same). none line is same;
+      least =
+          below-notation k.second k.certificate open_yet.0 (whole l);
+    })
 
 pub long-breaks : (k : Kept) (s : Stage) (p : Piece) → IsAt k s → (IsComplete s → ⊥)
     → limit_of s < length (bytes_of p) → Breaks (Rule s p) fault.Notation
 long-breaks k s p here miss long =
     let open_yet = at-open k s here miss in
     subst (λ s. limit_of s < length (bytes_of p) → Breaks (Rule s p) fault.Notation) (sym open_yet.1)
-        (notation-breaks k.second k.certificate open_yet.0 p) long
+    (notation-breaks k.second k.certificate open_yet.0 p) long
 
 pub long-trails : (s : Stage) (p : Piece) → IsComplete s → limit_of s < length (bytes_of p)
     → Breaks (Rule s p) fault.Trailing
@@ -270,7 +278,7 @@ pub ends-within : (k : Kept) (s : Stage) (l : List ℕ) → IsAt k s → (IsComp
 ends-within k s l here miss short =
     let open_yet = at-open k s here miss in
     subst (λ s. length l ≤ limit_of s → Breaks (Rule s (last l)) fault.Truncated) (sym open_yet.1)
-        (truncated k.second k.certificate open_yet.0 l) short
+    (truncated k.second k.certificate open_yet.0 l) short
 
 pub ends-behind : (s : Stage) (l : List ℕ) → IsComplete s → (l ≡ [] → ⊥) → Breaks (Rule s (last l)) fault.Trailing
 ends-behind start l done some = absurd done

@@ -57,22 +57,40 @@ Compared xs ys r s = ((xs ≡ ys) × (r ≡ s)) ⊎ (Beyond xs ys r ⊎ Beyond y
 
 beyond-more : (x y : SectionLine) (xs ys : List SectionLine) (r : List ℕ) → x ≡ y → Beyond xs ys r
     → Beyond (x ∷ xs) (y ∷ ys) r
-beyond-more x y xs ys r same b = record { line = b.line; more = b.more; after = b.after; cut =
-    ap₂ (λ z zs. z ∷ zs) (sym same) b.cut; next = b.next }
+beyond-more x y xs ys r same b = record {
+  line = b.line;
+  more = b.more;
+  after = b.after;
+  cut =
+      ap₂ (λ z zs. z ∷ zs) (sym same) b.cut;
+  next = b.next;
+}
 
 compare : (xs ys : List SectionLine) (r s : List ℕ) → AllByRecursion IsLine xs → AllByRecursion IsLine ys
     → text_of_lines (map line_text xs) ++ r ≡ text_of_lines (map line_text ys) ++ s → Compared xs ys r s
 compare [] [] r s h g e = inl (refl, e)
 compare [] (y ∷ ys) r s h g e =
-    inr (inl (record { line = y; more = ys; after = text_of_lines (map line_text ys) ++ s; cut = refl; next = e
-    ∙ line_front (line_text y) (map line_text ys) s }))
+    inr (inl (record {
+      line = y;
+      more = ys;
+      after = text_of_lines (map line_text ys) ++ s;
+      cut = refl;
+      next = e
+          ∙ line_front (line_text y) (map line_text ys) s;
+    }))
 compare (x ∷ xs) [] r s h g e =
-    inr (inr (record { line = x; more = xs; after = text_of_lines (map line_text xs) ++ r; cut = refl; next = sym e
-    ∙ line_front (line_text x) (map line_text xs) r }))
+    inr (inr (record {
+      line = x;
+      more = xs;
+      after = text_of_lines (map line_text xs) ++ r;
+      cut = refl;
+      next = sym e
+          ∙ line_front (line_text x) (map line_text xs) r;
+    }))
 compare (x ∷ xs) (y ∷ ys) r s h g e =
     let e1 = sym (line_front (line_text x) (map line_text xs) r) ∙ e ∙ line_front (line_text y) (map line_text ys) s in
     let cut = cut_at_byte 10 (line_text x) (line_text y) (text_of_lines (map line_text xs) ++ r)
-        (text_of_lines (map line_text ys) ++ s) (line-one_line x h.0) (line-one_line y g.0) e1 in
+    (text_of_lines (map line_text ys) ++ s) (line-one_line x h.0) (line-one_line y g.0) e1 in
     let same = line-one x y h.0 g.0 cut.0 in
     elim (compare xs ys r s h.1 g.1 cut.1) [
       | inl both ↦ inl (ap₂ (λ z zs. z ∷ zs) same both.0, both.1)
@@ -117,8 +135,12 @@ start-on second p e =
 headed-on : (second : Bool) (c : Certificate) → IsCertificate c → ((f : Fault) → KeepsItself c.decisions f)
     → (p : Piece) → p ≡ whole (certificate_text c) → MeetsGoodLine (headed second) p
 headed-on second c spelled itself p e =
-    record { line = certificate_text c; is = e; keeps =
-    subst (λ q. (f : Fault) → Rule (headed second) q f) (sym e) holds }
+    record {
+      line = certificate_text c;
+      is = e;
+      keeps =
+          subst (λ q. (f : Fault) → Rule (headed second) q f) (sym e) holds;
+    }
   where
     same : (f : Fault) (d : Certificate) → IsCertificate d → certificate_text c ≡ certificate_text d
         → KeepsItself d.decisions f
@@ -135,8 +157,12 @@ within-on : (second : Bool) (c : Certificate) (earlier : List SectionLine) (line
     → ((f : Fault) → Keeps c earlier line f) → (p : Piece) → p ≡ whole (line_text line)
     → MeetsGoodLine (within second c earlier) p
 within-on second c earlier line is keeps p e =
-    record { line = line_text line; is = e; keeps =
-    subst (λ q. (f : Fault) → Rule (within second c earlier) q f) (sym e) holds }
+    record {
+      line = line_text line;
+      is = e;
+      keeps =
+          subst (λ q. (f : Fault) → Rule (within second c earlier) q f) (sym e) holds;
+    }
   where
     holds : (f : Fault) → Rule (within second c earlier) (whole (line_text line)) f
     holds fault.Notation = (line, is, refl)
@@ -152,7 +178,7 @@ ended second c xs ys line more (logs, shaped, all) kept cut =
     let begins = (kept.lines xs more line cut).1 fault.Section in
     let len = shaped.each ∙ sym begins.2.each in
     let same = ap (λ (ls : List SectionLine). ls ++ line ∷ begins.1) all ∙ sym (append_assoc xs (line ∷ []) begins.1)
-        ∙ sym begins.3 ∙ sym (append-nil (sections_from 0 begins.0)) in
+    ∙ sym begins.3 ∙ sym (append-nil (sections_from 0 begins.0)) in
     no_more line begins.1 (sections-one 0 logs begins.0 (line ∷ begins.1) [] len same).1
 
 -- ---- stages behind the certificate
@@ -167,7 +193,7 @@ module _ (second : Bool) (c : Certificate) (xs ys : List SectionLine) (r s : Lis
   beyond-on good b =
       let kept = good.lines xs b.more b.line b.cut in
       within-on second c xs b.line kept.0 kept.1 p
-          (comes_line (line_text b.line) b.after r p (line-one_line b.line kept.0.0) b.next comes)
+      (comes_line (line_text b.line) b.after r p (line-one_line b.line kept.0.0) b.next comes)
 
   within-within : IsFaultless (within second c xs) → IsFaultless (within second c ys)
       → ((xs ≡ ys) × (p ≡ q)) ⊎ (MeetsGoodLine (within second c xs) p ⊎ Beyond ys xs s)
@@ -236,31 +262,31 @@ module _ (f g : Bool) (c d : Certificate) (xs ys : List SectionLine) (r s : List
       → (f ≡ g) × (c ≡ d) × (text_of_lines (map line_text xs) ++ r ≡ text_of_lines (map line_text ys) ++ s)
   one_head kept good =
       let both = behind f g (certificate_text c ++ 10 ∷ (text_of_lines (map line_text xs) ++ r))
-          (certificate_text d ++ 10 ∷ (text_of_lines (map line_text ys) ++ s)) (sym (within_text f c xs r) ∙ e
-          ∙ within_text g d ys s) in
+      (certificate_text d ++ 10 ∷ (text_of_lines (map line_text ys) ++ s)) (sym (within_text f c xs r) ∙ e
+      ∙ within_text g d ys s) in
       let cut = cut_at_byte 10 (certificate_text c) (certificate_text d) (text_of_lines (map line_text xs) ++ r)
-          (text_of_lines (map line_text ys) ++ s) (certificate-one_line c kept.spelled)
-          (certificate-one_line d good.spelled) both.1 in
+      (text_of_lines (map line_text ys) ++ s) (certificate-one_line c kept.spelled)
+      (certificate-one_line d good.spelled) both.1 in
       (both.0, certificate-one c d kept.spelled good.spelled cut.0, cut.1)
 
   two-within : IsFaultless (within f c xs) → IsFaultless (within g d ys) → Meet (within f c xs) p (within g d ys) q
   two-within kept good =
       let head = one_head kept.0 good.0 in
       subst₂ (λ h k. IsFaultless (within h k ys) → Meet (within f c xs) p (within h k ys) q) head.0 head.1
-          (λ here. meet-within f c xs ys r s p q comes goes head.2 kept here) good
+      (λ here. meet-within f c xs ys r s p q comes goes head.2 kept here) good
 
   two-mixed : IsFaultless (within f c xs) → IsFaultless (complete g d ys) → Meet (within f c xs) p (complete g d ys) q
   two-mixed kept good =
       let head = one_head kept.0 good.0 in
       subst₂ (λ h k. IsFaultless (complete h k ys) → Meet (within f c xs) p (complete h k ys) q) head.0 head.1
-          (λ here. inr (inl (within-complete f c xs ys r s p q comes goes head.2 kept here))) good
+      (λ here. inr (inl (within-complete f c xs ys r s p q comes goes head.2 kept here))) good
 
   two-complete : IsFaultless (complete f c xs) → IsFaultless (complete g d ys)
       → Meet (complete f c xs) p (complete g d ys) q
   two-complete kept good =
       let head = one_head kept.0 good.0 in
       subst₂ (λ h k. IsFaultless (complete h k ys) → Meet (complete f c xs) p (complete h k ys) q) head.0 head.1
-          (λ here. meet-complete f c xs ys r s p q comes goes head.2 kept here) good
+      (λ here. meet-complete f c xs ys r s p q comes goes head.2 kept here) good
 
 -- the first line comes next, the second one
 on_first : (f : Bool) (r more : List ℕ) (p : Piece) → ComesNext r p → r ≡ format_line f ++ 10 ∷ more
@@ -274,7 +300,7 @@ on_second f g c xs r s p kept comes e =
     let more = text_of_lines (map line_text xs) ++ s in
     let at = (behind f g r (certificate_text c ++ 10 ∷ more) (sym (headed_text f r) ∙ e ∙ within_text g c xs s)).1 in
     headed-on f c kept.spelled kept.itself p
-        (comes_line (certificate_text c) more r p (certificate-one_line c kept.spelled) at comes)
+    (comes_line (certificate_text c) more r p (certificate-one_line c kept.spelled) at comes)
 
 -- two stages behind the first line are one
 on_headed : (f g : Bool) (a b : List ℕ) (p q : Piece) → ComesNext a p → ComesNext b q
@@ -332,7 +358,7 @@ pub first_fault-one : (bytes : List ℕ) (m n : ℕ) (f g : Fault) → FirstFaul
     → (m ≡ n) × (f ≡ g)
 first_fault-one bytes m n f g first other =
     elim (meet first.stage other.stage first.rest other.rest first.next other.next first.faultless other.faultless
-        first.comes other.comes (sym first.text ∙ other.text)) [
+    first.comes other.comes (sym first.text ∙ other.text)) [
       | inl both ↦ (
         first.number ∙ ap (λ s. length (lines_so_far s) + 1) both.0 ∙ sym other.number,
         least-one (Rule other.stage other.next) f g
@@ -348,7 +374,7 @@ pub reach-one : (bytes : List ℕ) (m n : ℕ) (f g : Fault) (first : FirstFault
     → reach bytes m f first ≡ reach bytes n g other
 reach-one bytes m n f g first other =
     elim (meet first.stage other.stage first.rest other.rest first.next other.next first.faultless other.faultless
-        first.comes other.comes (sym first.text ∙ other.text)) [
+    first.comes other.comes (sym first.text ∙ other.text)) [
       | inl both ↦ ap₂ (λ s p. length (text_of_lines (lines_so_far s)) + length (bytes_of p) + 1) both.0 both.1
       | inr (inl on) ↦ absurd (first.breaks.broken (on.keeps f))
       | inr (inr on) ↦ absurd (other.breaks.broken (on.keeps g))
@@ -367,8 +393,8 @@ pub first_fault-excluded : (bytes : List ℕ) (n : ℕ) (f : Fault) → FirstFau
 first_fault-excluded bytes n f first (second, c, before, good, text) =
     let none : ComesNext [] (last []) = (refl, λ k d lt. absurd (omega arith)) in
     elim (meet first.stage (complete second c before) first.rest [] first.next (last []) first.faultless good
-        first.comes none (sym first.text ∙ text
-        ∙ sym (append-nil (text_of_lines (lines_so_far (complete second c before)))))) [
+    first.comes none (sym first.text ∙ text
+    ∙ sym (append-nil (text_of_lines (lines_so_far (complete second c before)))))) [
       | inl both ↦ first.breaks.broken
           (subst (λ s. Rule s first.next f) (sym both.0)
           (subst (λ p. Rule (complete second c before) p f) (sym both.1) (complete-holds second c before f)))

@@ -42,8 +42,8 @@ has_open b log here =
       entry_last = λ f none at.
           subst (λ fs. last_or None (up_to front k log.items log.entries fs) ≡ Some (Logged f)) (sym none)
           (subst (λ es. last_or None (up_to front k log.items es []) ≡ Some (Logged f))
-              (sym (last-whole log.entries f at))
-              (last_logged front k log.items (take (length log.entries - 1) log.entries) f));
+          (sym (last-whole log.entries f at))
+          (last_logged front k log.items (take (length log.entries - 1) log.entries) f));
     })
 
 -- no entry is open between sections
@@ -72,7 +72,7 @@ pub kept-between : (c : Certificate) (b : Begun) (line : SectionLine) → c.site
     → Begins b.sites (lines_read b ++ line ∷ []) → KeptBelow (Keeps c (lines_read b) line) 17
 kept-between c b line same none begins =
     between-kept c b line (subst (λ o. MayFollow b o line) none (begins-follow b line begins)) (between-closed b none)
-        (subst (λ n. Begins n (lines_read b ++ line ∷ [])) (sym same) begins)
+    (subst (λ n. Begins n (lines_read b ++ line ∷ [])) (sym same) begins)
 
 -- what may stand in the open section
 pub fits-open : (b : Begun) (log : SiteLog) (line : SectionLine) → b.current ≡ Some log

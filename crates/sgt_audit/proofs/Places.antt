@@ -107,10 +107,18 @@ module _ (log : SiteLog) (p : OpenPlace) (o : IsOpenPlace log p) where
   pub fits-at : IsOpenLog log → (line : SectionLine) → FitsAt p line ↔ Fits log line
   fits-at rises (Site k) = (λ h. h, λ h. h)
   fits-at rises (Initial h) = (
-    λ f. (last-none log.entries (last-of-none _ (sym o.last ∙ f.0)), no-finals f.1,
-        subst (λ n. n < max_items) item-count f.2, (before-all log p o rises h.item).0 f.3),
-    λ f. (o.last ∙ ap (λ (es : List Entry). last_of (slice_get es (length es - 1))) f.0, some-finals f.1,
-        subst (λ n. n < max_items) (sym item-count) f.2, (before-all log p o rises h.item).1 f.3),
+    λ f. (
+      last-none log.entries (last-of-none _ (sym o.last ∙ f.0)),
+      no-finals f.1,
+      subst (λ n. n < max_items) item-count f.2,
+      (before-all log p o rises h.item).0 f.3,
+    ),
+    λ f. (
+      o.last ∙ ap (λ (es : List Entry). last_of (slice_get es (length es - 1))) f.0,
+      some-finals f.1,
+      subst (λ n. n < max_items) (sym item-count) f.2,
+      (before-all log p o rises h.item).1 f.3,
+    ),
   )
   fits-at rises (Logged e) = (no-finals, some-finals)
   fits-at rises (Final h) = let same = ap₂ slice_get o.items o.finals in (λ f. sym same ∙ f, λ f. same ∙ f)
@@ -144,8 +152,10 @@ module _ (b : Begun) (p : Place) (is : IsBegun b) (at : IsPlace b p) where
     goes-on-inside o here test =
         let log = open-log o here in
         let fits = fits-at log.0 o log.2 (open-room b b.current log.0 log.1 is.room) line in
-        follow-decides b is line r (subst (λ c. IsTrue r ↔ MayFollow b c line) (sym log.1) (λ h. fits.0 (test.0 h),
-            λ f. test.1 (fits.1 f)))
+        follow-decides b is line r (subst (λ c. IsTrue r ↔ MayFollow b c line) (sym log.1) (
+          λ h. fits.0 (test.0 h),
+          λ f. test.1 (fits.1 f),
+        ))
 
     pub goes-on-between : p.current ≡ None → IsTrue r ↔ FitsBetween b line
         → IsTrue r ↔ Begins b.sites (lines_read b ++ line ∷ [])
@@ -157,8 +167,8 @@ module _ (b : Begun) (p : Place) (is : IsBegun b) (at : IsPlace b p) where
         → IsTrue r ↔ Begins b.sites (lines_read b ++ line ∷ [])
     goes-on-site k here site test =
         goes-on-between here
-            (subst (λ l. IsTrue r ↔ FitsBetween b l) (sym site)
-            (subst₂ (λ n m. IsTrue r ↔ ((k ≡ n) × (k < m))) at.whole at.sites test))
+        (subst (λ l. IsTrue r ↔ FitsBetween b l) (sym site)
+        (subst₂ (λ n m. IsTrue r ↔ ((k ≡ n) × (k < m))) at.whole at.sites test))
 
   -- whether these are all
   pub all-counted : (r : Bool) → p.current ≡ None → IsTrue r ↔ (p.whole ≡ p.sites)
@@ -188,13 +198,21 @@ module _ (log : SiteLog) (old new : OpenPlace) (o : IsOpenPlace log old) where
 
   pub logged-entered : (e : Entry) → new.items.items ≡ old.items.items → new.last ≡ last_of (Some e)
       → new.finals ≡ old.finals → IsOpenPlace (with_line log (Logged e)) new
-  logged-entered e items last finals = record { items = items ∙ o.items; last = last
-      ∙ ap last_of (sym (last-push log.entries e)); finals = finals ∙ o.finals }
+  logged-entered e items last finals = record {
+    items = items ∙ o.items;
+    last = last
+        ∙ ap last_of (sym (last-push log.entries e));
+    finals = finals ∙ o.finals;
+  }
 
   pub final-entered : (h : Holding) → new.items.items ≡ old.items.items → new.last ≡ old.last
       → new.finals ≡ old.finals + 1 → IsOpenPlace (with_line log (Final h)) new
-  final-entered h items last finals = record { items = items ∙ o.items; last = last ∙ o.last; finals = finals
-      ∙ ap (λ n. n + 1) o.finals ∙ sym (length_push log.finals h) }
+  final-entered h items last finals = record {
+    items = items ∙ o.items;
+    last = last ∙ o.last;
+    finals = finals
+        ∙ ap (λ n. n + 1) o.finals ∙ sym (length_push log.finals h);
+  }
 
 -- ---- what the parts of the place answer
 
@@ -289,14 +307,18 @@ module _ (b : Begun) (new : Place) (sites : new.sites ≡ b.sites) where
   pub ended : (current : Option SiteLog) (o : OpenPlace) → new.whole ≡ length b.whole + 1 → new.current ≡ None
       → IsCurrentPlace current (Some o) → IsPlace (with_next b current End) new
   ended None o whole here at = absurd at
-  ended (Some log) o whole here at = record { sites = sites; whole = whole ∙ sym (length_push b.whole log); current =
-      subst (IsCurrentPlace None) (sym here) tt }
+  ended (Some log) o whole here at = record {
+    sites = sites;
+    whole = whole ∙ sym (length_push b.whole log);
+    current =
+        subst (IsCurrentPlace None) (sym here) tt;
+  }
 
   pub longer : (current : Option SiteLog) (line : SectionLine) (o p : OpenPlace) → (line ≡ End → ⊥)
       → new.whole ≡ length b.whole → new.current ≡ Some p
       → ((log : SiteLog) → IsOpenLog log → Fits log line → IsOpenPlace log o → IsOpenPlace (with_line log line) p)
       → HasRoomFor b current → MayFollow b current line → IsCurrentPlace current (Some o)
-          → IsPlace (with_next b current line) new
+      → IsPlace (with_next b current line) new
   longer None line o p goes whole here enters room fits at = absurd at
   longer (Some log) line o p goes whole here enters room fits at = record {
     sites = sites;
@@ -310,8 +332,13 @@ module _ (b : Begun) (new : Place) (sites : new.sites ≡ b.sites) where
 pub finals-few : (log : SiteLog) (p : OpenPlace) (h : Holding) → IsOpenLog log → IsOpenPlace log p
     → Fits log (Final h) → p.finals < 2 ^ 32
 finals-few log p h room o fits =
-    omega (arith, o.finals, slice_get_within (names log.items) (length log.finals) h.item fits,
-    length-map log.items (λ (h : Holding). h.item), room.room)
+    omega (
+      arith,
+      o.finals,
+      slice_get_within (names log.items) (length log.finals) h.item fits,
+      length-map log.items (λ (h : Holding). h.item),
+      room.room,
+    )
 
 -- a section that is open is one of those that are to be
 pub room-left : (b : Begun) (current : Option SiteLog) (o : OpenPlace) → HasRoomFor b current
@@ -330,5 +357,10 @@ whole-few b o p is at here =
 pub fresh-begun : (sites : ℕ) (b : Begun) → 1 ≤ sites → sites ≤ max_sites
     → b ≡ record { sites = sites; whole = []; current = None } → IsBegun b
 fresh-begun sites b some few fresh =
-    subst IsBegun (sym fresh) (record { some = some; few = few; logs = λ k d lt. absurd (omega arith); room =
-    omega arith })
+    subst IsBegun (sym fresh) (record {
+      some = some;
+      few = few;
+      logs = λ k d lt. absurd (omega arith);
+      room =
+          omega arith;
+    })

@@ -47,14 +47,14 @@ rest-line s t limit (Some bytes) None new l e rest gives = absurd rest
 rest-line s t limit (Some bytes) (Some xs) None l e rest gives = absurd gives
 rest-line s t limit (Some bytes) (Some xs) (Some ys) l e rest gives =
     rest ∙ ap (λ (t : List ℕ). text_of_lines (lines_so_far s) ++ t) gives.2
-        ∙ sym (text-one_line (lines_so_far s) l ys) ∙ ap (λ ls. text_of_lines ls ++ ys) (sym e)
+    ∙ sym (text-one_line (lines_so_far s) l ys) ∙ ap (λ ls. text_of_lines ls ++ ys) (sym e)
 
 -- a line more, with its LF
 text-grows : (xs ys : List (List ℕ)) (l : List ℕ) → ys ≡ xs ++ l ∷ []
     → length (text_of_lines ys) ≡ length (text_of_lines xs) + length l + 1
 text-grows xs ys l same =
     let grown = ap length (sym (append-nil (text_of_lines ys)) ∙ ap (λ zs. text_of_lines zs ++ []) same
-        ∙ text-one_line xs l []) in
+    ∙ text-one_line xs l []) in
     let cut = length-append (text_of_lines xs) (l ++ 10 ∷ []) in
     let line = length-append l (10 ∷ []) in
     let plain = ap length (append-nil (text_of_lines ys)) in
@@ -84,9 +84,20 @@ pub fault-at : (told coming : Option (List ℕ)) (p : Progress) (n : ℕ) (f : F
     → IfSome coming (BreaksNext s f reads) → IfSome told (λ bytes. MeetsFault bytes n f reads)
 fault-at None coming p n f reads s stands rest number found = tt
 fault-at (Some bytes) None p n f reads s stands rest number found = absurd rest
-fault-at (Some bytes) (Some xs) p n f reads s stands rest number (next, comes, breaks, few) =
-    (record { stage = s; rest = xs; next = next; text = rest; faultless = faultless p s stands; number =
-        number; comes = comes; breaks = breaks }, few)
+fault-at (Some bytes) (Some xs) p n f reads s stands rest number (next, comes, breaks, few) = (
+  record {
+    stage = s;
+    rest = xs;
+    next = next;
+    text = rest;
+    faultless = faultless p s stands;
+    number =
+        number;
+    comes = comes;
+    breaks = breaks;
+  },
+  few,
+)
 
 line-comes : (limit : ℕ) (old new : Option (List ℕ)) (l : List ℕ) (s : Stage) (f : Fault) (reads : ℕ)
     → Gives limit old Line l new → Breaks (Rule s (whole l)) f
@@ -101,7 +112,7 @@ pub fault-line : (told : Option (List ℕ)) (p q : Progress) (limit n : ℕ) (ol
     → ((s : Stage) → Stands p s → Follows s l q (Some f)) → IfSome told (λ bytes. MeetsFault bytes n f reads')
 fault-line told p q limit n old new l f reads reads' (s, stands, rest, number, few) more gives follows =
     fault-at told old p n f reads' s stands rest number
-        (line-comes limit old new l s f reads' gives (follows s stands) (omega (arith, few, more)))
+    (line-comes limit old new l s f reads' gives (follows s stands) (omega (arith, few, more)))
 
 -- ---- the end of the input
 
@@ -129,16 +140,26 @@ end-left limit (Some xs) (Some ys) l gives = gives.0 ∙ sym gives.1
 pub stops-cut : (told : Option (List ℕ)) (p : Progress) (limit n : ℕ) (old new : Option (List ℕ)) (l : List ℕ)
     (reads reads' : ℕ) → Goes told p old n reads → reads' ≤ reads + length l + 1 → Gives limit old Cut l new
     → ((s : Stage) → Stands p s → length l ≤ limit_of s) → HasNoLf l → IsStop told (Ok n) p l reads'
-stops-cut told p limit n old new l reads reads' (s, stands, rest, number, few) more gives short none =
-    (s, stands, short s stands, none, omega (arith, few, more),
-        at-stop told old s l n rest number (cut-left limit old new l gives))
+stops-cut told p limit n old new l reads reads' (s, stands, rest, number, few) more gives short none = (
+  s,
+  stands,
+  short s stands,
+  none,
+  omega (arith, few, more),
+  at-stop told old s l n rest number (cut-left limit old new l gives),
+)
 
 pub stops-end : (told : Option (List ℕ)) (p : Progress) (limit n : ℕ) (old new : Option (List ℕ)) (l : List ℕ)
     (reads reads' : ℕ) → Goes told p old n reads → reads' ≤ reads + length l + 1 → Gives limit old End l new
     → ((s : Stage) → Stands p s → length l ≤ limit_of s) → HasNoLf l → IsStop told (Ok n) p l reads'
-stops-end told p limit n old new l reads reads' (s, stands, rest, number, few) more gives short none =
-    (s, stands, short s stands, none, omega (arith, few, more),
-        at-stop told old s l n rest number (end-left limit old new l gives))
+stops-end told p limit n old new l reads reads' (s, stands, rest, number, few) more gives short none = (
+  s,
+  stands,
+  short s stands,
+  none,
+  omega (arith, few, more),
+  at-stop told old s l n rest number (end-left limit old new l gives),
+)
 
 -- a text that is read whole has no fault
 complete-faultless : (s : Stage) → IsComplete s → IsFaultless s → (bytes : List ℕ)
@@ -162,12 +183,25 @@ told-met (Some bytes) n f reads met = no_further bytes n f reads met.0 met.1
 module _ (s : Stage) (l : List ℕ) (n : ℕ) (good : IsFaultless s) (none : HasNoLf l) where
   pub text-judged : (bytes : List ℕ) (j : Result Kept found.FirstFault) → EndsWith s l n j
       → (bytes ≡ text_of_lines (lines_so_far s) ++ l) × (n ≡ length (lines_so_far s) + 1) → IsJudged j bytes
-  text-judged bytes (Ok k) ends at =
-      (s, ends.0, ends.1, at.0 ∙ ap (λ (t : List ℕ). text_of_lines (lines_so_far s) ++ t) ends.2
-      ∙ append-nil (text_of_lines (lines_so_far s)))
+  text-judged bytes (Ok k) ends at = (
+    s,
+    ends.0,
+    ends.1,
+    at.0 ∙ ap (λ (t : List ℕ). text_of_lines (lines_so_far s) ++ t) ends.2
+        ∙ append-nil (text_of_lines (lines_so_far s)),
+  )
   text-judged bytes (Err first) ends at =
-      record { stage = s; rest = l; next = last l; text = at.0; faultless = good; number = ends.0 ∙ at.1; comes =
-          (refl, none); breaks = ends.1 }
+      record {
+        stage = s;
+        rest = l;
+        next = last l;
+        text = at.0;
+        faultless = good;
+        number = ends.0 ∙ at.1;
+        comes =
+            (refl, none);
+        breaks = ends.1;
+      }
 
   told-judged : (told : Option (List ℕ)) (j : Result Kept found.FirstFault) → EndsWith s l n j
       → IfSome told (λ bytes. (bytes ≡ text_of_lines (lines_so_far s) ++ l) × (n ≡ length (lines_so_far s) + 1))
@@ -180,16 +214,25 @@ module _ (s : Stage) (l : List ℕ) (n : ℕ) (good : IsFaultless s) (none : Has
       → (bytes ≡ text_of_lines (lines_so_far s) ++ l) × (n ≡ length (lines_so_far s) + 1) → ReadsNoFurther bytes reads
   text-no_further bytes (Ok k) reads ends few at =
       λ m f first. absurd (first_fault-excluded bytes m f first (complete-faultless s ends.1 good bytes (at.0
-          ∙ ap (λ (t : List ℕ). text_of_lines (lines_so_far s) ++ t) ends.2
-          ∙ append-nil (text_of_lines (lines_so_far s)))))
+      ∙ ap (λ (t : List ℕ). text_of_lines (lines_so_far s) ++ t) ends.2
+      ∙ append-nil (text_of_lines (lines_so_far s)))))
   text-no_further bytes (Err first) reads ends few at =
-      no_further bytes first.line first.fault reads (record { stage = s; rest = l; next = last l; text =
-          at.0; faultless = good; number = ends.0 ∙ at.1; comes = (refl, none); breaks = ends.1 }) few
+      no_further bytes first.line first.fault reads (record {
+        stage = s;
+        rest = l;
+        next = last l;
+        text =
+            at.0;
+        faultless = good;
+        number = ends.0 ∙ at.1;
+        comes = (refl, none);
+        breaks = ends.1;
+      }) few
 
   told-no_further : (told : Option (List ℕ)) (j : Result Kept found.FirstFault) (reads : ℕ) → EndsWith s l n j
       → reads ≤ length (text_of_lines (lines_so_far s)) + length l + 1
       → IfSome told (λ bytes. (bytes ≡ text_of_lines (lines_so_far s) ++ l) × (n ≡ length (lines_so_far s) + 1))
-          → IfSome told (λ bytes. ReadsNoFurther bytes reads)
+      → IfSome told (λ bytes. ReadsNoFurther bytes reads)
   told-no_further None j reads ends few at = tt
   told-no_further (Some bytes) j reads ends few at = text-no_further bytes j reads ends few at
 
@@ -200,12 +243,14 @@ module _ (s : Stage) (l : List ℕ) (n : ℕ) (good : IsFaultless s) (none : Has
 pub stop-judged : (told : Option (List ℕ)) (p : Progress) (n : ℕ) (l : List ℕ) (reads : ℕ)
     (j : Result Kept found.FirstFault) → IsStop told (Ok n) p l reads
     → ((s : Stage) → Stands p s → length l ≤ limit_of s → EndsWith s l n j)
-        → IfSome told (IsJudged j) × IfOk j IsWhole × IfSome told (λ bytes. ReadsNoFurther bytes reads)
+    → IfSome told (IsJudged j) × IfOk j IsWhole × IfSome told (λ bytes. ReadsNoFurther bytes reads)
 stop-judged told p n l reads j (s, stands, short, none, few, at) ends =
     let e = ends s stands short in
-    let good = faultless p s stands in
-    (told-judged s l n good none told j e at, ended-whole s l n good none j e,
-        told-no_further s l n good none told j reads e few at)
+    let good = faultless p s stands in (
+      told-judged s l n good none told j e at,
+      ended-whole s l n good none j e,
+      told-no_further s l n good none told j reads e few at,
+    )
 
 -- ---- a line that is too long
 
@@ -259,10 +304,10 @@ pub at-long : (told : Option (List ℕ)) (p : Progress) (limit n : ℕ) (old new
     (f : Fault) (reads reads' : ℕ) → Goes told p old n reads → reads' ≤ reads + length l + 1 → length l ≤ limit
     → Gives limit old TooLong l new
     → ((s : Stage) → Stands p s → (next : Piece) → limit < length (bytes_of next) → Breaks (Rule s next) f)
-        → IfSome told (λ bytes. MeetsFault bytes n f reads')
+    → IfSome told (λ bytes. MeetsFault bytes n f reads')
 at-long told p limit n old new l f reads reads' (s, stands, rest, number, few) more short gives breaks =
     fault-at told old p n f reads' s stands rest number (long-comes limit old new l s f reads' gives (breaks s stands)
-        (omega (arith, few, more, short)))
+    (omega (arith, few, more, short)))
 
 -- ---- the reads
 
@@ -281,4 +326,4 @@ front-gave old new held n fault lines after told f same is =
     let short = line-short f.line f.is in
     subst (λ (a : Ahead). GaveNext 50 (stream lines told 0) Line (line_text f.line) (stream a told 0)) (sym is)
     (passed-next 50 n lines told 0 (line_text f.line) (line-no_lf f.line f.is) (omega (arith, short))
-        (subst (λ (h : List ℕ). n ≤ length h) same f.within) (ap (take n) (sym same) ∙ f.front))
+    (subst (λ (h : List ℕ). n ≤ length h) same f.within) (ap (take n) (sym same) ∙ f.front))

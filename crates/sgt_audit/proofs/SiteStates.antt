@@ -60,8 +60,10 @@ listed-missing ns e o r is some among =
     let miss = subst (IsPlaceAmong ns e) is among in
     elim (option_cases (item_of e)) [
       | inl none ↦ (λ h x on. absurd (none-some x (sym none ∙ on)), λ h. not-false r (sym some ∙ ap is_some none))
-      | inr named ↦ (λ h. absurd (false≢true (ap not (sym h) ∙ sym some ∙ ap is_some named.1)),
-          λ all. absurd (miss named.0 named.1 (all named.0 named.1)))
+      | inr named ↦ (
+        λ h. absurd (false≢true (ap not (sym h) ∙ sym some ∙ ap is_some named.1)),
+        λ all. absurd (miss named.0 named.1 (all named.0 named.1)),
+      )
     ]
   where
     not-false : (r : Bool) → not r ≡ false → IsTrue r
@@ -76,17 +78,19 @@ placed-at ns e o place is among = subst (IsPlaceAmong ns e) is among
 pub placed-none : (ns : List Name) (e : Entry) (o : Option ℕ) → o ≡ None → ForSome (item_of e) (Contains ns)
     → IsPlaceAmong ns e o → item_of e ≡ None
 placed-none ns e o is listed among =
-    elim (option_cases (item_of e)) [ inl none ↦ none
-    | inr some ↦ absurd (subst (IsPlaceAmong ns e) is among some.0 some.1 (listed some.0 some.1)) ]
+    elim (option_cases (item_of e)) [
+      | inl none ↦ none
+      | inr some ↦ absurd (subst (IsPlaceAmong ns e) is among some.0 some.1 (listed some.0 some.1))
+    ]
 
 pub legal-at : (items : List Holding) (entries : List Entry) (e : Entry) (tx : ℕ) (item : Name) (value : ℕ) (r : Bool)
     (place : ℕ) → e ≡ entry.Read tx item value
     → (x : Name) × (slice_get (names items) place ≡ Some x) × (item_of e ≡ Some x)
-        → ((x : Name) → slice_get (names items) place ≡ Some x → IsTrue r ↔ (value_at items entries x ≡ Some value))
+    → ((x : Name) → slice_get (names items) place ≡ Some x → IsTrue r ↔ (value_at items entries x ≡ Some value))
     → IsTrue r ↔ IsLegalRead items entries e
 legal-at items entries e tx item value r place is at decides =
     subst (λ f. IsTrue r ↔ IsLegalRead items entries f) (sym is)
-        (decides item (at.1 ∙ ap Some (same_Some at.0 item (sym at.2 ∙ ap item_of is))))
+    (decides item (at.1 ∙ ap Some (same_Some at.0 item (sym at.2 ∙ ap item_of is))))
 
 -- an end repeats nothing and conflicts with nothing
 end-no_read : (e : Entry) (x : Name) → item_of e ≡ None → Reads x e → ⊥
@@ -104,8 +108,10 @@ pub end-first : (entries : List Entry) (e : Entry) → item_of e ≡ None
     → IsTrue true ↔ All (λ f. (x : Name) → Repeats x f e → ⊥) entries
 end-first entries e none = (
   λ h. All-from_at (λ f. (x : Name) → Repeats x f e
-      → ⊥) entries (λ n f at x r. elim r.1 [ inl reads ↦ end-no_read e x none reads.1
-      | inr writes ↦ end-no_write e x none writes.1 ]),
+      → ⊥) entries (λ n f at x r. elim r.1 [
+        | inl reads ↦ end-no_read e x none reads.1
+        | inr writes ↦ end-no_write e x none writes.1
+      ]),
   λ h. refl,
 )
 
@@ -204,20 +210,22 @@ module _ (ds : List Decision) (b : Begun) (old new : SiteState) where
     section ∙ before.0,
     subst (λ es. TracksOpen ds (log.items ++ h ∷ []) es new) (sym fits.0)
         (tracks log.items
-            (All-from_at (λ x. x ≢ h.item) (names log.items)
-            (λ n x at. before-apart x h.item (All_at (λ x. ComesBefore x h.item) (names log.items) n x fits.3 at)))
-            (subst (λ es. TracksOpen ds log.items es old) fits.0 before.1)),
+        (All-from_at (λ x. x ≢ h.item) (names log.items)
+        (λ n x at. before-apart x h.item (All_at (λ x. ComesBefore x h.item) (names log.items) n x fits.3 at)))
+        (subst (λ es. TracksOpen ds log.items es old) fits.0 before.1)),
   )
 
   pub entry-entered : (o : Option SiteLog) (e : Entry) → new.section ≡ old.section
       → ((items : List Holding) (entries : List Entry) → AllPairs (λ x y. x ≢ y) (names items)
-          → ForSome (item_of e) (Contains (names items)) → ((number : ℕ) × IsDecided ds e number)
-          → TracksOpen ds items entries old → TracksOpen ds items (entries ++ e ∷ []) new)
+      → ForSome (item_of e) (Contains (names items)) → ((number : ℕ) × IsDecided ds e number)
+      → TracksOpen ds items entries old → TracksOpen ds items (entries ++ e ∷ []) new)
       → Enters o (Logged e)
   entry-entered None e section tracks room fits admits ready = absurd fits
-  entry-entered (Some log) e section tracks room fits admits before =
-      (section ∙ before.0, tracks log.items log.entries (names-apart (names log.items) room.1.rising) admits.0
-      admits.1 before.1)
+  entry-entered (Some log) e section tracks room fits admits before = (
+    section ∙ before.0,
+    tracks log.items log.entries (names-apart (names log.items) room.1.rising) admits.0
+        admits.1 before.1,
+  )
 
   pub final-entered : (o : Option SiteLog) (h : Holding) → new ≡ old → Enters o (Final h)
   final-entered None h same room fits admits ready = absurd fits
@@ -229,15 +237,17 @@ module _ (ds : List Decision) (b : Begun) (old new : SiteState) where
   end-entered (Some log) same room fits admits before =
       subst (IsReadyFor ds (length (b.whole ++ log ∷ []) + 1)) (sym same)
       (subst (λ n. IsReadyFor ds n old) (ap (λ n. n + 1) (before.0 ∙ sym (length_push b.whole log)))
-          (ready-next ds log.items log.entries old before.1))
+      (ready-next ds log.items log.entries old before.1))
 
 -- ---- the next line of a text
 
 pub admits : (c : Certificate) (b : Begun) (o : Option SiteLog) (line : SectionLine) → b.current ≡ o
     → KeptBelow (Keeps c (lines_read b) line) 17 → AdmitsLine c.decisions o line
-admits c b (Some log) (Logged e) here kept =
-    (subst (λ items. ForSome (item_of e) (Contains (names items))) (has_open b log here).items
-        (kept fault.Item (omega arith)), (kept fault.End (omega arith)).0)
+admits c b (Some log) (Logged e) here kept = (
+  subst (λ items. ForSome (item_of e) (Contains (names items))) (has_open b log here).items
+      (kept fault.Item (omega arith)),
+  (kept fault.End (omega arith)).0,
+)
 admits c b (Some log) (Site k) here kept = tt
 admits c b (Some log) (Initial h) here kept = tt
 admits c b (Some log) (Final h) here kept = tt
@@ -248,16 +258,20 @@ pub line-tracked : (second : Bool) (c : Certificate) (b : Begun) (old new : Trac
     (line : SectionLine) → Means second c b before → KeptBelow (Keeps c (lines_read b) line) 17
     → Begins b.sites (lines_read b ++ line ∷ [])
     → ((a : Begun) → IsDecidedOnce c.decisions → IsBegun a → MayFollow a a.current line
-        → AdmitsLine c.decisions a.current line → IsTracked c.decisions a old
-        → IsTracked c.decisions (with_next a a.current line) new)
+    → AdmitsLine c.decisions a.current line → IsTracked c.decisions a old
+    → IsTracked c.decisions (with_next a a.current line) new)
     → IsTracked c.decisions b old → IsTracked c.decisions (with_next b b.current line) new
 line-tracked second c b old new before line m kept begins enters t =
     enters b (m.kept.itself fault.DecidedTwice) m.begun (begins-follow b line begins)
-        (admits c b b.current line refl kept) t
+    (admits c b b.current line refl kept) t
 
 pub fresh-tracked : (sites : ℕ) (ds : List Decision) (b : Begun) (t : Tracked)
     → b ≡ record { sites = sites; whole = []; current = None } → IsPlace b t.place → IsReadyFor ds 1 t.state
     → MeansMet ds [] t.walks → IsTracked ds b t
 fresh-tracked sites ds b t is place ready met =
-    subst (λ a. IsPlace a t.place → IsTracked ds a t) (sym is) (λ place. record { place = place; open_site =
-    ready; walks = met }) place
+    subst (λ a. IsPlace a t.place → IsTracked ds a t) (sym is) (λ place. record {
+      place = place;
+      open_site =
+          ready;
+      walks = met;
+    }) place

@@ -48,9 +48,9 @@ module _ (rule : Fault → Type 0) (decide : (f : Fault) → KeptBelow rule (fau
   judged-12 : KeptOrBroken 13
   judged-12 =
       judge-next fault.Block
-          (judge-next fault.RankOrder
-          (judge-next fault.ReadValue
-          (judge-next fault.Twice (judge-next fault.Item (judge-next fault.Section judged-6)))))
+      (judge-next fault.RankOrder
+      (judge-next fault.ReadValue
+      (judge-next fault.Twice (judge-next fault.Item (judge-next fault.Section judged-6)))))
 
   judged-19 : KeptOrBroken 20
   judged-19 =
@@ -100,7 +100,7 @@ next-stage : (s : Stage) (l : List ℕ) → Reached s → ((f : Fault) → Rule 
     → (t : Stage) × Reached t × (lines_so_far t ≡ lines_so_far s ++ l ∷ [])
 next-stage start l good rules =
     let first = rules fault.Format in
-        (headed first.0, record { faultless = tt; begun = tt }, ap (λ x. x ∷ []) (sym first.1))
+    (headed first.0, record { faultless = tt; begun = tt }, ap (λ x. x ∷ []) (sym first.1))
 next-stage (headed second) l good rules =
     let certified = rules fault.Certificate in
     let c = certified.0 in
@@ -115,8 +115,8 @@ next-stage (within second c before) l good rules =
     let noted = rules fault.Notation in
     let line = noted.0 in
     let kept =
-        kept-more second c before line good.faultless.0 noted.1
-        (keeps-each second c before line l noted.1 noted.2 rules) in
+    kept-more second c before line good.faultless.0 noted.1
+    (keeps-each second c before line l noted.1 noted.2 rules) in
     let held = more-begun c before good.begun line (rules fault.Section line noted.1 noted.2) in
     let spelled = map-append line_text before (line ∷ []) ∙ ap (λ x. map line_text before ++ x ∷ []) (sym noted.2) in
     let t = some-or-all second c (before ++ line ∷ []) kept held in
@@ -136,15 +136,21 @@ ends-well bytes (headed second) l good text rules = absurd (rules fault.Truncate
 ends-well bytes (within second c before) l good text rules = absurd (rules fault.Truncated)
 ends-well bytes (complete second c before) l good text rules =
     let lines = text_of_lines (lines_so_far (complete second c before)) in
-    let valid = no_fault-valid bytes (second, c, before, good, text
-        ∙ ap (λ (t : List ℕ). lines ++ t) (rules fault.Trailing) ∙ append-nil lines) in
+    let valid = no_fault-valid bytes (
+      second,
+      c,
+      before,
+      good,
+      text
+          ∙ ap (λ (t : List ℕ). lines ++ t) (rules fault.Trailing) ∙ append-nil lines,
+    ) in
     (yes_of valid.0.certificate.decisions, (valid.0, valid.1, valid.2, refl))
 
 -- behind a stage of the text, where what is shorter comes to a verdict
 module _ (bytes : List ℕ) (s : Stage) (rest : List ℕ) (good : Reached s)
     (text : bytes ≡ text_of_lines (lines_so_far s) ++ rest)
     (further : (t : Stage) (more : List ℕ) → length more < length rest → Reached t
-        → bytes ≡ text_of_lines (lines_so_far t) ++ more → HasVerdict bytes) where
+    → bytes ≡ text_of_lines (lines_so_far t) ++ more → HasVerdict bytes) where
   at-piece : (next : Piece) → ComesNext rest next → ((f : Fault) → Rule s next f) → HasVerdict bytes
   at-piece (last l) comes rules =
       ends-well bytes s l good.faultless (text ∙ ap (λ (t : List ℕ). text_of_lines (lines_so_far s) ++ t) comes.0) rules
@@ -152,7 +158,7 @@ module _ (bytes : List ℕ) (s : Stage) (rest : List ℕ) (good : Reached s)
       let t = next-stage s l good rules in
       further t.0 more (omega (arith, ap length is, length-append l (10 ∷ more))) t.1
       (text ∙ ap (λ (x : List ℕ). text_of_lines (lines_so_far s) ++ x) is
-          ∙ sym (text-one_line (lines_so_far s) l more) ∙ ap (λ ls. text_of_lines ls ++ more) (sym t.2))
+      ∙ sym (text-one_line (lines_so_far s) l more) ∙ ap (λ ls. text_of_lines ls ++ more) (sym t.2))
 
   at-rest : HasVerdict bytes
   at-rest =
@@ -161,8 +167,17 @@ module _ (bytes : List ℕ) (s : Stage) (rest : List ℕ) (good : Reached s)
         | inl rules ↦ at-piece next.0 next.1 rules
         | inr broken ↦ (
           No (length (lines_so_far s) + 1) broken.0,
-          record { stage = s; rest = rest; next = next.0; text = text; faultless = good.faultless; number =
-              refl; comes = next.1; breaks = broken.1 },
+          record {
+            stage = s;
+            rest = rest;
+            next = next.0;
+            text = text;
+            faultless = good.faultless;
+            number =
+                refl;
+            comes = next.1;
+            breaks = broken.1;
+          },
         )
       ]
 

@@ -34,70 +34,78 @@ pub record IsAhead (second : Bool) (sites : ℕ) (bytes : List ℕ) (b : Begun) 
 
 module _ (second : Bool) (sites : ℕ) (bytes : List ℕ) (b : Begun) (rest : List ℕ)
     (a : IsAhead second sites bytes b rest) (lines : List SectionLine) (s : SpellsSections second sites bytes lines)
-    where
-  -- what is left is the rest of the lines
-  left : (more : List SectionLine) × (lines ≡ lines_read b ++ more) × (rest ≡ text_of_lines (map line_text more))
-  left = lines_front (lines_read b) lines rest (lines-of second (lines_read b) a.each) (lines-of second lines s.each)
-      (sym a.text ∙ s.text)
+  where
+    -- what is left is the rest of the lines
+    left : (more : List SectionLine) × (lines ≡ lines_read b ++ more) × (rest ≡ text_of_lines (map line_text more))
+    left = lines_front (lines_read b) lines rest (lines-of second (lines_read b) a.each) (lines-of second lines s.each)
+        (sym a.text ∙ s.text)
 
-  -- nothing is left behind all sections
-  none-left : (more : List SectionLine) → lines ≡ lines_read b ++ more → rest ≡ text_of_lines (map line_text more)
-      → rest ≡ [] → AreSections b.sites (lines_read b)
-  none-left [] same text none =
-      subst (λ n. AreSections n (lines_read b)) (sym a.sites_are) (subst (AreSections sites) (same
-      ∙ append-nil (lines_read b)) s.all)
-  none-left (l ∷ more) same text none =
-      absurd (no_line (line_text l) (text_of_lines (map line_text more))
-      (sym (first_line (line_text l) (map line_text more)) ∙ sym text ∙ none))
+    -- nothing is left behind all sections
+    none-left : (more : List SectionLine) → lines ≡ lines_read b ++ more → rest ≡ text_of_lines (map line_text more)
+        → rest ≡ [] → AreSections b.sites (lines_read b)
+    none-left [] same text none =
+        subst (λ n. AreSections n (lines_read b)) (sym a.sites_are) (subst (AreSections sites) (same
+        ∙ append-nil (lines_read b)) s.all)
+    none-left (l ∷ more) same text none =
+        absurd (no_line (line_text l) (text_of_lines (map line_text more))
+        (sym (first_line (line_text l) (map line_text more)) ∙ sym text ∙ none))
 
-  pub ended-all : rest ≡ [] → AreSections b.sites (lines_read b)
-  ended-all none = none-left left.0 left.1 left.2 none
+    pub ended-all : rest ≡ [] → AreSections b.sites (lines_read b)
+    ended-all none = none-left left.0 left.1 left.2 none
 
-  -- with no LF nothing is left
-  no-rest : (more : List SectionLine) → rest ≡ text_of_lines (map line_text more) → HasNoLf rest → rest ≡ []
-  no-rest [] text none = text
-  no-rest (l ∷ more) text none =
-      absurd (has_lf (line_text l) (text_of_lines (map line_text more))
-      (subst HasNoLf (text ∙ first_line (line_text l) (map line_text more)) none))
+    -- with no LF nothing is left
+    no-rest : (more : List SectionLine) → rest ≡ text_of_lines (map line_text more) → HasNoLf rest → rest ≡ []
+    no-rest [] text none = text
+    no-rest (l ∷ more) text none =
+        absurd (has_lf (line_text l) (text_of_lines (map line_text more))
+        (subst HasNoLf (text ∙ first_line (line_text l) (map line_text more)) none))
 
-  pub cut-none : HasNoLf rest → rest ≡ []
-  cut-none none = no-rest left.0 left.2 none
+    pub cut-none : HasNoLf rest → rest ≡ []
+    cut-none none = no-rest left.0 left.2 none
 
-  -- the next line is the next of these
-  module _ (line : List ℕ) (after : List ℕ) (none : HasNoLf line) (cut : rest ≡ line ++ 10 ∷ after) where
-    next-of : (more : List SectionLine) → lines ≡ lines_read b ++ more → rest ≡ text_of_lines (map line_text more)
-        → (l : SectionLine) × (later : List SectionLine) × (line ≡ line_text l) × IsLineIn second l
-        × (lines ≡ lines_read b ++ l ∷ later)
-    next-of [] same text = absurd (no_line line after (sym cut ∙ text))
-    next-of (l ∷ later) same text =
-        let is = one-spelled l later
-            (subst (AllByRecursion (IsLineIn second)) same (recursion_from_All (IsLineIn second) lines s.each)) in
-        (l, later,
+    -- the next line is the next of these
+    module _ (line : List ℕ) (after : List ℕ) (none : HasNoLf line) (cut : rest ≡ line ++ 10 ∷ after) where
+      next-of : (more : List SectionLine) → lines ≡ lines_read b ++ more → rest ≡ text_of_lines (map line_text more)
+          → (l : SectionLine) × (later : List SectionLine) × (line ≡ line_text l) × IsLineIn second l
+          × (lines ≡ lines_read b ++ l ∷ later)
+      next-of [] same text = absurd (no_line line after (sym cut ∙ text))
+      next-of (l ∷ later) same text =
+          let is = one-spelled l later
+          (subst (AllByRecursion (IsLineIn second)) same (recursion_from_All (IsLineIn second) lines s.each)) in (
+            l,
+            later,
             (cut_at_byte 10 line (line_text l) after (text_of_lines (map line_text later)) (has_no_lf line none)
-            (line-one_line l is.0) (sym cut ∙ text ∙ first_line (line_text l) (map line_text later))).0, is, same)
-      where
-        behind : (xs ys : List SectionLine) → AllByRecursion (IsLineIn second) (xs ++ ys)
-            → AllByRecursion (IsLineIn second) ys
-        behind [] ys h = h
-        behind (x ∷ xs) ys h = behind xs ys h.1
+                (line-one_line l is.0) (sym cut ∙ text ∙ first_line (line_text l) (map line_text later))).0,
+            is,
+            same,
+          )
+        where
+          behind : (xs ys : List SectionLine) → AllByRecursion (IsLineIn second) (xs ++ ys)
+              → AllByRecursion (IsLineIn second) ys
+          behind [] ys h = h
+          behind (x ∷ xs) ys h = behind xs ys h.1
 
-        one-spelled : (l : SectionLine) (later : List SectionLine)
-            → AllByRecursion (IsLineIn second) (lines_read b ++ l ∷ later) → IsLineIn second l
-        one-spelled l later h = (behind (lines_read b) (l ∷ later) h).0
+          one-spelled : (l : SectionLine) (later : List SectionLine)
+              → AllByRecursion (IsLineIn second) (lines_read b ++ l ∷ later) → IsLineIn second l
+          one-spelled l later h = (behind (lines_read b) (l ∷ later) h).0
 
-    pub next-line : (l : SectionLine) × (later : List SectionLine) × (line ≡ line_text l) × IsLineIn second l
-        × (lines ≡ lines_read b ++ l ∷ later)
-    next-line = next-of left.0 left.1 left.2
+      pub next-line : (l : SectionLine) × (later : List SectionLine) × (line ≡ line_text l) × IsLineIn second l
+          × (lines ≡ lines_read b ++ l ∷ later)
+      next-line = next-of left.0 left.1 left.2
 
-    -- it is one that may go on
-    pub next-begins : (read : SectionLine) → IsLineIn second read → line ≡ line_text read
-        → Begins b.sites (lines_read b ++ read ∷ [])
-    next-begins read is same =
-        let n = next-line in
-        let one = line-one read n.0 is.0 n.3.0 (sym same ∙ n.2) in
-        subst (λ k. Begins k (lines_read b ++ read ∷ [])) (sym a.sites_are)
-        (s.all.0, n.1, s.all.1, s.all.2 ∙ n.4 ∙ ap (λ l. lines_read b ++ l ∷ n.1) (sym one)
-            ∙ sym (append_assoc (lines_read b) (read ∷ []) n.1))
+      -- it is one that may go on
+      pub next-begins : (read : SectionLine) → IsLineIn second read → line ≡ line_text read
+          → Begins b.sites (lines_read b ++ read ∷ [])
+      next-begins read is same =
+          let n = next-line in
+          let one = line-one read n.0 is.0 n.3.0 (sym same ∙ n.2) in
+          subst (λ k. Begins k (lines_read b ++ read ∷ [])) (sym a.sites_are) (
+            s.all.0,
+            n.1,
+            s.all.1,
+            s.all.2 ∙ n.4 ∙ ap (λ l. lines_read b ++ l ∷ n.1) (sym one)
+                ∙ sym (append_assoc (lines_read b) (read ∷ []) n.1),
+          )
 
 -- all is read: these are all sections, or the bytes spell none
 pub all-spelled : (second : Bool) (sites : ℕ) (bytes : List ℕ) (b : Begun) (rest : List ℕ)
@@ -132,7 +140,7 @@ ahead-next second sites bytes b new rest line after read a cut is same sites_sam
       ∙ ap (λ (l : List ℕ). l ++ 10 ∷ after) same)
       ∙ sym (text-one_line (map line_text (lines_read b)) (line_text read) after)
       ∙ ap (λ ls. text_of_lines ls ++ after) (sym (ap (map line_text) lines
-          ∙ map-append line_text (lines_read b) (read ∷ [])));
+      ∙ map-append line_text (lines_read b) (read ∷ [])));
 }
 
 -- ---- the first two lines
@@ -180,11 +188,11 @@ module _ (bytes : List ℕ) (b : Parts) (s : Spells bytes b) where
           → SpellsSections f c.sites behind (sections_from 0 b.sites)
       spells-sections f c is same = subst₂ (λ f c. SpellsSections f c.sites behind (sections_from 0 b.sites))
           (format-one s.second f (sym first-is ∙ is)) (sym same) (record {
-        each = lines-allowed s.second 0 b.sites
-            (sections-lines 0 b.sites (omega (arith, s.shape.each, s.shape.few)) s.logs) s.allowed;
-        all = (b.sites, s.shape, refl);
-        text = second-cut.1;
-      })
+            each = lines-allowed s.second 0 b.sites
+                (sections-lines 0 b.sites (omega (arith, s.shape.each, s.shape.few)) s.logs) s.allowed;
+            all = (b.sites, s.shape, refl);
+            text = second-cut.1;
+          })
 
 -- a bundle whose sections were read
 module _ (f : Bool) (bytes format-line rest second behind : List ℕ) (c : Certificate) (r : Begun)
@@ -198,13 +206,13 @@ module _ (f : Bool) (bytes format-line rest second behind : List ℕ) (c : Certi
   lines-are =
       let done = are-sections r (subst (λ n. AreSections n (lines_read r)) (sym sites) read.all) in
       ap (λ o. sections_from 0 r.whole ++ open_lines (length r.whole) o) done.0 ∙ append-nil (sections_from 0 r.whole)
-          ∙ ap (sections_from 0) (sym whole)
+      ∙ ap (sections_from 0) (sym whole)
 
   text-is : bytes ≡ text_in f bundle
   text-is =
       first ∙ ap₂ (λ (l t : List ℕ). l ++ 10 ∷ t) is (next ∙ ap₂ (λ (l t : List ℕ). l ++ 10 ∷ t) certified (read.text
-          ∙ ap (λ ls. text_of_lines (map line_text ls)) lines-are)
-          ∙ sym (first_line (certificate_text c) (map line_text (sections_from 0 logs))))
+      ∙ ap (λ ls. text_of_lines (map line_text ls)) lines-are)
+      ∙ sym (first_line (certificate_text c) (map line_text (sections_from 0 logs))))
       ∙ sym (first_line (format_line f) (certificate_text c ∷ map line_text (sections_from 0 logs)))
 
   pub read-spells : IsCertificate c → FitTogether bundle → Spells bytes bundle
@@ -225,7 +233,7 @@ module _ (f : Bool) (bytes format-line rest second behind : List ℕ) (c : Certi
       let lines = sections-same f c.sites behind (sections_from 0 b.sites) (lines_read r) spelled read in
       let logs-are : b.sites ≡ logs = sym (sections-whole r b.sites lines).1 ∙ sym whole in
       miss (subst (λ p. FitTogether p) (ap₂ (λ d ls. record { certificate = d; sites = ls }) (sym same) logs-are)
-          (fit-together b.certificate b.sites s.certificate s.shape))
+      (fit-together b.certificate b.sites s.certificate s.shape))
 
 pub bundle-answers : (bytes : List ℕ) (found : Option Parts) (v : Parts) → SomeIff found (FitTogether v) v
     → (FitTogether v → Spells bytes v) → ((b : Parts) → Spells bytes b → (FitTogether v → ⊥) → ⊥)

@@ -1,4 +1,5 @@
-//! One section judged by itself, whatever the sections before it are: the decisions are lent, and nothing of another section is kept.
+//! One section judged by itself, whatever the sections before it are: the decisions are lent, and nothing of another
+//! section is kept.
 
 ghost use Rattle.std.specs.Prelude.{◌≡◌, ℕ, List, length, IfOk};
 ghost use Rattle.sgt_notation.specs.Spelling.{IsLine, line_text};
@@ -114,8 +115,8 @@ impl Alone {
         }
     }
 
-    /// The same, where the line is this entry. The kinds that are most frequent go ways of their own, on which the kind is known and
-    /// not asked for again.
+    /// The same, where the line is this entry. The kinds that are most frequent go ways of their own, on which the
+    /// kind is known and not asked for again.
     #[inline(always)]
     fn next_entry(
         &mut self,

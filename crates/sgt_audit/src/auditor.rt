@@ -81,8 +81,8 @@ impl Auditor {
         }
     }
 
-    /// One more line, without its LF; it must have no byte `\n` in it (`line.contains(&b'\n')` tests that). A fault is no
-    /// Err: `end` answers it. An Err is Memory, and every later call answers Memory then.
+    /// One more line, without its LF; it must have no byte `\n` in it (`line.contains(&b'\n')` tests that). A fault
+    /// is no Err: `end` answers it. An Err is Memory, and every later call answers Memory then.
     pub fn feed(&mut self, line: &[u8]) -> Result<(), EngineFail>
         requires { HasNoLf line.now }
         ensures read { (second : Bool) (c : Certificate) (fed : List (List ℕ))
@@ -118,8 +118,8 @@ impl Auditor {
         }
     }
 
-    /// The first fault of the certificate's line and the lines fed, with its line, whatever follows: it doesn't change. That more
-    /// lines are wanted is no fault. After Memory it answers as before.
+    /// The first fault of the certificate's line and the lines fed, with its line, whatever follows: it doesn't
+    /// change. That more lines are wanted is no fault. After Memory it answers as before.
     pub fn fault(&self) -> Option<(u64, Fault)>
         ensures known { result ≡ known_fault self.now }
         ensures first { (second : Bool) (c : Certificate) (fed : List (List ℕ))

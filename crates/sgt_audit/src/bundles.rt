@@ -27,7 +27,8 @@ pub(crate) fn split_line(bytes: &[u8]) -> Option<(&[u8], &[u8])>
     }
 }
 
-/// Adds the lines of sections that the bytes spell in the second format, or in the first. Whether they are all sections.
+/// Adds the lines of sections that the bytes spell in the second format, or in the first. Whether they are all
+/// sections.
 fn add_lines(
     second: bool,
     bytes: &[u8],

@@ -69,13 +69,14 @@ pub fn audit_bundle<R: Source>(alloc: Global, reader: &mut R) -> Result<Audited,
 /// Audits all that the reader gives, and writes the line of the verdict and nothing else. Once a line with a fault was
 /// read whole, no further read is made.
 ///
-/// Where it answers yes to a stream of bytes, the stream spells site logs and a certificate such that running the committed
-/// transactions alone, one after another by rank, gives every read value and final value recorded for them, conflicting
-/// operations stand in rank order at every site, and each refused transaction lies on a cycle of logged conflicts with
-/// transactions certified before it.
+/// Where it answers yes to a stream of bytes, the stream spells site logs and a certificate such that running the
+/// committed transactions alone, one after another by rank, gives every read value and final value recorded for them,
+/// conflicting operations stand in rank order at every site, and each refused transaction lies on a cycle of logged
+/// conflicts with transactions certified before it.
 ///
 /// An Err is ReadFault, where a read failed or too many were needed (`MOST_READS` of sgt_names), or Memory: nothing was
-/// written then. Or it is WriteFault, where a write failed: at most a front of the line was written, and not the whole of it.
+/// written then. Or it is WriteFault, where a write failed: at most a front of the line was written, and not the
+/// whole of it.
 pub fn audit<R: Source, W: Sink>(
     alloc: Global,
     reader: &mut R,

@@ -85,8 +85,8 @@ fn judge_entry(
     None
 }
 
-/// Whether the holding, of a listed item, has the value of its item. No search is needed where the item is the one whose final
-/// value comes next.
+/// Whether the holding, of a listed item, has the value of its item. No search is needed where the item is the one
+/// whose final value comes next.
 #[inline(always)]
 fn holds_final(state: &SiteState, place: &OpenPlace, holding: &Holding) -> bool
     ensures { (ds : List Decision) (log : SiteLog) → IsOpenPlace log place.now

@@ -57,8 +57,8 @@ impl Kept {
         }
     }
 
-    /// Whether the entry of which this is known is taken in without room being made for what is kept of it. Nothing need be known of
-    /// it: it chooses between two ways that answer the same.
+    /// Whether the entry of which this is known is taken in without room being made for what is kept of it. Nothing
+    /// need be known of it: it chooses between two ways that answer the same.
     #[inline(always)]
     fn is_plain(&self, known: &Known) -> bool {
         match known.ruling.number {
@@ -207,8 +207,8 @@ impl Kept {
         }
     }
 
-    /// The same, where the line is this entry. The kinds that are most frequent go ways of their own, on which the kind is known and
-    /// not asked for again.
+    /// The same, where the line is this entry. The kinds that are most frequent go ways of their own, on which the
+    /// kind is known and not asked for again.
     #[inline(always)]
     fn next_entry(&mut self, entry: &Entry) -> Result<Option<Fault>, AllocError>
         ensures sections { is_some self.new.sections ≡ is_some self.old.sections }
@@ -284,8 +284,8 @@ impl Kept {
         }
     }
 
-    /// At the end of the input, in the line of this number, with these bytes behind the last LF: what was read, if all is there, or
-    /// the fault.
+    /// At the end of the input, in the line of this number, with these bytes behind the last LF: what was read, if
+    /// all is there, or the fault.
     pub(crate) fn end(self, rest: &[u8], line: u64) -> Result<Kept, FirstFault>
         ensures same { IfOk result (λ k. k ≡ self) }
         ensures ends { (s : Stage) → IsAt self s → length rest.now ≤ limit_of s

@@ -32,8 +32,9 @@ pub struct Machine {
     pub progress: Progress,
 }
 
-/// Lets the bytes go. They are made few first: a C library such as glibc takes the size of a great block that it is given back
-/// for one that comes often, and keeps what is that size or smaller in a heap, where a growth copies and leaves a hole.
+/// Lets the bytes go. They are made few first: a C library such as glibc takes the size of a great block that it is
+/// given back for one that comes often, and keeps what is that size or smaller in a heap, where a growth copies and
+/// leaves a hole.
 fn let_go(alloc: Global, line: &mut Vec<u8>)
     ensures { line.new.items ≡ [] }
 {
@@ -184,8 +185,8 @@ impl Machine {
         }
     }
 
-    /// What was read, if all is there at the end of the input, in the line of this number, with these bytes behind the last LF; or the
-    /// fault.
+    /// What was read, if all is there at the end of the input, in the line of this number, with these bytes behind
+    /// the last LF; or the fault.
     pub(crate) fn end(self, rest: &[u8], line: u64) -> Result<Kept, FirstFault>
         ensures ends { (s : Stage) → Stands self.progress s → length rest.now ≤ limit_of s
             → EndsWith s rest.now line result }

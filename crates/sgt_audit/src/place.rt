@@ -1,4 +1,5 @@
-//! Where the next line of the sections stands: what is kept of the lines before it, by which it is told whether it may stand there.
+//! Where the next line of the sections stands: what is kept of the lines before it, by which it is told whether it
+//! may stand there.
 
 ghost use Rattle.std.specs.Prelude.{◌≡◌, ◌-◌, ◌↔◌, [], ◌∷◌, ◌++◌, IsTrue, OnOk, Some, None, length, slice_get};
 ghost use Rattle.std.specs.Option.{ForSome};
@@ -38,8 +39,8 @@ fn last_of(entry: &Entry) -> Last
     }
 }
 
-/// What is kept of the lines of the open section: its items, what the entry that was read last asks of the next, and how many
-/// finals there are.
+/// What is kept of the lines of the open section: its items, what the entry that was read last asks of the next, and
+/// how many finals there are.
 #[derive(Drop)]
 pub struct OpenPlace {
     pub items: Vec<Item>,
@@ -106,7 +107,8 @@ impl OpenPlace {
     }
 }
 
-/// What is kept of the lines of sections: of how many sites they are to be, how many sections are whole, and the open one.
+/// What is kept of the lines of sections: of how many sites they are to be, how many sections are whole, and the open
+/// one.
 #[derive(Drop)]
 pub struct Place {
     pub alloc: Global,

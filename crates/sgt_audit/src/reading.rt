@@ -16,8 +16,8 @@ use sgt_names::{EngineFail, Source};
 use sgt_notation::{Lines, LinesFault, Next, front_line};
 use std::alloc::{AllocError, Global};
 
-/// Feeds what was kept the line that is found at the front of the held bytes, if one is: how many bytes it has with its LF,
-/// and its fault.
+/// Feeds what was kept the line that is found at the front of the held bytes, if one is: how many bytes it has with
+/// its LF, and its fault.
 fn feed_front(kept: &mut Kept, held: &[u8]) -> Result<Option<(usize, Option<Fault>)>, AllocError>
     ensures fed { IfOk result
         (λ found. IfSome found (λ r. FedFront kept.old kept.new held.now r.0 r.1)) }
@@ -58,7 +58,8 @@ fn feed_kept(
     Ok(None)
 }
 
-/// Feeds the machine the lines of sections that are held whole, up to the first fault. The number is that of the next line.
+/// Feeds the machine the lines of sections that are held whole, up to the first fault. The number is that of the next
+/// line.
 fn feed_held(
     machine: &mut Machine,
     lines: &mut Lines,
@@ -80,8 +81,9 @@ fn feed_held(
     }
 }
 
-/// Feeds the machine line by line, up to the first fault or to the end of the input: the number of the line in which the input ends,
-/// with the bytes behind the last LF in the buffer. A line that is held whole is read where it is held; each other line is copied first.
+/// Feeds the machine line by line, up to the first fault or to the end of the input: the number of the line in which
+/// the input ends, with the bytes behind the last LF in the buffer. A line that is held whole is read where it is
+/// held; each other line is copied first.
 fn feed_lines<R: Source>(
     reader: &mut R,
     lines: &mut Lines,
@@ -135,8 +137,8 @@ fn feed_lines<R: Source>(
     }
 }
 
-/// Judges all that the reader gives: what it says, or its first fault. The sections are kept, if they are to be handed out. Once a
-/// line with a fault was read whole, no further read is made.
+/// Judges all that the reader gives: what it says, or its first fault. The sections are kept, if they are to be
+/// handed out. Once a line with a fault was read whole, no further read is made.
 pub(crate) fn judge<R: Source>(
     alloc: Global,
     keeps: bool,

@@ -28,8 +28,8 @@ use sgt_names::{Entry, Holding};
 use sgt_notation::SectionLine;
 use std::alloc::{AllocError, Global};
 
-/// What is kept of the lines of the sections, by which a line is judged: where the next one stands, and what is kept of the open
-/// site and of the walks.
+/// What is kept of the lines of the sections, by which a line is judged: where the next one stands, and what is kept
+/// of the open site and of the walks.
 #[derive(Drop)]
 pub struct Tracked {
     pub place: Place,
@@ -97,7 +97,8 @@ pub fn is_legal(state: &SiteState, known: &Known, entry: &Entry) -> bool
     }
 }
 
-/// Whether the entry conflicts with no entry before it of a committed transaction of greater rank, if its own is committed.
+/// Whether the entry conflicts with no entry before it of a committed transaction of greater rank, if its own is
+/// committed.
 #[inline(always)]
 pub(crate) fn is_in_rank(state: &SiteState, known: &Known, entry: &Entry) -> bool
     ensures { (ds : List Decision) (items : List Holding) (entries : List Entry) → IsDecidedOnce ds

@@ -48,10 +48,10 @@ clash-deeds Rw x e f on_e on_f = and-decides (not (changes (deed_of e))) (change
     (Writes x f) (read-decides e x on_e) (write-decides f x on_f)
 clash-deeds Ww x e f on_e on_f =
     let both = and-decides (changes (deed_of e)) (changes (deed_of f)) (Writes x e) (Writes x f)
-        (write-decides e x on_e) (write-decides f x on_f) in
+    (write-decides e x on_e) (write-decides f x on_f) in
     let few = not-both (adds (deed_of e)) (adds (deed_of f)) in
     let all = and-decides (changes (deed_of e) && changes (deed_of f)) (not (adds (deed_of e) && adds (deed_of f)))
-        (Writes x e × Writes x f) (IsTrue (adds (deed_of e)) → IsTrue (adds (deed_of f)) → ⊥) both few in (
+    (Writes x e × Writes x f) (IsTrue (adds (deed_of e)) → IsTrue (adds (deed_of f)) → ⊥) both few in (
       λ h. let r = all.0 h in (r.0.0, r.0.1, λ p q. r.1 (adds-is e ∙ p) (adds-is f ∙ q)),
       λ c. all.1 ((c.0, c.1), λ p q. c.2 (sym (adds-is e) ∙ p) (sym (adds-is f) ∙ q)),
     )
@@ -93,16 +93,37 @@ module _ (ns : List Name) (entries : List Entry) (a b : ℕ) (acts others : List
       let c : Act = act k.p i k.e in
       let d : Act = act k.q i k.f in
       let first =
-          Contains_at acts c
-          ((is c).1 (record { entry = k.e; name = x; here = k.first; of = k.from; item = at; on = on.0; deed =
-          refl })) in
+      Contains_at acts c
+      ((is c).1 (record {
+        entry = k.e;
+        name = x;
+        here = k.first;
+        of = k.from;
+        item = at;
+        on = on.0;
+        deed =
+            refl;
+      })) in
       let second =
-          Contains_at others d
-          ((are d).1 (record { entry = k.f; name = x; here = k.second; of = k.to; item = at; on = on.1; deed =
-          refl })) in
-      Any-from_at IsMet acts first.0 c first.1 (refl,
-          Any-from_at (ClashesWith kind c) others second.0 d second.1 (refl, k.before,
-          (clash-deeds kind x k.e k.f on.0 on.1).1 k.clash))
+      Contains_at others d
+      ((are d).1 (record {
+        entry = k.f;
+        name = x;
+        here = k.second;
+        of = k.to;
+        item = at;
+        on = on.1;
+        deed =
+            refl;
+      })) in
+      Any-from_at IsMet acts first.0 c first.1 (
+        refl,
+        Any-from_at (ClashesWith kind c) others second.0 d second.1 (
+          refl,
+          k.before,
+          (clash-deeds kind x k.e k.f on.0 on.1).1 k.clash,
+        ),
+      )
 
   pub clash-decides : Any IsMet acts ↔ Conflicts entries kind x a b
   clash-decides = (met-conflicts, conflict-met)

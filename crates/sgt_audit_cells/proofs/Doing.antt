@@ -98,27 +98,37 @@ repeated f e y (inr writes) = let p = change-written f y writes.0 in let q = cha
     (p.0, q.0, p.1 ∙ sym q.1)
 
 module _ (ns : List Name) (entries : List Entry) (acts : List Act) (i : ℕ) (x : Name) (at : slice_get ns i ≡ Some x)
-    where
-  pub first-decides : (e : Entry) → item_of e ≡ Some x → AreActs ns entries (tx_of e) acts
-      → (Any (IsOf i (changes (deed_of e))) acts → ⊥) ↔ All (IsNew e) entries
-  first-decides e on is = (
-    λ miss. all-new entries e (λ f in_it y r.
-        let place = Contains_at entries f in_it in
-        let both = repeated f e y r.1 in
-        let name : y ≡ x = same_Some y x (sym both.1 ∙ on) in
-        let c : Act = act place.0 i f in
-        let has =
-            (is c).1 (record { entry = f; name = x; here = place.1; of = r.0; item = at; on = both.0
-            ∙ ap Some name; deed = refl }) in
-        let there = Contains_at acts c has in
-        miss (Any-from_at (IsOf i (changes (deed_of e))) acts there.0 c there.1 (refl, both.2))),
-    λ all has.
-        let found = Any_at (IsOf i (changes (deed_of e))) acts has in
-        let w = (is found.1).0 (Contains-from_at acts found.0 found.1 found.2) in
-        let name : w.name ≡ x = same_Some w.name x (sym w.item ∙ ap (slice_get ns) found.3.0 ∙ at) in
-        each-new entries e w.entry all (Contains-from_at entries found.1.at w.entry w.here) x (w.of,
-            repeats w.entry e x (w.on ∙ ap Some name) on (ap changes (sym w.deed) ∙ found.3.1)),
-  )
+  where
+    pub first-decides : (e : Entry) → item_of e ≡ Some x → AreActs ns entries (tx_of e) acts
+        → (Any (IsOf i (changes (deed_of e))) acts → ⊥) ↔ All (IsNew e) entries
+    first-decides e on is = (
+      λ miss. all-new entries e (λ f in_it y r.
+          let place = Contains_at entries f in_it in
+          let both = repeated f e y r.1 in
+          let name : y ≡ x = same_Some y x (sym both.1 ∙ on) in
+          let c : Act = act place.0 i f in
+          let has =
+          (is c).1 (record {
+            entry = f;
+            name = x;
+            here = place.1;
+            of = r.0;
+            item = at;
+            on = both.0
+                ∙ ap Some name;
+            deed = refl;
+          }) in
+          let there = Contains_at acts c has in
+          miss (Any-from_at (IsOf i (changes (deed_of e))) acts there.0 c there.1 (refl, both.2))),
+      λ all has.
+          let found = Any_at (IsOf i (changes (deed_of e))) acts has in
+          let w = (is found.1).0 (Contains-from_at acts found.0 found.1 found.2) in
+          let name : w.name ≡ x = same_Some w.name x (sym w.item ∙ ap (slice_get ns) found.3.0 ∙ at) in
+          each-new entries e w.entry all (Contains-from_at entries found.1.at w.entry w.here) x (
+            w.of,
+            repeats w.entry e x (w.on ∙ ap Some name) on (ap changes (sym w.deed) ∙ found.3.1),
+          ),
+    )
 
 pub not-decides : (b : Bool) (P Q : Type 0) → IsTrue b ↔ P → (P → ⊥) ↔ Q → IsTrue (not b) ↔ Q
 not-decides true P Q p q = (λ h. absurd (false≢true h), λ r. absurd (q.1 r (p.0 refl)))
@@ -178,8 +188,16 @@ made i d n = record { place = i; deed = d; at = n }
 
 module _ (ns : List Name) (entries : List Entry) (tx : ℕ) (e : Entry) where
   act-more : (a : Act) → IsAct ns entries tx a → IsAct ns (entries ++ e ∷ []) tx a
-  act-more a w = record { entry = w.entry; name = w.name; here = front_at entries (e ∷ []) a.at w.entry w.here; of =
-      w.of; item = w.item; on = w.on; deed = w.deed }
+  act-more a w = record {
+    entry = w.entry;
+    name = w.name;
+    here = front_at entries (e ∷ []) a.at w.entry w.here;
+    of =
+        w.of;
+    item = w.item;
+    on = w.on;
+    deed = w.deed;
+  }
 
   -- it stands for the new entry
   abbrev IsLast : Act → Type 0
@@ -189,17 +207,34 @@ module _ (ns : List Name) (entries : List Entry) (tx : ℕ) (e : Entry) where
   act-cases : (a : Act) → IsAct ns (entries ++ e ∷ []) tx a → IsAct ns entries tx a ⊎ IsLast a
   act-cases a w =
       elim (get_cases entries e a.at w.entry w.here) [
-        | inl old ↦ inl (record { entry = w.entry; name = w.name; here = old; of = w.of; item = w.item; on =
-            w.on; deed = w.deed })
-        | inr new ↦ inr (new.0, ap tx_of new.1 ∙ w.of, (w.name, w.item, ap item_of new.1 ∙ w.on), w.deed
-            ∙ ap deed_of (sym new.1))
+        | inl old ↦ inl (record {
+          entry = w.entry;
+          name = w.name;
+          here = old;
+          of = w.of;
+          item = w.item;
+          on =
+              w.on;
+          deed = w.deed;
+        })
+        | inr new ↦ inr (
+          new.0,
+          ap tx_of new.1 ∙ w.of,
+          (w.name, w.item, ap item_of new.1 ∙ w.on),
+          w.deed
+              ∙ ap deed_of (sym new.1),
+        )
       ]
 
   same-acts : (acts : List Act) → ((a : Act) → IsLast a → ⊥) → AreActs ns entries tx acts
       → AreActs ns (entries ++ e ∷ []) tx acts
-  same-acts acts none is a =
-      (λ has. act-more a ((is a).0 has), λ w. elim (act-cases a w) [ inl old ↦ (is a).1 old
-      | inr new ↦ absurd (none a new) ])
+  same-acts acts none is a = (
+    λ has. act-more a ((is a).0 has),
+    λ w. elim (act-cases a w) [
+      | inl old ↦ (is a).1 old
+      | inr new ↦ absurd (none a new)
+    ],
+  )
 
   pub acts-left : (acts : List Act) → (tx_of e ≡ tx → ⊥) → AreActs ns entries tx acts
       → AreActs ns (entries ++ e ∷ []) tx acts
@@ -215,15 +250,23 @@ module _ (ns : List Name) (entries : List Entry) (tx : ℕ) (e : Entry) where
   acts-entered acts i x apart is of at on a = (
     λ has. elim (Contains-push_cases acts c a has) [
       | inl old ↦ act-more a ((is a).0 old)
-      | inr new ↦ subst (IsAct ns (entries ++ e ∷ []) tx) new (record { entry = e; name = x; here =
-          middle_at entries e []; of = of; item = at; on = on; deed = refl })
+      | inr new ↦ subst (IsAct ns (entries ++ e ∷ []) tx) new (record {
+        entry = e;
+        name = x;
+        here =
+            middle_at entries e [];
+        of = of;
+        item = at;
+        on = on;
+        deed = refl;
+      })
     ],
     λ w. elim (act-cases a w) [
       | inl old ↦ Contains-append_left acts (c ∷ []) a ((is a).1 old)
       | inr new ↦
           let place = place-one ns i a.place x new.2.0 apart at new.2.1 (same_Some x new.2.0 (sym on ∙ new.2.2)) in
           let same : c ≡ a = ap (λ p. made p (deed_of e) (length entries)) place
-              ∙ ap (λ n. made a.place (deed_of e) n) (sym new.0) ∙ ap (λ d. made a.place d a.at) (sym new.3) in
+          ∙ ap (λ n. made a.place (deed_of e) n) (sym new.0) ∙ ap (λ d. made a.place d a.at) (sym new.3) in
           subst (Contains (acts ++ c ∷ [])) same (Contains-push acts c)
     ],
   )
@@ -253,13 +296,13 @@ record-left ns entries tx r e other is = record {
 pub record-entered : (ns : List Name) (entries : List Entry) (tx : ℕ) (old new : Record) (e : Entry)
     (place : Option ℕ) (ends : Bool) → AllPairs Apart ns → tx_of e ≡ tx → IsPlaceOf ns e place → IsTrue ends ↔ IsEnd e
     → IsRecord ns entries tx old
-        → IsTouched (option_to_list (option_map (λ i. act (length entries) i e) place)) ends old new
-        → IsRecord ns (entries ++ e ∷ []) tx new
+    → IsTouched (option_to_list (option_map (λ i. act (length entries) i e) place)) ends old new
+    → IsRecord ns (entries ++ e ∷ []) tx new
 record-entered ns entries tx old new e place ends apart of on ending is to = record {
   touched = (λ _. (e, Contains-push entries e, of, tt), λ _. to.touched);
   ended = subst (λ b. IsTrue b ↔ Did (entries ++ e ∷ []) tx IsEnd) (sym to.end)
       (or-decides old.ended ends (Did entries tx IsEnd) (IsEnd e) (Did (entries ++ e ∷ []) tx IsEnd) is.ended ending
-          (did-more entries tx e IsEnd) (λ h. (e, Contains-push entries e, of, h))
+      (did-more entries tx e IsEnd) (λ h. (e, Contains-push entries e, of, h))
       (λ d. elim (did-cases entries tx e IsEnd d) [ inl before ↦ inl before | inr now ↦ inr now.1 ]));
   acts = subst (AreActs ns (entries ++ e ∷ []) tx) (sym to.did)
       (acts-next ns entries tx e old.acts place apart is.acts of on);
@@ -284,6 +327,8 @@ pub record-renamed : (ns more : List Name) (tx : ℕ) (r : Record) → IsRecord 
 record-renamed ns more tx r is = record {
   touched = is.touched;
   ended = is.ended;
-  acts = λ a. (λ h. let w = (is.acts a).0 h in absurd (none-some w.entry w.here),
-      λ w. absurd (none-some w.entry w.here));
+  acts = λ a. (
+    λ h. let w = (is.acts a).0 h in absurd (none-some w.entry w.here),
+    λ w. absurd (none-some w.entry w.here),
+  );
 }

@@ -54,9 +54,9 @@ module _ (ds : List Decision) (items : List Holding) (entries : List Entry) (cel
 pub placed-item : (ds : List Decision) (items : List Holding) (entries : List Entry) (s : SiteState) (e : Entry)
     (x : Name) (o : Option ℕ) → TracksOpen ds items entries s → item_of e ≡ Some x
     → IfSome o (λ place. (ds : List Decision) (items : List Holding) (entries : List Entry)
-        → TracksOpen ds items entries s → slice_get (names items) place ≡ Some x)
+    → TracksOpen ds items entries s → slice_get (names items) place ≡ Some x)
     → IfNone o ((ds : List Decision) (items : List Holding) (entries : List Entry) → TracksOpen ds items entries s
-        → Contains (names items) x → ⊥) → IsPlaceAmong (names items) e o
+    → Contains (names items) x → ⊥) → IsPlaceAmong (names items) e o
 placed-item ds items entries s e x (Some place) t on some none = (x, some ds items entries t, on)
 placed-item ds items entries s e x None t on some none =
     λ y here listed. none ds items entries t (subst (Contains (names items)) (same_Some y x (sym here ∙ on)) listed)

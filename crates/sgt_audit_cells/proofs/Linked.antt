@@ -70,8 +70,8 @@ module _ (nodes : List Node) (are : AreLinked nodes) where
         | inr some ↦
             let early = are i some.0 some.1 in
             ap (behind (chain_by f nodes)) some.1
-                ∙ ap (λ acts. acts ++ some.0.act ∷ []) (most-same f g some.0.before (omega (arith, early, lf))
-                (omega (arith, early, lg)))
+            ∙ ap (λ acts. acts ++ some.0.act ∷ []) (most-same f g some.0.before (omega (arith, early, lf))
+            (omega (arith, early, lg)))
             ∙ sym (ap (behind (chain_by g nodes)) some.1)
       ]
 
@@ -80,7 +80,7 @@ module _ (nodes : List Node) (are : AreLinked nodes) where
   chain-at i n at =
       let early = are i n at in
       ap (behind (chain_by i nodes)) at
-          ∙ ap (λ acts. acts ++ n.act ∷ []) (most-same i n.before n.before early (omega arith))
+      ∙ ap (λ acts. acts ++ n.act ∷ []) (most-same i n.before n.before early (omega arith))
 
   -- one step back
   pub any-step : (P : Act → Type 0) (at i : ℕ) (n : Node) → slice_get nodes i ≡ Some n → at ≡ suc i → (P n.act → ⊥)
@@ -104,7 +104,7 @@ module _ (nodes : List Node) (are : AreLinked nodes) where
         let there = some-at nodes i (omega (arith, le)) in
         let before = are i there.0 there.1 in
         ap (behind (chain_by f (nodes ++ x ∷ []))) (get-pushed nodes x there.0 i there.1)
-            ∙ ap (λ acts. acts ++ there.0.act ∷ []) (pushed-by f there.0.before (omega (arith, before, le)))
+        ∙ ap (λ acts. acts ++ there.0.act ∷ []) (pushed-by f there.0.before (omega (arith, before, le)))
         ∙ sym (ap (behind (chain_by f nodes)) there.1)
 
     pub chain-pushed : (k : ℕ) → k ≤ length nodes → chain (nodes ++ x ∷ []) k ≡ chain nodes k
@@ -123,7 +123,7 @@ pub chain-last : (nodes : List Node) (are : AreLinked nodes) (x : Node) → x.be
     → chain (nodes ++ x ∷ []) (suc (length nodes)) ≡ chain nodes x.before ++ x.act ∷ []
 chain-last nodes are x early =
     chain-at (nodes ++ x ∷ []) (linked-pushed nodes are x early) (length nodes) x (get-last nodes x)
-        ∙ ap (λ acts. acts ++ x.act ∷ []) (chain-pushed nodes are x early x.before early)
+    ∙ ap (λ acts. acts ++ x.act ∷ []) (chain-pushed nodes are x early x.before early)
 
 -- ---- the records
 

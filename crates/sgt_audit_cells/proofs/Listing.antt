@@ -52,8 +52,13 @@ fresh h = record { name = h.item; value = h.value; reader = None; writer = None;
 
 module _ (ds : List Decision) (items : List Holding) (h : Holding) where
   old-cell : (c : Cell) → IsCell ds items [] c → IsCell ds (items ++ h ∷ []) [] c
-  old-cell c is = record { value = value_in-more items (h ∷ []) c.name c.value is.value; reader = is.reader; writer =
-      is.writer; adder = is.adder }
+  old-cell c is = record {
+    value = value_in-more items (h ∷ []) c.name c.value is.value;
+    reader = is.reader;
+    writer =
+        is.writer;
+    adder = is.adder;
+  }
 
   new-cell : All (λ x. x ≢ h.item) (names items) → IsCell ds (items ++ h ∷ []) [] (fresh h)
   new-cell new = record {
@@ -70,22 +75,22 @@ module _ (ds : List Decision) (items : List Holding) (h : Holding) where
         ∙ sym (map-push (λ (i : Holding). i.item) items h);
     each = All-from_at (IsCell ds (items ++ h ∷ []) []) (cells ++ fresh h ∷ [])
         (λ k c at. elim (Contains-push_cases cells (fresh h) c (Contains-from_at (cells ++ fresh h ∷ []) k c at)) [
-      | inl old ↦ let place = Contains_at cells c old in
-          old-cell c (All_at (IsCell ds items []) cells place.0 c are.each place.1)
-      | inr now ↦ subst (IsCell ds (items ++ h ∷ []) []) now (new-cell new)
-    ]);
+          | inl old ↦ let place = Contains_at cells c old in
+              old-cell c (All_at (IsCell ds items []) cells place.0 c are.each place.1)
+          | inr now ↦ subst (IsCell ds (items ++ h ∷ []) []) now (new-cell new)
+        ]);
   }
 
   pub listed : (old new : SiteState) → All (λ x. x ≢ h.item) (names items) → TracksOpen ds items [] old
       → new.cells.items ≡ old.cells.items ++ fresh h ∷ []
       → new.records ≡ old.records → new.count ≡ old.count → new.live ≡ old.live → new.last_end ≡ old.last_end
-          → TracksOpen ds (items ++ h ∷ []) [] new
+      → TracksOpen ds (items ++ h ∷ []) [] new
   listed old new apart t cells records count live order = record {
     cells = subst (AreCells ds (items ++ h ∷ []) []) (sym cells) (more-cells old.cells.items apart t.cells);
     many = ap length records ∙ t.many;
     records = λ k d r at_k at_r.
         record-renamed (names items) (names (items ++ h ∷ [])) (decided_tx d) r
-            (t.records k d r at_k (ap (λ rs. slice_get rs k) (sym records) ∙ at_r));
+        (t.records k d r at_k (ap (λ rs. slice_get rs k) (sym records) ∙ at_r));
     live = live ∙ t.live ∙ ap live_among (sym records);
     count = count ∙ t.count;
     order = subst (IsGreatest (EndsBy ds) []) (sym order) t.order;

@@ -32,7 +32,7 @@ value-push : (items : List Holding) (entries : List Entry) (e : Entry) (x : Name
     → value_at items entries x ≡ Some u → value_at items (entries ++ e ∷ []) x ≡ value_after (Some u) (e ∷ []) x
 value-push items entries e x u is =
     ap (fold value_with (value_in items x)) (filter_map-append (change_of x) entries (e ∷ []))
-        ∙ fold-append value_with (value_in items x) (filter_map (change_of x) entries) (cons_option (change_of x e) [])
+    ∙ fold-append value_with (value_in items x) (filter_map (change_of x) entries) (cons_option (change_of x e) [])
     ∙ ap (λ o. value_after o (e ∷ []) x) is
 
 value-changed : (x : Name) (e : Entry) (u : ℕ) (o : Option Change) → change_of x e ≡ o
@@ -159,7 +159,7 @@ module _ (ds : List Decision) (items : List Holding) (entries : List Entry) (cel
     (v d : Cell) (e : Entry) (lt : place < length cells) (is : AreCells ds items entries cells)
     (apart : AllPairs Apart (names items))
     (on : item_of e ≡ Some (get_or cells place d).name) (same : v.name ≡ (get_or cells place d).name)
-        (new : IsCell ds items (entries ++ e ∷ []) v) where
+    (new : IsCell ds items (entries ++ e ∷ []) v) where
   name-at : (k : ℕ) (f : Cell) → k < length cells → slice_get (names items) k ≡ Some (get_or cells k f).name
   name-at k f less = ap (λ ns. slice_get ns k) (sym is.names) ∙ slice_get-map (λ (c : Cell). c.name) cells k
       ∙ ap (option_map (λ (c : Cell). c.name)) (slice_get-get_or cells k f less)
@@ -167,7 +167,7 @@ module _ (ds : List Decision) (items : List Holding) (entries : List Entry) (cel
   elsewhere : (k : ℕ) (f : Cell) → k < length cells → k ≢ place → item_of e ≡ Some (get_or cells k f).name → ⊥
   elsewhere k f less other here =
       let equal : (get_or cells place d).name ≡ (get_or cells k f).name =
-          same_Some (get_or cells place d).name (get_or cells k f).name (sym on ∙ here) in
+      same_Some (get_or cells place d).name (get_or cells k f).name (sym on ∙ here) in
       elim (cases_order k place) [
         | inl eq ↦ other eq
         | inr (inl lower) ↦ AllPairs_at Apart (names items) k place (get_or cells k f).name
@@ -185,7 +185,7 @@ module _ (ds : List Decision) (items : List Holding) (entries : List Entry) (cel
         | inr other ↦
             let within : k < length cells = subst (λ n. k < n) (length-set cells place v) less in
             subst (IsCell ds items (entries ++ e ∷ [])) (sym (get_or-set_other cells place k v f other))
-                (other-cell ds items entries (get_or cells k f) (is.each k f within) e (elsewhere k f within other))
+            (other-cell ds items entries (get_or cells k f) (is.each k f within) e (elsewhere k f within other))
       ]
 
   pub cells-entered : AreCells ds items (entries ++ e ∷ []) (set cells place v)

@@ -91,8 +91,11 @@ greatest-raised Has entries (Some t) (Some s) e (has_s, only) (met, most) = (
         elim (cases_order t s) [
           | inl same ↦ (e, Contains-push entries e, subst (Has e) (omega arith) has_s)
           | inr (inl less) ↦ (e, Contains-push entries e, subst (Has e) (omega arith) has_s)
-          | inr (inr more) ↦ (met.0, Contains-append_left entries (e ∷ []) met.0 met.1,
-              subst (Has met.0) (omega arith) met.2)
+          | inr (inr more) ↦ (
+            met.0,
+            Contains-append_left entries (e ∷ []) met.0 met.1,
+            subst (Has met.0) (omega arith) met.2,
+          )
         ]
 
 -- ---- ranks
@@ -132,9 +135,9 @@ module _ (ds : List Decision) (entries : List Entry) (once : IsDecidedOnce ds) (
         | inr (inr more) ↦
             let has = met.2 in
             let lt = below met.0 has.1.0 t met.1 has.0
-                (λ same. absurd (let eq =
-                one-rank ds has.1.0 n (tx_of e) t s once (subst (λ tx. IsCommitted ds has.1.0 tx t) same has.1.1)
-                by in omega arith)) has.1.1 in
+            (λ same. absurd (let eq =
+            one-rank ds has.1.0 n (tx_of e) t s once (subst (λ tx. IsCommitted ds has.1.0 tx t) same has.1.1)
+            by in omega arith)) has.1.1 in
             absurd (omega arith)
       ]
 
@@ -210,8 +213,10 @@ module _ (ds : List Decision) (items : List Holding) (entries : List Entry) (c :
         ]),
         λ all. (
           below-up_to ds entries once are e n s by (Puts c.name) c.writer is.writer
-              (λ f i r here w apart at_i. each-is ds entries e f all here Wr c.name i n r s (puts-writes c.name f w,
-              refl) apart at_i by),
+              (λ f i r here w apart at_i. each-is ds entries e f all here Wr c.name i n r s (
+                puts-writes c.name f w,
+                refl,
+              ) apart at_i by),
           below-up_to ds entries once are e n s by (Increments c.name) c.adder is.adder
               (λ f i r here w apart at_i. each-is ds entries e f all here Wr c.name i n r s
               (increments-writes c.name f w, refl) apart at_i by),
@@ -228,7 +233,7 @@ module _ (ds : List Decision) (items : List Holding) (entries : List Entry) (c :
         | Wr ↦ λ x i j r t clash. absurd (no_read x clash.1)
         | Rw ↦ λ x i j r t clash apart at_i at_j. let d = subst (λ y. Reads y f) (alone x clash.1) clash.0 in
             let lt = up_to-below ds entries once are e n s by (Reads c.name) c.reader is.reader up.0 f i r here d
-                apart at_i in
+            apart at_i in
             let eq = one-rank ds j n (tx_of e) t s once at_j by in omega arith
         | Ww ↦ λ x i j r t clash apart at_i at_j.
             let d = subst (λ y. Writes y f) (alone x clash.1) clash.0 in
@@ -246,8 +251,11 @@ module _ (ds : List Decision) (items : List Holding) (entries : List Entry) (c :
         below-up_to ds entries once are e n s by (Reads c.name) c.reader is.reader
             (λ f i r here d apart at_i. each-is ds entries e f all here Rw c.name i n r s (d, writes) apart at_i by),
         below-up_to ds entries once are e n s by (Puts c.name) c.writer is.writer
-            (λ f i r here d apart at_i. each-is ds entries e f all here Ww c.name i n r s (puts-writes c.name f d,
-            writes, λ p q. plain q) apart at_i by),
+            (λ f i r here d apart at_i. each-is ds entries e f all here Ww c.name i n r s (
+              puts-writes c.name f d,
+              writes,
+              λ p q. plain q,
+            ) apart at_i by),
         below-up_to ds entries once are e n s by (Increments c.name) c.adder is.adder
             (λ f i r here d apart at_i. each-is ds entries e f all here Ww c.name i n r s
             (increments-writes c.name f d, writes, λ p q. plain q) apart at_i by),
@@ -261,20 +269,23 @@ module _ (ds : List Decision) (items : List Holding) (entries : List Entry) (c :
         | Wr ↦ λ x i j r t clash. absurd (no_read x clash.1)
         | Rw ↦ λ x i j r t clash apart at_i at_j. let d = subst (λ y. Reads y f) (alone x clash.1) clash.0 in
             let lt = up_to-below ds entries once are e n s by (Reads c.name) c.reader is.reader up.0 f i r here d
-                apart at_i in
+            apart at_i in
             let eq = one-rank ds j n (tx_of e) t s once at_j by in omega arith
         | Ww ↦ λ x i j r t clash apart at_i at_j.
             let d = subst (λ y. Writes y f) (alone x clash.1) clash.0 in
             let eq = one-rank ds j n (tx_of e) t s once at_j by in
             let lt = up_to-below ds entries once are e n s by (Puts c.name) c.writer is.writer up.1 f i r here
-                (writes-puts c.name f d (λ p. clash.2 p adds)) apart at_i in omega arith
+            (writes-puts c.name f d (λ p. clash.2 p adds)) apart at_i in omega arith
       ]),
       λ all. (
         below-up_to ds entries once are e n s by (Reads c.name) c.reader is.reader
             (λ f i r here d apart at_i. each-is ds entries e f all here Rw c.name i n r s (d, writes) apart at_i by),
         below-up_to ds entries once are e n s by (Puts c.name) c.writer is.writer
-            (λ f i r here d apart at_i. each-is ds entries e f all here Ww c.name i n r s (puts-writes c.name f d,
-            writes, λ p q. puts-plain c.name f d p) apart at_i by),
+            (λ f i r here d apart at_i. each-is ds entries e f all here Ww c.name i n r s (
+              puts-writes c.name f d,
+              writes,
+              λ p q. puts-plain c.name f d p,
+            ) apart at_i by),
       ),
     )
 

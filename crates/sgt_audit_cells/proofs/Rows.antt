@@ -125,7 +125,7 @@ pub any-split : (nodes : List Node) (are : AreLinked nodes) (at : ℕ) (n : Node
 any-split nodes are at n some there P =
     let is : at ≡ suc (at - 1) = omega (arith, some) in
     let same : chain nodes at ≡ chain nodes n.before ++ n.act ∷ [] = ap (chain nodes) is
-        ∙ chain-at nodes are (at - 1) n there in (
+    ∙ chain-at nodes are (at - 1) n there in (
       λ any. any-either P (chain nodes n.before) n.act (subst (Any P) same any),
       λ either.
           elim either [
@@ -203,7 +203,7 @@ module _ (nodes : List Node) (rows : List Row) (are : AreRows nodes rows) where
         | inl same ↦
             let old = some-at rows n within in
             subst (IsRowOf nodes) (same_Some row r (sym (set-at rows n row old.0 old.1)
-                ∙ ap (slice_get (slice_set rows n row)) (sym same) ∙ at)) is
+            ∙ ap (slice_get (slice_set rows n row)) (sym same) ∙ at)) is
         | inr apart ↦ are i r (sym (set-other rows n i row apart) ∙ at)
       ]
 

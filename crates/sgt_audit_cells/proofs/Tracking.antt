@@ -101,8 +101,13 @@ module _ (ds : List Decision) (items : List Holding) (entries : List Entry) (s :
           → (c : Cell) × (slice_get s.cells.items i ≡ Some c) × (c.name ≡ x) × IsCell ds items entries c
       found i x h = elim (option_cases (slice_get s.cells.items i)) [
         | inl none ↦ absurd (none-some x (sym (ap (option_map (λ (c : Cell). c.name)) none) ∙ h))
-        | inr some ↦ (some.0, some.1, same_Some some.0.name x (sym (ap (option_map (λ (c : Cell). c.name)) some.1)
-            ∙ h), All_at (IsCell ds items entries) s.cells.items i some.0 t.cells.each some.1)
+        | inr some ↦ (
+          some.0,
+          some.1,
+          same_Some some.0.name x (sym (ap (option_map (λ (c : Cell). c.name)) some.1)
+              ∙ h),
+          All_at (IsCell ds items entries) s.cells.items i some.0 t.cells.each some.1,
+        )
       ]
 
   pub not-listed : (x : Name) → All (λ c. c.name ≢ x) s.cells.items → Contains (names items) x → ⊥
@@ -129,12 +134,16 @@ module _ (ds : List Decision) (items : List Holding) (entries : List Entry) (s :
 
   pub active-decides : (tx : ℕ) (b : Bool) → IsTrue b ↔ Did entries tx IsEnd
       → IsTrue (not b) ↔ All (λ f. IsEnd f → tx_of f ≢ tx) entries
-  active-decides tx true h = (λ e. absurd (false≢true e), λ all. let d = h.0 refl in let at =
-      Contains_at entries d.0 d.1 in absurd (All_at (λ f. IsEnd f → tx_of f ≢ tx) entries at.0 d.0 all at.1 d.3 d.2))
-  active-decides tx false h =
-      (λ _. All-from_at (λ f. IsEnd f
-      → tx_of f ≢ tx) entries (λ n f at ends of. false≢true (h.1 (f, Contains-from_at entries n f at, of, ends))),
-      λ _. refl)
+  active-decides tx true h = (
+    λ e. absurd (false≢true e),
+    λ all. let d = h.0 refl in let at =
+        Contains_at entries d.0 d.1 in absurd (All_at (λ f. IsEnd f → tx_of f ≢ tx) entries at.0 d.0 all at.1 d.3 d.2),
+  )
+  active-decides tx false h = (
+    λ _. All-from_at (λ f. IsEnd f
+        → tx_of f ≢ tx) entries (λ n f at ends of. false≢true (h.1 (f, Contains-from_at entries n f at, of, ends))),
+    λ _. refl,
+  )
 
   -- ends in order
   pub order-decides : (e : Entry) (number : ℕ) → IsDecidedOnce ds → IsDecided ds e number → IsEnd e
@@ -142,7 +151,7 @@ module _ (ds : List Decision) (items : List Holding) (entries : List Entry) (s :
   order-decides e number once by ends = (
     λ up. All-from_at (λ f. EndInOrder ds f e) entries (λ k f at ends_f ends_e m n by_f by_e.
         let le = (up_to-all (EndsBy ds) entries s.last_end number t.order).0 up f m (Contains-from_at entries k f at)
-            (ends_f, by_f) in
+        (ends_f, by_f) in
         let eq = one-number ds n number (tx_of e) once (decides ds e n by_e) (decides ds e number by) in
         omega (arith, le, eq)),
     λ all. (up_to-all (EndsBy ds) entries s.last_end number t.order).1 (λ f m here has. let at =
@@ -153,16 +162,17 @@ module _ (ds : List Decision) (items : List Holding) (entries : List Entry) (s :
   pub value-decides : (place : ℕ) (c : Cell) (x : Name) (value : ℕ) (b : Bool)
       → slice_get s.cells.items place ≡ Some c → slice_get (names items) place ≡ Some x
       → (IsCell ds items entries c → IsTrue b ↔ (value_at items entries c.name ≡ Some value))
-          → IsTrue b ↔ (value_at items entries x ≡ Some value)
+      → IsTrue b ↔ (value_at items entries x ≡ Some value)
   value-decides place c x value b at on h =
       subst (λ y. IsTrue b ↔ (value_at items entries y ≡ Some value)) (same_Some c.name x (sym (cell-at place c at)
-          ∙ on)) (h (All_at (IsCell ds items entries) s.cells.items place c t.cells.each at))
+      ∙ on)) (h (All_at (IsCell ds items entries) s.cells.items place c t.cells.each at))
 
   pub cell-named : (place : ℕ) (c : Cell) (x : Name) → slice_get s.cells.items place ≡ Some c
       → slice_get (names items) place ≡ Some x → (x ≡ c.name) × IsCell ds items entries c
-  cell-named place c x at on =
-      (same_Some x c.name (sym on ∙ cell-at place c at),
-      All_at (IsCell ds items entries) s.cells.items place c t.cells.each at)
+  cell-named place c x at on = (
+    same_Some x c.name (sym on ∙ cell-at place c at),
+    All_at (IsCell ds items entries) s.cells.items place c t.cells.each at,
+  )
 
   pub record-is : (number tx : ℕ) (r : Record) → Decides ds number tx → slice_get s.records number ≡ Some r
       → IsRecord (names items) entries tx r
@@ -190,10 +200,10 @@ module _ (ds : List Decision) (items : List Holding) (entries : List Entry) (s :
             let f = is.touched.0 (and_left r.touched (not r.ended) live) in
             let place = Contains_at entries f.0 f.1 in
             let ended =
-                All_at (λ e. Any (λ f. IsEnd f × (tx_of f ≡ tx_of e)) entries) entries place.0 f.0 all place.1 in
+            All_at (λ e. Any (λ f. IsEnd f × (tx_of f ≡ tx_of e)) entries) entries place.0 f.0 all place.1 in
             absurd (not-both r.touched r.ended live
-                (is.ended.1
-                (any-ended (decided_tx d.0) (subst (λ tx. Any (λ f. IsEnd f × (tx_of f ≡ tx)) entries) f.2 ended))))
+            (is.ended.1
+            (any-ended (decided_tx d.0) (subst (λ tx. Any (λ f. IsEnd f × (tx_of f ≡ tx)) entries) f.2 ended))))
         | inr quiet ↦ quiet
       ]
 
@@ -206,7 +216,7 @@ module _ (ds : List Decision) (items : List Holding) (entries : List Entry) (s :
         let none = sym t.live ∙ eqb-true s.live 0 (sym is ∙ h) in
         let same = r.2.touched.1 (e, here, refl, tt) in
         ended-any (tx_of e)
-            (r.2.ended.0 (ended-by r.0.touched r.0.ended (live-none s.records by.0 r.0 none r.1) same))),
+        (r.2.ended.0 (ended-by r.0.touched r.0.ended (live-none s.records by.0 r.0 none r.1) same))),
     λ all. is ∙ eq-eqb s.live 0 (t.live ∙ none-live s.records (idle all)),
   )
 
@@ -232,16 +242,16 @@ module _ (ds : List Decision) (items : List Holding) (entries : List Entry) (old
   order-next next true ends is other =
       let end = ends.0 refl in
       subst (IsGreatest (EndsBy ds) (entries ++ e ∷ [])) (sym (is end))
-          (greatest-raised (EndsBy ds) entries old.last_end (Some number) e (ends-only end) t.order)
+      (greatest-raised (EndsBy ds) entries old.last_end (Some number) e (ends-only end) t.order)
   order-next next false ends is other =
       let not = λ (end : IsEnd e). false≢true (ends.1 end) in
       subst (IsGreatest (EndsBy ds) (entries ++ e ∷ [])) (sym (other not))
-          (greatest-left (EndsBy ds) entries old.last_end e (λ r has. not has.0) t.order)
+      (greatest-left (EndsBy ds) entries old.last_end e (λ r has. not has.0) t.order)
 
   module _ (place : Option ℕ) (on : IsPlaceOf (names items) e place) (apart : AllPairs Apart (names items))
       (ends : Bool) (ending : IsTrue ends ↔ IsEnd e) (r v : Record) (at : slice_get old.records number ≡ Some r)
       (records : new.records ≡ set old.records number v)
-          (told : IsTouched (option_to_list (option_map (λ i. act old.count i e) place)) ends r v) where
+      (told : IsTouched (option_to_list (option_map (λ i. act old.count i e) place)) ends r v) where
     to : IsTouched (option_to_list (option_map (λ i. act (length entries) i e) place)) ends r v
     to = subst (λ n. IsTouched (option_to_list (option_map (λ i. act n i e) place)) ends r v) t.count told
 
@@ -252,17 +262,17 @@ module _ (ds : List Decision) (items : List Holding) (entries : List Entry) (old
         elim (cases_eq k number) [
           | inl same ↦
               let of : tx_of e ≡ decided_tx d = sym by.2
-                  ∙ ap decided_tx (same_Some by.0 d (sym by.1 ∙ ap (slice_get ds) (sym same) ∙ at_k)) in
+              ∙ ap decided_tx (same_Some by.0 d (sym by.1 ∙ ap (slice_get ds) (sym same) ∙ at_k)) in
               let is_v : v ≡ q = same_Some v q (sym (set-at old.records number v r at)
-                  ∙ ap (slice_get (set old.records number v)) (sym same) ∙ there) in
+              ∙ ap (slice_get (set old.records number v)) (sym same) ∙ there) in
               let before = t.records k d r at_k (ap (slice_get old.records) same ∙ at) in
               subst (IsRecord (names items) (entries ++ e ∷ []) (decided_tx d)) is_v
-                  (record-entered (names items) entries (decided_tx d) r v e place ends apart of on ending before to)
+              (record-entered (names items) entries (decided_tx d) r v e place ends apart of on ending before to)
           | inr other ↦
               let before = t.records k d q at_k (sym (set-other old.records number k v other) ∙ there) in
               record-left (names items) entries (decided_tx d) q e
-                  (λ of. other (one-number ds k number (decided_tx d) once (d, at_k, refl) (by.0, by.1, by.2 ∙ of)))
-                  before
+              (λ of. other (one-number ds k number (decided_tx d) once (d, at_k, refl) (by.0, by.1, by.2 ∙ of)))
+              before
         ]
 
     -- who has an end there has an entry there
@@ -275,13 +285,13 @@ module _ (ds : List Decision) (items : List Holding) (entries : List Entry) (old
     new-live : (comes leaves : Bool) (live : ℕ) → comes ≡ not r.touched → leaves ≡ (ends && not r.ended)
         → length new.records < 2 ^ 64
         → (old.live + one_if comes < 2 ^ 64 → one_if leaves ≤ old.live + one_if comes
-            → live + one_if leaves ≡ old.live + one_if comes) → live ≡ live_among new.records
+        → live + one_if leaves ≡ old.live + one_if comes) → live ≡ live_among new.records
     new-live comes leaves live comes_is leaves_is few counts =
         let is_live_v : is_live v ≡ not v.ended = ap (λ b. b && not v.ended) to.touched in
         let one : one_if (is_live v) + one_if leaves ≡ one_if (is_live r) + one_if comes =
         ap (λ b. one_if b + one_if leaves) is_live_v ∙ ap (λ b. one_if (not v.ended) + one_if b) leaves_is
-            ∙ turned r.touched r.ended ends v.ended came to.end
-            ∙ ap (λ b. one_if (is_live r) + one_if b) (sym comes_is) in
+        ∙ turned r.touched r.ended ends v.ended came to.end
+        ∙ ap (λ b. one_if (is_live r) + one_if b) (sym comes_is) in
         let step = live-set old.records number r v at in
         let long = ap length records ∙ length-set old.records number v in
         let told = t.live in
@@ -313,7 +323,7 @@ module _ (ds : List Decision) (items : List Holding) (entries : List Entry) (old
         → IsGreatest (EndsBy ds) (entries ++ e ∷ []) new.last_end
         → (comes leaves : Bool) → comes ≡ not r.touched → leaves ≡ (ends && not r.ended) → length new.records < 2 ^ 64
         → (old.live + one_if comes < 2 ^ 64 → one_if leaves ≤ old.live + one_if comes
-            → new.live + one_if leaves ≡ old.live + one_if comes) → TracksOpen ds items (entries ++ e ∷ []) new
+        → new.live + one_if leaves ≡ old.live + one_if comes) → TracksOpen ds items (entries ++ e ∷ []) new
     tracks-next count cells order comes leaves comes_is leaves_is few counts = record {
       cells = cells;
       many = ap length records ∙ length-set old.records number v ∙ t.many;

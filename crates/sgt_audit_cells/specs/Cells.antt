@@ -43,9 +43,9 @@ pub record IsCell (ds : List Decision) (items : List Holding) (entries : List En
 
 -- the cells are those of the site, in the order of its items
 pub record AreCells (ds : List Decision) (items : List Holding) (entries : List Entry) (cells : List Cell) : Type 0
-    where
-  pub names : map (λ c. c.name) cells ≡ names items
-  pub each : All (IsCell ds items entries) cells
+  where
+    pub names : map (λ c. c.name) cells ≡ names items
+    pub each : All (IsCell ds items entries) cells
 
 -- the rank of the transaction, if it is committed
 abbrev pub IsRankOf : List Decision → ℕ → Option ℕ → Type 0

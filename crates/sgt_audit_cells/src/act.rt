@@ -25,7 +25,8 @@ pub struct Act {
     pub deed: Deed,
 }
 
-/// The item of an operation. An end has none. It is compiled where it is used, so that no copy of the item is made there.
+/// The item of an operation. An end has none. It is compiled where it is used, so that no copy of the item is made
+/// there.
 #[inline(always)]
 pub fn item_in(entry: &Entry) -> Option<Item>
     ensures { result ≡ item_of entry.now }

@@ -14,8 +14,8 @@ ghost use Rattle.sgt_audit_cells.specs.declared.cell.Cell.{Cell};
 
 use sgt_names::{Entry, Item, Value};
 
-/// What is kept of an item: its value, and the greatest rank of a committed transaction that read it, that wrote it, and
-/// that incremented it.
+/// What is kept of an item: its value, and the greatest rank of a committed transaction that read it, that wrote it,
+/// and that incremented it.
 #[derive(Clone, Copy)]
 pub struct Cell {
     pub name: Item,
@@ -55,10 +55,12 @@ fn passes(cell: &Cell, entry: &Entry, rank: Option<u32>) -> bool
     }
 }
 
-/// Whether the entry conflicts with no entry before it of a committed transaction of greater rank, if its own has this one.
+/// Whether the entry conflicts with no entry before it of a committed transaction of greater rank, if its own has
+/// this one.
 #[inline(always)]
 pub(crate) fn is_in_rank(cell: &Cell, entry: &Entry, rank: Option<u32>) -> bool
-    ensures { (ds : List Decision) (items : List Holding) (entries : List Entry) → IsDecidedOnce ds → AreRanks (ranks ds)
+    ensures { (ds : List Decision) (items : List Holding) (entries : List Entry) → IsDecidedOnce ds
+        → AreRanks (ranks ds)
         → IsCell ds items entries cell.now → item_of entry.now ≡ Some cell.now.name → IsRankOf ds (tx_of entry.now) rank
         → (IsTrue result ↔ All (λ f. RiseInRank ds f entry.now) entries) }
 {
@@ -165,8 +167,8 @@ fn unhinted(cells: &[Cell], item: &Item) -> Option<usize>
     }
 }
 
-/// The place of the item's cell. The hint is tried first, and then a search by halves; nothing need be known of either. A name
-/// that is not listed costs a look at each cell.
+/// The place of the item's cell. The hint is tried first, and then a search by halves; nothing need be known of
+/// either. A name that is not listed costs a look at each cell.
 #[inline(always)]
 pub(crate) fn place_of(cells: &[Cell], hint: usize, item: &Item) -> Option<usize>
     ensures some { IfSome result (λ n. (c : Cell) × (slice_get cells.now n ≡ Some c) × (c.name ≡ item.now)) }
@@ -182,8 +184,10 @@ pub(crate) fn place_of(cells: &[Cell], hint: usize, item: &Item) -> Option<usize
 #[inline(always)]
 pub(crate) fn enter(cells: &mut [Cell], place: usize, entry: &Entry, rank: Option<u32>)
     requires { place < length cells.old }
-    ensures { (ds : List Decision) (items : List Holding) (entries : List Entry) → IsDecidedOnce ds → AllPairs (λ x y. x ≢ y) (names items)
-        → AreCells ds items entries cells.old → ((c : Cell) × (slice_get cells.old place ≡ Some c) × (item_of entry.now ≡ Some c.name))
+    ensures { (ds : List Decision) (items : List Holding) (entries : List Entry) → IsDecidedOnce ds
+        → AllPairs (λ x y. x ≢ y) (names items)
+        → AreCells ds items entries cells.old
+        → ((c : Cell) × (slice_get cells.old place ≡ Some c) × (item_of entry.now ≡ Some c.name))
         → IsRankOf ds (tx_of entry.now) rank → AreCells ds items (entries ++ entry.now ∷ []) cells.new }
 {
     note(&mut cells[place], entry, rank);

@@ -20,7 +20,8 @@ fn node_at(nodes: &[Node], at: usize) -> Node
     nodes[at - 1]
 }
 
-/// Whether such a thing was done to the item at this place, at the node counted so or at one that is linked in front of it.
+/// Whether such a thing was done to the item at this place, at the node counted so or at one that is linked in front
+/// of it.
 #[inline(always)]
 pub(crate) fn has_done(nodes: &[Node], last: usize, place: usize, deed: Deed) -> bool
     requires linked { AreLinked nodes.now }
@@ -75,7 +76,8 @@ pub(crate) fn have_clash(
     requires linked { AreLinked nodes.now }
     requires first { first ≤ length nodes.now }
     requires second { second ≤ length nodes.now }
-    ensures { IsTrue result ↔ Any (λ a. (a.place ≡ place) × Any (ClashesWith kind a) (chain nodes.now second)) (chain nodes.now first) }
+    ensures { IsTrue result ↔ Any (λ a. (a.place ≡ place) × Any (ClashesWith kind a) (chain nodes.now second))
+        (chain nodes.now first) }
 {
     let mut at = first;
     'nodes: while at > 0 {
@@ -113,7 +115,8 @@ fn next_place(len: usize) -> Result<u32, AllocError>
     }
 }
 
-/// Links one more act, if there is one, behind what stands at this place; and where it stands then. Room has to be reserved.
+/// Links one more act, if there is one, behind what stands at this place; and where it stands then. Room has to be
+/// reserved.
 #[inline(always)]
 pub(crate) fn link(nodes: &mut Vec<Node>, last: u32, act: Option<Act>) -> Result<u32, AllocError>
     requires linked { AreLinked nodes.old.items }

@@ -5,8 +5,8 @@ ghost use Rattle.sgt_audit_cells.specs.private.Linked.{last_here};
 
 use crate::act::Act;
 
-/// What is kept of a transaction: the stamp of the section in which it came last; whether it ended there; and where the last that it
-/// did there stands among the nodes, counted from 1, if it did anything.
+/// What is kept of a transaction: the stamp of the section in which it came last; whether it ended there; and where
+/// the last that it did there stands among the nodes, counted from 1, if it did anything.
 #[derive(Clone, Copy)]
 pub struct Slot {
     pub stamp: u16,
@@ -21,14 +21,16 @@ pub struct Slot {
 /// A transaction with as many entries in a section gets a row.
 const MANY: u8 = 32;
 
-/// What a transaction did, and where the one before it of the same transaction stands, counted from 1 over the section. 0 is none.
+/// What a transaction did, and where the one before it of the same transaction stands, counted from 1 over the
+/// section. 0 is none.
 #[derive(Clone, Copy)]
 pub struct Node {
     pub act: Act,
     pub before: u32,
 }
 
-/// What an entry of a transaction changes at the open section: whether it is its first there, and whether it is its first end.
+/// What an entry of a transaction changes at the open section: whether it is its first there, and whether it is its
+/// first end.
 #[derive(Clone, Copy)]
 pub(crate) struct Turn {
     pub comes: bool,

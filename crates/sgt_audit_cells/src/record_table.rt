@@ -103,8 +103,8 @@ impl RecordTable {
         self.rows.clear();
     }
 
-    /// Whether the entry, on the item at this place, is not the second read of the item by the transaction of this number, nor its
-    /// second change, made or asked for.
+    /// Whether the entry, on the item at this place, is not the second read of the item by the transaction of this
+    /// number, nor its second change, made or asked for.
     #[inline(always)]
     pub(crate) fn is_first(&self, number: usize, place: usize, entry: &Entry) -> bool
         ensures { (r : Record) (ns : List Name) (entries : List Entry) (x : Name)
@@ -137,8 +137,8 @@ impl RecordTable {
         }
     }
 
-    /// Whether one of what the first of the two did, on the item at this place, precedes one of what the second did and conflicts
-    /// with it.
+    /// Whether one of what the first of the two did, on the item at this place, precedes one of what the second did
+    /// and conflicts with it.
     pub(crate) fn have_clash(&self, numbers: (usize, usize), kind: Kind, place: usize) -> bool
         ensures { (q r : Record) → slice_get self.now numbers.0 ≡ Some q
             → slice_get self.now numbers.1 ≡ Some r

@@ -13,7 +13,8 @@ use std::alloc::{AllocError, Global};
 /// How many words have a bit for each item of a site.
 const WORDS: usize = 16;
 
-/// Which items were read and which were changed at a node and at those linked in front of it: by a bit at each item's place.
+/// Which items were read and which were changed at a node and at those linked in front of it: by a bit at each item's
+/// place.
 #[derive(Drop)]
 pub struct Row {
     /// The node, counted from 1 over the section.
@@ -83,7 +84,8 @@ impl Row {
         true
     }
 
-    /// Takes in the act at this node, where the row shows all that is linked in front of it. Whether it shows what was done up to there.
+    /// Takes in the act at this node, where the row shows all that is linked in front of it. Whether it shows what
+    /// was done up to there.
     fn follow(&mut self, nodes: &[Node], last: usize) -> bool
         requires linked { AreLinked nodes.now }
         requires within { last ≤ length nodes.now }

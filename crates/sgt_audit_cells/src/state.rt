@@ -27,8 +27,9 @@ use std::alloc::{AllocError, Global};
 /// How many hints there are.
 const HINTS: usize = 8192;
 
-/// What is kept of the site whose section is open: a cell for each item, a record for each decision's transaction, how many
-/// entries there are, how many transactions have an entry there and no end, and the greatest number of a decision that ended one there.
+/// What is kept of the site whose section is open: a cell for each item, a record for each decision's transaction,
+/// how many entries there are, how many transactions have an entry there and no end, and the greatest number of a
+/// decision that ended one there.
 #[derive(Drop)]
 pub struct SiteState {
     /// The number of the section, from 1.
@@ -70,7 +71,14 @@ fn set_hint(hints: &mut [u16], item: &Item, place: usize) {
 
 /// The item without an entry.
 fn fresh_cell(holding: &Holding) -> Cell
-    ensures { result ≡ record { name = holding.now.item; value = holding.now.value; reader = None; writer = None; adder = None } }
+    ensures { result ≡ record {
+      name = holding.now.item;
+      value = holding.now.value;
+      reader = None;
+      writer =
+          None;
+      adder = None;
+    } }
 {
     Cell {
         name: holding.item,
@@ -110,7 +118,8 @@ fn one_more(count: u32) -> Result<u32, AllocError>
 #[inline(always)]
 fn enter_cell(cells: &mut [Cell], place: Option<usize>, entry: &Entry, rank: Option<u32>)
     ensures { (ds : List Decision) (items : List Holding) (entries : List Entry) → IsDecidedOnce ds
-        → AllPairs (λ x y. x ≢ y) (names items) → AreCells ds items entries cells.old → IsPlaceOf (names items) entry.now place
+        → AllPairs (λ x y. x ≢ y) (names items) → AreCells ds items entries cells.old
+        → IsPlaceOf (names items) entry.now place
         → IsRankOf ds (tx_of entry.now) rank → AreCells ds items (entries ++ entry.now ∷ []) cells.new }
 {
     if let Some(place) = place {
@@ -185,7 +194,8 @@ impl SiteState {
     /// One more item, before any entry.
     pub fn list(&mut self, holding: &Holding) -> Result<(), AllocError>
         ensures section { self.new.section ≡ self.old.section }
-        ensures tracks { OnOk result ((ds : List Decision) (items : List Holding) → All (λ x. x ≢ holding.now.item) (names items)
+        ensures tracks { OnOk result ((ds : List Decision) (items : List Holding)
+            → All (λ x. x ≢ holding.now.item) (names items)
             → TracksOpen ds items [] self.old → TracksOpen ds (items ++ holding.now ∷ []) [] self.new) }
     {
         set_hint(self.hints.as_mut_slice(), &holding.item, self.cells.len());
@@ -208,7 +218,8 @@ impl SiteState {
     /// The place of the entry's item, if it has one that is listed.
     #[inline(always)]
     pub fn place_of_entry(&self, entry: &Entry) -> Option<usize>
-        ensures { (ds : List Decision) (items : List Holding) (entries : List Entry) → TracksOpen ds items entries self.now
+        ensures { (ds : List Decision) (items : List Holding) (entries : List Entry)
+            → TracksOpen ds items entries self.now
             → IsPlaceAmong (names items) entry.now result }
     {
         match act::item_in(entry) {
@@ -240,7 +251,8 @@ impl SiteState {
     /// Whether the item at this place has this value.
     #[inline(always)]
     pub fn has_value(&self, place: usize, value: Value) -> bool
-        ensures { (ds : List Decision) (items : List Holding) (entries : List Entry) (x : Name) → TracksOpen ds items entries self.now
+        ensures { (ds : List Decision) (items : List Holding) (entries : List Entry) (x : Name)
+            → TracksOpen ds items entries self.now
             → slice_get (names items) place ≡ Some x → (IsTrue result ↔ (value_at items entries x ≡ Some value)) }
     {
         match self.cells.get(place) {
@@ -249,12 +261,14 @@ impl SiteState {
         }
     }
 
-    /// Whether the entry, on the item at this place, is not its transaction's second read of the item, nor its second change,
-    /// made or asked for. The transaction is decided by this number, if it is.
+    /// Whether the entry, on the item at this place, is not its transaction's second read of the item, nor its second
+    /// change, made or asked for. The transaction is decided by this number, if it is.
     #[inline(always)]
     pub fn is_first(&self, place: usize, entry: &Entry, number: Option<usize>) -> bool
-        ensures { (ds : List Decision) (items : List Holding) (entries : List Entry) (x : Name) → TracksOpen ds items entries self.now
-            → slice_get (names items) place ≡ Some x → item_of entry.now ≡ Some x → IsNumberOf ds (tx_of entry.now) number
+        ensures { (ds : List Decision) (items : List Holding) (entries : List Entry) (x : Name)
+            → TracksOpen ds items entries self.now
+            → slice_get (names items) place ≡ Some x → item_of entry.now ≡ Some x
+            → IsNumberOf ds (tx_of entry.now) number
             → (IsTrue result ↔ All (λ f. (y : Name) → Repeats y f entry.now → ⊥) entries) }
     {
         let Some(number) = number else {
@@ -263,11 +277,12 @@ impl SiteState {
         self.records.is_first(number, place, entry)
     }
 
-    /// Whether the entry, on the item at this place, conflicts with no entry before it of a committed transaction of greater
-    /// rank, if its own is committed with this one.
+    /// Whether the entry, on the item at this place, conflicts with no entry before it of a committed transaction of
+    /// greater rank, if its own is committed with this one.
     #[inline(always)]
     pub fn is_in_rank(&self, place: usize, entry: &Entry, rank: Option<u32>) -> bool
-        ensures { (ds : List Decision) (items : List Holding) (entries : List Entry) (x : Name) → IsDecidedOnce ds → AreRanks (ranks ds)
+        ensures { (ds : List Decision) (items : List Holding) (entries : List Entry) (x : Name) → IsDecidedOnce ds
+            → AreRanks (ranks ds)
             → TracksOpen ds items entries self.now → slice_get (names items) place ≡ Some x → item_of entry.now ≡ Some x
             → IsRankOf ds (tx_of entry.now) rank → (IsTrue result ↔ All (λ f. RiseInRank ds f entry.now) entries) }
     {
@@ -281,7 +296,8 @@ impl SiteState {
     /// Whether the transaction, decided by this number, has no end yet.
     #[inline(always)]
     pub fn is_active(&self, number: usize) -> bool
-        ensures { (ds : List Decision) (items : List Holding) (entries : List Entry) (tx : ℕ) → TracksOpen ds items entries self.now
+        ensures { (ds : List Decision) (items : List Holding) (entries : List Entry) (tx : ℕ)
+            → TracksOpen ds items entries self.now
             → Decides ds number tx → (IsTrue result ↔ All (λ f. IsEnd f → tx_of f ≢ tx) entries) }
     {
         !self.records.has_ended(number)
@@ -297,8 +313,8 @@ impl SiteState {
         !entry.is_end() || is_up_to(self.last_end, number)
     }
 
-    /// Whether an entry of one transaction precedes and conflicts with one of another, as operations of this kind on the item.
-    /// The two are decided by these numbers, if they are.
+    /// Whether an entry of one transaction precedes and conflicts with one of another, as operations of this kind on
+    /// the item. The two are decided by these numbers, if they are.
     pub fn have_conflict(
         &self,
         kind: Kind,
@@ -306,8 +322,10 @@ impl SiteState {
         from: Option<usize>,
         to: Option<usize>,
     ) -> bool
-        ensures { (ds : List Decision) (items : List Holding) (entries : List Entry) (a b : ℕ) → TracksOpen ds items entries self.now
-            → IsNumberOf ds a from → IsNumberOf ds b to → a ≢ b → (IsTrue result ↔ Conflicts entries kind item.now a b) }
+        ensures { (ds : List Decision) (items : List Holding) (entries : List Entry) (a b : ℕ)
+            → TracksOpen ds items entries self.now
+            → IsNumberOf ds a from → IsNumberOf ds b to → a ≢ b
+            → (IsTrue result ↔ Conflicts entries kind item.now a b) }
     {
         let Some(first) = from else {
             return false;
@@ -323,7 +341,8 @@ impl SiteState {
 
     /// Whether each transaction with an entry has an end.
     pub fn have_all_ended(&self) -> bool
-        ensures { (ds : List Decision) (items : List Holding) (entries : List Entry) → TracksOpen ds items entries self.now
+        ensures { (ds : List Decision) (items : List Holding) (entries : List Entry)
+            → TracksOpen ds items entries self.now
             → (IsTrue result ↔ AllEnded entries) }
     {
         self.live == 0
@@ -339,9 +358,11 @@ impl SiteState {
         rank: Option<u32>,
     ) -> Result<(), AllocError>
         ensures section { self.new.section ≡ self.old.section }
-        ensures tracks { OnOk result ((ds : List Decision) (items : List Holding) (entries : List Entry) → IsDecidedOnce ds
+        ensures tracks { OnOk result ((ds : List Decision) (items : List Holding) (entries : List Entry)
+            → IsDecidedOnce ds
             → AllPairs (λ x y. x ≢ y) (names items) → ForSome (item_of entry.now) (Contains (names items))
-            → IsPlaceAmong (names items) entry.now place → IsDecided ds entry.now number → IsRankOf ds (tx_of entry.now) rank
+            → IsPlaceAmong (names items) entry.now place → IsDecided ds entry.now number
+            → IsRankOf ds (tx_of entry.now) rank
             → TracksOpen ds items entries self.old → TracksOpen ds items (entries ++ entry.now ∷ []) self.new) }
     {
         let next = one_more(self.count)?;
@@ -364,7 +385,8 @@ impl SiteState {
         rank: Option<u32>,
     ) -> Result<(), AllocError>
         ensures section { self.new.section ≡ self.old.section }
-        ensures tracks { OnOk result ((ds : List Decision) (items : List Holding) (entries : List Entry) → IsDecidedOnce ds
+        ensures tracks { OnOk result ((ds : List Decision) (items : List Holding) (entries : List Entry)
+            → IsDecidedOnce ds
             → AllPairs (λ x y. x ≢ y) (names items) → ForSome (item_of entry) (Contains (names items))
             → IsPlaceAmong (names items) entry place → IsDecided ds entry number → IsRankOf ds (tx_of entry) rank
             → TracksOpen ds items entries self.old → TracksOpen ds items (entries ++ entry ∷ []) self.new) }
@@ -374,8 +396,8 @@ impl SiteState {
         self.records.keep_row(number)
     }
 
-    /// One more entry, on the item at this place or an end, decided by this number, of a transaction that is committed with this
-    /// rank or isn't.
+    /// One more entry, on the item at this place or an end, decided by this number, of a transaction that is
+    /// committed with this rank or isn't.
     #[inline(always)]
     pub fn enter(
         &mut self,
@@ -385,9 +407,11 @@ impl SiteState {
         rank: Option<u32>,
     ) -> Result<(), AllocError>
         ensures section { self.new.section ≡ self.old.section }
-        ensures tracks { OnOk result ((ds : List Decision) (items : List Holding) (entries : List Entry) → IsDecidedOnce ds
+        ensures tracks { OnOk result ((ds : List Decision) (items : List Holding) (entries : List Entry)
+            → IsDecidedOnce ds
             → AllPairs (λ x y. x ≢ y) (names items) → ForSome (item_of entry.now) (Contains (names items))
-            → IsPlaceAmong (names items) entry.now place → IsDecided ds entry.now number → IsRankOf ds (tx_of entry.now) rank
+            → IsPlaceAmong (names items) entry.now place → IsDecided ds entry.now number
+            → IsRankOf ds (tx_of entry.now) rank
             → TracksOpen ds items entries self.old → TracksOpen ds items (entries ++ entry.now ∷ []) self.new) }
     {
         if self.records.has_room(number) {

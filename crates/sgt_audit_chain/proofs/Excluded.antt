@@ -51,8 +51,8 @@ pub break-excluded : (left : List (List Holding)) (sites : List SiteLog) (line :
 break-excluded left sites line first same =
     let items = slice_get (map initial_of sites) first.site in
     breaks-none items (site_line sites first.site) line
-        (subst (λ o. BreaksHere items o (site_line sites first.site) line)
-        (sym (ap (λ values. slice_get values first.site) same)) first.here)
+    (subst (λ o. BreaksHere items o (site_line sites first.site) line)
+    (sym (ap (λ values. slice_get values first.site) same)) first.here)
 
 last-of : (bundles : List Parts) (o : Option Parts) → o ≡ slice_get bundles (length bundles - 1)
     → (left : List (List Holding)) → option_map final_values o ≡ Some left

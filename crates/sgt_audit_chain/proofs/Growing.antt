@@ -24,7 +24,7 @@ behind-next bundles b =
     let long = length-append bundles (b ∷ []) in
     let end : length (bundles ++ b ∷ []) - 1 ≡ length bundles = omega (arith, long) in
     ap (λ n. option_map final_values (slice_get (bundles ++ b ∷ []) n)) end
-        ∙ ap (option_map final_values) (middle_at bundles b [])
+    ∙ ap (option_map final_values) (middle_at bundles b [])
 
 pub behind-last : (bundles : List Parts) (n : ℕ) (b : Parts) → slice_get bundles n ≡ Some b → suc n ≡ length bundles
     → values_behind bundles ≡ Some (final_values b)
@@ -76,14 +76,14 @@ pub counts-next : (bundles : List Parts) (b : Parts) (old new : Counts) (ds : Li
 unfolding counts-from
 counts-next bundles b old new ds same before committed refused withdrawn =
     let one = total-next is_commit bundles b old.committed new.committed (ap (λ (c : Counts). c.committed) before)
-        (committed ∙ ap (λ ds. in_64_bits (old.committed + count_by is_commit ds)) same) in
+    (committed ∙ ap (λ ds. in_64_bits (old.committed + count_by is_commit ds)) same) in
     let two = total-next is_refusal bundles b old.refused new.refused (ap (λ (c : Counts). c.refused) before) (refused
-        ∙ ap (λ ds. in_64_bits (old.refused + count_by is_refusal ds)) same) in
+    ∙ ap (λ ds. in_64_bits (old.refused + count_by is_refusal ds)) same) in
     let three =
-        total-next is_withdrawal bundles b old.withdrawn new.withdrawn (ap (λ (c : Counts). c.withdrawn) before)
-        (withdrawn ∙ ap (λ ds. in_64_bits (old.withdrawn + count_by is_withdrawal ds)) same) in
+    total-next is_withdrawal bundles b old.withdrawn new.withdrawn (ap (λ (c : Counts). c.withdrawn) before)
+    (withdrawn ∙ ap (λ ds. in_64_bits (old.withdrawn + count_by is_withdrawal ds)) same) in
     ap₂ (λ r w. counts-from new.committed r w) two three
-        ∙ ap (λ c. counts-from c (counts_of (bundles ++ b ∷ [])).refused (counts_of (bundles ++ b ∷ [])).withdrawn) one
+    ∙ ap (λ c. counts-from c (counts_of (bundles ++ b ∷ [])).refused (counts_of (bundles ++ b ∷ [])).withdrawn) one
 
 -- one more text
 pub spell-next : (told : List (Option (List ℕ))) (bundles : List Parts) (one : Option (List ℕ)) (b : Parts)

@@ -73,8 +73,12 @@ listed-value : (P : Holding → Type 0) (hs : List Holding) (x : Name) (v : ℕ)
     → value_in hs x ≡ Some v → (h : Holding) × P h × (h.item ≡ x) × (h.value ≡ v)
 listed-value P [] x v all is = absurd (none-some v is)
 listed-value P (h ∷ hs) x v all is = elim (cases_Bool (bytes_eq h.item x)) [
-  | inl hit ↦ (h, all.0, (bytes_eq-Decides h.item x).0 hit,
-      same_Some h.value v (sym (ap (λ t. cond t (Some h.value) (value_in hs x)) hit) ∙ is))
+  | inl hit ↦ (
+    h,
+    all.0,
+    (bytes_eq-Decides h.item x).0 hit,
+    same_Some h.value v (sym (ap (λ t. cond t (Some h.value) (value_in hs x)) hit) ∙ is),
+  )
   | inr miss ↦ listed-value P hs x v all.1 (sym (ap (λ t. cond t (Some h.value) (value_in hs x)) miss) ∙ is)
 ]
 
@@ -89,7 +93,7 @@ unlisted (h ∷ hs) (k ∷ ks) x same none =
       | inl hit ↦ absurd (none-some h.value (sym none ∙ ap (λ t. cond t (Some h.value) (value_in hs x)) hit))
       | inr miss ↦ ap (λ t. cond t (Some k.value) (value_in ks x)) (ap (λ y. bytes_eq y x) (sym first) ∙ miss)
           ∙ unlisted hs ks x (tails h.item k.item (names hs) (names ks) same)
-              (sym (ap (λ t. cond t (Some h.value) (value_in hs x)) miss) ∙ none)
+          (sym (ap (λ t. cond t (Some h.value) (value_in hs x)) miss) ∙ none)
     ]
 
 contained : (hs : List Holding) (x : Name) (n : ℕ) → n < length (names hs) → get_or (names hs) n x ≡ x
@@ -176,10 +180,10 @@ module _ (b : Parts) (valid : IsValid b) (fit : FitTogether b) (s : ℕ) (x : Na
   end-missing : slice_get sites s ≡ None → end ≡ None
   end-missing at =
       let none =
-          subst (AllByRecursion (λ e. change_of x e ≡ None))
-          (sym (ap (λ o. option_map_or (λ (log : SiteLog). log.entries) o []) at)) tt in
+      subst (AllByRecursion (λ e. change_of x e ≡ None))
+      (sym (ap (λ o. option_map_or (λ (log : SiteLog). log.entries) o []) at)) tt in
       behind-still sites s x none (committed_of b) (initial_store sites)
-          ∙ ap (option_and_then (λ (log : SiteLog). value_in log.items x)) at
+      ∙ ap (option_and_then (λ (log : SiteLog). value_in log.items x)) at
 
   end-here : (log : SiteLog) → slice_get sites s ≡ Some log → end ≡ value_in log.finals x
   end-here log at = elim (option_cases (value_in log.finals x)) [
@@ -188,11 +192,11 @@ module _ (b : Parts) (valid : IsValid b) (fit : FitTogether b) (s : ℕ) (x : Na
         let shaped = All_at IsShapedLog sites s log fit.shape.logs at in
         let unlisted-here = unlisted log.finals log.items x shaped.finals none in
         let none-changed =
-            no-changes log.items x log.entries unlisted-here
-            (recursion_from_All (λ e. ForSome (item_of e) (Contains (names log.items))) log.entries w.formed.0.known) in
+        no-changes log.items x log.entries unlisted-here
+        (recursion_from_All (λ e. ForSome (item_of e) (Contains (names log.items))) log.entries w.formed.0.known) in
         let still =
-            subst (AllByRecursion (λ e. change_of x e ≡ None))
-            (sym (ap (λ o. option_map_or (λ (log : SiteLog). log.entries) o []) at)) none-changed in
+        subst (AllByRecursion (λ e. change_of x e ≡ None))
+        (sym (ap (λ o. option_map_or (λ (log : SiteLog). log.entries) o []) at)) none-changed in
         behind-still sites s x still (committed_of b) (initial_store sites)
         ∙ ap (option_and_then (λ (log : SiteLog). value_in log.items x)) at ∙ unlisted-here ∙ sym none
     | inr found ↦
@@ -219,9 +223,11 @@ chain-tail b bundles chain = record {
 
 run-row : (b : Parts) (bundles : List Parts) (store : Store) → AreSame store (initial_store b.sites)
     → All FitTogether (b ∷ bundles) → IsChain (b ∷ bundles) → RunInARow (b ∷ bundles) store
-run-row b [] store same fit chain =
-    (runs-same b.sites (committed_of b) store (initial_store b.sites) same
-        (valid-agrees b (All_at IsValid (b ∷ []) 0 b chain.valid refl)), tt)
+run-row b [] store same fit chain = (
+  runs-same b.sites (committed_of b) store (initial_store b.sites) same
+      (valid-agrees b (All_at IsValid (b ∷ []) 0 b chain.valid refl)),
+  tt,
+)
 run-row b (c ∷ bundles) store same fit chain =
     let valid = All_at IsValid (b ∷ c ∷ bundles) 0 b chain.valid refl in
     let fits = All_at FitTogether (b ∷ c ∷ bundles) 0 b fit refl in (

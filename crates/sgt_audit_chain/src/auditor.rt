@@ -8,7 +8,8 @@ use sgt_cert::Bundle;
 use sgt_names::{EngineFail, Holding, Listed, Source};
 use std::alloc::{AllocError, Global};
 
-/// What is kept of the bundles of a chain that were audited: the counts of their decisions, and the final values of the last.
+/// What is kept of the bundles of a chain that were audited: the counts of their decisions, and the final values of
+/// the last.
 #[derive(Drop)]
 pub struct ChainAuditor {
     alloc: Global,
@@ -55,12 +56,12 @@ impl ChainAuditor {
         Ok(None)
     }
 
-    /// Audits all that the reader gives as the next bundle of the chain: `None` where it is a valid bundle that goes on where the one
-    /// before it ended, else its first fault with the line, counted from 1. The reader is read once, and no further than the first
-    /// line with a fault of a bundle.
+    /// Audits all that the reader gives as the next bundle of the chain: `None` where it is a valid bundle that goes
+    /// on where the one before it ended, else its first fault with the line, counted from 1. The reader is read once,
+    /// and no further than the first line with a fault of a bundle.
     ///
-    /// With a fault or an Err what is kept is as before. An Err is ReadFault, where a read failed or too many were needed
-    /// (`MOST_READS` of sgt_names), or Memory.
+    /// With a fault or an Err what is kept is as before. An Err is ReadFault, where a read failed or too many were
+    /// needed (`MOST_READS` of sgt_names), or Memory.
     pub fn next<R: Source>(
         &mut self,
         reader: &mut R,
@@ -95,8 +96,8 @@ impl ChainAuditor {
         }
     }
 
-    /// The line of the chain, with the LF: `yes C committed R refused W withdrawn`, with the counts of the decisions of all bundles as far
-    /// as numbers of 64 bits go. An Err is want of memory.
+    /// The line of the chain, with the LF: `yes C committed R refused W withdrawn`, with the counts of the decisions
+    /// of all bundles as far as numbers of 64 bits go. An Err is want of memory.
     pub fn to_line(&self, alloc: Global) -> Result<String, AllocError>
         ensures yes { (told : List (Option (List ℕ))) → HasAudited self.now told
             → IfOk result (λ line. IsYes told (string_bytes line)) }

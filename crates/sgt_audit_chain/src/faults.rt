@@ -16,7 +16,8 @@ impl ChainFault {
     ghost use Rattle.std.specs.Prelude.{◌≡◌, IfOk, string_bytes};
     ghost use Rattle.sgt_audit_chain.specs.Audited.{no_text};
 
-    /// Its line, with the LF, where the file is called so: `no FILE line L FN` or `no FILE line L C1`. An Err is want of memory.
+    /// Its line, with the LF, where the file is called so: `no FILE line L FN` or `no FILE line L C1`. An Err is want
+    /// of memory.
     pub fn to_line(self, alloc: Global, name: &str, line: u64) -> Result<String, AllocError>
         ensures { IfOk result (λ s. string_bytes s ≡ no_text name.now line self) }
     {

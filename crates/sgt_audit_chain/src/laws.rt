@@ -7,8 +7,8 @@ ghost use Rattle.sgt_audit_chain.specs.Chain.{IsChain};
 ghost use Rattle.sgt_audit_chain.specs.Serial.{ChainAgrees};
 ghost use Rattle.sgt_audit_chain.specs.declared.faults.ChainFault.{ChainFault};
 
-/// The committed transactions of a chain, run alone one after another, bundle by bundle and by rank, have every recorded read, and
-/// leave the final values of each bundle behind it.
+/// The committed transactions of a chain, run alone one after another, bundle by bundle and by rank, have every
+/// recorded read, and leave the final values of each bundle behind it.
 pub fn chains_run_serially()
     ensures { (bundles : List Parts) → All FitTogether bundles → IsChain bundles
         → ChainAgrees bundles }

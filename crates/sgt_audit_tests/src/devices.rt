@@ -133,8 +133,8 @@ fn ample_audit(rt: HostRuntime) -> Result<(), Fail> {
     Ok(())
 }
 
-// Where one growth is refused, its audit may want memory. None is refused to the same audit made again, which has its verdict: so one
-// that wanted memory for no refusal would want it twice.
+// Where one growth is refused, its audit may want memory. None is refused to the same audit made again, which has its
+// verdict: so one that wanted memory for no refusal would want it twice.
 #[test]
 fn growth_audit(rt: HostRuntime) -> Result<(), Fail> {
     for (text, committed, refused) in VALID {

@@ -1,11 +1,13 @@
-//! Sections worked out by hand. Transactions 1 to 3 are decided by the numbers 0 to 2, and committed with the ranks 2, 0 and 1.
+//! Sections worked out by hand. Transactions 1 to 3 are decided by the numbers 0 to 2, and committed with the ranks
+//! 2, 0 and 1.
 
 use sgt_audit_cells::SiteState;
 use sgt_names::{Entry, Holding, Item, Kind, Tx};
 use std::alloc::AllocError;
 use std::test::Fail;
 
-/// What is found of the entry, on an item of this value: that the item has it, and that the entry is in rank and the first.
+/// What is found of the entry, on an item of this value: that the item has it, and that the entry is in rank and the
+/// first.
 fn judged(
     state: &SiteState,
     value: u64,

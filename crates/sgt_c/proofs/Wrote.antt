@@ -107,7 +107,7 @@ module _ (bytes : List ℕ) (n : ℕ) where
   pub measured-exact : (answer : Result Answered NoAnswer) (len : ℕ)
       → IfOk answer (λ a. IsCheckText bytes a.number a.text.items)
       → IfOk answer (λ a. (n ≡ a.number) × (len ≡ length a.text.items))
-          → IfErr answer (λ why. (n ≡ number_of why) × (len ≡ 0)) → IsChecked n
+      → IfErr answer (λ why. (n ≡ number_of why) × (len ≡ 0)) → IsChecked n
       → IsYes n ↔ SpellsSerializable bytes
   measured-exact (Ok a) len text ok err checked = answered a text ok.0
   measured-exact (Err why) len text ok err checked = absurd (unchecked why n err.0 checked)
@@ -115,10 +115,10 @@ module _ (bytes : List ℕ) (n : ℕ) where
   pub put-exact : (answer : Result Answered NoAnswer) (old new : List ℕ) (len : ℕ)
       → IfOk answer (λ a. IsCheckText bytes a.number a.text.items)
       → IfOk answer (λ a. length a.text.items ≤ length old
-          → (n ≡ a.number) × (new ≡ a.text.items ++ drop (length a.text.items) old))
+      → (n ≡ a.number) × (new ≡ a.text.items ++ drop (length a.text.items) old))
       → IfOk answer (λ a. length old < length a.text.items → IsRoom n × (new ≡ old))
       → IfErr answer (λ why. (n ≡ number_of why) × (len ≡ 0) × (new ≡ old)) → IsChecked n
-          → IsYes n ↔ SpellsSerializable bytes
+      → IsYes n ↔ SpellsSerializable bytes
   put-exact (Ok a) old new len text whole room err checked = elim (cases_lt (length old) (length a.text.items)) [
     | inl short ↦ absurd (unroomed n (room short).0 checked)
     | inr fits ↦ answered a text (whole fits).0
@@ -128,24 +128,28 @@ module _ (bytes : List ℕ) (n : ℕ) where
   pub put-text : (answer : Result Answered NoAnswer) (old new : List ℕ) (len : ℕ)
       → IfOk answer (λ a. IsCheckText bytes a.number a.text.items)
       → IfOk answer (λ a. length a.text.items ≤ length old
-          → (n ≡ a.number) × (new ≡ a.text.items ++ drop (length a.text.items) old))
+      → (n ≡ a.number) × (new ≡ a.text.items ++ drop (length a.text.items) old))
       → IfOk answer (λ a. length old < length a.text.items → IsRoom n × (new ≡ old))
-          → IfOk answer (λ a. len ≡ length a.text.items)
+      → IfOk answer (λ a. len ≡ length a.text.items)
       → IfErr answer (λ why. (n ≡ number_of why) × (len ≡ 0) × (new ≡ old)) → IsChecked n
       → (text : List ℕ) × IsCheckText bytes n text × (len ≡ length text) × (new ≡ text ++ drop (length text) old)
   put-text (Ok a) old new len text whole room long err checked = elim (cases_lt (length old) (length a.text.items)) [
     | inl short ↦ absurd (unroomed n (room short).0 checked)
-    | inr fits ↦ (a.text.items, subst (λ k. IsCheckText bytes k a.text.items) (sym (whole fits).0) text, long,
-        (whole fits).1)
+    | inr fits ↦ (
+      a.text.items,
+      subst (λ k. IsCheckText bytes k a.text.items) (sym (whole fits).0) text,
+      long,
+      (whole fits).1,
+    )
   ]
   put-text (Err why) old new len text whole room long err checked = absurd (unchecked why n err.0 checked)
 
   pub put-room : (answer : Result Answered NoAnswer) (old new : List ℕ) (len : ℕ)
       → IfOk answer (λ a. IsCheckText bytes a.number a.text.items)
       → IfOk answer (λ a. length a.text.items ≤ length old
-          → (n ≡ a.number) × (new ≡ a.text.items ++ drop (length a.text.items) old))
+      → (n ≡ a.number) × (new ≡ a.text.items ++ drop (length a.text.items) old))
       → IfOk answer (λ a. len ≡ length a.text.items)
-          → IfErr answer (λ why. (n ≡ number_of why) × (len ≡ 0) × (new ≡ old)) → IsRoom n
+      → IfErr answer (λ why. (n ≡ number_of why) × (len ≡ 0) × (new ≡ old)) → IsRoom n
       → (m : ℕ) × (text : List ℕ) × IsCheckText bytes m text × (len ≡ length text) × (length old < length text)
   put-room (Ok a) old new len text whole long err room = elim (cases_lt (length old) (length a.text.items)) [
     | inl short ↦ (a.number, a.text.items, text, long, short)

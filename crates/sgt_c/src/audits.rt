@@ -33,9 +33,10 @@ fn verdict_on(alloc: Global, bytes: &[u8]) -> Result<Verdict, NoAnswer>
 
 /// Audits the bytes, and puts the verdict into `verdict`, all of whose fields are set. Returns its `kind`.
 ///
-/// Where it answers yes, the bytes spell site logs and a certificate such that running the committed transactions alone, one
-/// after another by rank, gives every read value and final value recorded for them, conflicting operations stand in rank order at
-/// every site, and each refused transaction lies on a cycle of logged conflicts with transactions certified before it.
+/// Where it answers yes, the bytes spell site logs and a certificate such that running the committed transactions
+/// alone, one after another by rank, gives every read value and final value recorded for them, conflicting operations
+/// stand in rank order at every site, and each refused transaction lies on a cycle of logged conflicts with
+/// transactions certified before it.
 #[unsafe(no_mangle)]
 pub extern "C" fn sgt_audit(alloc: Global, bytes: &[u8], verdict: &mut SgtVerdict) -> u32
     ensures number { IsNumber result }

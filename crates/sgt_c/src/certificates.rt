@@ -43,10 +43,11 @@ pub extern "C" fn sgt_certify_len(alloc: Global, bytes: &[u8], text_len: &mut us
     measure(&certify_text(alloc, bytes), text_len)
 }
 
-/// Makes the certificate of logs that have none, of a bundle's text without its second line, and puts the answer into the front of
+/// Makes the certificate of logs that have none, of a bundle's text without its second line, and puts the answer into
+/// the front of
 /// `out`: with `SGT_YES` the whole bundle, which audits as yes; with `SGT_NO` the reason why there is none, in lines, as `sgt certify`
-/// writes it. Behind the text `out` stays as it was. Where the text doesn't fit, nothing is written and `text_len` says what room it
-/// needs.
+/// writes it. Behind the text `out` stays as it was. Where the text doesn't fit, nothing is written and `text_len`
+/// says what room it needs.
 #[unsafe(no_mangle)]
 pub extern "C" fn sgt_certify(
     alloc: Global,

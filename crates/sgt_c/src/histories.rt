@@ -56,7 +56,8 @@ pub extern "C" fn sgt_check_len(alloc: Global, bytes: &[u8], text_len: &mut usiz
     measure(&check_text(alloc, bytes), text_len)
 }
 
-/// Checks whether the history that the bytes spell is serializable, and puts the text into the front of `out`, as `sgt check` writes it.
+/// Checks whether the history that the bytes spell is serializable, and puts the text into the front of `out`, as
+/// `sgt check` writes it.
 /// `SGT_UNREADABLE` says that a line can't be read. Behind the text `out` stays as it was. Where the text doesn't fit, nothing is
 /// written and `text_len` says what room it needs.
 #[unsafe(no_mangle)]

@@ -1,4 +1,5 @@
-//! The auditor, the certificate maker and the check of histories for C: the exports of a static library. `sgt.h` declares them.
+//! The auditor, the certificate maker and the check of histories for C: the exports of a static library. `sgt.h`
+//! declares them.
 #![tactic(auto)]
 
 mod answers;

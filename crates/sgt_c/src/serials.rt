@@ -43,9 +43,9 @@ pub extern "C" fn sgt_serial_len(alloc: Global, bytes: &[u8], text_len: &mut usi
     measure(&serial_text(alloc, bytes), text_len)
 }
 
-/// Puts the text of the serial run into the front of `out`: with `SGT_YES` the committed transactions alone, one after another by
-/// rank, and then the final values; with `SGT_NO` the auditor's line. Behind the text `out` stays as it was. Where the text doesn't
-/// fit, nothing is written and `text_len` says what room it needs.
+/// Puts the text of the serial run into the front of `out`: with `SGT_YES` the committed transactions alone, one
+/// after another by rank, and then the final values; with `SGT_NO` the auditor's line. Behind the text `out` stays as
+/// it was. Where the text doesn't fit, nothing is written and `text_len` says what room it needs.
 #[unsafe(no_mangle)]
 pub extern "C" fn sgt_serial(
     alloc: Global,

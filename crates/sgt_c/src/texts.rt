@@ -51,7 +51,8 @@ pub fn measure(answer: &Result<Answered, NoAnswer>, text_len: &mut usize) -> u32
     }
 }
 
-/// Puts the text into the front of `out`, where it has room, and returns the number. Behind the text `out` stays as it was.
+/// Puts the text into the front of `out`, where it has room, and returns the number. Behind the text `out` stays as
+/// it was.
 pub fn put(answer: &Result<Answered, NoAnswer>, out: &mut [u8], text_len: &mut usize) -> u32
     ensures whole { IfOk answer.now (λ a. length a.text.items ≤ length out.old
         → (result ≡ a.number) × (out.new ≡ a.text.items ++ drop (length a.text.items) out.old)) }

@@ -8,11 +8,13 @@ use Rattle.std.specs.Str.Parse.{digits_value}
 use Rattle.sgt_names.specs.Name.{IsName, SpellsFront}
 
 -- a name at the front of the first bytes stands at the front of all
-pub name-front : (bytes chunk item : List ℕ) (n : ℕ) → IsFirstChunk bytes chunk 16 → SpellsFront chunk n → item ≡ take n chunk
+pub name-front : (bytes chunk item : List ℕ) (n : ℕ) → IsFirstChunk bytes chunk 16 → SpellsFront chunk n
+    → item ≡ take n chunk
     → IsName item × (bytes ≡ item ++ drop n bytes)
 name-front bytes chunk item n first front found =
     let long : length chunk ≡ 16 = ap length first.same ∙ length-take-le 16 bytes first.enough in
-    let same : take n bytes ≡ item = sym (take-take n 16 bytes (omega (arith, front.0, long))) ∙ (ap (take n) (sym first.same) ∙ sym found) in
+    let same : take n bytes ≡ item = sym (take-take n 16 bytes (omega (arith, front.0, long)))
+    ∙ (ap (take n) (sym first.same) ∙ sym found) in
     (subst IsName (sym found) front.1, sym (take-append-drop n bytes) ∙ ap (λ t. t ++ drop n bytes) same)
 
 -- a number with none before it
@@ -20,7 +22,8 @@ pub with-none : (k m : ℕ) → m % 2 ^ 64 ≡ (0 * k + m) % 2 ^ 64
 with-none k m = let e : m ≡ 0 * k + m = omega arith in ap (λ n. n % 2 ^ 64) e
 
 -- digits that end within the first bytes are read from all
-pub digits-front : (bytes chunk : List ℕ) (n value k : ℕ) → chunk ≡ take 8 bytes → n < 8 → value ≡ (0 * k + digits_value 10 (slice_range chunk 0 n)) % 2 ^ 64
+pub digits-front : (bytes chunk : List ℕ) (n value k : ℕ) → chunk ≡ take 8 bytes → n < 8
+    → value ≡ (0 * k + digits_value 10 (slice_range chunk 0 n)) % 2 ^ 64
     → value ≡ digits_value 10 (slice_range bytes 0 n) % 2 ^ 64
 digits-front bytes chunk n value k first few is =
     let range : slice_range chunk 0 n ≡ slice_range bytes 0 n = between_from_start chunk n

@@ -27,7 +27,11 @@ high c h =
     ]
 
 fine : (c : ℕ) → IsTrue (is_name_byte c) → (c ≡ 34 → ⊥) × (c ≡ 92 → ⊥) × (32 ≤ c)
-fine c h = (λ e. true≢false (sym h ∙ ap is_name_byte e), λ e. true≢false (sym h ∙ ap is_name_byte e), omega (arith, high c h))
+fine c h = (
+  λ e. true≢false (sym h ∙ ap is_name_byte e),
+  λ e. true≢false (sym h ∙ ap is_name_byte e),
+  omega (arith, high c h),
+)
 
 -- no byte of a name is escaped
 escape-plain : (x : List ℕ) → list_all is_name_byte x ≡ true → escape x ≡ x
@@ -40,7 +44,10 @@ escape-plain (c ∷ cs) h =
 pub name-plain : (x : Name) → IsName x → quoted x ≡ 34 ∷ (x ++ 34 ∷ [])
 name-plain [] h = absurd h
 name-plain (c ∷ cs) h =
-    let all = and_from (is_name_byte c) (list_all is_name_byte cs) (or_left (is_small_letter c || (nat_le 48 c && nat_le c 57)) (c == 95) (or_left (is_small_letter c) (nat_le 48 c && nat_le c 57) h.0)) h.1 in
+    let all =
+    and_from (is_name_byte c) (list_all is_name_byte cs)
+    (or_left (is_small_letter c || (nat_le 48 c && nat_le c 57)) (c == 95)
+    (or_left (is_small_letter c) (nat_le 48 c && nat_le c 57) h.0)) h.1 in
     ap (λ (t : List ℕ). 34 ∷ (t ++ 34 ∷ [])) (escape-plain (c ∷ cs) all)
 
 kind-plain : (k : Kind) → quoted (kind_name k) ≡ 34 ∷ (kind_name k ++ 34 ∷ [])
@@ -58,7 +65,8 @@ step-text s h =
     ∙ simp append_assoc
 
 -- the same, of pieces that were found to be those of the step
-pub step-pieces : (s : Step) (item kind : List ℕ) (site to : ℕ) → IsName s.label.item → item ≡ s.label.item → kind ≡ kind_name s.label.kind → site ≡ s.label.site → to ≡ s.to
+pub step-pieces : (s : Step) (item kind : List ℕ) (site to : ℕ) → IsName s.label.item → item ≡ s.label.item
+    → kind ≡ kind_name s.label.kind → site ≡ s.label.site → to ≡ s.to
     → codes "{\"item\":\"" ++ (item ++ (codes "\",\"kind\":\"" ++ (kind ++ (codes "\",\"site\":" ++ (decimal site ++ (codes ",\"to\":" ++ (decimal to ++ codes "}"))))))) ≡ compact_text (step_data s)
 step-pieces s item kind site to h a b c d = rw (a, b, c, d) (sym (step-text s h))
 

@@ -29,11 +29,13 @@ length-kept : (b : Bool) (x : ℕ) (xs : List ℕ) → length (cond b (x ∷ xs)
 length-kept true x xs = omega arith
 length-kept false x xs = omega arith
 
-one-more : (r k : ℕ) (a b c : Bool) → nat_lt r (k + 1) ≡ a → nat_lt r k ≡ b → (r == k) ≡ c → one_if a ≡ one_if b + one_if c
+one-more : (r k : ℕ) (a b c : Bool) → nat_lt r (k + 1) ≡ a → nat_lt r k ≡ b → (r == k) ≡ c
+    → one_if a ≡ one_if b + one_if c
 one-more r k true true true x y z = let p = ltb-true r k y in let q = eqb-true r k z in absurd (omega arith)
 one-more r k true true false x y z = refl
 one-more r k true false true x y z = refl
-one-more r k true false false x y z = let p = ltb-true r (k + 1) x in let q = ltb-false r k y in let ne = eqb-false r k z in absurd (ne (omega arith))
+one-more r k true false false x y z = let p = ltb-true r (k + 1) x in let q = ltb-false r k y in let ne =
+    eqb-false r k z in absurd (ne (omega arith))
 one-more r k false true c x y z = let p = ltb-false r (k + 1) x in let q = ltb-true r k y in absurd (omega arith)
 one-more r k false false true x y z = let p = ltb-false r (k + 1) x in let q = eqb-true r k z in absurd (omega arith)
 one-more r k false false false x y z = refl
@@ -76,8 +78,10 @@ of_rank-length k (Commit t s ∷ ds) =
 of_rank-length k (Refuse t walk ∷ ds) = of_rank-length k ds
 of_rank-length k (Withdraw t ∷ ds) = of_rank-length k ds
 
-of_ranks-length : (ds : List Decision) (m a : ℕ) → length (of_ranks ds a m) + below a (ranks ds) ≡ below (a + m) (ranks ds)
-of_ranks-length ds zero a = let e : a + 0 ≡ a = omega arith in let f = ap (λ i. below i (ranks ds)) e in omega (arith, f)
+of_ranks-length : (ds : List Decision) (m a : ℕ)
+    → length (of_ranks ds a m) + below a (ranks ds) ≡ below (a + m) (ranks ds)
+of_ranks-length ds zero a = let e : a + 0 ≡ a = omega arith in let f = ap (λ i. below i (ranks ds)) e in
+    omega (arith, f)
 of_ranks-length ds (suc m) a =
     let e : a + 1 + m ≡ a + suc m = omega arith in
     let f = ap (λ i. below i (ranks ds)) e in
@@ -97,17 +101,20 @@ front-length ds k =
 
 -- all that is committed is run, once for each commit
 pub by_rank-length : (ds : List Decision) → length (by_rank ds) ≡ length (ranks ds)
-by_rank-length ds = front-length ds (rank_limit ds) ∙ below-all (rank_limit ds) (ranks ds) (λ n r at. at-lt-fold (ranks ds) 0 n r at)
+by_rank-length ds = front-length ds (rank_limit ds)
+    ∙ below-all (rank_limit ds) (ranks ds) (λ n r at. at-lt-fold (ranks ds) 0 n r at)
 
 range-split : (m n a : ℕ) → range_with_len a (m + n) ≡ range_with_len a m ++ range_with_len (a + m) n
 range-split zero n a = let e : 0 + n ≡ n = omega arith in let f : a ≡ a + 0 = omega arith in ap₂ range_with_len f e
 range-split (suc m) n a =
     let e : suc m + n ≡ suc (m + n) = omega arith in
     let f : a + 1 + m ≡ a + suc m = omega arith in
-    ap (range_with_len a) e ∙ ap (λ xs. a ∷ xs) (range-split m n (a + 1) ∙ ap (λ i. range_with_len (a + 1) m ++ range_with_len i n) f)
+    ap (range_with_len a) e
+    ∙ ap (λ xs. a ∷ xs) (range-split m n (a + 1) ∙ ap (λ i. range_with_len (a + 1) m ++ range_with_len i n) f)
 
 -- what stands under a rank stands back_at those of smaller rank
-at-place : (ds : List Decision) (k i tx : ℕ) → k < rank_limit ds → slice_get (of_rank ds k) i ≡ Some tx → slice_get (by_rank ds) (below k (ranks ds) + i) ≡ Some tx
+at-place : (ds : List Decision) (k i tx : ℕ) → k < rank_limit ds → slice_get (of_rank ds k) i ≡ Some tx
+    → slice_get (by_rank ds) (below k (ranks ds) + i) ≡ Some tx
 at-place ds k i tx lt at =
     let more = rank_limit ds - (k + 1) in
     let size : rank_limit ds ≡ k + suc more = omega arith in
@@ -116,18 +123,24 @@ at-place ds k i tx lt at =
     let front = of_ranks ds 0 k in
     let back = of_rank ds k ++ of_ranks ds (k + 1) more in
     let split : by_rank ds ≡ front ++ back =
-    ap (of_ranks ds 0) size ∙ ap (flat_map f) (range-split k (suc more) 0) ∙ flat_map-append f (range_with_len 0 k) (range_with_len (0 + k) (suc more)) ∙ ap (λ j. front ++ of_ranks ds j (suc more)) from
+    ap (of_ranks ds 0) size ∙ ap (flat_map f) (range-split k (suc more) 0)
+    ∙ flat_map-append f (range_with_len 0 k) (range_with_len (0 + k) (suc more))
+    ∙ ap (λ j. front ++ of_ranks ds j (suc more)) from
     in
-    ap₂ slice_get split (ap (λ m. m + i) (sym (front-length ds k))) ∙ back_at front back i ∙ front_at (of_rank ds k) (of_ranks ds (k + 1) more) i tx at
+    ap₂ slice_get split (ap (λ m. m + i) (sym (front-length ds k))) ∙ back_at front back i
+    ∙ front_at (of_rank ds k) (of_ranks ds (k + 1) more) i tx at
 
 -- who is committed stands under his rank back_at those of that rank that were decided before
-in_rank : (ds : List Decision) (n tx k : ℕ) → IsCommitted ds n tx k → slice_get (of_rank ds k) (equal k (ranks (take n ds))) ≡ Some tx
+in_rank : (ds : List Decision) (n tx k : ℕ) → IsCommitted ds n tx k
+    → slice_get (of_rank ds k) (equal k (ranks (take n ds))) ≡ Some tx
 in_rank [] n tx k at = absurd cc
 in_rank (d ∷ ds) zero tx k at =
-    let gives : with_rank k d ≡ Some tx = ap (with_rank k) (same_Some d (Commit tx k) at) ∙ ap (λ b. cond b (Some tx) None) (eq-eqb k k refl) in
+    let gives : with_rank k d ≡ Some tx = ap (with_rank k) (same_Some d (Commit tx k) at)
+    ∙ ap (λ b. cond b (Some tx) None) (eq-eqb k k refl) in
     ap (λ o. slice_get (cons_option o (of_rank ds k)) 0) gives
 in_rank (Commit t s ∷ ds) (suc n) tx k at =
-    let next : length (s ∷ filter (λ r. r == k) (ranks (take n ds))) ≡ suc (equal k (ranks (take n ds))) = omega arith in
+    let next : length (s ∷ filter (λ r. r == k) (ranks (take n ds))) ≡ suc (equal k (ranks (take n ds))) =
+    omega arith in
     elim (cases_Bool (s == k)) [
       | inl hit ↦ rw hit (ap (slice_get (t ∷ of_rank ds k)) next ∙ in_rank ds n tx k at)
       | inr miss ↦ rw miss (in_rank ds n tx k at)
@@ -136,8 +149,10 @@ in_rank (Refuse t walk ∷ ds) (suc n) tx k at = in_rank ds n tx k at
 in_rank (Withdraw t ∷ ds) (suc n) tx k at = in_rank ds n tx k at
 
 pub by_rank-at : (ds : List Decision) (n tx rank : ℕ) → IsCommitted ds n tx rank
-    → slice_get (by_rank ds) (length (filter (λ r. nat_lt r rank) (ranks ds)) + length (filter (λ r. r == rank) (ranks (take n ds)))) ≡ Some tx
-by_rank-at ds n tx rank at = at-place ds rank (equal rank (ranks (take n ds))) tx (rank-lt-limit ds n tx rank at) (in_rank ds n tx rank at)
+    → slice_get (by_rank ds) (length (filter (λ r. nat_lt r rank) (ranks ds)) + length
+    (filter (λ r. r == rank) (ranks (take n ds)))) ≡ Some tx
+by_rank-at ds n tx rank at = at-place ds rank (equal rank (ranks (take n ds))) tx (rank-lt-limit ds n tx rank at)
+    (in_rank ds n tx rank at)
 
 -- ---- ranks that are 0 to n - 1, each once
 
@@ -149,7 +164,8 @@ equal-none k (r ∷ rs) h =
     let c = length-kept (r == k) r (filter (λ s. s == k) rs) in
     omega (arith, a, b, c)
 
-equal-once : (k : ℕ) (rs : List ℕ) (apart : (p q r s : ℕ) → p < q → slice_get rs p ≡ Some r → slice_get rs q ≡ Some s → r ≢ s) → equal k rs ≤ 1
+equal-once : (k : ℕ) (rs : List ℕ) (apart : (p q r s : ℕ) → p < q → slice_get rs p ≡ Some r → slice_get rs q ≡ Some s
+    → r ≢ s) → equal k rs ≤ 1
 equal-once k [] apart = omega arith
 equal-once k (r ∷ rs) apart =
     let more = equal-once k rs (λ p q t s lt. apart (suc p) (suc q) t s (omega arith)) in
@@ -198,10 +214,12 @@ module _ (ds : List Decision) (are : AreRanks (ranks ds)) where
         | inl none ↦ absurd (none.none n tx at)
         | inr found ↦
             let place = ranks_at ds n tx rank at in
-            let few : rank < length (ranks ds) = All_at (λ s. s < length (ranks ds)) (ranks ds) place.0 rank are.below place.1 in
+            let few : rank < length (ranks ds) =
+            All_at (λ s. s < length (ranks ds)) (ranks ds) place.0 rank are.below place.1 in
             let full = below-full (ranks ds) are rank (omega (arith, few)) in
             let start : below rank (ranks ds) + 0 ≡ rank = omega (arith, full) in
-            let here : slice_get (of_rank ds rank) 0 ≡ Some tx = ap (λ (us : List ℕ). slice_get us 0) found.1.list ∙ ap Some (sym (found.1.only n tx at)) in
+            let here : slice_get (of_rank ds rank) 0 ≡ Some tx = ap (λ (us : List ℕ). slice_get us 0) found.1.list
+            ∙ ap Some (sym (found.1.only n tx at)) in
             ap (slice_get (by_rank ds)) (sym start) ∙ at-place ds rank 0 tx (rank-lt-limit ds n tx rank at) here
       ]
 

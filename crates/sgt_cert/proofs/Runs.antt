@@ -25,16 +25,20 @@ among (Some b) xs a c = Contains-append_right (b ∷ []) xs a c
 listed : (ds : List Decision) (m tx r : ℕ) → IsCommitted ds m tx r → Contains (of_rank ds r) tx
 listed [] m tx r at = absurd cc
 listed (d ∷ ds) zero tx r at =
-    let gives : with_rank r d ≡ Some tx = ap (with_rank r) (same_Some d (Commit tx r) at) ∙ ap (λ b. cond b (Some tx) None) (eq-eqb r r refl) in
+    let gives : with_rank r d ≡ Some tx = ap (with_rank r) (same_Some d (Commit tx r) at)
+    ∙ ap (λ b. cond b (Some tx) None) (eq-eqb r r refl) in
     subst (λ o. Contains (cons_option o (of_rank ds r)) tx) (sym gives) (Contains-from_at (tx ∷ of_rank ds r) 0 tx refl)
 listed (d ∷ ds) (suc m) tx r at = among (with_rank r d) (of_rank ds r) tx (listed ds m tx r at)
 
-within : (ds : List Decision) (tx r : ℕ) → Contains (of_rank ds r) tx → (n k : ℕ) → k ≤ r → r < k + n → Contains (of_ranks ds k n) tx
+within : (ds : List Decision) (tx r : ℕ) → Contains (of_rank ds r) tx → (n k : ℕ) → k ≤ r → r < k + n
+    → Contains (of_ranks ds k n) tx
 within ds tx r c zero k low high = absurd (omega arith)
 within ds tx r c (suc n) k low high =
     elim (cases_eq k r) [
-      | inl same ↦ Contains-append_left (of_rank ds k) (of_ranks ds (k + 1) n) tx (subst (λ i. Contains (of_rank ds i) tx) (sym same) c)
-      | inr other ↦ Contains-append_right (of_rank ds k) (of_ranks ds (k + 1) n) tx (within ds tx r c n (k + 1) (omega arith) (omega arith))
+      | inl same ↦ Contains-append_left (of_rank ds k) (of_ranks ds (k + 1) n) tx
+          (subst (λ i. Contains (of_rank ds i) tx) (sym same) c)
+      | inr other ↦ Contains-append_right (of_rank ds k) (of_ranks ds (k + 1) n) tx
+          (within ds tx r c n (k + 1) (omega arith) (omega arith))
     ]
 
 only-at : (t tx n : ℕ) → slice_get (t ∷ []) n ≡ Some tx → t ≡ tx
@@ -56,13 +60,16 @@ committed (Commit t s ∷ ds) tx r c =
             | inr later ↦ let found = committed ds tx r later in (suc found.0, found.1)
           ]
       | inr other ↦
-          let found = committed ds tx r (subst (λ b. Contains (cons_option (cond b (Some t) None) (of_rank ds r)) tx) (ne_eqb s r other) c) in
+          let found =
+          committed ds tx r (subst (λ b. Contains (cons_option (cond b (Some t) None) (of_rank ds r)) tx)
+          (ne_eqb s r other) c) in
           (suc found.0, found.1)
     ]
 committed (Refuse t walk ∷ ds) tx r c = let found = committed ds tx r c in (suc found.0, found.1)
 committed (Withdraw t ∷ ds) tx r c = let found = committed ds tx r c in (suc found.0, found.1)
 
-some_rank : (ds : List Decision) (tx n k : ℕ) → Contains (of_ranks ds k n) tx → (m : ℕ) × (r : ℕ) × IsCommitted ds m tx r
+some_rank : (ds : List Decision) (tx n k : ℕ) → Contains (of_ranks ds k n) tx
+    → (m : ℕ) × (r : ℕ) × IsCommitted ds m tx r
 some_rank ds tx zero k (n, lt, is) = absurd (omega arith)
 some_rank ds tx (suc n) k c =
     elim (Contains-append_cases (of_rank ds k) (of_ranks ds (k + 1) n) tx c) [
@@ -71,8 +78,10 @@ some_rank ds tx (suc n) k c =
     ]
 
 run : (ds : List Decision) (tx : ℕ) → (m : ℕ) × (r : ℕ) × IsCommitted ds m tx r → Contains (by_rank ds) tx
-run ds tx (m, r, at) = let below = rank-lt-limit ds m tx r at in within ds tx r (listed ds m tx r at) (rank_limit ds) 0 (omega arith) (omega arith)
+run ds tx (m, r, at) = let below = rank-lt-limit ds m tx r at in
+    within ds tx r (listed ds m tx r at) (rank_limit ds) 0 (omega arith) (omega arith)
 
 -- the committed transactions are run, and no others
-pub runs-committed : (ds : List Decision) (tx : ℕ) → Contains (by_rank ds) tx ↔ ((m : ℕ) × (r : ℕ) × IsCommitted ds m tx r)
+pub runs-committed : (ds : List Decision) (tx : ℕ)
+    → Contains (by_rank ds) tx ↔ ((m : ℕ) × (r : ℕ) × IsCommitted ds m tx r)
 runs-committed ds tx = (some_rank ds tx (rank_limit ds) 0, run ds tx)

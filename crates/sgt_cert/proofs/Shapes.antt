@@ -15,10 +15,12 @@ pub items_list-items_of : (ds : List Data) → items_list (items_of ds) ≡ ds
 items_list-items_of [] = refl
 items_list-items_of (d ∷ ds) = ap (λ xs. d ∷ xs) (items_list-items_of ds)
 
-pub list_of_vec : (r : Option (Bor (Vec Value Global))) → option_map (λ v. map view v.now.items) r ≡ option_map items_list (option_map (λ v. items_view v.now.items) r)
+pub list_of_vec : (r : Option (Bor (Vec Value Global)))
+    → option_map (λ v. map view v.now.items) r ≡ option_map items_list (option_map (λ v. items_view v.now.items) r)
 list_of_vec None = refl
 list_of_vec (Some v) = rw items_list-items_of
 
 -- a test of each value is one of each item
-pub all-items_view : (test : Data → Bool) (vs : List Value) → list_all (λ v. test (view v)) vs ≡ list_all test (items_list (items_view vs))
+pub all-items_view : (test : Data → Bool) (vs : List Value)
+    → list_all (λ v. test (view v)) vs ≡ list_all test (items_list (items_view vs))
 all-items_view test vs = sym (list_all-map test view vs) ∙ ap (list_all test) (sym (items_list-items_of (map view vs)))

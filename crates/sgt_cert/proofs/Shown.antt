@@ -61,7 +61,8 @@ withdraw-has ts t1 t2 t3 new opens withdraw_key s close =
     )
 
 -- the tokens of a list, and those behind the object that it ends
-closed : (js : json.Items) (more new : List Token) → tree.items_tokens js ++ (more ++ new) ≡ (tree.items_tokens js ++ more) ++ new
+closed : (js : json.Items) (more new : List Token)
+    → tree.items_tokens js ++ (more ++ new) ≡ (tree.items_tokens js ++ more) ++ new
 closed js more new = sym (append_assoc (tree.items_tokens js) more new)
 
 pub refuse-has : (ts t1 t2 t3 t4 t5 t6 new : List Token) → ts ≡ Token.begin_object ∷ t1
@@ -109,14 +110,17 @@ end-array (Token.boolean b ∷ ts) new e = cc
 end-array (Token.null ∷ ts) new e = cc
 end-array (Token.bad ∷ ts) new e = cc
 
-pub no_more : (test : Data → Bool) (deep : ℕ) (ts new : List Token) → after_end_array ts ≡ Some new → HasItems test deep ts new
+pub no_more : (test : Data → Bool) (deep : ℕ) (ts new : List Token) → after_end_array ts ≡ Some new
+    → HasItems test deep ts new
 no_more test deep ts new e = (json.no_items, no_items, end-array ts new e, refl, refl, omega arith)
 
-pub one_more : (test : Data → Bool) (deep : ℕ) (ts r new : List Token) → HasValue test deep ts r → HasItems test deep r new → HasItems test deep ts new
+pub one_more : (test : Data → Bool) (deep : ℕ) (ts r new : List Token) → HasValue test deep ts r
+    → HasItems test deep r new → HasItems test deep ts new
 one_more test deep ts r new v more = (
   json.item v.0 more.0,
   item v.1 more.1,
-  v.2 ∙ ap (λ t. tree.json_tokens v.0 ++ t) more.2 ∙ sym (append_assoc (tree.json_tokens v.0) (tree.items_tokens more.0) new),
+  v.2 ∙ ap (λ t. tree.json_tokens v.0 ++ t) more.2
+      ∙ sym (append_assoc (tree.json_tokens v.0) (tree.items_tokens more.0) new),
   ap (option_and_then (λ d. option_map (item d) (of_items more.0))) v.3 ∙ ap (option_map (item v.1)) more.3,
   and_from (test v.1) (list_all test (items_list more.1)) v.4 more.4,
   omega (arith, v.5, more.5),
@@ -143,23 +147,29 @@ none-read : (o : Option (json.Json × List Token)) → option_map (λ p. p.1) o 
 none-read None e = refl
 none-read (Some p) e = cc
 
-more-read : (o : Option (json.Json × List Token)) (t : Token) (ts : List Token) → option_map (λ p. p.1) o ≡ Some (t ∷ ts) → whole o ≡ None
+more-read : (o : Option (json.Json × List Token)) (t : Token) (ts : List Token)
+    → option_map (λ p. p.1) o ≡ Some (t ∷ ts) → whole o ≡ None
 more-read None t ts e = cc
 more-read (Some (j, [])) t ts e = cc
 more-read (Some (j, u ∷ us)) t ts e = refl
 
 -- the value that stands in front is that of the text, where nothing stands behind it
-pub shape_read : (text : List ℕ) (test : Data → Bool) (ts rest : List Token) → ts ≡ tokens text → HasValue test 5 ts rest → rest ≡ []
+pub shape_read : (text : List ℕ) (test : Data → Bool) (ts rest : List Token) → ts ≡ tokens text
+    → HasValue test 5 ts rest → rest ≡ []
     → (d : Data) × (read text ≡ Some d) × (test d ≡ true)
 shape_read text test ts rest is v none =
     let front : tokens text ≡ tree.json_tokens v.0 ++ [] = sym is ∙ v.2 ∙ ap (λ t. tree.json_tokens v.0 ++ t) none in
-    let parsed : json.value max_depth (tokens text) ≡ Some (v.0, []) = ap (json.value max_depth) front ∙ value-json_tokens v.0 max_depth [] (omega (arith, v.5)) in
+    let parsed : json.value max_depth (tokens text) ≡ Some (v.0, []) = ap (json.value max_depth) front
+    ∙ value-json_tokens v.0 max_depth [] (omega (arith, v.5)) in
     (v.1, ap whole parsed ∙ v.3, v.4)
 
 -- no value stands in front
-pub broken_read : (text : List ℕ) (ts : List Token) → ts ≡ tokens text → json.skip_value max_depth ts ≡ None → read text ≡ None
+pub broken_read : (text : List ℕ) (ts : List Token) → ts ≡ tokens text → json.skip_value max_depth ts ≡ None
+    → read text ≡ None
 broken_read text ts is e = none-read (json.value max_depth (tokens text)) (ap (json.skip_value max_depth) (sym is) ∙ e)
 
 -- something stands behind it
-pub further_read : (text : List ℕ) (ts rest more : List Token) (t : Token) → ts ≡ tokens text → json.skip_value max_depth ts ≡ Some rest → rest ≡ t ∷ more → read text ≡ None
-further_read text ts rest more t is e stands = more-read (json.value max_depth (tokens text)) t more (ap (json.skip_value max_depth) (sym is) ∙ e ∙ ap Some stands)
+pub further_read : (text : List ℕ) (ts rest more : List Token) (t : Token) → ts ≡ tokens text
+    → json.skip_value max_depth ts ≡ Some rest → rest ≡ t ∷ more → read text ≡ None
+further_read text ts rest more t is e stands =
+    more-read (json.value max_depth (tokens text)) t more (ap (json.skip_value max_depth) (sym is) ∙ e ∙ ap Some stands)

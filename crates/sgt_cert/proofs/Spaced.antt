@@ -16,7 +16,8 @@ pub no_value : (line text : List ℕ) → text ≡ line → read text ≡ None �
 no_value line text is none = λ d reads. let both : Some d ≡ None = sym reads.1 ∙ ap read (sym is) ∙ none in cc both
 
 -- it has the shape of a certificate, and a space that is in none
-pub has_spaces : (line text : List ℕ) → text ≡ line → IsUtf8 line → (d : Data) × (read text ≡ Some d) × (is_certificate_object d ≡ true)
+pub has_spaces : (line text : List ℕ) → text ≡ line → IsUtf8 line
+    → (d : Data) × (read text ≡ Some d) × (is_certificate_object d ≡ true)
     → list_any (λ b. nat_le b 32) line ≡ true → Refuses line Range
 has_spaces line text is utf8 shaped spaced = (
   (shaped.0, (utf8, ap read (sym is) ∙ shaped.1), shaped.2),

@@ -29,22 +29,26 @@ use Rattle.sgt_cert.proofs.Ranks.{rank_of, rank_of-committed}
 
 -- ---- tests of lists
 
-all-from_test : {A : Type 0} (P : A → Type 0) (test : A → Bool) → ((a : A) → test a ≡ true → P a) → (xs : List A) → list_all test xs ≡ true → AllByRecursion P xs
+all-from_test : {A : Type 0} (P : A → Type 0) (test : A → Bool) → ((a : A) → test a ≡ true → P a) → (xs : List A)
+    → list_all test xs ≡ true → AllByRecursion P xs
 all-from_test P test sound [] h = tt
-all-from_test P test sound (x ∷ xs) h = let p = and_parts (test x) (list_all test xs) h in (sound x p.0, all-from_test P test sound xs p.1)
+all-from_test P test sound (x ∷ xs) h = let p = and_parts (test x) (list_all test xs) h in
+    (sound x p.0, all-from_test P test sound xs p.1)
 
 abbrev pub pairs_pass : {A : Type 0} → (A → A → Bool) → List A → Bool
 pairs_pass test [] = true
 pairs_pass test (x ∷ xs) = list_all (test x) xs && pairs_pass test xs
 
-pairs-from_test : {A : Type 0} (R : A → A → Type 0) (test : A → A → Bool) → ((a b : A) → test a b ≡ true → R a b) → (xs : List A) → pairs_pass test xs ≡ true → PairsByRecursion R xs
+pairs-from_test : {A : Type 0} (R : A → A → Type 0) (test : A → A → Bool) → ((a b : A) → test a b ≡ true → R a b)
+    → (xs : List A) → pairs_pass test xs ≡ true → PairsByRecursion R xs
 pairs-from_test R test sound [] h = tt
 pairs-from_test R test sound (x ∷ xs) h =
     let p = and_parts (list_all (test x) xs) (pairs_pass test xs) h in
     (all-from_test (R x) (test x) (sound x) xs p.0, pairs-from_test R test sound xs p.1)
 
 -- the place of an element that passes
-found : {A : Type 0} (test : A → Bool) (xs : List A) → list_any test xs ≡ true → (n : ℕ) × (a : A) × (slice_get xs n ≡ Some a) × (test a ≡ true)
+found : {A : Type 0} (test : A → Bool) (xs : List A) → list_any test xs ≡ true
+    → (n : ℕ) × (a : A) × (slice_get xs n ≡ Some a) × (test a ≡ true)
 found test [] h = absurd (true≢false (sym h))
 found test (x ∷ xs) h =
     elim (or_cases (test x) (list_any test xs) h) [
@@ -103,13 +107,19 @@ and-true a b h g = ap₂ (λ x y. x && y) h g
 
 repeats-sound : (en f : Entry) → not (repeats en f) ≡ true → (x : Name) → Repeats x en f → ⊥
 repeats-sound en f h x (same, how) =
-    refuted (repeats en f) h (and-true (tx_of en == tx_of f) (same_item (reads en) (reads f) || same_item (writes en) (writes f)) (eq-eqb (tx_of en) (tx_of f) same) (elim how [
-      | inl p ↦ or_left (same_item (reads en) (reads f)) (same_item (writes en) (writes f)) (same_item-from x (reads en) (reads f) (reads-is x en p.0) (reads-is x f p.1))
-      | inr p ↦ or_right (same_item (reads en) (reads f)) (same_item (writes en) (writes f)) (same_item-from x (writes en) (writes f) (writes-is x en p.0) (writes-is x f p.1))
+    refuted (repeats en f) h
+    (and-true (tx_of en == tx_of f) (same_item (reads en) (reads f) || same_item (writes en) (writes f))
+    (eq-eqb (tx_of en) (tx_of f) same) (elim how [
+      | inl p ↦ or_left (same_item (reads en) (reads f)) (same_item (writes en) (writes f))
+          (same_item-from x (reads en) (reads f) (reads-is x en p.0) (reads-is x f p.1))
+      | inr p ↦ or_right (same_item (reads en) (reads f)) (same_item (writes en) (writes f))
+          (same_item-from x (writes en) (writes f) (writes-is x en p.0) (writes-is x f p.1))
     ]))
 
 abbrev clashes : Entry → Entry → Bool
-clashes en f = same_item (writes en) (reads f) || (same_item (reads en) (writes f) || (same_item (writes en) (writes f) && not (is_increment en && is_increment f)))
+clashes en f =
+    same_item (writes en) (reads f) ||
+    (same_item (reads en) (writes f) || (same_item (writes en) (writes f) && not (is_increment en && is_increment f)))
 
 not_both : (a b : Bool) → (a ≡ true → b ≡ true → ⊥) → not (a && b) ≡ true
 not_both true true h = absurd (h refl refl)
@@ -117,11 +127,18 @@ not_both true false h = refl
 not_both false b h = refl
 
 clashes-from : (k : Kind) (x : Name) (en f : Entry) → Clash k x en f → clashes en f ≡ true
-clashes-from Wr x en f h = or_left (same_item (writes en) (reads f)) _ (same_item-from x (writes en) (reads f) (writes-is x en h.0) (reads-is x f h.1))
-clashes-from Rw x en f h = or_right (same_item (writes en) (reads f)) _ (or_left (same_item (reads en) (writes f)) _ (same_item-from x (reads en) (writes f) (reads-is x en h.0) (writes-is x f h.1)))
+clashes-from Wr x en f h =
+    or_left (same_item (writes en) (reads f)) _ (same_item-from x (writes en) (reads f) (writes-is x en h.0)
+    (reads-is x f h.1))
+clashes-from Rw x en f h =
+    or_right (same_item (writes en) (reads f)) _
+    (or_left (same_item (reads en) (writes f)) _ (same_item-from x (reads en) (writes f) (reads-is x en h.0)
+    (writes-is x f h.1)))
 clashes-from Ww x en f h =
     or_right (same_item (writes en) (reads f)) _ (or_right (same_item (reads en) (writes f)) _
-    (and-true (same_item (writes en) (writes f)) (not (is_increment en && is_increment f)) (same_item-from x (writes en) (writes f) (writes-is x en h.0) (writes-is x f h.1)) (not_both (is_increment en) (is_increment f) h.2)))
+    (and-true (same_item (writes en) (writes f)) (not (is_increment en && is_increment f))
+    (same_item-from x (writes en) (writes f) (writes-is x en h.0) (writes-is x f h.1))
+    (not_both (is_increment en) (is_increment f) h.2)))
 
 -- ---- ends and blocks
 
@@ -199,20 +216,29 @@ abbrev blocks_pass : List Entry → Bool
 blocks_pass [] = true
 blocks_pass (en ∷ more) = (not (is_open en) || list_any (continues en) (take 1 more)) && blocks_pass more
 
-next-from : (en : Entry) (more : List Entry) → list_any (continues en) (take 1 more) ≡ true → (f : Entry) × (slice_get more 0 ≡ Some f) × Continues en f
+next-from : (en : Entry) (more : List Entry) → list_any (continues en) (take 1 more) ≡ true
+    → (f : Entry) × (slice_get more 0 ≡ Some f) × Continues en f
 next-from en [] h = absurd (true≢false (sym h))
-next-from en (f ∷ more) h = (f, refl, Continues-from en f (elim (or_cases (continues en f) false h) [ inl p ↦ p | inr p ↦ absurd (true≢false (sym p)) ]))
+next-from en (f ∷ more) h = (
+  f,
+  refl,
+  Continues-from en f (elim (or_cases (continues en f) false h) [ inl p ↦ p | inr p ↦ absurd (true≢false (sym p)) ]),
+)
 
-blocks-sound : (entries : List Entry) → blocks_pass entries ≡ true → (n : ℕ) (en : Entry) → slice_get entries n ≡ Some en → IsOpen en → (f : Entry) × (slice_get entries (suc n) ≡ Some f) × Continues en f
+blocks-sound : (entries : List Entry) → blocks_pass entries ≡ true → (n : ℕ) (en : Entry)
+    → slice_get entries n ≡ Some en → IsOpen en → (f : Entry) × (slice_get entries (suc n) ≡ Some f) × Continues en f
 blocks-sound [] h n en at open_ = absurd cc
 blocks-sound (d ∷ more) h zero en at open_ =
     let p = and_parts (not (is_open d) || list_any (continues d) (take 1 more)) (blocks_pass more) h in
     let same = same_Some d en at in
-    subst (λ (c : Entry). (f : Entry) × (slice_get more 0 ≡ Some f) × Continues c f) same (elim (or_cases (not (is_open d)) (list_any (continues d) (take 1 more)) p.0) [
+    subst (λ (c : Entry). (f : Entry) × (slice_get more 0 ≡ Some f) × Continues c f) same
+    (elim (or_cases (not (is_open d)) (list_any (continues d) (take 1 more)) p.0) [
       | inl closed ↦ absurd (refuted (is_open d) closed (is_open-from d (subst IsOpen (sym same) open_)))
       | inr next ↦ next-from d more next
     ])
-blocks-sound (d ∷ more) h (suc n) en at open_ = blocks-sound more (and_parts (not (is_open d) || list_any (continues d) (take 1 more)) (blocks_pass more) h).1 n en at open_
+blocks-sound (d ∷ more) h (suc n) en at open_ =
+    blocks-sound more (and_parts (not (is_open d) || list_any (continues d) (take 1 more)) (blocks_pass more) h).1 n
+    en at open_
 
 -- ---- decisions
 
@@ -241,7 +267,8 @@ Suits-from _ _ h = absurd (true≢false (sym h))
 abbrev is_decided : List Decision → Entry → Bool
 is_decided decisions en = list_any (λ d. (decided_tx d == tx_of en) && suits en d) decisions
 
-decided-sound : (decisions : List Decision) (en : Entry) → is_decided decisions en ≡ true → (number : ℕ) × IsDecided decisions en number
+decided-sound : (decisions : List Decision) (en : Entry) → is_decided decisions en ≡ true
+    → (number : ℕ) × IsDecided decisions en number
 decided-sound decisions en h =
     let f = found (λ d. (decided_tx d == tx_of en) && suits en d) decisions h in
     let p = and_parts (decided_tx f.1 == tx_of en) (suits en f.1) f.3 in
@@ -255,12 +282,17 @@ number_of (d ∷ ds) tx = if decided_tx d == tx then Some 0 else option_map suc 
 abbrev Apart : Decision → Decision → Type 0
 Apart d f = decided_tx d ≢ decided_tx f
 
-number_of-at : (ds : List Decision) (n tx : ℕ) (d : Decision) → IsDecidedOnce ds → slice_get ds n ≡ Some d → decided_tx d ≡ tx → number_of ds tx ≡ Some n
+number_of-at : (ds : List Decision) (n tx : ℕ) (d : Decision) → IsDecidedOnce ds → slice_get ds n ≡ Some d
+    → decided_tx d ≡ tx → number_of ds tx ≡ Some n
 number_of-at [] n tx d once at is = absurd cc
-number_of-at (f ∷ ds) zero tx d once at is = ap (λ b. cond b (Some 0) (option_map suc (number_of ds tx))) (eq-eqb (decided_tx f) tx (ap decided_tx (same_Some f d at) ∙ is))
+number_of-at (f ∷ ds) zero tx d once at is =
+    ap (λ b. cond b (Some 0) (option_map suc (number_of ds tx)))
+    (eq-eqb (decided_tx f) tx (ap decided_tx (same_Some f d at) ∙ is))
 number_of-at (f ∷ ds) (suc n) tx d once at is =
-    let apart : decided_tx f ≢ tx = λ e. AllPairs_at Apart (f ∷ ds) 0 (suc n) f d once (omega arith) refl at (e ∙ sym is) in
-    ap (λ b. cond b (Some 0) (option_map suc (number_of ds tx))) (ne_eqb (decided_tx f) tx apart) ∙ ap (option_map suc) (number_of-at ds n tx d (AllPairs-tail Apart f ds once) at is)
+    let apart : decided_tx f ≢ tx = λ e. AllPairs_at Apart (f ∷ ds) 0 (suc n) f d once (omega arith) refl at (e
+    ∙ sym is) in
+    ap (λ b. cond b (Some 0) (option_map suc (number_of ds tx))) (ne_eqb (decided_tx f) tx apart)
+    ∙ ap (option_map suc) (number_of-at ds n tx d (AllPairs-tail Apart f ds once) at is)
 
 abbrev in_order : Option ℕ → Option ℕ → Bool
 in_order (Some m) (Some n) = nat_le m n
@@ -269,11 +301,16 @@ in_order _ _ = true
 abbrev ends_in_order : List Decision → Entry → Entry → Bool
 ends_in_order ds en f = not (is_end en && is_end f) || in_order (number_of ds (tx_of en)) (number_of ds (tx_of f))
 
-ends-sound : (ds : List Decision) → IsDecidedOnce ds → (en f : Entry) → ends_in_order ds en f ≡ true → EndInOrder ds en f
+ends-sound : (ds : List Decision) → IsDecidedOnce ds → (en f : Entry) → ends_in_order ds en f ≡ true
+    → EndInOrder ds en f
 ends-sound ds once en f h en-end f-end m n a b =
     elim (or_cases (not (is_end en && is_end f)) (in_order (number_of ds (tx_of en)) (number_of ds (tx_of f))) h) [
-      | inl other ↦ absurd (refuted (is_end en && is_end f) other (and-true (is_end en) (is_end f) (is_end-from en en-end) (is_end-from f f-end)))
-      | inr order ↦ leb-true m n (sym (ap₂ in_order (number_of-at ds m (tx_of en) a.0 once a.1 a.2) (number_of-at ds n (tx_of f) b.0 once b.1 b.2)) ∙ order)
+      | inl other ↦ absurd
+          (refuted (is_end en && is_end f) other (and-true (is_end en) (is_end f) (is_end-from en en-end)
+          (is_end-from f f-end)))
+      | inr order ↦ leb-true m n
+          (sym (ap₂ in_order (number_of-at ds m (tx_of en) a.0 once a.1 a.2)
+          (number_of-at ds n (tx_of f) b.0 once b.1 b.2)) ∙ order)
     ]
 
 abbrev rises : Option ℕ → Option ℕ → Bool
@@ -281,15 +318,20 @@ rises (Some r) (Some s) = nat_lt r s
 rises _ _ = true
 
 abbrev rises_in_rank : List Decision → Entry → Entry → Bool
-rises_in_rank ds en f = not (clashes en f) || ((tx_of en == tx_of f) || rises (rank_of ds (tx_of en)) (rank_of ds (tx_of f)))
+rises_in_rank ds en f =
+    not (clashes en f) || ((tx_of en == tx_of f) || rises (rank_of ds (tx_of en)) (rank_of ds (tx_of f)))
 
-ranked-sound : (ds : List Decision) → IsDecidedOnce ds → (en f : Entry) → rises_in_rank ds en f ≡ true → RiseInRank ds en f
+ranked-sound : (ds : List Decision) → IsDecidedOnce ds → (en f : Entry) → rises_in_rank ds en f ≡ true
+    → RiseInRank ds en f
 ranked-sound ds once en f h kind x m n r s clash apart a b =
-    elim (or_cases (not (clashes en f)) ((tx_of en == tx_of f) || rises (rank_of ds (tx_of en)) (rank_of ds (tx_of f))) h) [
+    elim (or_cases (not (clashes en f)) ((tx_of en == tx_of f) || rises (rank_of ds (tx_of en))
+    (rank_of ds (tx_of f))) h) [
       | inl other ↦ absurd (refuted (clashes en f) other (clashes-from kind x en f clash))
       | inr rest ↦ elim (or_cases (tx_of en == tx_of f) (rises (rank_of ds (tx_of en)) (rank_of ds (tx_of f))) rest) [
         | inl same ↦ absurd (apart (eqb-true (tx_of en) (tx_of f) same))
-        | inr rank ↦ ltb-true r s (sym (ap₂ rises (rank_of-committed ds m (tx_of en) r once a) (rank_of-committed ds n (tx_of f) s once b)) ∙ rank)
+        | inr rank ↦ ltb-true r s
+            (sym (ap₂ rises (rank_of-committed ds m (tx_of en) r once a) (rank_of-committed ds n (tx_of f) s once b))
+            ∙ rank)
       ]
     ]
 
@@ -312,7 +354,8 @@ reads_pass items before [] = true
 reads_pass items before (en ∷ more) = reads_well items before en && reads_pass items (before ++ en ∷ []) more
 
 reads-sound : (items : List Holding) (before entries : List Entry) → reads_pass items before entries ≡ true
-    → (n tx : ℕ) (x : Name) (v : ℕ) → slice_get entries n ≡ Some (e.Read tx x v) → value_at items (before ++ take n entries) x ≡ Some v
+    → (n tx : ℕ) (x : Name) (v : ℕ) → slice_get entries n ≡ Some (e.Read tx x v)
+    → value_at items (before ++ take n entries) x ≡ Some v
 reads-sound items before [] h n tx x v at = absurd cc
 reads-sound items before (en ∷ more) h zero tx x v at =
     let p = and_parts (reads_well items before en) (reads_pass items (before ++ en ∷ []) more) h in
@@ -320,7 +363,8 @@ reads-sound items before (en ∷ more) h zero tx x v at =
     ap (λ (es : List Entry). value_at items es x) (append-nil before) ∙ is_value-from (value_at items before x) v well
 reads-sound items before (en ∷ more) h (suc n) tx x v at =
     let p = and_parts (reads_well items before en) (reads_pass items (before ++ en ∷ []) more) h in
-    ap (λ (es : List Entry). value_at items es x) (sym (append_assoc before (en ∷ []) (take n more))) ∙ reads-sound items (before ++ en ∷ []) more p.1 n tx x v at
+    ap (λ (es : List Entry). value_at items es x) (sym (append_assoc before (en ∷ []) (take n more)))
+    ∙ reads-sound items (before ++ en ∷ []) more p.1 n tx x v at
 
 -- ---- a log
 
@@ -338,7 +382,8 @@ known-sound xs (Some y) h x is =
 abbrev has_ended : List Entry → Entry → Bool
 has_ended entries en = list_any (λ f. is_end f && (tx_of f == tx_of en)) entries
 
-ended-sound : (entries : List Entry) (en : Entry) → has_ended entries en ≡ true → Any (λ f. IsEnd f × (tx_of f ≡ tx_of en)) entries
+ended-sound : (entries : List Entry) (en : Entry) → has_ended entries en ≡ true
+    → Any (λ f. IsEnd f × (tx_of f ≡ tx_of en)) entries
 ended-sound entries en h =
     let a = Any-from_list_any (λ f. is_end f && (tx_of f == tx_of en)) entries h in
     let p = and_parts (is_end a.1) (tx_of a.1 == tx_of en) a.4 in
@@ -348,7 +393,9 @@ abbrev closes : Entry → Entry → Bool
 closes en f = not (is_end en && (tx_of en == tx_of f))
 
 closes-sound : (en f : Entry) → closes en f ≡ true → IsEnd en → tx_of en ≢ tx_of f
-closes-sound en f h en-end same = refuted (is_end en && (tx_of en == tx_of f)) h (and-true (is_end en) (tx_of en == tx_of f) (is_end-from en en-end) (eq-eqb (tx_of en) (tx_of f) same))
+closes-sound en f h en-end same =
+    refuted (is_end en && (tx_of en == tx_of f)) h (and-true (is_end en) (tx_of en == tx_of f) (is_end-from en en-end)
+    (eq-eqb (tx_of en) (tx_of f) same))
 
 -- all of them together
 abbrev pub log_passes : List Decision → SiteLog → Bool
@@ -360,7 +407,8 @@ log_passes ds log =
     && (list_all (has_ended log.entries) log.entries
     && (reads_pass log.items [] log.entries
     && (list_all (λ (h : Holding). is_value (value_at log.items log.entries h.item) h.value) log.finals
-    && (list_all (is_decided ds) log.entries && (pairs_pass (ends_in_order ds) log.entries && pairs_pass (rises_in_rank ds) log.entries))))))))
+    && (list_all (is_decided ds) log.entries && (pairs_pass (ends_in_order ds) log.entries && pairs_pass
+    (rises_in_rank ds) log.entries))))))))
 
 log-sound : (ds : List Decision) → IsDecidedOnce ds → (log : SiteLog) → log_passes ds log ≡ true → IsValidLog ds log
 log-sound ds once log h =
@@ -376,21 +424,31 @@ log-sound ds once log h =
     record {
       formed = (
         record {
-          known = All-from_recursion (λ en. ForSome (item_of en) (Contains (names log.items))) log.entries (all-from_test _ (λ en. is_known (names log.items) (item_of en)) (λ en. known-sound (names log.items) (item_of en)) log.entries known.0);
-          once = AllPairs-from_recursion (λ en f. (x : Name) → Repeats x en f → ⊥) log.entries (pairs-from_test _ (λ en f. not (repeats en f)) repeats-sound log.entries apart.0);
+          known = All-from_recursion (λ en. ForSome (item_of en) (Contains (names log.items))) log.entries
+              (all-from_test _ (λ en. is_known (names log.items) (item_of en))
+              (λ en. known-sound (names log.items) (item_of en)) log.entries known.0);
+          once = AllPairs-from_recursion (λ en f. (x : Name) → Repeats x en f
+              → ⊥) log.entries (pairs-from_test _ (λ en f. not (repeats en f)) repeats-sound log.entries apart.0);
           blocks = blocks-sound log.entries blocks.0;
-          closed = AllPairs-from_recursion (λ en f. IsEnd en → tx_of en ≢ tx_of f) log.entries (pairs-from_test _ closes closes-sound log.entries closed.0);
+          closed = AllPairs-from_recursion (λ en f. IsEnd en
+              → tx_of en ≢ tx_of f) log.entries (pairs-from_test _ closes closes-sound log.entries closed.0);
         },
-        All-from_recursion (λ en. Any (λ f. IsEnd f × (tx_of f ≡ tx_of en)) log.entries) log.entries (all-from_test _ (has_ended log.entries) (ended-sound log.entries) log.entries ended.0),
+        All-from_recursion (λ en. Any (λ f. IsEnd f × (tx_of f ≡ tx_of en)) log.entries) log.entries
+            (all-from_test _ (has_ended log.entries) (ended-sound log.entries) log.entries ended.0),
       );
       reads = reads-sound log.items [] log.entries read.0;
       finals = All-from_recursion (λ (h : Holding). value_at log.items log.entries h.item ≡ Some h.value) log.finals
-          (all-from_test _ (λ (h : Holding). is_value (value_at log.items log.entries h.item) h.value) (λ (h : Holding). is_value-from (value_at log.items log.entries h.item) h.value) log.finals final.0);
+          (all-from_test _ (λ (h : Holding). is_value (value_at log.items log.entries h.item) h.value)
+          (λ (h : Holding). is_value-from (value_at log.items log.entries h.item) h.value) log.finals final.0);
       agrees = record {
-        decided = All-from_recursion (λ en. (number : ℕ) × IsDecided ds en number) log.entries (all-from_test _ (is_decided ds) (decided-sound ds) log.entries told.0);
-        in_order = AllPairs-from_recursion (EndInOrder ds) log.entries (pairs-from_test _ (ends_in_order ds) (ends-sound ds once) log.entries last.0);
+        decided = All-from_recursion (λ en. (number : ℕ) × IsDecided ds en number) log.entries
+            (all-from_test _ (is_decided ds) (decided-sound ds) log.entries told.0);
+        in_order =
+            AllPairs-from_recursion (EndInOrder ds) log.entries
+            (pairs-from_test _ (ends_in_order ds) (ends-sound ds once) log.entries last.0);
       };
-      ranked = AllPairs-from_recursion (RiseInRank ds) log.entries (pairs-from_test _ (rises_in_rank ds) (ranked-sound ds once) log.entries last.1);
+      ranked = AllPairs-from_recursion (RiseInRank ds) log.entries
+          (pairs-from_test _ (rises_in_rank ds) (ranked-sound ds once) log.entries last.1);
     }
 
 -- ---- a bundle
@@ -415,13 +473,19 @@ valid-from_test b h cycles =
     let twice = and_parts _ _ h in
     let low = and_parts _ _ twice.1 in
     let rest = and_parts _ _ low.1 in
-    let once = AllPairs-from_recursion Apart ds (pairs-from_test Apart (λ d f. other (decided_tx d) (decided_tx f)) (λ d f. other-sound (decided_tx d) (decided_tx f)) ds twice.0) in
+    let once =
+    AllPairs-from_recursion Apart ds (pairs-from_test Apart (λ d f. other (decided_tx d) (decided_tx f))
+    (λ d f. other-sound (decided_tx d) (decided_tx f)) ds twice.0) in
     record {
-      logs = All-from_recursion (IsValidLog ds) b.sites (all-from_test (IsValidLog ds) (log_passes ds) (log-sound ds once) b.sites rest.1);
+      logs = All-from_recursion (IsValidLog ds) b.sites
+          (all-from_test (IsValidLog ds) (log_passes ds) (log-sound ds once) b.sites rest.1);
       once = once;
       ranks = record {
-        below = All-from_recursion (λ r. r < length (ranks ds)) (ranks ds) (all-from_test _ (λ r. nat_lt r (length (ranks ds))) (λ r. ltb-true r (length (ranks ds))) (ranks ds) low.0);
-        apart = AllPairs-from_recursion (λ r s. r ≢ s) (ranks ds) (pairs-from_test _ other other-sound (ranks ds) rest.0);
+        below = All-from_recursion (λ r. r < length (ranks ds)) (ranks ds)
+            (all-from_test _ (λ r. nat_lt r (length (ranks ds))) (λ r. ltb-true r (length (ranks ds)))
+            (ranks ds) low.0);
+        apart = AllPairs-from_recursion (λ r s. r ≢ s) (ranks ds)
+            (pairs-from_test _ other other-sound (ranks ds) rest.0);
       };
       cycles = cycles;
     }

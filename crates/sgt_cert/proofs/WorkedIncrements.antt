@@ -23,10 +23,12 @@ use Rattle.sgt_cert.proofs.Tested.{valid-from_test}
 
 -- ---- entries and decisions
 
-pub adds-committed : (Suits (e.Add 1 x 8) (Refuse 1 []) → ⊥) × ((Suits (e.Add 1 x 8) (Withdraw 1) → ⊥) × Suits (e.Add 1 x 8) (Commit 1 0))
+pub adds-committed : (Suits (e.Add 1 x 8) (Refuse 1 []) → ⊥)
+    × ((Suits (e.Add 1 x 8) (Withdraw 1) → ⊥) × Suits (e.Add 1 x 8) (Commit 1 0))
 adds-committed = ((λ h. h), ((λ h. h), tt))
 
-pub asked_adds-refused : (Suits (e.WantAdd 1 x 8) (Commit 1 0) → ⊥) × ((Suits (e.WantAdd 1 x 8) (Withdraw 1) → ⊥) × Suits (e.WantAdd 1 x 8) (Refuse 1 []))
+pub asked_adds-refused : (Suits (e.WantAdd 1 x 8) (Commit 1 0) → ⊥)
+    × ((Suits (e.WantAdd 1 x 8) (Withdraw 1) → ⊥) × Suits (e.WantAdd 1 x 8) (Refuse 1 []))
 asked_adds-refused = ((λ h. h), ((λ h. h), tt))
 
 -- ---- two increments, ranked as they stand and the other way round
@@ -68,31 +70,48 @@ add_and_read-valid = valid-from_test (add_and_read 0 1) refl (add_and_read-cycle
 
 pub add_and_read-turned-not_valid : IsValid (add_and_read 1 0) → ⊥
 add_and_read-turned-not_valid v =
-    let log : SiteLog = record { items = record { item = x; value = 5 } ∷ []; entries = e.Add 1 x 3 ∷ e.Commit 1 ∷ e.Read 2 x 8 ∷ e.Commit 2 ∷ []; finals = record { item = x; value = 8 } ∷ [] } in
+    let log : SiteLog = record {
+      items = record { item = x; value = 5 } ∷ [];
+      entries =
+          e.Add 1 x 3 ∷ e.Commit 1 ∷ e.Read 2 x 8 ∷ e.Commit 2 ∷ [];
+      finals = record { item = x; value = 8 } ∷ [];
+    } in
     let here = v.logs 0 log (lit< tt) in
-    let wrong : 1 < 0 = here.ranked 0 2 (e.Commit 0) (lit< tt) (lit< tt) Wr x 0 1 1 0 (refl, refl) (λ same. absurd (omega arith)) refl refl in
+    let wrong : 1 < 0 = here.ranked 0 2 (e.Commit 0) (lit< tt) (lit< tt) Wr x 0 1 1 0 (
+      refl,
+      refl,
+    ) (λ same. absurd (omega arith)) refl refl in
     absurd (omega arith)
 
 -- the serial run adds: read before the increment, the value is another
 pub add_and_read-turned-not_serial : SerialAgrees (add_and_read 1 0) → ⊥
 add_and_read-turned-not_serial h =
-    let read = h.0.reads 0 x 8 (Contains-from_at (e.Add 1 x 3 ∷ e.Commit 1 ∷ e.Read 2 x 8 ∷ e.Commit 2 ∷ []) 2 (e.Read 2 x 8) refl) in
+    let read =
+    h.0.reads 0 x 8 (Contains-from_at (e.Add 1 x 3 ∷ e.Commit 1 ∷ e.Read 2 x 8 ∷ e.Commit 2 ∷ []) 2
+    (e.Read 2 x 8) refl) in
     let same = same_Some 5 8 read in
     absurd (omega (arith, same))
 
 -- an increment of an item that isn't there
 pub add_of_no_item-not_serial : SerialAgrees (of_x (Commit 1 0 ∷ []) (e.Add 1 y 0 ∷ e.Commit 1 ∷ []) 5) → ⊥
-add_of_no_item-not_serial h = let wrong = h.0.adds 0 y 0 (Contains-from_at (e.Add 1 y 0 ∷ e.Commit 1 ∷ []) 0 (e.Add 1 y 0) refl) in absurd cc
+add_of_no_item-not_serial h = let wrong =
+    h.0.adds 0 y 0 (Contains-from_at (e.Add 1 y 0 ∷ e.Commit 1 ∷ []) 0 (e.Add 1 y 0) refl) in absurd cc
 
 -- a sum modulo 2^64
 abbrev pub wrapping : Parts
 wrapping = record {
   certificate = record { sites = 1; decisions = Commit 1 0 ∷ [] };
-  sites = record { items = record { item = x; value = 18446744073709551615 } ∷ []; entries = e.Add 1 x 1 ∷ e.Commit 1 ∷ []; finals = record { item = x; value = 0 } ∷ [] } ∷ [];
+  sites = record {
+    items = record { item = x; value = 18446744073709551615 } ∷ [];
+    entries =
+        e.Add 1 x 1 ∷ e.Commit 1 ∷ [];
+    finals = record { item = x; value = 0 } ∷ [];
+  } ∷ [];
 }
 
 pub wrapping-valid : IsValid wrapping
-wrapping-valid = valid-from_test wrapping refl (elim [ zero ↦ λ tx walk at. absurd cc | suc m ↦ λ tx walk at. absurd cc ])
+wrapping-valid =
+    valid-from_test wrapping refl (elim [ zero ↦ λ tx walk at. absurd cc | suc m ↦ λ tx walk at. absurd cc ])
 
 -- ---- formats
 
@@ -104,9 +123,15 @@ pub asked-second : has_increments (of_x [] (e.WantAdd 1 x 3 ∷ e.Refuse 1 ∷ [
 asked-second = refl
 
 -- an increment at any site counts
-pub later_site-second : has_increments (record { items = []; entries = e.Withdraw 3 ∷ []; finals = [] } ∷ record { items = []; entries = e.Commit 2 ∷ e.Add 1 x 3 ∷ []; finals = [] } ∷ []) ≡ true
+pub later_site-second : has_increments (record {
+  items = [];
+  entries = e.Withdraw 3 ∷ [];
+  finals =
+      [];
+} ∷ record { items = []; entries = e.Commit 2 ∷ e.Add 1 x 3 ∷ []; finals = [] } ∷ []) ≡ true
 later_site-second = refl
 
 -- in the first format there are none
-pub first-no_increments : (bytes : List ℕ) (b : Parts) → (s : Spells bytes b) → s.second ≡ false → has_increments b.sites ≡ true → ⊥
+pub first-no_increments : (bytes : List ℕ) (b : Parts) → (s : Spells bytes b) → s.second ≡ false
+    → has_increments b.sites ≡ true → ⊥
 first-no_increments bytes b s first some = true≢false (sym (s.allowed some) ∙ first)

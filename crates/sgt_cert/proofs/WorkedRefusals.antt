@@ -22,43 +22,85 @@ use Rattle.sgt_cert.proofs.Examples.{no_step-no_cycle, of_x, twice-not_once, fro
 -- ---- the shape of a log
 
 -- names that fall, or are equal
-pub falling-not_shaped : (entries : List Entry) (finals : List Holding) → IsShapedLog (record { items = record { item = y; value = 2 } ∷ record { item = x; value = 5 } ∷ []; entries = entries; finals = finals }) → ⊥
-falling-not_shaped entries finals s = let wrong = AllPairs_at ComesBefore (y ∷ x ∷ []) 0 1 y x s.rising (lit< tt) refl refl in absurd cc
+pub falling-not_shaped : (entries : List Entry) (finals : List Holding)
+    → IsShapedLog (record {
+      items = record { item = y; value = 2 } ∷ record { item = x; value = 5 } ∷ [];
+      entries =
+          entries;
+      finals = finals;
+    }) → ⊥
+falling-not_shaped entries finals s = let wrong =
+    AllPairs_at ComesBefore (y ∷ x ∷ []) 0 1 y x s.rising (lit< tt) refl refl in absurd cc
 
-pub equal-not_shaped : (entries : List Entry) (finals : List Holding) → IsShapedLog (record { items = record { item = x; value = 5 } ∷ record { item = x; value = 5 } ∷ []; entries = entries; finals = finals }) → ⊥
-equal-not_shaped entries finals s = let wrong = AllPairs_at ComesBefore (x ∷ x ∷ []) 0 1 x x s.rising (lit< tt) refl refl in absurd cc
+pub equal-not_shaped : (entries : List Entry) (finals : List Holding)
+    → IsShapedLog (record {
+      items = record { item = x; value = 5 } ∷ record { item = x; value = 5 } ∷ [];
+      entries =
+          entries;
+      finals = finals;
+    }) → ⊥
+equal-not_shaped entries finals s = let wrong =
+    AllPairs_at ComesBefore (x ∷ x ∷ []) 0 1 x x s.rising (lit< tt) refl refl in absurd cc
 
 -- an item with no final value, or the final value of another
-pub final_missing-not_shaped : (entries : List Entry) → IsShapedLog (record { items = record { item = x; value = 5 } ∷ []; entries = entries; finals = [] }) → ⊥
+pub final_missing-not_shaped : (entries : List Entry)
+    → IsShapedLog (record { items = record { item = x; value = 5 } ∷ []; entries = entries; finals = [] }) → ⊥
 final_missing-not_shaped entries s = let wrong = s.finals in absurd cc
 
-pub other_final-not_shaped : (entries : List Entry) → IsShapedLog (record { items = record { item = x; value = 5 } ∷ []; entries = entries; finals = record { item = y; value = 5 } ∷ [] }) → ⊥
-other_final-not_shaped entries s = let letters : 121 ≡ 120 = ap (λ (ns : List Name). get_or (get_or ns 0 []) 0 0) s.finals in absurd (omega (arith, letters))
+pub other_final-not_shaped : (entries : List Entry)
+    → IsShapedLog (record {
+      items = record { item = x; value = 5 } ∷ [];
+      entries = entries;
+      finals =
+          record { item = y; value = 5 } ∷ [];
+    }) → ⊥
+other_final-not_shaped entries s = let letters : 121 ≡ 120 =
+    ap (λ (ns : List Name). get_or (get_or ns 0 []) 0 0) s.finals in absurd (omega (arith, letters))
 
 -- one item too many
-pub too_many-not_shaped : (items finals : List Holding) (entries : List Entry) → length items ≡ 1025 → IsShapedLog (record { items = items; entries = entries; finals = finals }) → ⊥
+pub too_many-not_shaped : (items finals : List Holding) (entries : List Entry) → length items ≡ 1025
+    → IsShapedLog (record { items = items; entries = entries; finals = finals }) → ⊥
 too_many-not_shaped items finals entries many s = let room = s.room in absurd (omega (arith, many, room))
 
 -- ---- a valid bundle
 
 -- a refused transaction's walk that is no cycle, and one with a step of a kind that isn't logged
-pub no_walk-not_valid : (sites : List SiteLog) → IsValid (record { certificate = record { sites = 1; decisions = Refuse 2 [] ∷ [] }; sites = sites }) → ⊥
+pub no_walk-not_valid : (sites : List SiteLog)
+    → IsValid (record { certificate = record { sites = 1; decisions = Refuse 2 [] ∷ [] }; sites = sites }) → ⊥
 no_walk-not_valid sites v = no_step-no_cycle (v.cycles 0 2 [] refl).0
 
 abbrev other_kind : List Step
-other_kind = record { label = record { site = 0; item = y; kind = Ww }; to = 1 } ∷ record { label = record { site = 0; item = x; kind = Rw }; to = 2 } ∷ []
+other_kind = record { label = record { site = 0; item = y; kind = Ww }; to = 1 } ∷ record {
+  label =
+      record { site = 0; item = x; kind = Rw };
+  to = 2;
+} ∷ []
 
-pub other_kind-not_valid : IsValid (record { certificate = record { sites = 1; decisions = Commit 1 0 ∷ Refuse 2 other_kind ∷ [] }; sites = cycle.sites }) → ⊥
+pub other_kind-not_valid : IsValid
+    (record {
+      certificate = record { sites = 1; decisions = Commit 1 0 ∷ Refuse 2 other_kind ∷ [] };
+      sites =
+          cycle.sites;
+    }) → ⊥
 other_kind-not_valid v = cycle-other_kind (v.cycles 1 2 other_kind refl).1.0
 
 -- a transaction that is decided twice, ranks that leave 0 out, and a transaction that nothing decides
-pub twice-not_valid : (sites : List SiteLog) → IsValid (record { certificate = record { sites = 1; decisions = Commit 1 0 ∷ Withdraw 1 ∷ [] }; sites = sites }) → ⊥
+pub twice-not_valid : (sites : List SiteLog)
+    → IsValid (record { certificate = record { sites = 1; decisions = Commit 1 0 ∷ Withdraw 1 ∷ [] }; sites = sites })
+    → ⊥
 twice-not_valid sites v = twice-not_once v.once
 
-pub from_one-not_valid : (sites : List SiteLog) → IsValid (record { certificate = record { sites = 1; decisions = Commit 1 1 ∷ [] }; sites = sites }) → ⊥
+pub from_one-not_valid : (sites : List SiteLog)
+    → IsValid (record { certificate = record { sites = 1; decisions = Commit 1 1 ∷ [] }; sites = sites }) → ⊥
 from_one-not_valid sites v = from_one-not_ranks v.ranks
 
-log_of : (ds : List Decision) (entries : List Entry) (v : ℕ) → IsValid (of_x ds entries v) → IsValidLog ds (record { items = record { item = x; value = 5 } ∷ []; entries = entries; finals = record { item = x; value = v } ∷ [] })
+log_of : (ds : List Decision) (entries : List Entry) (v : ℕ) → IsValid (of_x ds entries v)
+    → IsValidLog ds (record {
+      items = record { item = x; value = 5 } ∷ [];
+      entries = entries;
+      finals =
+          record { item = x; value = v } ∷ [];
+    })
 log_of ds entries v valid = All_at (IsValidLog ds) (of_x ds entries v).sites 0 _ valid.logs refl
 
 pub undecided-not_valid : IsValid (of_x [] (e.Read 1 x 5 ∷ []) 5) → ⊥
@@ -100,7 +142,8 @@ pub other_type-no_certificate : is_certificate_object (certificate_of (string (c
 other_type-no_certificate = refl
 
 -- a decision of no shape
-pub odd-no_certificate : is_certificate_object (certificate_of (array (item (object no_members) no_items)) no_members) ≡ false
+pub odd-no_certificate : is_certificate_object (certificate_of (array (item (object no_members) no_items)) no_members)
+    ≡ false
 odd-no_certificate = refl
 
 -- a rank of another type, and a commit with a walk

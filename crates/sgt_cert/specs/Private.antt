@@ -91,7 +91,8 @@ abbrev pub withdraw_in : Data → Option Decision
 withdraw_in d = option_map (λ tx. Withdraw tx) (tx_at (codes "withdraw") d)
 
 abbrev pub decision_in : ℕ → Data → Option Decision
-decision_in sites d = if is_commit_object d then commit_in d else (if is_refuse_object d then refuse_in sites d else withdraw_in d)
+decision_in sites d =
+    if is_commit_object d then commit_in d else (if is_refuse_object d then refuse_in sites d else withdraw_in d)
 
 abbrev pub decisions_in : ℕ → List Data → Option (List Decision)
 decisions_in sites [] = Some []

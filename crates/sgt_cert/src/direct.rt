@@ -17,7 +17,8 @@ use core::dec2flt::read_digits;
 use sgt_names::{Item, Kind, Label, Listed, MAX_SITES, SiteNo, Tx};
 use std::alloc::{AllocError, Global};
 
-/// Whether the bytes are those of the word. No byte decides alone, so a constant word is compared by eight bytes at a time.
+/// Whether the bytes are those of the word. No byte decides alone, so a constant word is compared by eight bytes at a
+/// time.
 #[inline(always)]
 fn are_same(bytes: &[u8], word: &[u8]) -> bool
     requires { length bytes.now ≡ length word.now }
@@ -44,7 +45,8 @@ fn behind<'b>(bytes: &'b [u8], word: &[u8]) -> Option<&'b [u8]>
     }
 }
 
-/// How many digits stand in front, and their number wrapped to 64 bits. Up to seven are read from eight bytes, with no loop.
+/// How many digits stand in front, and their number wrapped to 64 bits. Up to seven are read from eight bytes, with
+/// no loop.
 #[inline(always)]
 fn digits(bytes: &[u8]) -> (usize, u64)
     ensures end { result.0 ≡ digits_len bytes.now }
@@ -170,7 +172,8 @@ fn add_steps<'b>(walk: &mut Vec<Step>, bytes: &'b [u8]) -> Result<Option<&'b [u8
 
 #[inline(always)]
 fn commit(bytes: &[u8]) -> Option<(Decision, &[u8])>
-    ensures { IfSome result (λ r. IsDecision max_sites r.0 × (bytes.now ≡ compact_text (decision_data r.0) ++ r.1.now)) }
+    ensures { IfSome result (λ r. IsDecision max_sites r.0
+        × (bytes.now ≡ compact_text (decision_data r.0) ++ r.1.now)) }
 {
     let rest = behind(bytes, b"{\"commit\":")?;
     let Some((tx, rest)) = transaction(rest) else {
@@ -187,7 +190,8 @@ fn commit(bytes: &[u8]) -> Option<(Decision, &[u8])>
 
 #[inline(always)]
 fn withdrawal(bytes: &[u8]) -> Option<(Decision, &[u8])>
-    ensures { IfSome result (λ r. IsDecision max_sites r.0 × (bytes.now ≡ compact_text (decision_data r.0) ++ r.1.now)) }
+    ensures { IfSome result (λ r. IsDecision max_sites r.0
+        × (bytes.now ≡ compact_text (decision_data r.0) ++ r.1.now)) }
 {
     let rest = behind(bytes, b"{\"withdraw\":")?;
     let Some((tx, rest)) = transaction(rest) else {

@@ -181,7 +181,8 @@ pub(crate) fn push_certificate(
 
 /// The one line that spells the certificate, without an LF. Err: memory ran out.
 ///
-/// Any certificate has such a line. Where its sites are not 1 to `MAX_SITES`, or a step is at none of them, `from_line` refuses it.
+/// Any certificate has such a line. Where its sites are not 1 to `MAX_SITES`, or a step is at none of them,
+/// `from_line` refuses it.
 pub fn to_line(alloc: Global, certificate: &Certificate) -> Result<Vec<u8>, AllocError>
     ensures text { IfOk result (λ line. line.items ≡ certificate_text certificate.now) }
     ensures one_line { IfOk result (λ line. HasNoLf line.items) }
@@ -263,9 +264,9 @@ fn read_otherwise(alloc: Global, line: &[u8]) -> Result<Certificate, CertFault>
 }
 
 /// Reads the line of a certificate, which is given without its LF. Ok exactly for the text that `to_line` gives of a
-/// certificate whose sites are 1 to `MAX_SITES`, with each step at one of them. Any other line is refused: with K1 where no JSON
-/// value is read from it, else with K2 where the value's members are not those of a certificate, else with K3. K4 where
-/// memory ran out stands in place of any answer.
+/// certificate whose sites are 1 to `MAX_SITES`, with each step at one of them. Any other line is refused: with K1
+/// where no JSON value is read from it, else with K2 where the value's members are not those of a certificate, else
+/// with K3. K4 where memory ran out stands in place of any answer.
 pub fn from_line(alloc: Global, line: &[u8]) -> Result<Certificate, CertFault>
     ensures ok { IfOk result (λ c. IsCertificate c × (line.now ≡ certificate_text c)) }
     ensures only { (c : Certificate) → IsCertificate c → line.now ≡ certificate_text c

@@ -1,6 +1,6 @@
-//! Why a line is no certificate's, seen by its tokens and without a tree: it is no JSON, or it has a certificate's shape and
-//! spaces. Up to `certificate` each function passes what it is named after, and gives nothing where that isn't next. Members
-//! are passed in the order of the one text alone, so other lines may have the shape too.
+//! Why a line is no certificate's, seen by its tokens and without a tree: it is no JSON, or it has a certificate's
+//! shape and spaces. Up to `certificate` each function passes what it is named after, and gives nothing where that
+//! isn't next. Members are passed in the order of the one text alone, so other lines may have the shape too.
 
 ghost use Rattle.std.specs.Prelude.{◌≡◌, ◌∷◌, IfOk, IfSome, IsTrue, None, Some, nat_le, true};
 ghost use Rattle.std.specs.List.{list_any};
@@ -171,7 +171,8 @@ fn is_shaped(text: &str, scratch: &mut Scratch) -> Result<bool, AllocError>
     }
 }
 
-/// Whether it is seen that the text is no JSON. The size of numbers is not looked at: one may be too large to have a value.
+/// Whether it is seen that the text is no JSON. The size of numbers is not looked at: one may be too large to have a
+/// value.
 #[tactic(auto, using(crate::proofs::Shown::broken_read, crate::proofs::Shown::further_read))]
 fn is_broken(text: &str, scratch: &mut Scratch) -> Result<bool, AllocError>
     ensures { IfOk result (λ seen. IsTrue seen → read text.now ≡ None) }

@@ -73,8 +73,16 @@ serves_with j j2 xs (call.Begin tx h) plain r =
     (allowed_with j xs begin tt r.0, (r.1.0, r.1.1, ap (λ (s : State). record s { installs = xs }) r.1.2))
 serves_with j j2 xs (call.Decide h edges (Committed number)) plain r = (
   allowed_with j xs (decide h edges) tt r.0,
-  (r.1.0, record { free = r.1.1.free; places = r.1.1.places; placed = r.1.1.placed; after =
-      ap (λ (s : State). record s { installs = xs }) r.1.1.after }),
+  (
+    r.1.0,
+    record {
+      free = r.1.1.free;
+      places = r.1.1.places;
+      placed = r.1.1.placed;
+      after =
+          ap (λ (s : State). record s { installs = xs }) r.1.1.after;
+    },
+  ),
 )
 serves_with j j2 xs (call.Decide h edges (Refused number walk)) plain r = (
   allowed_with j xs (decide h edges) tt r.0,
@@ -93,8 +101,8 @@ pub same_installs : (calls longer : List Call) (c : Call) → install_in c ≡ N
 same_installs calls longer c none is =
     let empty : installs_in (c ∷ []) ≡ [] = rw none refl in
     sym (ap installs_in is
-        ∙ (filter_map-append install_in calls (c ∷ [])
-        ∙ (ap (λ xs. installs_in calls ++ xs) empty ∙ append-nil (installs_in calls))))
+    ∙ (filter_map-append install_in calls (c ∷ [])
+    ∙ (ap (λ xs. installs_in calls ++ xs) empty ∙ append-nil (installs_in calls))))
 
 no_install : (c : Call) → IsPlainCall c → install_in c ≡ None
 no_install (call.Begin tx h) plain = refl
@@ -108,7 +116,7 @@ pub plain_serves : (j j2 : State) (calls longer : List Call) (c : Call) → IsPl
     → longer ≡ calls ++ c ∷ [] → Serves (state_with j calls) c (state_with j2 longer)
 plain_serves j j2 calls longer c plain serves is =
     subst (λ xs. Serves (state_with j calls) c (record j2 { installs = xs }))
-        (same_installs calls longer c (no_install c plain) is) (serves_with j j2 (installs_in calls) c plain serves)
+    (same_installs calls longer c (no_install c plain) is) (serves_with j j2 (installs_in calls) c plain serves)
 
 -- the calls with one more, replayed
 pub replays_on : (s t : State) (calls longer : List Call) (c : Call) → Replays calls s → Serves s c t
@@ -138,7 +146,7 @@ decided_step j j2 h edges (Refused number walk) r = ap (λ (s : State). s.step) 
 pub decided_kept : (j j2 : State) (calls longer : List Call) (h : Handle) (edges : List Edge) (reply : Decided)
     (room room2 : ℕ) → IsKept j calls room → Serves j (call.Decide h edges reply) j2 → j2.installs ≡ []
     → longer ≡ calls ++ call.Decide h edges reply ∷ [] → suc (length longer + max_sites) ≤ room2
-        → IsKept j2 longer room2
+    → IsKept j2 longer room2
 decided_kept j j2 calls longer h edges reply room room2 kept serves none is spare =
     let s = state_with j calls in
     let good = replays-good calls s kept.replays in
@@ -154,8 +162,8 @@ decided_kept j j2 calls longer h edges reply room room2 kept serves none is spar
         λ noted.
             let same : t ≡ tx_under j h = same_Some t (tx_under j h) (sym open_t ∙ step) in
             let was : IsNoted s (tx_under j h) site =
-                subst (λ u. IsNoted s u site) same (subst (Any (λ (x : Install). (x.tx ≡ t) × (x.site ≡ site)))
-                (sym installs) noted) in
+            subst (λ u. IsNoted s u site) same (subst (Any (λ (x : Install). (x.tx ≡ t) × (x.site ≡ site)))
+            (sym installs) noted) in
             absurd (none_noted s (tx_under j h) site good.ruled good.installed idle active.1 was),
       );
       spare = λ t open_t. omega (arith, spare);
@@ -168,7 +176,7 @@ pub ends_serves : (j j2 : State) (calls longer : List Call) (tx : ℕ) → Ends 
 ends_serves j j2 calls longer tx ends is =
     let xs = installs_in calls in
     subst (λ ys. Serves (state_with j calls) (call.Finish tx) (record j2 { installs = ys }))
-        (same_installs calls longer (call.Finish tx) refl is)
+    (same_installs calls longer (call.Finish tx) refl is)
     (allowed_with j xs (finish tx) tt ends.allowed, ap (λ (s : State). record s { installs = xs }) ends.after)
 
 -- ---- an install
@@ -186,10 +194,11 @@ pub notes_serves : (j j2 : State) (calls longer : List Call) (tx site : ℕ) (it
 notes_serves j j2 calls longer tx site items room kept notes is =
     let one : Install = record { tx = tx; site = site; items = items } in
     let installs : installs_in calls ++ one ∷ [] ≡ installs_in longer =
-        sym (ap installs_in is ∙ filter_map-append install_in calls (call.Installed tx site items ∷ [])) in
-    subst (λ ys. Serves (state_with j calls) (call.Installed tx site items) (record j2 { installs = ys })) installs
-    (allowed_note j calls tx site room kept notes.allowed,
-        ap (λ (s : State). record s { installs = installs_in calls ++ one ∷ [] }) notes.after)
+    sym (ap installs_in is ∙ filter_map-append install_in calls (call.Installed tx site items ∷ [])) in
+    subst (λ ys. Serves (state_with j calls) (call.Installed tx site items) (record j2 { installs = ys })) installs (
+      allowed_note j calls tx site room kept notes.allowed,
+      ap (λ (s : State). record s { installs = installs_in calls ++ one ∷ [] }) notes.after,
+    )
 
 abbrev IsOf : ℕ → ℕ → Install → Type 0
 IsOf tx site x = (x.tx ≡ tx) × (x.site ≡ site)
@@ -224,7 +233,7 @@ notes_kept j j2 calls longer tx site items room room2 kept notes is room_is =
     let one : Install = record { tx = tx; site = site; items = items } in
     let shorter : j2.installs ≡ j.installs ++ mine ∷ [] = ap (λ (x : State). x.installs) notes.after in
     let all : installs_in longer ≡ installs_in calls ++ one ∷ [] = ap installs_in is
-        ∙ filter_map-append install_in calls (call.Installed tx site items ∷ []) in
+    ∙ filter_map-append install_in calls (call.Installed tx site items ∷ []) in
     record {
       replays = replays_on s (state_with j2 longer) calls longer (call.Installed tx site items) kept.replays
           (notes_serves j j2 calls longer tx site items room kept notes is) is;
@@ -242,8 +251,15 @@ notes_kept j j2 calls longer tx site items room room2 kept notes is room_is =
           );
       spare = λ t open_t.
           let was : j.step ≡ Some t = sym (ap (λ (x : State). x.step) notes.after) ∙ open_t in
-          omega (arith, kept.spare t was, room_is, ap length is, length_push calls (call.Installed tx site items),
-              ap length shorter, length_push j.installs mine);
+          omega (
+            arith,
+            kept.spare t was,
+            room_is,
+            ap length is,
+            length_push calls (call.Installed tx site items),
+            ap length shorter,
+            length_push j.installs mine,
+          );
     }
 
 -- ---- an install that is refused

@@ -50,7 +50,7 @@ pub changed_some : (touched : List Touch) (site n : ℕ) (t : Touch) → slice_g
     → is_changed site t ≡ true → changed_at touched site ≢ []
 changed_some touched site n t at hit none =
     let within = slice_get_within (changed_at touched site) (length (changed_at (take n touched) site)) t.item
-        (changed_place touched site n t at hit) in
+    (changed_place touched site n t at hit) in
     omega (arith, within, ap length none)
 
 -- ---- the lists of a draft, one for each site
@@ -75,7 +75,7 @@ listed_next whole touched lists next n t at grows new all site =
             | inl hit ↦
                 let same : t.site ≡ site = eqb-true t.site site (and_parts _ _ hit).0 in
                 inr (subst (λ s. Contains next (listed whole s)) same
-                    (new (subst (λ s. is_changed s t ≡ true) (sym same) hit)))
+                (new (subst (λ s. is_changed s t ≡ true) (sym same) hit)))
           ]
     ]
 
@@ -86,7 +86,7 @@ pub listed_at : (touched : List Touch) (lists : List Prepared) (site : ℕ)
 listed_at touched lists site each any =
     let member : Contains lists any.1 = (any.0, any.2, any.3) in
     let is : any.1 ≡ listed touched any.1.site =
-        ap (λ items. record { site = any.1.site; items = items }) (each any.1 member) in
+    ap (λ items. record { site = any.1.site; items = items }) (each any.1 member) in
     subst (λ s. Contains lists (listed touched s)) any.4 (subst (Contains lists) is member)
 
 -- ---- by the parts of a draft
@@ -100,7 +100,7 @@ changed-append xs ys site = ap (map item_of) (filter-append (is_changed site) xs
 pub listed_part : (whole : List Touch) (ps : List PartView) (n : ℕ) (q : PartView) (lists next : List Prepared)
     → slice_get ps n ≡ Some q → ((p : Prepared) → Contains lists p → Contains next p)
     → ((s : ℕ) → (changed_at q.touched s ≡ []) ⊎ Contains next (listed whole s))
-        → ((s : ℕ) → (changed_at (touched_in (take n ps)) s ≡ []) ⊎ Contains lists (listed whole s))
+    → ((s : ℕ) → (changed_at (touched_in (take n ps)) s ≡ []) ⊎ Contains lists (listed whole s))
     → (s : ℕ) → (changed_at (touched_in (take (n + 1) ps)) s ≡ []) ⊎ Contains next (listed whole s)
 listed_part whole ps n q lists next at grows here before s = elim (before s) [
   | inr made ↦ inr (grows (listed whole s) made)
@@ -108,7 +108,7 @@ listed_part whole ps n q lists next at grows here before s = elim (before s) [
     | inr made ↦ inr made
     | inl nothing ↦ inl (
         ap (λ (ts : List Touch). changed_at ts s) (touched-next ps n q at)
-            ∙ changed-append (touched_in (take n ps)) q.touched s
+        ∙ changed-append (touched_in (take n ps)) q.touched s
         ∙ ap₂ (λ (xs ys : List Name). xs ++ ys) none nothing
         )
   ]
@@ -118,7 +118,7 @@ listed_part whole ps n q lists next at grows here before s = elim (before s) [
 pub listed_all : (whole few : List Touch) (ps : List PartView) (n : ℕ) (lists next : List Prepared) → length ps ≤ n
     → ((p : Prepared) → Contains lists p → Contains next p)
     → ((s : ℕ) → (changed_at few s ≡ []) ⊎ Contains next (listed whole s))
-        → ((s : ℕ) → (changed_at (touched_in (take n ps)) s ≡ []) ⊎ Contains lists (listed whole s))
+    → ((s : ℕ) → (changed_at (touched_in (take n ps)) s ≡ []) ⊎ Contains lists (listed whole s))
     → few ++ touched_in ps ≡ whole → (s : ℕ) → IsExpected next whole s
 listed_all whole few ps n lists next most grows here before is s = elim (before s) [
   | inr made ↦ inr (grows (listed whole s) made)
@@ -127,7 +127,7 @@ listed_all whole few ps n lists next most grows here before is s = elim (before 
     | inl nothing ↦ inl (
         ap (λ (ts : List Touch). changed_at ts s) (sym is) ∙ changed-append few (touched_in ps) s
         ∙ ap₂ (λ (xs ys : List Name). xs ++ ys) nothing (ap (λ (qs : List PartView). changed_at (touched_in qs) s)
-            (sym (take_all n ps most)) ∙ none)
+        (sym (take_all n ps most)) ∙ none)
         )
   ]
 ]
@@ -152,4 +152,4 @@ pub expected_same : (s : ℕ) (ts here : List Touch) (lists : List Prepared) →
     → IsExpected lists here s
 expected_same s ts here lists same expected =
     subst (λ (items : List Name). (items ≡ []) ⊎ Contains lists (record { site = s; items = items }))
-        (sym same) expected
+    (sym same) expected

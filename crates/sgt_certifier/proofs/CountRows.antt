@@ -34,13 +34,13 @@ is_itself x = (bytes_eq-Decides x x).1 refl
 pub before-apart : (x y : Name) → slice_cmp nat_cmp x y ≡ Less → x ≢ y
 before-apart x y less same =
     let tied : slice_cmp nat_cmp x y ≡ Equal =
-        subst (λ z. slice_cmp nat_cmp x z ≡ Equal) same (tied_itself nat_list_cmp_total x) in
+    subst (λ z. slice_cmp nat_cmp x z ≡ Equal) same (tied_itself nat_list_cmp_total x) in
     absurd cc
 
 pub behind-apart : (x y : Name) → slice_cmp nat_cmp x y ≡ Greater → x ≢ y
 behind-apart x y greater same =
     let tied : slice_cmp nat_cmp x y ≡ Equal =
-        subst (λ z. slice_cmp nat_cmp x z ≡ Equal) same (tied_itself nat_list_cmp_total x) in
+    subst (λ z. slice_cmp nat_cmp x z ≡ Equal) same (tied_itself nat_list_cmp_total x) in
     absurd cc
 
 -- what stands at a place is found
@@ -51,7 +51,7 @@ found_at (d ∷ cs) zero c rising at =
     subst (λ (e : ItemCount). found_in (d ∷ cs) e.item ≡ Some e.count) (same_Some d c at) (rw (is_itself d.item) refl)
 found_at (d ∷ cs) (suc n) c rising at =
     let less = AllPairs_at (λ (a b : ItemCount). slice_cmp nat_cmp a.item b.item ≡ Less) (d ∷ cs) 0 (suc n) d c rising
-        (omega arith) refl at in
+    (omega arith) refl at in
     rw (bytes_eq-other d.item c.item (before-apart d.item c.item less))
     (found_at cs n c (AllPairs-tail (λ (a b : ItemCount). slice_cmp nat_cmp a.item b.item ≡ Less) d cs rising) at)
 
@@ -116,7 +116,7 @@ module _ (cs : List ItemCount) (n : ℕ) (x : Name) (none : found_in cs x ≡ No
         subst (λ z. IsSome (found_in put z)) same (subst IsSome (sym put-found) refl)
     | inr miss ↦ subst IsSome
         (sym (insert-other cs n (record { item = x; count = 0 }) y (λ e. true≢false (sym ((bytes_eq-Decides x y).1 e)
-            ∙ miss)))) has
+        ∙ miss)))) has
   ]
 
 -- the count at a place is another one
@@ -128,7 +128,7 @@ set-other (d ∷ cs) zero c x at apart =
     rw (bytes_eq-other c.item x (λ e. apart (sym e)), bytes_eq-other d.item x (λ e. apart (sym e ∙ same))) refl
 set-other (d ∷ cs) (suc n) c x at apart =
     let below : IsAt (λ c. c.item) cs c.item n =
-        record { within = omega (arith, at.within); is = λ e here. at.is e here } in
+    record { within = omega (arith, at.within); is = λ e here. at.is e here } in
     elim (cases_Bool (bytes_eq d.item x)) [
       | inl hit ↦ rw hit refl
       | inr miss ↦ rw miss (set-other cs n c x below apart)
@@ -142,7 +142,7 @@ module _ {U E : Type 0} (old new : List ItemCount) (x : Name) (n : ℕ)
       → AreRising new
   tried-rises (Ok u) ok err rising =
       subst AreRising (sym ok) (rising-insert (λ (c : ItemCount). c.item) (slice_cmp nat_cmp) nat_list_cmp_total old n
-          (record { item = x; count = 0 }) gap rising)
+      (record { item = x; count = 0 }) gap rising)
   tried-rises (Err e) ok err rising = subst AreRising (sym err) rising
 
   pub tried-same : (r : Result U E) → OnOk r (new ≡ insert old n (record { item = x; count = 0 }))

@@ -77,7 +77,7 @@ row-is counts s n row place at = ap (row_at counts) (sym place) ∙ ap or_nothin
 pub placed-err : {U E : Type 0} (r : Result U E) (before old : Counts) (s n : ℕ) (x : Name) (row : List ItemCount)
     → n ≡ s
     → slice_get old.rows.items n ≡ Some row → Widens before old → OnErr r (IsSome (found_in row x) → ⊥)
-        → OnErr r (HasPlace before s x → ⊥)
+    → OnErr r (HasPlace before s x → ⊥)
 placed-err (Ok u) before old s n x row place at w none = tt
 placed-err (Err e) before old s n x row place at w none =
     λ has. none (subst (λ r. IsSome (found_in r x)) (row-is old s n row place at) (w.kept s x has))
@@ -103,7 +103,7 @@ module _ (old new : Counts) (s n : ℕ) (x : Name) (row made : List ItemCount) (
       | inl here ↦
           let e : t ≡ s = eqb-true t s here in
           ap (λ u. count_at new u y) e ∙ ap (λ r. count_in r y) now ∙ same y ∙ sym (ap (λ r. count_in r y) was)
-              ∙ sym (ap (λ u. count_at old u y) e)
+          ∙ sym (ap (λ u. count_at old u y) e)
       | inr other ↦ ap (λ r. count_in r y) (row-other old new s made made_there t (eqb-false t s other))
     ];
     kept = λ t y has. elim (cases_Bool (t == s)) [
@@ -134,7 +134,7 @@ module _ (rows : List (List ItemCount)) (s n : ℕ) (x : Name) (row made : List 
 
   pub added-here : found_in made x ≡ Some (suc (count_in row x))
       → found_in (or_nothing (slice_get (set rows n made) s)) x ≡ Some
-          (suc (count_in (or_nothing (slice_get rows s)) x))
+      (suc (count_in (or_nothing (slice_get rows s)) x))
   added-here more = ap (λ cs. found_in cs x) now_in ∙ more ∙ ap (λ cs. Some (suc (count_in cs x))) (sym was_in)
 
   pub added-others : ((y : Name) → y ≢ x → found_in made y ≡ found_in row y) → (t : ℕ) (y : Name)
@@ -182,8 +182,11 @@ fresh-at xs n x once at c =
     AllPairs_at (λ a b. a ≢ b) xs early.0 n x x once where_at.0 where_at.1 at refl
 
 pub widens-more : (old mid new : Counts) → Widens old mid → Widens mid new → Widens old new
-widens-more old mid new a b = record { same = λ s x. b.same s x ∙ a.same s x; kept =
-    λ s x has. b.kept s x (a.kept s x has) }
+widens-more old mid new a b = record {
+  same = λ s x. b.same s x ∙ a.same s x;
+  kept =
+      λ s x has. b.kept s x (a.kept s x has);
+}
 
 pub places-kept : (old new : Counts) (lists : List Prepared) → Widens old new → All (HavePlaces old) lists
     → All (HavePlaces new) lists
@@ -194,7 +197,7 @@ pub counts-next : (site : ℕ) (xs : List Name) (x : Name) (old mid new : Counts
     → (Contains xs x → ⊥)
     → stands_at new site x ≡ Some (suc (count_at mid site x))
     → ((s : ℕ) (y : Name) → ((s ≡ site) × (y ≡ x) → ⊥) → stands_at new s y ≡ stands_at mid s y)
-        → CountsEach site (xs ++ x ∷ []) old new
+    → CountsEach site (xs ++ x ∷ []) old new
 counts-next site xs x old mid new each fresh here others = record {
   hit = λ y c. elim (Contains-append_cases xs (x ∷ []) y c) [
     | inl early ↦
@@ -221,8 +224,11 @@ counts-next site xs x old mid new each fresh here others = record {
 -- ---- the counts of a history
 
 pub counted-none : (counts : Counts) → ((s : ℕ) (x : Name) → stands_at counts s x ≡ None) → AreCounted counts [] []
-counted-none counts none = record { exact = λ s x. ap or_zero (none s x); placed =
-    λ k d within. absurd (omega (arith, within)) }
+counted-none counts none = record {
+  exact = λ s x. ap or_zero (none s x);
+  placed =
+      λ k d within. absurd (omega (arith, within));
+}
 
 -- a call that notes no install
 pub counted-on : (counts : Counts) (history longer : List Call) (expected : List Prepared) (c : Call)
@@ -257,7 +263,7 @@ fewer-placed counts expected rest fewer all = All-from_at (HavePlaces counts) re
 -- some lists are taken away
 pub counted-fewer : (counts : Counts) (history : List Call) (expected rest : List Prepared)
     → ((p : Prepared) → Contains rest p → Contains expected p) → AreCounted counts history expected
-        → AreCounted counts history rest
+    → AreCounted counts history rest
 counted-fewer counts history expected rest fewer h = record {
   exact = h.exact;
   placed = fewer-placed counts expected rest fewer h.placed;
@@ -274,7 +280,7 @@ any_true x (y ∷ ys) e = elim (cases_Bool (bytes_eq x y)) [
 pub counted-installed : (old new : Counts) (history longer : List Call) (expected : List Prepared) (tx site : ℕ)
     (items : List Name)
     → longer ≡ history ++ call.Installed tx site items ∷ [] → CountsEach site items old new
-        → AreCounted old history expected
+    → AreCounted old history expected
     → AreCounted new longer expected
 counted-installed old new history longer expected tx site items is each h = record {
   exact = λ s x.
@@ -285,13 +291,13 @@ counted-installed old new history longer expected tx site items is each h = reco
             elim (cases_Bool (list_any (bytes_eq x) items)) [
               | inl hit ↦
                   let changes : changes_item s x (record { tx = tx; site = site; items = items }) ≡ true =
-                      rw (here, hit) refl in
+                  rw (here, hit) refl in
                   let now : count_at new s x ≡ suc (count_at old s x) =
                   subst (λ t. count_at new t x ≡ suc (count_at old t x)) same (each.hit x (any_true x items hit)) in
                   now ∙ ap suc (h.exact s x) ∙ sym (noted ∙ counted_hit history tx site s items x changes)
               | inr miss ↦
                   let changes : changes_item s x (record { tx = tx; site = site; items = items }) ≡ false =
-                      rw (here, miss) refl in
+                  rw (here, miss) refl in
                   let now : count_at new s x ≡ count_at old s x = subst (λ t. count_at new t x ≡ count_at old t x) same
                   (each.miss x (λ c. true≢false (sym (any_member x items c) ∙ miss))) in
                   now ∙ h.exact s x ∙ sym (noted ∙ counted_miss history tx site s items x changes)
@@ -303,7 +309,7 @@ counted-installed old new history longer expected tx site items is each h = reco
       ];
   placed = All-weaken (HavePlaces old) (HavePlaces new) expected
       (λ p all. All-weaken (HasPlace old p.site) (HasPlace new p.site) p.items (λ x has. each.kept p.site x has) all)
-          h.placed;
+      h.placed;
 }
 
 -- no list was made for items of which one has no place
@@ -315,7 +321,7 @@ not-placed counts expected touched site placed none (inl empty) =
 not-placed counts expected touched site placed none (inr c) =
     let at = Contains_at expected (record { site = site; items = changed_at touched site }) c in
     none (All_at (HavePlaces counts) expected at.0 (record { site = site; items = changed_at touched site }) placed
-        at.1)
+    at.1)
 
 -- what is taken away at a place leaves the others
 left-at : {A : Type 0} (xs : List A) (n k : ℕ) (p q : A) → slice_get xs n ≡ Some p → (q ≡ p → ⊥)
@@ -335,7 +341,7 @@ expected-left expected new n site items touched s at is apart (inr c) =
     let q : Prepared = record { site = s; items = changed_at touched s } in
     let was_at = Contains_at expected q c in
     let j = left-at expected n was_at.0 (record { site = site; items = items }) q at
-        (λ e. apart (ap (λ (p : Prepared). p.site) e)) was_at.1 in
+    (λ e. apart (ap (λ (p : Prepared). p.site) e)) was_at.1 in
     inr (subst (λ ps. Contains ps q) (sym is) (Contains-from_at (remove expected n) j.0 q j.1))
 
 -- ---- the items of a draft
@@ -366,9 +372,9 @@ pub changed-once : (n : ℕ) (ts : List Touch) → AreRising ts → AllPairs (λ
 changed-once n ts rising =
     let ws = writing_in (at_site n ts) in
     let rises = recursion_from_AllPairs (λ (a b : Name × Change). slice_cmp nat_cmp a.0 b.0 ≡ Less) ws
-        (writing-by_item n ts rising) in
+    (writing-by_item n ts rising) in
     let apart_all = AllPairs-from_recursion (λ (a b : Name). a ≢ b) (map (λ (w : Name × Change). w.0) ws)
-        (pairs-apart ws rises) in
+    (pairs-apart ws rises) in
     subst (AllPairs (λ a b. a ≢ b)) (sym (changed-written n ts)) apart_all
 
 -- a count is no more than the calls

@@ -26,8 +26,11 @@ abbrev NotTwice : Install → Install → Type 0
 NotTwice a b = AreTwice a b → ⊥
 
 pub opening-installed : IsInstalled opening
-opening-installed = record { committed = λ install c. absurd (contains-none install c); once =
-    λ i j d lt within. absurd (omega arith) }
+opening-installed = record {
+  committed = λ install c. absurd (contains-none install c);
+  once =
+      λ i j d lt within. absurd (omega arith);
+}
 
 -- no install is new, and who was committed still is
 pub same-installed : (s t : State) → t.installs ≡ s.installs
@@ -91,8 +94,8 @@ below_any n q (x ∷ xs) all hit =
 pub distinct_few : (n : ℕ) (xs : List ℕ) → AllPairs (λ a b. a ≢ b) xs → All (λ k. k < n) xs → length xs ≤ n
 distinct_few n xs once below =
     length-le_from_distinct_below xs n
-        (IsDistinct-from_apart eqb xs (λ i j d lt within. ne_eqb (get_or xs i d) (get_or xs j d)
-        (once i j d lt within)))
+    (IsDistinct-from_apart eqb xs (λ i j d lt within. ne_eqb (get_or xs i d) (get_or xs j d)
+    (once i j d lt within)))
     (λ q hit. below_any n q xs below hit)
 
 -- ---- counts
@@ -105,8 +108,8 @@ counted_push history c site item =
     let longer = sym (length-filter p (installs_in (history ++ c ∷ []))) in
     let shorter = length-filter p (installs_in history) in
     let split = ap (λ xs. length (filter p xs)) (filter_map-append install_in history (c ∷ []))
-        ∙ (ap length (filter-append p (installs_in history) (filter_map install_in (c ∷ [])))
-        ∙ length-append (filter p (installs_in history)) (filter p (filter_map install_in (c ∷ [])))) in
+    ∙ (ap length (filter-append p (installs_in history) (filter_map install_in (c ∷ [])))
+    ∙ length-append (filter p (installs_in history)) (filter p (filter_map install_in (c ∷ [])))) in
     longer ∙ (split ∙ ap (λ n. n + length (filter p (filter_map install_in (c ∷ [])))) shorter)
 
 pub counted_hit : (history : List Call) (tx site at : ℕ) (items : List Name) (item : Name)
@@ -114,7 +117,7 @@ pub counted_hit : (history : List Call) (tx site at : ℕ) (items : List Name) (
     → counted (history ++ call.Installed tx site items ∷ []) at item ≡ suc (counted history at item)
 counted_hit history tx site at items item hit =
     let one : length (filter (changes_item at item) ((record { tx = tx; site = site; items = items }) ∷ [])) ≡ 1 =
-        rw hit refl in
+    rw hit refl in
     omega (arith, counted_push history (call.Installed tx site items) at item, one)
 
 pub counted_miss : (history : List Call) (tx site at : ℕ) (items : List Name) (item : Name)
@@ -122,7 +125,7 @@ pub counted_miss : (history : List Call) (tx site at : ℕ) (items : List Name) 
     → counted (history ++ call.Installed tx site items ∷ []) at item ≡ counted history at item
 counted_miss history tx site at items item miss =
     let none : length (filter (changes_item at item) ((record { tx = tx; site = site; items = items }) ∷ [])) ≡ 0 =
-        rw miss refl in
+    rw miss refl in
     omega (arith, counted_push history (call.Installed tx site items) at item, none)
 
 pub counted_other : (history : List Call) (c : Call) (site : ℕ) (item : Name) → install_in c ≡ None
@@ -130,7 +133,7 @@ pub counted_other : (history : List Call) (c : Call) (site : ℕ) (item : Name) 
 counted_other history c site item none =
     let empty : filter_map install_in (c ∷ []) ≡ [] = rw none refl in
     let zero_more : length (filter (changes_item site item) (filter_map install_in (c ∷ []))) ≡ 0 =
-        ap (λ xs. length (filter (changes_item site item) xs)) empty in
+    ap (λ xs. length (filter (changes_item site item) xs)) empty in
     omega (arith, counted_push history c site item, zero_more)
 
 pub any_member : (item : Name) (items : List Name) → Contains items item → list_any (bytes_eq item) items ≡ true

@@ -24,8 +24,19 @@ use Rattle.sgt_certifier.proofs.Transfer.{contains_map, map_contains}
 use Rattle.sgt_names.proofs.Elements.{contains-none, get-push_cases}
 
 by_fields : ℕ → ℕ → ℕ → List ℕ → List ℕ → List ℕ → List Arc → Option ℕ → List Ruling → List Install → State
-by_fields a b c d e f g h i j = record { begun = a; before = b; generation = c; active = d; past = e; order =
-    f; arcs = g; step = h; rulings = i; installs = j }
+by_fields a b c d e f g h i j = record {
+  begun = a;
+  before = b;
+  generation = c;
+  active = d;
+  past = e;
+  order =
+      f;
+  arcs = g;
+  step = h;
+  rulings = i;
+  installs = j;
+}
 
 pub same_state : (s t : State) → s.begun ≡ t.begun → s.before ≡ t.before → s.generation ≡ t.generation
     → s.active ≡ t.active → s.past ≡ t.past → s.order ≡ t.order → s.arcs ≡ t.arcs → s.step ≡ t.step
@@ -33,7 +44,7 @@ pub same_state : (s t : State) → s.begun ≡ t.begun → s.before ≡ t.before
 unfolding by_fields
 same_state s t a b c d e f g h i j =
     let p : by_fields s.begun s.before s.generation s.active s.past s.order s.arcs s.step s.rulings s.installs
-        ≡ by_fields t.begun t.before t.generation t.active t.past t.order t.arcs t.step t.rulings t.installs = cc in p
+    ≡ by_fields t.begun t.before t.generation t.active t.past t.order t.arcs t.step t.rulings t.installs = cc in p
 
 pub record Parts : Type 0 where
   pub begun : ℕ
@@ -93,25 +104,30 @@ pub begun_serves : (p q : Parts) (tx : ℕ) (h : Handle) → IsAllowed (state_of
     → p.begun ≡ p.before + length p.flags
     → tx ≡ suc p.begun → h.index ≡ length p.flags → h.generation ≡ p.generation
     → q.begun ≡ suc p.begun → q.before ≡ p.before → q.generation ≡ p.generation → q.flags ≡ p.flags ++ true ∷ []
-        → q.past ≡ p.past → q.order ≡ p.order → q.edges ≡ p.edges → q.step ≡ p.step → q.rulings ≡ p.rulings
-        → q.noted ≡ p.noted
+    → q.past ≡ p.past → q.order ≡ p.order → q.edges ≡ p.edges → q.step ≡ p.step → q.rulings ≡ p.rulings
+    → q.noted ≡ p.noted
     → Serves (state_of p) (call.Begin tx h) (state_of q)
 begun_serves p q tx h allowed window is_tx index generation b bf g fl pa o e st ru noted_is =
     let s = state_of p in
     let handle : h ≡ record { index = p.begun - p.before; generation = p.generation } =
-        same_handle h (record { index = p.begun - p.before; generation = p.generation })
-        (omega (arith, index, window)) generation in
+    same_handle h (record { index = p.begun - p.before; generation = p.generation })
+    (omega (arith, index, window)) generation in
     let active : flagged q.before q.flags ≡ flagged p.before p.flags ++ suc p.begun ∷ [] =
     ap (λ n. flagged n q.flags) bf
-        ∙ (ap (flagged p.before) fl
-        ∙ (flagged_push p.before p.flags ∙ ap (λ n. flagged p.before p.flags ++ suc n ∷ []) (sym window))) in
+    ∙ (ap (flagged p.before) fl
+    ∙ (flagged_push p.before p.flags ∙ ap (λ n. flagged p.before p.flags ++ suc n ∷ []) (sym window))) in
     let order : map (tx_at q.before) q.order ≡ map (tx_at p.before) p.order = ap (λ n. map (tx_at n) q.order) bf
-        ∙ ap (map (tx_at p.before)) o in
+    ∙ ap (map (tx_at p.before)) o in
     let arcs : map (arc_at q.before) q.edges ≡ map (arc_at p.before) p.edges = ap (λ n. map (arc_at n) q.edges) bf
-        ∙ ap (map (arc_at p.before)) e in
-    (allowed,
-        (is_tx, handle, same_state (state_of q) (with_begun s) b bf g active pa order arcs st ru
-        (ap₂ notes_of st noted_is)))
+    ∙ ap (map (arc_at p.before)) e in (
+      allowed,
+      (
+        is_tx,
+        handle,
+        same_state (state_of q) (with_begun s) b bf g active pa order arcs st ru
+            (ap₂ notes_of st noted_is),
+      ),
+    )
 
 pub begun_kept : (p q : Parts) (tx : ℕ) (h : Handle) (n a room n2 a2 room2 : ℕ) → IsSound p n a room
     → Serves (state_of p) (call.Begin tx h) (state_of q) → p.step ≡ None → q.flags ≡ p.flags ++ true ∷ []
@@ -124,8 +140,13 @@ begun_kept p q tx h n a room n2 a2 room2 k serves idle flags noted_is n_is a_is 
       good = serves-good (state_of p) (call.Begin tx h) (state_of q) k.good serves;
       nodes = omega (arith, k.nodes, long, n_is);
       window = omega (arith, ap (λ (s : State). s.begun) next, ap (λ (s : State). s.before) next, k.window, long);
-      running = omega (arith, k.running, a_is, ap (λ (s : State). length s.active) next,
-          length_push (flagged p.before p.flags) (suc p.begun));
+      running = omega (
+        arith,
+        k.running,
+        a_is,
+        ap (λ (s : State). length s.active) next,
+        length_push (flagged p.before p.flags) (suc p.begun),
+      );
       closed = λ none. noted_is ∙ k.closed idle;
       below = subst (All (λ site. site < max_sites)) (sym noted_is) k.below;
       once = subst (AllPairs (λ x y. x ≢ y)) (sym noted_is) k.once;
@@ -145,18 +166,18 @@ open_place p tx good open_tx = flagged_member p.before p.flags tx (good.sound.op
 
 pub finished_ends : (p q : Parts) (tx k : ℕ) → p.step ≡ Some tx → tx ≡ suc (p.before + k)
     → q.begun ≡ p.begun → q.before ≡ p.before → q.generation ≡ p.generation → q.flags ≡ slice_set p.flags k false
-        → q.past ≡ p.past → q.order ≡ p.order → q.edges ≡ p.edges → q.step ≡ None → q.rulings ≡ p.rulings
+    → q.past ≡ p.past → q.order ≡ p.order → q.edges ≡ p.edges → q.step ≡ None → q.rulings ≡ p.rulings
     → Ends (state_of p) tx (state_of q)
 finished_ends p q tx k open_tx at b bf g fl pa o e st ru =
     let s = state_of p in
     let active : flagged q.before q.flags ≡ without tx (flagged p.before p.flags) =
     ap (λ n. flagged n q.flags) bf
-        ∙ (ap (flagged p.before) fl
-        ∙ (flagged_drop p.before p.flags k ∙ ap (λ t. without t (flagged p.before p.flags)) (sym at))) in
+    ∙ (ap (flagged p.before) fl
+    ∙ (flagged_drop p.before p.flags k ∙ ap (λ t. without t (flagged p.before p.flags)) (sym at))) in
     let order : map (tx_at q.before) q.order ≡ map (tx_at p.before) p.order = ap (λ n. map (tx_at n) q.order) bf
-        ∙ ap (map (tx_at p.before)) o in
+    ∙ ap (map (tx_at p.before)) o in
     let arcs : map (arc_at q.before) q.edges ≡ map (arc_at p.before) p.edges = ap (λ n. map (arc_at n) q.edges) bf
-        ∙ ap (map (arc_at p.before)) e in
+    ∙ ap (map (arc_at p.before)) e in
     record {
       allowed = finish_allowed s tx open_tx;
       after = same_state (state_of q) (record (with_finished s tx) { installs = [] }) b bf g active pa order arcs st
@@ -168,14 +189,17 @@ renoted : (s : State) → IsGoodState s → IsGoodState (record s { installs = [
 renoted s g = record {
   sound = renoted-sound s [] g.sound;
   ruled = renoted-ruled s [] g.ruled;
-  installed = record { committed = λ install c. absurd (contains-none install c); once =
-      λ i j d lt within. absurd (omega (arith, within)) };
+  installed = record {
+    committed = λ install c. absurd (contains-none install c);
+    once =
+        λ i j d lt within. absurd (omega (arith, within));
+  };
 }
 
 pub ends_good : (s t : State) (tx : ℕ) → IsGoodState s → Ends s tx t → IsGoodState t
 ends_good s t tx g ends =
     subst IsGoodState (sym ends.after)
-        (renoted (with_finished s tx) (serves-good s (call.Finish tx) (with_finished s tx) g (ends.allowed, refl)))
+    (renoted (with_finished s tx) (serves-good s (call.Finish tx) (with_finished s tx) g (ends.allowed, refl)))
 
 pub finished_kept : (p q : Parts) (tx k : ℕ) (n a room n2 a2 room2 : ℕ) → IsSound p n a room
     → Ends (state_of p) tx (state_of q) → q.before ≡ p.before → q.flags ≡ slice_set p.flags k false
@@ -185,7 +209,7 @@ finished_kept p q tx k n a room n2 a2 room2 kept ends bf flags here none n_is a_
     let next = ends.after in
     let long = ap length flags ∙ length-set p.flags k false in
     let active : flagged q.before q.flags ≡ flagged p.before (slice_set p.flags k false) =
-        ap (λ m. flagged m q.flags) bf ∙ ap (flagged p.before) flags in
+    ap (λ m. flagged m q.flags) bf ∙ ap (flagged p.before) flags in
     record {
       good = ends_good (state_of p) (state_of q) tx kept.good ends;
       nodes = omega (arith, kept.nodes, long, n_is);
@@ -207,20 +231,24 @@ withdraw_allowed s h active idle _ f = f
 pub withdrawn_serves : (p q : Parts) (h : Handle) (number : ℕ) → IsAllowed (state_of p) (withdraw h)
     → number ≡ length p.rulings
     → q.begun ≡ p.begun → q.before ≡ p.before → q.generation ≡ p.generation
-        → q.flags ≡ slice_set p.flags h.index false → q.past ≡ p.past → q.order ≡ p.order → q.edges ≡ p.edges
-        → q.step ≡ p.step → q.rulings ≡ p.rulings ++ withdrawn (tx_at p.before h) ∷ [] → q.noted ≡ p.noted
+    → q.flags ≡ slice_set p.flags h.index false → q.past ≡ p.past → q.order ≡ p.order → q.edges ≡ p.edges
+    → q.step ≡ p.step → q.rulings ≡ p.rulings ++ withdrawn (tx_at p.before h) ∷ [] → q.noted ≡ p.noted
     → Serves (state_of p) (call.Withdraw h number) (state_of q)
 withdrawn_serves p q h number allowed count b bf g fl pa o e st ru noted_is =
     let s = state_of p in
     let active : flagged q.before q.flags ≡ without (tx_at p.before h) (flagged p.before p.flags) =
     ap (λ n. flagged n q.flags) bf ∙ (ap (flagged p.before) fl ∙ flagged_drop p.before p.flags h.index) in
     let order : map (tx_at q.before) q.order ≡ map (tx_at p.before) p.order = ap (λ n. map (tx_at n) q.order) bf
-        ∙ ap (map (tx_at p.before)) o in
+    ∙ ap (map (tx_at p.before)) o in
     let arcs : map (arc_at q.before) q.edges ≡ map (arc_at p.before) p.edges = ap (λ n. map (arc_at n) q.edges) bf
-        ∙ ap (map (arc_at p.before)) e in
-    (allowed,
-        (count, same_state (state_of q) (with_withdrawn s (tx_at p.before h)) b bf g active pa order arcs st ru
-        (ap₂ notes_of st noted_is)))
+    ∙ ap (map (arc_at p.before)) e in (
+      allowed,
+      (
+        count,
+        same_state (state_of q) (with_withdrawn s (tx_at p.before h)) b bf g active pa order arcs st ru
+            (ap₂ notes_of st noted_is),
+      ),
+    )
 
 pub withdrawn_kept : (p q : Parts) (h : Handle) (number : ℕ) (n a room n2 a2 room2 : ℕ) → IsSound p n a room
     → Serves (state_of p) (call.Withdraw h number) (state_of q) → p.step ≡ None → IsActive (state_of p) h
@@ -230,14 +258,19 @@ withdrawn_kept p q h number n a room n2 a2 room2 kept serves idle is_active bf f
     let next = serves.1.1 in
     let long = ap length flags ∙ length-set p.flags h.index false in
     let active : flagged q.before q.flags ≡ flagged p.before (slice_set p.flags h.index false) =
-        ap (λ m. flagged m q.flags) bf ∙ ap (flagged p.before) flags in
+    ap (λ m. flagged m q.flags) bf ∙ ap (flagged p.before) flags in
     record {
       good = serves-good (state_of p) (call.Withdraw h number) (state_of q) kept.good serves;
       nodes = omega (arith, kept.nodes, long, n_is);
       window = omega (arith, ap (λ (s : State). s.begun) next, bf, kept.window, long);
       running =
-          omega (arith, kept.running, a_is, ap length active,
-          flagged_less p.before p.flags h.index (flag_at p.before p.flags h.index is_active.1));
+          omega (
+            arith,
+            kept.running,
+            a_is,
+            ap length active,
+            flagged_less p.before p.flags h.index (flag_at p.before p.flags h.index is_active.1),
+          );
       closed = λ none. noted_is ∙ kept.closed idle;
       below = subst (All (λ site. site < max_sites)) (sym noted_is) kept.below;
       once = subst (AllPairs (λ x y. x ≢ y)) (sym noted_is) kept.once;
@@ -263,17 +296,18 @@ may_close s allowed = (
 
 pub closed_serves : (p q : Parts) (ranks : ℕ) → IsAllowed (state_of p) close → ranks ≡ length (serial (state_of p))
     → q.begun ≡ p.begun → q.before ≡ p.begun → q.generation ≡ suc p.generation → q.flags ≡ []
-        → q.past ≡ p.past ++ map (tx_at p.before) p.order → q.order ≡ [] → q.edges ≡ [] → q.step ≡ p.step
-        → q.rulings ≡ p.rulings → q.noted ≡ p.noted
+    → q.past ≡ p.past ++ map (tx_at p.before) p.order → q.order ≡ [] → q.edges ≡ [] → q.step ≡ p.step
+    → q.rulings ≡ p.rulings → q.noted ≡ p.noted
     → Serves (state_of p) (call.Close ranks) (state_of q)
 closed_serves p q ranks allowed count b bf g fl pa o e st ru noted_is =
     let s = state_of p in
     let none = (may_close s allowed).1 in
     let active : flagged q.before q.flags ≡ flagged p.before p.flags = ap (flagged q.before) fl ∙ sym none in
     let order : map (tx_at q.before) q.order ≡ [] = ap (map (tx_at q.before)) o in
-    let arcs : map (arc_at q.before) q.edges ≡ [] = ap (map (arc_at q.before)) e in
-    (allowed,
-        (count, same_state (state_of q) (with_closed s) b bf g active pa order arcs st ru (ap₂ notes_of st noted_is)))
+    let arcs : map (arc_at q.before) q.edges ≡ [] = ap (map (arc_at q.before)) e in (
+      allowed,
+      (count, same_state (state_of q) (with_closed s) b bf g active pa order arcs st ru (ap₂ notes_of st noted_is)),
+    )
 
 pub closed_kept : (p q : Parts) (ranks : ℕ) (n a room n2 room2 : ℕ) → IsSound p n a room
     → Serves (state_of p) (call.Close ranks) (state_of q) → q.begun ≡ p.begun → q.before ≡ p.begun → q.flags ≡ []
@@ -300,7 +334,7 @@ pub is_noted : (step : Option ℕ) (sites : List ℕ) (tx site : ℕ) → step �
     → Contains sites site ↔ Any (λ (x : Install). (x.tx ≡ tx) × (x.site ≡ site)) (notes_of step sites)
 is_noted step sites tx site open_tx =
     subst (λ st. Contains sites site ↔ Any (λ (x : Install). (x.tx ≡ tx) × (x.site ≡ site)) (notes_of st sites))
-        (sym open_tx) (
+    (sym open_tx) (
       λ c.
           let m = contains_map (note_at tx) sites site c in
           (m.0, note_at tx site, m.1, m.2, (refl, refl)),
@@ -356,10 +390,13 @@ noted_notes p q tx site allowed is =
     let r : Parts = record p { noted = p.noted ++ site ∷ [] } in
     let longer : notes_of p.step (p.noted ++ site ∷ []) ≡ notes_of p.step p.noted ++ note_at tx site ∷ [] =
     subst (λ st. notes_of st (p.noted ++ site ∷ []) ≡ notes_of st p.noted ++ note_at tx site ∷ []) (sym may.0.0)
-        (map-append (note_at tx) p.noted (site ∷ [])) in
-    record { allowed = allowed; after = ap state_of is
-        ∙ same_state (state_of r) (with_install (state_of p) tx site []) refl refl refl refl refl refl refl refl refl
-        longer }
+    (map-append (note_at tx) p.noted (site ∷ [])) in
+    record {
+      allowed = allowed;
+      after = ap state_of is
+          ∙ same_state (state_of r) (with_install (state_of p) tx site []) refl refl refl refl refl refl refl refl refl
+          longer;
+    }
 
 pub noted_kept : (p q : Parts) (tx site n a room room2 : ℕ) → IsSound p n a room
     → IsAllowed (state_of p) (installed tx site) → site < max_sites

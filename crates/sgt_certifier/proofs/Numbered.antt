@@ -41,6 +41,6 @@ pub decided-few : (s : State) (t : ℕ) → IsSoundCertifier s → IsRuled s →
 decided-few s t sound h idle active =
     let all = t ∷ map ruled s.rulings in
     let few = distinct_few (suc s.begun) all (AllPairs-from_at (λ a b. a ≢ b) all (apart s t h idle active))
-        (All-from_at (λ a. a < suc s.begun) all (begun s t sound h active)) in
+    (All-from_at (λ a. a < suc s.begun) all (begun s t sound h active)) in
     let long = length-map s.rulings ruled in
     omega (arith, few, long)

@@ -36,10 +36,12 @@ named_same : (seen : List Call) (c : Call) (s t : State) → t.begun ≡ s.begun
     → IsNamed (seen ++ c ∷ []) t
 named_same seen c s t begun before generation other n =
     let was : (m : ℕ) (h : Handle) → Contains (seen ++ c ∷ []) (call.Begin m h) → Contains seen (call.Begin m h) =
-        λ m h k. elim (Contains-append_cases seen (c ∷ []) (call.Begin m h) k) [
+    λ m h k. elim (Contains-append_cases seen (c ∷ []) (call.Begin m h) k) [
       | inl old ↦ old
-      | inr last ↦ elim (contains-cases c [] (call.Begin m h) last) [ inl e ↦ absurd (other m h e)
-          | inr none ↦ absurd (contains-none (call.Begin m h) none) ]
+      | inr last ↦ elim (contains-cases c [] (call.Begin m h) last) [
+        | inl e ↦ absurd (other m h e)
+        | inr none ↦ absurd (contains-none (call.Begin m h) none)
+      ]
     ] in
     record {
       window = λ m h k. elim (n.window m h (was m h k)) [
@@ -77,11 +79,13 @@ named_closed : (seen : List Call) (s : State) (ranks : ℕ) → IsNamed seen s �
     → IsNamed (seen ++ call.Close ranks ∷ []) (with_closed s)
 named_closed seen s ranks n window =
     let was : (m : ℕ) (h : Handle) → Contains (seen ++ call.Close ranks ∷ []) (call.Begin m h)
-        → Contains seen (call.Begin m h) =
-        λ m h k. elim (Contains-append_cases seen (call.Close ranks ∷ []) (call.Begin m h) k) [
+    → Contains seen (call.Begin m h) =
+    λ m h k. elim (Contains-append_cases seen (call.Close ranks ∷ []) (call.Begin m h) k) [
       | inl old ↦ old
-      | inr last ↦ elim (contains-cases (call.Close ranks) [] (call.Begin m h) last) [ inl e ↦ absurd cc
-          | inr none ↦ absurd (contains-none (call.Begin m h) none) ]
+      | inr last ↦ elim (contains-cases (call.Close ranks) [] (call.Begin m h) last) [
+        | inl e ↦ absurd cc
+        | inr none ↦ absurd (contains-none (call.Begin m h) none)
+      ]
     ] in
     record {
       window = λ m h k. elim (n.window m h (was m h k)) [
@@ -174,7 +178,7 @@ pub serial_topological : (edge : ℕ → ℕ → Type 0) (s : State) → IsGoodS
 serial_topological edge s g f =
     let here : IsTopological edge s.order = AllPairs-from_at (NotBack edge) s.order (λ p q a b lt at_a at_b e.
     AllPairs_at (NotBack (Joins s.arcs)) s.order p q a b g.sound.topological lt at_a at_b
-        (f.here b a e (Contains-from_at s.order q b at_b) (Contains-from_at s.order p a at_a))) in
+    (f.here b a e (Contains-from_at s.order q b at_b) (Contains-from_at s.order p a at_a))) in
     AllPairs-append (NotBack edge) s.past s.order f.past here (λ a b ca cb e. f.back b a e cb ca)
 
 -- ---- edges that were handed before, after one more call
@@ -198,10 +202,12 @@ begun_forward : (edge : ℕ → ℕ → Type 0) (s : State) → IsForward edge s
 begun_forward edge s f =
     same_forward edge s (with_begun s) (omega arith) refl refl refl
     (λ a le was c. elim (Contains-append_cases s.active (suc s.begun ∷ []) a c) [
-  | inl old ↦ was old
-  | inr last ↦ elim (contains-cases (suc s.begun) [] a last) [ inl e ↦ absurd (omega (arith, e, le))
-      | inr none ↦ absurd (contains-none a none) ]
-]) f
+      | inl old ↦ was old
+      | inr last ↦ elim (contains-cases (suc s.begun) [] a last) [
+        | inl e ↦ absurd (omega (arith, e, le))
+        | inr none ↦ absurd (contains-none a none)
+      ]
+    ]) f
 
 finished_forward : (edge : ℕ → ℕ → Type 0) (s : State) (i : ℕ) → s.step ≡ Some i → IsForward edge s
     → IsForward edge (with_finished s i)
@@ -241,7 +247,7 @@ committed_forward : (edge : ℕ → ℕ → Type 0) (old : State) (i : ℕ) (arc
     → Contains old.active i → Commits old i arcs new → IsForward edge old → IsForward edge new
 committed_forward edge old i arcs new idle active m f =
     let member : (a : ℕ) → (Contains old.active a → old.step ≡ Some a) → Contains m.places a → Contains old.order a =
-        λ a was c. elim (placed_member m.placed.0 old.order i a (subst (λ p. Contains p a) m.placed.2 c)) [
+    λ a was c. elim (placed_member m.placed.0 old.order i a (subst (λ p. Contains p a) m.placed.2 c)) [
       | inl e ↦ absurd (idle_end old i a idle was (subst (Contains old.active) (sym e) active))
       | inr old_one ↦ old_one
     ] in
@@ -296,8 +302,10 @@ out_cases s h e =
       | inr far ↦ inr (λ p. far p.0)
       | inl from ↦ elim (handle_cases e.to h) [
         | inl to ↦ inr (λ p. p.1 to)
-        | inr apart ↦ elim (known_cases s e.to) [ inl known ↦ inl (from, apart, known)
-            | inr unknown ↦ inr (λ p. unknown p.2) ]
+        | inr apart ↦ elim (known_cases s e.to) [
+          | inl known ↦ inl (from, apart, known)
+          | inr unknown ↦ inr (λ p. unknown p.2)
+        ]
       ]
     ]
 
@@ -307,8 +315,10 @@ in_cases s h e =
       | inr far ↦ inr (λ p. far p.0)
       | inl to ↦ elim (handle_cases e.from h) [
         | inl from ↦ inr (λ p. p.1 from)
-        | inr apart ↦ elim (known_cases s e.from) [ inl known ↦ inl (to, apart, known)
-            | inr unknown ↦ inr (λ p. unknown p.2) ]
+        | inr apart ↦ elim (known_cases s e.from) [
+          | inl known ↦ inl (to, apart, known)
+          | inr unknown ↦ inr (λ p. unknown p.2)
+        ]
       ]
     ]
 
@@ -332,12 +342,14 @@ arc_joins : (s : State) (edges : List Edge) (e : Edge) (a b : ℕ) → Contains 
     → a ≡ tx_under s e.from → b ≡ tx_under s e.to → Joins (arcs_of s edges) a b
 arc_joins s edges e a b c here is_a is_b =
     let kept = member_filter (λ (d : Edge). d.from.generation == s.generation) edges e c
-        (eq-eqb e.from.generation s.generation here) in
+    (eq-eqb e.from.generation s.generation here) in
     let arc = contains_map (λ (d : Edge). record { from = tx_under s d.from; to = tx_under s d.to; label = d.label })
-        (filter (λ (d : Edge). d.from.generation == s.generation) edges) e kept in
-    (e.label, subst (λ x. Contains (arcs_of s edges) (record { from = x; to = b; label = e.label })) (sym is_a)
-        (subst (λ y. Contains (arcs_of s edges) (record { from = tx_under s e.from; to = y; label = e.label }))
-        (sym is_b) arc))
+    (filter (λ (d : Edge). d.from.generation == s.generation) edges) e kept in (
+      e.label,
+      subst (λ x. Contains (arcs_of s edges) (record { from = x; to = b; label = e.label })) (sym is_a)
+          (subst (λ y. Contains (arcs_of s edges) (record { from = tx_under s e.from; to = y; label = e.label }))
+          (sym is_b) arc),
+    )
 
 -- who begins under a handle of this window
 name_here : (seen : List Call) (s : State) (t : ℕ) (h : Handle) → IsNamed seen s → Contains seen (call.Begin t h)
@@ -347,8 +359,10 @@ name_here seen s t h n c here =
 
 name_older : (seen : List Call) (s : State) (t : ℕ) (h : Handle) → IsNamed seen s → Contains seen (call.Begin t h)
     → IsOlder s h → t ≤ s.before
-name_older seen s t h n c older = elim (n.window t h c) [ inl is ↦ absurd (omega (arith, is.0, older))
-    | inr was ↦ was.1 ]
+name_older seen s t h n c older = elim (n.window t h c) [
+  | inl is ↦ absurd (omega (arith, is.0, older))
+  | inr was ↦ was.1
+]
 
 new_edge : (seen : List Call) (s : State) (h : Handle) (edges : List Edge) (e : Edge) (a b : ℕ) → IsNamed seen s
     → IsAllowed s (decide h edges) → IsActive s h → Contains edges e → Contains seen (call.Begin a e.from)
@@ -362,8 +376,11 @@ new_edge seen s h edges e a b n allowed active c from to =
           elim out.2 [
             | inl known ↦
                 let is_b : b ≡ tx_under s e.to = name_here seen s b e.to n to known.0 in
-                inl (is_a ∙ ap (tx_under s) out.0, subst (Contains s.order) (sym is_b) known.1,
-                    arc_joins s edges e a b c here is_a is_b)
+                inl (
+                  is_a ∙ ap (tx_under s) out.0,
+                  subst (Contains s.order) (sym is_b) known.1,
+                  arc_joins s edges e a b c here is_a is_b,
+                )
             | inr older ↦ absurd (allowed fault.Stale (c.0, e, c.1, c.2, (out.0, older)))
           ]
       | inr into ↦
@@ -373,8 +390,10 @@ new_edge seen s h edges e a b n allowed active c from to =
           elim into.2 [
             | inl known ↦
                 let is_a : a ≡ tx_under s e.from = name_here seen s a e.from n from known.0 in
-                inr (b_is,
-                    inl (subst (Contains s.order) (sym is_a) known.1, arc_joins s edges e a b c known.0 is_a is_b))
+                inr (
+                  b_is,
+                  inl (subst (Contains s.order) (sym is_a) known.1, arc_joins s edges e a b c known.0 is_a is_b),
+                )
             | inr older ↦ inr (b_is, inr (name_older seen s a e.from n from older))
           ]
     ]
@@ -383,16 +402,16 @@ new_edge seen s h edges e a b n allowed active c from to =
 new_forward : (edge : ℕ → ℕ → Type 0) (s t : State) (arcs : List Arc) (i : ℕ) → IsGoodState s → s.step ≡ None
     → Contains s.active i → ((a b : ℕ) → edge a b → IsNew s arcs i a b)
     → t.active ≡ s.active → t.step ≡ Some i → t.begun ≡ s.begun → t.past ≡ s.past
-        → ((a : ℕ) → Contains t.order a → (a ≡ i) ⊎ Contains s.order a)
-        → ((a b : ℕ) → Joins arcs a b → Contains t.order i → Joins t.arcs a b)
+    → ((a : ℕ) → Contains t.order a → (a ≡ i) ⊎ Contains s.order a)
+    → ((a b : ℕ) → Joins arcs a b → Contains t.order i → Joins t.arcs a b)
     → IsForward edge t
 new_forward edge s t arcs i g idle active new same_active step begun past member joins =
     let w = g.sound.active_here i active in
     let out : Contains s.order i → ⊥ = uncommitted s i g.sound idle active in
     let not_active : (a : ℕ) → Contains s.order a → Contains s.active a
-        → ⊥ = λ a o c. (let f : None ≡ Some a = sym idle ∙ g.sound.committed_open a c o in absurd cc) in
+    → ⊥ = λ a o c. (let f : None ≡ Some a = sym idle ∙ g.sound.committed_open a c o in absurd cc) in
     let decided : (a : ℕ) → (a ≡ i) ⊎ (Contains s.order a ⊎ (a ≤ s.before)) → Contains t.active a → t.step ≡ Some a =
-        λ a is c. elim is [
+    λ a is c. elim is [
       | inl e ↦ step ∙ ap Some (sym e)
       | inr other ↦ elim other [
         | inl o ↦ absurd (not_active a o (subst (λ xs. Contains xs a) same_active c))
@@ -401,21 +420,25 @@ new_forward edge s t arcs i g idle active new same_active step begun past member
       ]
     ] in
     let from_is : (a b : ℕ) → edge a b → (a ≡ i) ⊎ (Contains s.order a ⊎ (a ≤ s.before)) =
-        λ a b e. elim (new a b e) [ inl p ↦ inl p.0
-        | inr p ↦ elim p.1 [ inl q ↦ inr (inl q.0) | inr q ↦ inr (inr q) ] ] in
+    λ a b e. elim (new a b e) [
+      | inl p ↦ inl p.0
+      | inr p ↦ elim p.1 [ inl q ↦ inr (inl q.0) | inr q ↦ inr (inr q) ]
+    ] in
     let to_is : (a b : ℕ) → edge a b → (b ≡ i) ⊎ (Contains s.order b ⊎ (b ≤ s.before)) =
-        λ a b e. elim (new a b e) [ inl p ↦ inr (inl p.1) | inr p ↦ inl p.0 ] in
+    λ a b e. elim (new a b e) [ inl p ↦ inr (inl p.1) | inr p ↦ inl p.0 ] in
     let small : (a : ℕ) → (a ≡ i) ⊎ (Contains s.order a ⊎ (a ≤ s.before)) → a ≤ t.begun = λ a is. elim is [
       | inl e ↦ omega (arith, e, w.1, begun)
-      | inr other ↦ elim other [ inl o ↦ (let v = g.sound.order_here a o in omega (arith, v.1, begun))
-          | inr le ↦ (let v = g.sound.window in omega (arith, v, le, begun)) ]
+      | inr other ↦ elim other [
+        | inl o ↦ (let v = g.sound.order_here a o in omega (arith, v.1, begun))
+        | inr le ↦ (let v = g.sound.window in omega (arith, v, le, begun))
+      ]
     ] in
     let late : (a : ℕ) → Contains t.order a → a ≤ s.before → ⊥ = λ a c le. elim (member a c) [
       | inl e ↦ omega (arith, e, w.0, le)
       | inr o ↦ (let v = g.sound.order_here a o in omega (arith, v.0, le))
     ] in
     let early : (a : ℕ) → Contains t.past a
-        → a ≤ s.before = λ a c. g.sound.past_before a (subst (λ xs. Contains xs a) past c) in
+    → a ≤ s.before = λ a c. g.sound.past_before a (subst (λ xs. Contains xs a) past c) in
     record {
       apart = λ a b e same. elim (new a b e) [
         | inl p ↦ out (subst (Contains s.order) (sym same ∙ p.0) p.1)
@@ -465,15 +488,18 @@ serves_forward edge seen old (call.Decide h edges (Committed number)) new g n r 
     let m = r.1.1 in
     let a = m.after in
     let is : (x y : ℕ) → Pairs seen c x y → IsNew old (arcs_of old edges) i x y =
-        λ x y e. new_edge seen old h edges e.0 x y n r.0 active e.1 e.2 e.3 in
+    λ x y e. new_edge seen old h edges e.0 x y n r.0 active e.1 e.2 e.3 in
     let order : new.order ≡ m.places = ap (λ (s : State). s.order) a in
     let arcs : new.arcs ≡ old.arcs ++ arcs_of old edges = ap (λ (s : State). s.arcs) a in
     forward_either edge (Pairs seen c) new (committed_forward edge old i (arcs_of old edges) new idle active.1 m f)
     (new_forward (Pairs seen c) old new (arcs_of old edges) i g idle active.1 is (ap (λ (s : State). s.active) a)
-        (ap (λ (s : State). s.step) a) (ap (λ (s : State). s.begun) a) (ap (λ (s : State). s.past) a)
+    (ap (λ (s : State). s.step) a) (ap (λ (s : State). s.begun) a) (ap (λ (s : State). s.past) a)
     (λ x k. placed_member m.placed.0 old.order i x (subst (λ p. Contains p x) (order ∙ m.placed.2) k))
-    (λ x y j k. (j.0, subst (λ xs. Contains xs (record { from = x; to = y; label = j.0 })) (sym arcs)
-        (Contains-append_right old.arcs (arcs_of old edges) _ j.1))))
+    (λ x y j k. (
+      j.0,
+      subst (λ xs. Contains xs (record { from = x; to = y; label = j.0 })) (sym arcs)
+          (Contains-append_right old.arcs (arcs_of old edges) _ j.1),
+    )))
 serves_forward edge seen old (call.Decide h edges (Refused number walk)) new g n r f =
     let c = call.Decide h edges (Refused number walk) in
     let idle = no_step old (λ t. r.0 (fault.StepOpen t)) in
@@ -481,17 +507,17 @@ serves_forward edge seen old (call.Decide h edges (Refused number walk)) new g n
     let i = tx_under old h in
     let a = r.1.1.after in
     let is : (x y : ℕ) → Pairs seen c x y → IsNew old (arcs_of old edges) i x y =
-        λ x y e. new_edge seen old h edges e.0 x y n r.0 active e.1 e.2 e.3 in
+    λ x y e. new_edge seen old h edges e.0 x y n r.0 active e.1 e.2 e.3 in
     let order : new.order ≡ old.order = ap (λ (s : State). s.order) a in
     let vacuous : (x : ℕ) → x ≤ old.begun → (Contains old.active x → old.step ≡ Some x) → Contains new.active x
-        → new.step ≡ Some x =
-        λ x le was k. absurd (idle_end old i x idle was (subst (λ (s : State). Contains s.active x) a k)) in
+    → new.step ≡ Some x =
+    λ x le was k. absurd (idle_end old i x idle was (subst (λ (s : State). Contains s.active x) a k)) in
     let begun : new.begun ≡ old.begun = ap (λ (s : State). s.begun) a in
     forward_either edge (Pairs seen c) new
-        (same_forward edge old new (omega (arith, begun)) (ap (λ (s : State). s.past) a) order
-        (ap (λ (s : State). s.arcs) a) vacuous f)
+    (same_forward edge old new (omega (arith, begun)) (ap (λ (s : State). s.past) a) order
+    (ap (λ (s : State). s.arcs) a) vacuous f)
     (new_forward (Pairs seen c) old new (arcs_of old edges) i g idle active.1 is (ap (λ (s : State). s.active) a)
-        (ap (λ (s : State). s.step) a) begun (ap (λ (s : State). s.past) a)
+    (ap (λ (s : State). s.step) a) begun (ap (λ (s : State). s.past) a)
     (λ x k. inr (subst (λ p. Contains p x) order k))
     (λ x y j k. absurd (uncommitted old i g.sound idle active.1 (subst (λ p. Contains p i) order k))))
 serves_forward edge seen old (call.Finish tx) new g n r f =
@@ -519,10 +545,12 @@ runs_forward edge seen [] old new g n f r =
 runs_forward edge seen (c ∷ cs) old new g n f r =
     let mid = r.0 in
     let later = runs_forward (Either edge (Pairs seen c)) (seen ++ c ∷ []) cs mid new (serves-good old c mid g r.1)
-        (serves_named seen old c mid g r.1 n) (serves_forward edge seen old c mid g n r.1 f) r.2 in
+    (serves_named seen old c mid g r.1 n) (serves_forward edge seen old c mid g n r.1 f) r.2 in
     forward_less (Either (Either edge (Pairs seen c)) (HandsFrom (seen ++ c ∷ []) cs))
-        (Either edge (HandsFrom seen (c ∷ cs))) new (λ a b e. elim e [ inl x ↦ inl (inl x)
-        | inr y ↦ elim y [ inl z ↦ inl (inr z) | inr z ↦ inr z ] ]) later
+    (Either edge (HandsFrom seen (c ∷ cs))) new (λ a b e. elim e [
+      | inl x ↦ inl (inl x)
+      | inr y ↦ elim y [ inl z ↦ inl (inr z) | inr z ↦ inr z ]
+    ]) later
 
 None_at : ℕ → ℕ → Type 0
 None_at a b = ⊥
@@ -530,11 +558,14 @@ None_at a b = ⊥
 pub hands_forward : (history : List Call) (s : State) → Replays history s → IsForward (Hands history) s
 unfolding None_at
 hands_forward history s r =
-    let named : IsNamed [] opening = record { window = λ t h c. absurd (contains-none (call.Begin t h) c); begun =
-        λ t h c. absurd (contains-none (call.Begin t h) c) } in
+    let named : IsNamed [] opening = record {
+      window = λ t h c. absurd (contains-none (call.Begin t h) c);
+      begun =
+          λ t h c. absurd (contains-none (call.Begin t h) c);
+    } in
     let start = forward_none None_at opening (λ a b e. e) in
     forward_less (Either None_at (HandsFrom [] history)) (Hands history) s (λ a b e. inr e)
-        (runs_forward None_at [] history opening s (replays-good [] opening refl) named start r)
+    (runs_forward None_at [] history opening s (replays-good [] opening refl) named start r)
 
 pub hands_topological : (history : List Call) (s : State) → Replays history s → IsTopological (Hands history) (serial s)
 hands_topological history s r =

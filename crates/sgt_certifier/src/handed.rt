@@ -26,7 +26,8 @@ pub struct Star {
     pub incidents: Vec<Incident>,
 }
 
-/// The edges that a decision was handed: the decided transaction is at one end of each. They lie apart, since few calls have edges.
+/// The edges that a decision was handed: the decided transaction is at one end of each. They lie apart, since few
+/// calls have edges.
 #[derive(Drop)]
 pub struct HandedEdges {
     star: Box<Star>,
@@ -56,8 +57,8 @@ impl HandedEdges {
         HandedEdges::from_vec(alloc, node, incidents)
     }
 
-    /// The edges of the node to and from these other ends. It takes memory for the vector's own place and the node, and copies
-    /// none of them.
+    /// The edges of the node to and from these other ends. It takes memory for the vector's own place and the node,
+    /// and copies none of them.
     pub fn from_vec(
         alloc: Global,
         node: Handle,

@@ -130,8 +130,8 @@ fn place_of(expected: &[Prepared], touched: &[Touch], site: SiteNo) -> Option<us
     None
 }
 
-// The items that the draft changes at the site, which have places: the list that was made for it, which is taken away, or else a
-// new one.
+// The items that the draft changes at the site, which have places: the list that was made for it, which is taken
+// away, or else a new one.
 pub fn take_items(
     alloc: Global,
     expected: &mut Vec<Prepared>,
@@ -174,8 +174,8 @@ fn has_site(expected: &[Prepared], site: SiteNo) -> bool
     expected.iter().any(|prepared| prepared.site == site)
 }
 
-// The lists of the items that the draft changes, one for each site where it changes any. They stand in the room of those that
-// are given.
+// The lists of the items that the draft changes, one for each site where it changes any. They stand in the room of
+// those that are given.
 pub fn prepared_lists(
     alloc: Global,
     spare: Vec<Prepared>,

@@ -22,8 +22,8 @@ use sgt_order::{Admit, Graph};
 use std::alloc::{AllocError, Global};
 use std::marker::Model;
 
-/// Begins, decides and ends transactions. It keeps its decisions and the sites that are noted in the open step, and neither
-/// the calls that it served nor the items of installs.
+/// Begins, decides and ends transactions. It keeps its decisions and the sites that are noted in the open step, and
+/// neither the calls that it served nor the items of installs.
 #[derive(Drop)]
 pub struct Judge {
     graph: Graph,
@@ -77,9 +77,9 @@ impl Judge {
         }
     }
 
-    /// The decisions until now, in their order, for a bundle of so many sites. A committed transaction has the rank that it has
-    /// now: the number of commits in closed windows, and its place in the order of this one. It errs where memory is refused.
-    /// Linear in the decisions.
+    /// The decisions until now, in their order, for a bundle of so many sites. A committed transaction has the rank
+    /// that it has now: the number of commits in closed windows, and its place in the order of this one. It errs
+    /// where memory is refused. Linear in the decisions.
     pub fn certificate(&self, alloc: Global, sites: u8) -> Result<Certificate, AllocError>
         ensures { IfOk result (λ c. c ≡ certificate_of self.now sites) }
     {
@@ -142,8 +142,8 @@ impl Judge {
         }
     }
 
-    /// The number of the next transaction. It errs with C1 where 4,096 were begun in this window, else with C3 where a step is
-    /// open, else with C8 after transaction 4294967295. Constant time.
+    /// The number of the next transaction. It errs with C1 where 4,096 were begun in this window, else with C3 where
+    /// a step is open, else with C8 after transaction 4294967295. Constant time.
     pub fn may_begin(&self) -> Result<Tx, CertifierFault>
         ensures next { IfOk result (λ tx. tx ≡ suc self.now.begun) }
         ensures ok { OnOk result (IsAllowed self.now begin) }
@@ -161,8 +161,8 @@ impl Judge {
         }
     }
 
-    /// Begins the next transaction, under the handle that is given. It errs as `may_begin`, else with C5 where memory is
-    /// refused; after an Err the judge is as it was. In the long run constant time.
+    /// Begins the next transaction, under the handle that is given. It errs as `may_begin`, else with C5 where memory
+    /// is refused; after an Err the judge is as it was. In the long run constant time.
     pub fn begin(&mut self) -> Result<(Tx, Handle), CertifierFault>
         ensures ok { IfOk result (λ r. Serves self.old (call.Begin r.0 r.1) self.new) }
         ensures err { IfErr result (λ f. Denies self.old begin f self.new) }
@@ -178,8 +178,8 @@ impl Judge {
         Ok((tx, handle))
     }
 
-    /// Ends the open step, and its transaction with it. It takes no memory: it errs with C2 where this transaction's step
-    /// isn't open, and then the judge is as it was; else it succeeds. Constant time.
+    /// Ends the open step, and its transaction with it. It takes no memory: it errs with C2 where this transaction's
+    /// step isn't open, and then the judge is as it was; else it succeeds. Constant time.
     pub fn finish_step(&mut self, tx: Tx) -> Result<(), CertifierFault>
         ensures ok { OnOk result (Ends self.old tx self.new) }
         ensures few { OnOk result (length self.old.installs ≤ max_sites) }
@@ -200,8 +200,8 @@ impl Judge {
         Ok(())
     }
 
-    /// Whether an active transaction may be taken back, or room made for its installs. It errs with C2 where no transaction of
-    /// this window is active under the handle, else with C3 where a step is open. Constant time.
+    /// Whether an active transaction may be taken back, or room made for its installs. It errs with C2 where no
+    /// transaction of this window is active under the handle, else with C3 where a step is open. Constant time.
     pub fn may_withdraw(&self, handle: Handle) -> Result<(), CertifierFault>
         ensures withdraw { OnOk result (IsAllowed self.now (withdraw handle)) }
         ensures expect { OnOk result (IsAllowed self.now (expect handle)) }
@@ -217,8 +217,8 @@ impl Judge {
         }
     }
 
-    /// Takes an active transaction back, as the decision whose number is given. It errs as `may_withdraw`, else with C5 where
-    /// memory is refused; after an Err the judge is as it was. In the long run constant time.
+    /// Takes an active transaction back, as the decision whose number is given. It errs as `may_withdraw`, else with
+    /// C5 where memory is refused; after an Err the judge is as it was. In the long run constant time.
     pub fn withdraw(&mut self, handle: Handle) -> Result<u64, CertifierFault>
         ensures ok { IfOk result (λ number. Serves self.old (call.Withdraw handle number) self.new) }
         ensures err { IfErr result (λ f. Denies self.old (withdraw handle) f self.new) }
@@ -263,9 +263,10 @@ impl Judge {
         false
     }
 
-    /// Whether an active transaction may be decided with its edges. It errs with C2 where no transaction of this window is
-    /// active under the handle, or an edge hasn't the handle at exactly one end and a committed transaction, or one of an older
-    /// window, at the other; else with C3 where a step is open; else with C6 where an edge leads to an older window.
+    /// Whether an active transaction may be decided with its edges. It errs with C2 where no transaction of this
+    /// window is active under the handle, or an edge hasn't the handle at exactly one end and a committed
+    /// transaction, or one of an older window, at the other; else with C3 where a step is open; else with C6 where an
+    /// edge leads to an older window.
     pub fn may_decide(&self, handle: Handle, edges: &EdgeList) -> Result<(), CertifierFault>
         ensures ok { OnOk result (MayDecide self.now handle edges.now) }
         ensures allowed { OnOk result (IsAllowed self.now (decide handle edges.now)) }
@@ -286,9 +287,9 @@ impl Judge {
         Ok(())
     }
 
-    /// Decides a transaction that may be decided, with its edges, and opens its step. It is committed exactly where no cycle
-    /// leads through it, else refused with a walk of edges from it back to it. It errs with C5 where memory is refused, and
-    /// then the judge is as it was.
+    /// Decides a transaction that may be decided, with its edges, and opens its step. It is committed exactly where
+    /// no cycle leads through it, else refused with a walk of edges from it back to it. It errs with C5 where memory
+    /// is refused, and then the judge is as it was.
     pub fn decide(&mut self, handle: Handle, edges: &EdgeList) -> Result<Decided, CertifierFault>
         requires may { MayDecide self.old handle edges.now }
         ensures ok { IfOk result
@@ -368,8 +369,8 @@ impl Judge {
         is_among(self.noted.as_slice(), site)
     }
 
-    /// Whether an install may be noted. It errs with C2 where the open step isn't that of this transaction, which it committed,
-    /// or an install at this site was noted in it. It goes over the sites that are noted.
+    /// Whether an install may be noted. It errs with C2 where the open step isn't that of this transaction, which it
+    /// committed, or an install at this site was noted in it. It goes over the sites that are noted.
     pub fn may_note(&self, tx: Tx, site: SiteNo) -> Result<(), CertifierFault>
         ensures ok { OnOk result (IsAllowed self.now (installed tx site)) }
         ensures err { IfErr result (IsTold self.now (installed tx site)) }
@@ -384,8 +385,8 @@ impl Judge {
         Ok(())
     }
 
-    /// Notes that the writes of the transaction of the open step are installed at the site, where that may be noted. It takes no
-    /// memory. Constant time.
+    /// Notes that the writes of the transaction of the open step are installed at the site, where that may be noted.
+    /// It takes no memory. Constant time.
     pub fn note(&mut self, tx: Tx, site: SiteNo)
         requires { IsAllowed self.old (installed tx site) }
         ensures notes { Notes self.old tx site self.new }
@@ -394,8 +395,8 @@ impl Judge {
         self.noted.push_reserved(site);
     }
 
-    /// Whether the window may be closed. It errs with C3 where a step is open, else with C4 where transactions are active, else
-    /// with C7 in the last window. Constant time.
+    /// Whether the window may be closed. It errs with C3 where a step is open, else with C4 where transactions are
+    /// active, else with C7 in the last window. Constant time.
     pub fn may_close(&self) -> Result<(), CertifierFault>
         ensures ok { OnOk result (IsAllowed self.now close) }
         ensures err { IfErr result (IsTold self.now close) }
@@ -412,8 +413,9 @@ impl Judge {
         Ok(())
     }
 
-    /// Closes the window: all nodes and edges go, and the ranks given stay. It answers how many ranks were given until now. It
-    /// errs as `may_close`, else with C5 where memory is refused; after an Err the judge is as it was. It goes over the order.
+    /// Closes the window: all nodes and edges go, and the ranks given stay. It answers how many ranks were given
+    /// until now. It errs as `may_close`, else with C5 where memory is refused; after an Err the judge is as it was.
+    /// It goes over the order.
     pub fn close(&mut self) -> Result<u64, CertifierFault>
         ensures ok { IfOk result (λ ranks. Serves self.old (call.Close ranks) self.new) }
         ensures err { IfErr result (λ f. Denies self.old close f self.new) }

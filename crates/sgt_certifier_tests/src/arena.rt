@@ -49,7 +49,8 @@ impl Drop for Numbered<'_> {
     }
 }
 
-// So many values are placed and the window is closed, if it is to be: how many were placed, and how many dropped by then.
+// So many values are placed and the window is closed, if it is to be: how many were placed, and how many dropped by
+// then.
 fn dropped_by_a_close(alloc: Global, size: u64, closes: bool, drops: &AtomicU64) -> (u64, u64) {
     let mut arena = Arena::new(alloc);
     for number in 0..size {

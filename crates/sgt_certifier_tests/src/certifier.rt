@@ -22,8 +22,8 @@ enum Asked {
     Close,
 }
 
-// What it answers: the number of a transaction with its handle, the number of a decision with the length of a refusal's walk, a number
-// alone, or the number of a fault with what it tells.
+// What it answers: the number of a transaction with its handle, the number of a decision with the length of a
+// refusal's walk, a number alone, or the number of a fault with what it tells.
 #[derive(Clone, Copy, PartialEq)]
 enum Answer {
     Begun(u32, Handle),
@@ -198,8 +198,9 @@ fn two_windows(rt: HostRuntime) -> Result<(), Fail> {
     Ok(())
 }
 
-// A cycle is refused. Handles of two windows before: nobody is decided under one, no edge leads to one, an edge from one is
-// left out, also if it is told twice. A handle that was never given, an edge to oneself, and one between two others are refused.
+// A cycle is refused. Handles of two windows before: nobody is decided under one, no edge leads to one, an edge from
+// one is left out, also if it is told twice. A handle that was never given, an edge to oneself, and one between two
+// others are refused.
 const REFUSALS: [Row; 18] = [
     (Asked::Begin, Answer::Begun(1, H0)),
     (Asked::Begin, Answer::Begun(2, H1)),

@@ -28,8 +28,8 @@ enum Said {
     NotAllowed,
 }
 
-// A node that is offered with these edges, what is said of it, the order behind that, and the transactions that the edges of a
-// cycle lead to.
+// A node that is offered with these edges, what is said of it, the order behind that, and the transactions that the
+// edges of a cycle lead to.
 type Row<'a> = (Handle, &'a [(Handle, Handle)], Said, &'a [u32], &'a [u32]);
 
 // What is said of the node, and whether the edges of a cycle lead to these transactions.
@@ -272,8 +272,8 @@ struct Window {
 }
 
 impl Window {
-    // Eight edges between the new node and others of the order: into it from those before a place, out of it to those from there
-    // on, and one in sixteen nodes has its edges the other way.
+    // Eight edges between the new node and others of the order: into it from those before a place, out of it to those
+    // from there on, and one in sixteen nodes has its edges the other way.
     fn eight(&mut self, node: Handle) -> [(Handle, Handle); 8] {
         let order = self.graph.order();
         let middle = random(&mut self.state) % (order.len() as u64).max(1);

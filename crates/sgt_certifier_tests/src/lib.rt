@@ -1,4 +1,5 @@
-//! Tests of what stands from the arena to the certifier: what no proof reaches, and each public function on its happy path.
+//! Tests of what stands from the arena to the certifier: what no proof reaches, and each public function on its happy
+//! path.
 #![tactic(auto)]
 
 #[cfg(test)]

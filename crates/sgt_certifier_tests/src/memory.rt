@@ -38,8 +38,8 @@ fn pages(rt: &HostRuntime) -> Result<u64, Fail> {
     Ok(resident.parse().unwrap_or(0))
 }
 
-// Whether fewer pages came than the blocks of 100,000 windows or graphs would take, which are 150,000 or more. The limit leaves
-// room for an allocator that holds freed memory back for a while, to see wrong uses of it.
+// Whether fewer pages came than the blocks of 100,000 windows or graphs would take, which are 150,000 or more. The
+// limit leaves room for an allocator that holds freed memory back for a while, to see wrong uses of it.
 fn are_few(before: u64, after: u64) -> bool {
     before > 0 && after.saturating_sub(before) < 110_000
 }

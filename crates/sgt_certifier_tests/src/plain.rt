@@ -77,7 +77,8 @@ impl Plain {
         }
     }
 
-    /// Places the node of a transaction, whose number is its place in the window and one more, if its edges make no cycle.
+    /// Places the node of a transaction, whose number is its place in the window and one more, if its edges make no
+    /// cycle.
     pub(crate) fn admit(
         &mut self,
         tx: u32,

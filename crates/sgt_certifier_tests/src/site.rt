@@ -81,8 +81,8 @@ fn ends_with(alloc: Global, site: &Site, items: &[Holding]) -> bool {
     false
 }
 
-// Under a pledge a thousand others read, and then the install takes no memory. Holds also where one growth is refused, whichever it
-// is: what is refused is tried again, but not the install.
+// Under a pledge a thousand others read, and then the install takes no memory. Holds also where one growth is
+// refused, whichever it is: what is refused is tried again, but not the install.
 #[test]
 fn pledge_holds(rt: HostRuntime) -> Result<(), Fail> {
     let names = Names::at(3)?;

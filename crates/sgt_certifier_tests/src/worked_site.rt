@@ -18,8 +18,8 @@ const ME: Handle = Handle {
     generation: 0,
 };
 
-// Site 0 has x=5 and y=2. There transaction 1 reads x, puts x=6, and is installed under h1: what the read answered, and whether
-// the pledge and the install did well.
+// Site 0 has x=5 and y=2. There transaction 1 reads x, puts x=6, and is installed under h1: what the read answered,
+// and whether the pledge and the install did well.
 fn install(alloc: Global, site: &mut Site, names: &Names) -> (Result<Seen, SiteFault>, bool) {
     let read = site.read(names.one, names.x);
     let mut draft = Draft::new(alloc);
@@ -70,8 +70,8 @@ fn edge_of_read(
     only_edge(alloc, site, &saw(alloc, names, version))
 }
 
-// Whether a draft of mine that puts x=9, and one that adds 9 to it, have an edge from the write of h1 alone: h1 read an older
-// version, and two increments are in no conflict.
+// Whether a draft of mine that puts x=9, and one that adds 9 to it, have an edge from the write of h1 alone: h1 read
+// an older version, and two increments are in no conflict.
 fn changes_follow(alloc: Global, site: &Site, names: &Names) -> [bool; 2] {
     let ww = Ok(Some(names.edge(H1, ME, Kind::Ww)));
     let mut draft = Draft::new(alloc);

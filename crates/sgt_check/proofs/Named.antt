@@ -41,7 +41,8 @@ module _ (w : Wanted) (options : Options) (bytes : List ℕ) (r : Reading) (is :
   named = map (renamed (nth is.items) (nth is.values)) m
 
   pub spelled_as : spelled n ≡ numbered is.ids is.items is.values
-  spelled_as = spelled-is n is.ids is.items is.values (ids_are ∙ is.id_texts) (items_are ∙ is.item_texts) (values_are ∙ is.value_texts)
+  spelled_as = spelled-is n is.ids is.items is.values (ids_are ∙ is.id_texts) (items_are ∙ is.item_texts) (values_are
+      ∙ is.value_texts)
 
   follow-back : (written : List ℕ) (line : ℕ) → MayFollow named written line → MayFollow m written line
   follow-back written line may =
@@ -62,13 +63,16 @@ module _ (w : Wanted) (options : Options) (bytes : List ℕ) (r : Reading) (is :
     serves = serves-on (nth is.items) (nth is.values) m is.apart a.order a.serves;
     least = λ place line other at may. a.least place line other at (follow-back (take place a.order) other may);
     text_is = a.text_is
-        ∙ ap (λ (s : Spelling ℕ ℕ). counts_text (committed_of m) (aborted_of m) ++ order_part options.order s a.order) spelled_as
+        ∙ ap (λ (s : Spelling ℕ ℕ). counts_text (committed_of m) (aborted_of m) ++ order_part options.order s a.order)
+        spelled_as
         ∙ ap₂ (λ (c d : ℕ). counts_text c d ++ order_part options.order (numbered is.ids is.items is.values) a.order)
         (sym (committed-same (nth is.items) (nth is.values) m)) (sym (aborted-same (nth is.items) (nth is.values) m))
         ∙ ordered options.order;
   }
     where
-      ordered : (b : Bool) → counts_text (committed_of named) (aborted_of named) ++ order_part b (numbered is.ids is.items is.values) a.order
+      ordered : (b : Bool)
+          → counts_text (committed_of named) (aborted_of named) ++ order_part b (numbered is.ids is.items is.values)
+          a.order
           ≡ counts_text (committed_of named) (aborted_of named) ++ order_part b (compactly is.ids) a.order
       ordered true = refl
       ordered false = refl
@@ -89,7 +93,8 @@ module _ (w : Wanted) (options : Options) (bytes : List ℕ) (r : Reading) (is :
         o = renamed_operation (nth is.items) (nth is.values) told.o;
         is = operation-on (nth is.items) (nth is.values) m is.apart f.line f.place told.t told.o told.is;
         evidence = told.evidence;
-        behind = evidence-on (nth is.items) (nth is.values) m is.apart f.line f.place told.t told.o told.is f.flaw told.evidence told.behind;
+        behind = evidence-on (nth is.items) (nth is.values) m is.apart f.line f.place told.t told.o told.is f.flaw
+            told.evidence told.behind;
         text_is = a.text_is ∙ ap (λ (s : Spelling ℕ ℕ). fault_text s m f.line f.flaw told.o told.evidence) spelled_as
             ∙ sym (fault-same (nth is.items) (nth is.values) (compactly is.ids) m f.line f.flaw told.o told.evidence);
       }
@@ -97,15 +102,21 @@ module _ (w : Wanted) (options : Options) (bytes : List ℕ) (r : Reading) (is :
   pub step-on : {g : Graph} (s : Step) → IsStep m g s → IsStepOf named (nth is.items) g s
   step-on s step = record {
     among = step.among;
-    conflict = conflict-on (nth is.items) (nth is.values) m is.apart s.kind s.from s.to s.item s.from_version s.to_version step.conflict;
+    conflict = conflict-on (nth is.items) (nth is.values) m is.apart s.kind s.from s.to s.item s.from_version
+        s.to_version step.conflict;
   }
 
-  kind-least : (g : Graph) (ranks : List ℕ) (s : Step) → ((t : Step) → IsStep m g t → Leads t s.from s.to → IsToldBefore ranks s t)
-      → (kind : Conflict) (x : Json) (v w : ℕ) → IsAmong g kind → HaveConflict named kind s.from s.to x v w → kind_place s.kind ≤ kind_place kind
+  kind-least : (g : Graph) (ranks : List ℕ) (s : Step)
+      → ((t : Step) → IsStep m g t → Leads t s.from s.to → IsToldBefore ranks s t)
+      → (kind : Conflict) (x : Json) (v w : ℕ) → IsAmong g kind → HaveConflict named kind s.from s.to x v w
+      → kind_place s.kind ≤ kind_place kind
   kind-least g ranks s told kind x v w among c =
       let old = conflict-named (nth is.items) (nth is.values) m is.apart kind s.from s.to x v w c in
       let t : Step = record { kind = kind; from = s.from; to = s.to; item = old.0; from_version = v; to_version = w } in
-      elim (told t (record { among = among; conflict = old.1 }) (refl, refl)) [ inl less ↦ omega (arith, less) | inr same ↦ omega (arith, same.0) ]
+      elim (told t (record { among = among; conflict = old.1 }) (refl, refl)) [
+        | inl less ↦ omega (arith, less)
+        | inr same ↦ omega (arith, same.0)
+      ]
 
   pub cyclic-answer : (text : List ℕ) → IsCyclicTold n m text → IsCycleTold bytes text
   cyclic-answer text a = record {
@@ -115,23 +126,27 @@ module _ (w : Wanted) (options : Options) (bytes : List ℕ) (r : Reading) (is :
     faultless = faultless-on (nth is.items) (nth is.values) m is.apart a.faultless;
     graph = a.graph;
     has = cycle-on (nth is.items) (nth is.values) m is.apart a.graph a.graph_is.has;
-    least = λ less below cycle. a.graph_is.least less below (cycle-back (nth is.items) (nth is.values) m is.apart less cycle);
+    least = λ less below cycle. a.graph_is.least less below
+        (cycle-back (nth is.items) (nth is.values) m is.apart less cycle);
     items = is.items;
     steps = a.steps;
     are = record {
       some = a.are.some;
-      each = All-weaken (IsStep m a.graph) (IsStepOf named (nth is.items) a.graph) a.steps (λ s step. step-on s step) a.are.each;
+      each = All-weaken (IsStep m a.graph) (IsStepOf named (nth is.items) a.graph) a.steps (λ s step. step-on s step)
+          a.are.each;
       onward = a.are.onward;
     };
     is = cycle_is-on (nth is.items) (nth is.values) m is.apart a.graph (lines_of a.steps) a.cycle_is.is;
     first = λ other c. a.cycle_is.first other (cycle_is-back (nth is.items) (nth is.values) m is.apart a.graph other c);
     kinds = All-weaken (λ (s : Step). (t : Step) → IsStep m a.graph t → Leads t s.from s.to → IsToldBefore a.ranks s t)
-        (λ (s : Step). (kind : Conflict) (x : Json) (v w : ℕ) → IsAmong a.graph kind → HaveConflict named kind s.from s.to x v w → kind_place s.kind ≤ kind_place kind)
+        (λ (s : Step). (kind : Conflict) (x : Json) (v w : ℕ) → IsAmong a.graph kind
+        → HaveConflict named kind s.from s.to x v w → kind_place s.kind ≤ kind_place kind)
         a.steps (λ s told. kind-least a.graph a.ranks s told) a.told_first;
     text_is = a.text_is ∙ ap (λ (s : Spelling ℕ ℕ). cycle_text s a.steps) spelled_as;
   }
 
-  pub told-answer : (outcome : Outcome) (text : List ℕ) → IsTold options n m outcome text → IsAnswer options bytes outcome text
+  pub told-answer : (outcome : Outcome) (text : List ℕ) → IsTold options n m outcome text
+      → IsAnswer options bytes outcome text
   told-answer Yes text a = serial-answer text a
   told-answer No text (inl a) = inl (faulty-answer text a)
   told-answer No text (inr a) = inr (cyclic-answer text a)

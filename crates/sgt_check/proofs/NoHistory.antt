@@ -31,14 +31,22 @@ record Behind (before xs : List (List ℕ)) (r rest : List ℕ) : Type 0 where
   pub is : xs ≡ before ++ more
   pub rest_is : rest ≡ text_of_lines more ++ r
 
-behind : (before xs : List (List ℕ)) (r rest : List ℕ) → AllByRecursion (HasNot 10) before → AllByRecursion (HasNot 10) xs → HasNot 10 r
+behind : (before xs : List (List ℕ)) (r rest : List ℕ) → AllByRecursion (HasNot 10) before
+    → AllByRecursion (HasNot 10) xs → HasNot 10 r
     → text_of_lines xs ++ r ≡ text_of_lines before ++ rest → Behind before xs r rest
 behind [] xs r rest h g hr e = record { more = xs; is = refl; rest_is = sym e }
-behind (b ∷ bs) [] r rest h g hr e = absurd (no_lf_in b (text_of_lines bs ++ rest) (subst (HasNot 10) (e ∙ line_front b bs rest) hr))
+behind (b ∷ bs) [] r rest h g hr e =
+    absurd (no_lf_in b (text_of_lines bs ++ rest) (subst (HasNot 10) (e ∙ line_front b bs rest) hr))
 behind (b ∷ bs) (x ∷ xs) r rest h g hr e =
-    let cut = cut_at_byte 10 x b (text_of_lines xs ++ r) (text_of_lines bs ++ rest) g.0 h.0 (sym (line_front x xs r) ∙ e ∙ line_front b bs rest) in
+    let cut = cut_at_byte 10 x b (text_of_lines xs ++ r) (text_of_lines bs ++ rest) g.0 h.0 (sym (line_front x xs r)
+    ∙ e ∙ line_front b bs rest) in
     let more = behind bs xs r rest h.1 g.1 hr cut.1 in
-    record { more = more.more; is = ap₂ (λ (z : List ℕ) (zs : List (List ℕ)). z ∷ zs) cut.0 more.is; rest_is = more.rest_is }
+    record {
+      more = more.more;
+      is = ap₂ (λ (z : List ℕ) (zs : List (List ℕ)). z ∷ zs) cut.0 more.is;
+      rest_is =
+          more.rest_is;
+    }
 
 -- what is in line_front of the rest: nothing, or a line
 abbrev Leads : List (List ℕ) → List ℕ → Type 0
@@ -49,11 +57,13 @@ leads-whole : (more : List (List ℕ)) (r rest : List ℕ) → rest ≡ text_of_
 leads-whole [] r rest e none = e ∙ none
 leads-whole (m ∷ ms) r rest e none = inl (text_of_lines ms ++ r, e ∙ line_front m ms r)
 
-leads-last : (more : List (List ℕ)) (r rest : List ℕ) → rest ≡ text_of_lines more ++ r → r ≢ [] → Leads (more ++ r ∷ []) rest
+leads-last : (more : List (List ℕ)) (r rest : List ℕ) → rest ≡ text_of_lines more ++ r → r ≢ []
+    → Leads (more ++ r ∷ []) rest
 leads-last [] r rest e some = inr (e, some)
 leads-last (m ∷ ms) r rest e some = inl (text_of_lines ms ++ r, e ∙ line_front m ms r)
 
-in-front-one : (line m rest : List ℕ) → IsInFront line rest → HasNot 10 m → ((more : List ℕ) × (rest ≡ m ++ 10 ∷ more)) ⊎ ((rest ≡ m) × (m ≢ [])) → m ≡ line
+in-front-one : (line m rest : List ℕ) → IsInFront line rest → HasNot 10 m
+    → ((more : List ℕ) × (rest ≡ m ++ 10 ∷ more)) ⊎ ((rest ≡ m) × (m ≢ [])) → m ≡ line
 in-front-one line m rest f none (inl (more, is)) = elim f.there [
   | inl (more', is') ↦ (cut_at_byte 10 m line more more' none (has_no_lf line f.none) (sym is ∙ is')).0
   | inr (is', some) ↦ absurd (no_lf_in m more (subst (HasNot 10) (sym is' ∙ is) (has_no_lf line f.none)))
@@ -81,26 +91,32 @@ EachWith w (line ∷ lines) (id ∷ ids) [] = ⊥
 EachWith w (line ∷ lines) (id ∷ ids) (t ∷ ts) =
     HasNoLf line × (length line ≤ longest_line) × IsLineWith w line id t × EachWith w lines ids ts
 
-entry_there : {E : Type 0} (Is : E → Type 0) (commits : Bool) (e : Option E) → IsEntry Is commits e → IsTrue commits → (x : E) × Is x
+entry_there : {E : Type 0} (Is : E → Type 0) (commits : Bool) (e : Option E) → IsEntry Is commits e → IsTrue commits
+    → (x : E) × Is x
 entry_there Is true None is c = absurd is
 entry_there Is true (Some x) is c = (x, is)
 entry_there Is false e is c = absurd cc
 
-record TellsFirst {E : Type 0} (Has : List ℕ → E → Type 0) (wanted : Bool) (line : List ℕ) (lines : List (List ℕ)) (t : Transaction Json Json)
+record TellsFirst {E : Type 0} (Has : List ℕ → E → Type 0) (wanted : Bool) (line : List ℕ) (lines : List (List ℕ))
+    (t : Transaction Json Json)
     (ts : List (Transaction Json Json)) : Type 0 where
   pub rest : List (Option E)
   pub here : IsTrue wanted → IsTrue t.commits → (x : E) × Has line x
   pub behind : AreTold Has wanted lines ts rest
 
-tells-first : {E : Type 0} (Has : List ℕ → E → Type 0) (wanted : Bool) (line : List ℕ) (lines : List (List ℕ)) (t : Transaction Json Json)
-    (ts : List (Transaction Json Json)) (es : List (Option E)) → AreTold Has wanted (line ∷ lines) (t ∷ ts) es → TellsFirst Has wanted line lines t ts
+tells-first : {E : Type 0} (Has : List ℕ → E → Type 0) (wanted : Bool) (line : List ℕ) (lines : List (List ℕ))
+    (t : Transaction Json Json)
+    (ts : List (Transaction Json Json)) (es : List (Option E)) → AreTold Has wanted (line ∷ lines) (t ∷ ts) es
+    → TellsFirst Has wanted line lines t ts
 tells-first Has true line lines t ts [] are = absurd are
 tells-first Has true line lines t ts (e ∷ es) are =
     record { rest = es; here = λ wanted c. entry_there (Has line) t.commits e are.0 c; behind = are.1 }
 tells-first Has false line lines t ts es are = record { rest = []; here = λ wanted. absurd cc; behind = refl }
 
-each-with : (w : Wanted) (lines : List (List ℕ)) (ids : List Json) (h : List (Transaction Json Json)) (times : List (Option Times)) (sessions : List (Option Json))
-    → SpellEach lines ids h → AreTold HasTimes w.real_time lines h times → AreTold HasSession w.sessions lines h sessions → EachWith w lines ids h
+each-with : (w : Wanted) (lines : List (List ℕ)) (ids : List Json) (h : List (Transaction Json Json))
+    (times : List (Option Times)) (sessions : List (Option Json))
+    → SpellEach lines ids h → AreTold HasTimes w.real_time lines h times
+    → AreTold HasSession w.sessions lines h sessions → EachWith w lines ids h
 each-with w [] [] [] times sessions s timed sessioned = tt
 each-with w [] [] (t ∷ ts) times sessions s timed sessioned = absurd s
 each-with w [] (id ∷ ids) ts times sessions s timed sessioned = absurd s
@@ -115,7 +131,8 @@ each-with w (line ∷ lines) (id ∷ ids) (t ∷ ts) times sessions s timed sess
       each-with w lines ids ts one.rest two.rest s.3 one.behind two.behind,
     )
 
-each-spell : (w : Wanted) (lines : List (List ℕ)) (ids : List Json) (h : List (Transaction Json Json)) → EachWith w lines ids h → SpellEach lines ids h
+each-spell : (w : Wanted) (lines : List (List ℕ)) (ids : List Json) (h : List (Transaction Json Json))
+    → EachWith w lines ids h → SpellEach lines ids h
 each-spell w [] [] [] s = tt
 each-spell w [] [] (t ∷ ts) s = absurd s
 each-spell w [] (id ∷ ids) ts s = absurd s
@@ -134,7 +151,8 @@ record Split (w : Wanted) (xs ys : List (List ℕ)) (ids : List Json) : Type 0 w
   pub before : EachWith w xs one h
   pub behind : EachWith w ys two k
 
-split : (w : Wanted) (xs ys : List (List ℕ)) (ids : List Json) (h : List (Transaction Json Json)) → EachWith w (xs ++ ys) ids h → Split w xs ys ids
+split : (w : Wanted) (xs ys : List (List ℕ)) (ids : List Json) (h : List (Transaction Json Json))
+    → EachWith w (xs ++ ys) ids h → Split w xs ys ids
 split w [] ys ids h s = record { one = []; two = ids; h = []; k = h; ids_are = refl; before = tt; behind = s }
 split w (x ∷ xs) ys [] h s = absurd s
 split w (x ∷ xs) ys (id ∷ ids) [] s = absurd s
@@ -152,26 +170,34 @@ split w (x ∷ xs) ys (id ∷ ids) (t ∷ h) s =
 
 -- ---- no fault of the line
 
-not-longer : (m rest : List ℕ) → length m ≤ longest_line → ((more : List ℕ) × (rest ≡ m ++ 10 ∷ more)) ⊎ ((rest ≡ m) × (m ≢ [])) → IsLongerThan longest_line rest → ⊥
+not-longer : (m rest : List ℕ) → length m ≤ longest_line → ((more : List ℕ) × (rest ≡ m ++ 10 ∷ more))
+    ⊎ ((rest ≡ m) × (m ≢ [])) → IsLongerThan longest_line rest → ⊥
 not-longer m rest short (inl (more, is)) long =
     let at = middle_at m 10 more in
     let there = slice_get-take_at (m ++ 10 ∷ more) (longest_line + 1) (length m) 10 (omega (arith, short)) at in
-    All_at (λ b. b ≢ 10) (take (longest_line + 1) (m ++ 10 ∷ more)) (length m) 10 (subst (λ (bytes : List ℕ). HasNoLf (take (longest_line + 1) bytes)) is long.1) there refl
+    All_at (λ b. b ≢ 10) (take (longest_line + 1) (m ++ 10 ∷ more)) (length m) 10
+    (subst (λ (bytes : List ℕ). HasNoLf (take (longest_line + 1) bytes)) is long.1) there refl
 not-longer m rest short (inr (is, some)) long = omega (arith, short, long.0, ap (λ (bytes : List ℕ). length bytes) is)
 
 -- the line in line_front of the rest, if there is one, has none of the faults
-none-blocks : (w : Wanted) (ys : List (List ℕ)) (rest : List ℕ) (ids one two : List Json) (k : List (Transaction Json Json)) → Leads ys rest → EachWith w ys two k
+none-blocks : (w : Wanted) (ys : List (List ℕ)) (rest : List ℕ) (ids one two : List Json)
+    (k : List (Transaction Json Json)) → Leads ys rest → EachWith w ys two k
     → StandOnce (one ++ two) → ids ≡ one → (fault : LineFault) → Blocks w ids rest fault → ⊥
 none-blocks w [] rest ids one two k none s once same NotALine (line, f, never) = in-front-some line rest f none
-none-blocks w [] rest ids one two k none s once same TooLong (long, no_lf) = omega (arith, long, ap (λ (bytes : List ℕ). length bytes) none)
-none-blocks w [] rest ids one two k none s once same IdAgain (line, id, t, f, is, again) = in-front-some line rest f none
+none-blocks w [] rest ids one two k none s once same TooLong (long, no_lf) =
+    omega (arith, long, ap (λ (bytes : List ℕ). length bytes) none)
+none-blocks w [] rest ids one two k none s once same IdAgain (line, id, t, f, is, again) =
+    in-front-some line rest f none
 none-blocks w (m ∷ ms) rest ids one [] k leads s once same fault blocks = absurd s
 none-blocks w (m ∷ ms) rest ids one (id' ∷ two) [] leads s once same fault blocks = absurd s
 none-blocks w (m ∷ ms) rest ids one (id' ∷ two) (t' ∷ k) leads s once same NotALine (line, f, never) =
-    never id' t' (subst (λ (l : List ℕ). IsLineWith w l id' t') (in-front-one line m rest f (has_no_lf m s.0) leads) s.2)
-none-blocks w (m ∷ ms) rest ids one (id' ∷ two) (t' ∷ k) leads s once same TooLong long = not-longer m rest s.1 leads long
+    never id' t' (subst (λ (l : List ℕ). IsLineWith w l id' t') (in-front-one line m rest f (has_no_lf m s.0) leads)
+    s.2)
+none-blocks w (m ∷ ms) rest ids one (id' ∷ two) (t' ∷ k) leads s once same TooLong long =
+    not-longer m rest s.1 leads long
 none-blocks w (m ∷ ms) rest ids one (id' ∷ two) (t' ∷ k) leads s once same IdAgain (line, id, t, f, is, again) =
-    let here = subst (λ (l : List ℕ). IsLine l id' t') (in-front-one line m rest f (has_no_lf m s.0) leads) s.2.line_is in
+    let here = subst (λ (l : List ℕ). IsLine l id' t') (in-front-one line m rest f (has_no_lf m s.0) leads)
+    s.2.line_is in
     let id_is = (line-one line id' id t' t here is.line_is).0 in
     let at = Contains_at one id (subst (λ (js : List Json). Contains js id) same again) in
     let first = front_at one (id' ∷ two) at.0 id at.1 in
@@ -180,15 +206,19 @@ none-blocks w (m ∷ ms) rest ids one (id' ∷ two) (t' ∷ k) leads s once same
     omega (arith, place, slice_get_within one at.0 id at.1)
 
 -- where a line can't be read the bytes spell no history whose lines tell what is wanted
-pub unreadable-none : (w : Wanted) (bytes : List ℕ) (number : ℕ) (fault : LineFault) (ids : List Json) (h : List (Transaction Json Json))
-    (times : List (Option Times)) (sessions : List (Option Json)) → IsFirstUnreadable w bytes number fault → (s : Spells bytes ids h) → Tell w s.lines h times sessions → ⊥
+pub unreadable-none : (w : Wanted) (bytes : List ℕ) (number : ℕ) (fault : LineFault) (ids : List Json)
+    (h : List (Transaction Json Json))
+    (times : List (Option Times)) (sessions : List (Option Json)) → IsFirstUnreadable w bytes number fault
+    → (s : Spells bytes ids h) → Tell w s.lines h times sessions → ⊥
 unreadable-none w bytes number fault ids h times sessions a s tell =
     let all = whole s.lines bytes (spelled-no_lf s.lines ids h s.spell) s.are_lines in
-    let b = behind a.before all.xs all.r a.rest (spelled-no_lf a.before a.ids a.h a.spell) all.no_lf all.none (sym all.bytes_are ∙ a.text) in
+    let b = behind a.before all.xs all.r a.rest (spelled-no_lf a.before a.ids a.h a.spell) all.no_lf all.none
+    (sym all.bytes_are ∙ a.text) in
     elim all.lines_are [
       | inl (none, is) ↦ never b.more (is ∙ b.is) (leads-whole b.more all.r a.rest b.rest_is none)
       | inr (some, is) ↦
-          never (b.more ++ all.r ∷ []) (is ∙ ap (λ (zs : List (List ℕ)). zs ++ all.r ∷ []) b.is ∙ append_assoc a.before b.more (all.r ∷ []))
+          never (b.more ++ all.r ∷ []) (is ∙ ap (λ (zs : List (List ℕ)). zs ++ all.r ∷ []) b.is
+          ∙ append_assoc a.before b.more (all.r ∷ []))
           (leads-last b.more all.r a.rest b.rest_is some)
     ]
   where
@@ -198,10 +228,14 @@ unreadable-none w bytes number fault ids h times sessions a s tell =
     never : (ys : List (List ℕ)) → s.lines ≡ a.before ++ ys → Leads ys a.rest → ⊥
     never ys is leads =
         let parts = split w a.before ys ids h (subst (λ (ls : List (List ℕ)). EachWith w ls ids h) is each) in
-        none-blocks w ys a.rest a.ids parts.one parts.two parts.k leads parts.behind (subst (λ (js : List Json). StandOnce js) parts.ids_are s.apart)
-        (each-one a.before a.ids parts.one a.h parts.h a.spell (each-spell w a.before parts.one parts.h parts.before)).0 fault a.blocks
+        none-blocks w ys a.rest a.ids parts.one parts.two parts.k leads parts.behind
+        (subst (λ (js : List Json). StandOnce js) parts.ids_are s.apart)
+        (each-one a.before a.ids parts.one a.h parts.h a.spell
+        (each-spell w a.before parts.one parts.h parts.before)).0 fault a.blocks
 
 -- nor any, where nothing is wanted
-pub none-told : (bytes : List ℕ) (number : ℕ) (fault : LineFault) (ids : List Json) (h : List (Transaction Json Json)) → IsFirstUnreadable neither bytes number fault
+pub none-told : (bytes : List ℕ) (number : ℕ) (fault : LineFault) (ids : List Json) (h : List (Transaction Json Json))
+    → IsFirstUnreadable neither bytes number fault
     → Spells bytes ids h → ⊥
-none-told bytes number fault ids h a s = unreadable-none neither bytes number fault ids h [] [] a s (record { timed = refl; sessioned = refl })
+none-told bytes number fault ids h a s =
+    unreadable-none neither bytes number fault ids h [] [] a s (record { timed = refl; sessioned = refl })

@@ -10,8 +10,10 @@ two o a b x y e f = f ∙ ap (λ (t : List ℕ). t ++ b) e ∙ append_assoc o a 
 pub three : (o a b c x y z : List ℕ) → x ≡ o ++ a → y ≡ x ++ b → z ≡ y ++ c → z ≡ o ++ (a ++ (b ++ c))
 three o a b c x y z e f g = two o a (b ++ c) x z e (two x b c y z f g)
 
-pub four : (o a b c d x y z w : List ℕ) → x ≡ o ++ a → y ≡ x ++ b → z ≡ y ++ c → w ≡ z ++ d → w ≡ o ++ (a ++ (b ++ (c ++ d)))
+pub four : (o a b c d x y z w : List ℕ) → x ≡ o ++ a → y ≡ x ++ b → z ≡ y ++ c → w ≡ z ++ d
+    → w ≡ o ++ (a ++ (b ++ (c ++ d)))
 four o a b c d x y z w e f g h = two o a (b ++ (c ++ d)) x w e (three x b c d y z w f g h)
 
-pub five : (o a b c d k x y z w v : List ℕ) → x ≡ o ++ a → y ≡ x ++ b → z ≡ y ++ c → w ≡ z ++ d → v ≡ w ++ k → v ≡ o ++ (a ++ (b ++ (c ++ (d ++ k))))
+pub five : (o a b c d k x y z w v : List ℕ) → x ≡ o ++ a → y ≡ x ++ b → z ≡ y ++ c → w ≡ z ++ d → v ≡ w ++ k
+    → v ≡ o ++ (a ++ (b ++ (c ++ (d ++ k))))
 five o a b c d k x y z w v e f g h i = two o a (b ++ (c ++ (d ++ k))) x v e (four x b c d k y z w v f g h i)

@@ -37,8 +37,8 @@ by_number ids items = record { id = λ line. compact (nth ids line); item = λ n
 
 -- ---- yes
 
--- the history that the bytes spell is serializable: an order serves; it is told where it is asked for, and has the least line first
--- of those that may stand behind those before
+-- the history that the bytes spell is serializable: an order serves; it is told where it is asked for, and has the
+-- least line first of those that may stand behind those before
 pub record IsYes (options : Options) (bytes text : List ℕ) : Type 0 where
   pub ids : List Json
   pub h : List (Transaction Json Json)
@@ -72,7 +72,8 @@ pub record IsStepOf {I V : Type 0} (h : List (Transaction I V)) (item_of : ℕ �
   pub conflict : HaveConflict h s.kind s.from s.to (item_of s.item) s.from_version s.to_version
 
 -- each is one, and leads to where the next one begins, the last to where the first does
-pub record AreStepsOf {I V : Type 0} (h : List (Transaction I V)) (item_of : ℕ → I) (g : Graph) (steps : List Step) : Type 0 where
+pub record AreStepsOf {I V : Type 0} (h : List (Transaction I V)) (item_of : ℕ
+    → I) (g : Graph) (steps : List Step) : Type 0 where
   pub some : 0 < length steps
   pub each : All (IsStepOf h item_of g) steps
   pub onward : (place : ℕ) (s t : Step) → slice_get steps place ≡ Some s
@@ -124,7 +125,8 @@ IsAnswer options bytes Unreadable text = IsUnreadable neither bytes text
 
 -- the bytes spell a serializable history
 abbrev pub SpellsSerializable : List ℕ → Type 0
-SpellsSerializable bytes = (ids : List Json) × (h : List (Transaction Json Json)) × Spells bytes ids h × IsSerializable h
+SpellsSerializable bytes = (ids : List Json) × (h : List (Transaction Json Json)) × Spells bytes ids h
+    × IsSerializable h
 
 -- that text was written
 abbrev pub WroteAnswer : Options → (told : Option (List ℕ)) → Outcome → (old new : Option (List ℕ)) → Type 0

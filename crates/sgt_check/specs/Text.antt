@@ -102,7 +102,8 @@ abbrev pub values_text : {I V : Type 0} → Spelling I V → Option V → ℕ �
 values_text s value by other = codes " value " ++ (value_text s value ++ (codes ", line "
     ++ (number_text by ++ (codes " gives " ++ value_text s other))))
 
-abbrev pub evidence_text : {I V : Type 0} → Spelling I V → List (Transaction I V) → ℕ → Operation I V → Evidence → List ℕ
+abbrev pub evidence_text : {I V : Type 0} → Spelling I V → List (Transaction I V) → ℕ → Operation I V → Evidence
+    → List ℕ
 evidence_text s h line o Nothing = []
 evidence_text s h line o (Wrote version) = codes " wrote " ++ decimal version
 evidence_text s h line o WritesLater = codes " writes it in line " ++ number_text line
@@ -114,7 +115,8 @@ abbrev pub told_text : {I V : Type 0} → Spelling I V → List (Transaction I V
 told_text s h line o evidence = codes "line " ++ (number_text line ++ (codes " " ++ (s.id line
     ++ (operation_text s o ++ (evidence_text s h line o evidence ++ codes "\n")))))
 
-abbrev pub fault_text : {I V : Type 0} → Spelling I V → List (Transaction I V) → ℕ → Flaw → Operation I V → Evidence → List ℕ
+abbrev pub fault_text : {I V : Type 0} → Spelling I V → List (Transaction I V) → ℕ → Flaw → Operation I V → Evidence
+    → List ℕ
 fault_text s h line flaw o evidence = flaw_text flaw ++ told_text s h line o evidence
 
 -- ---- a cycle

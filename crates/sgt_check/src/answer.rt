@@ -124,7 +124,8 @@ fn history_answer(
 
 /// The answer to a text that was read.
 fn reading_answer(alloc: Global, reading: Reading, options: Options) -> Result<Answer, AllocError>
-    ensures { IfOk result (λ a. (bytes : List ℕ) → IsReading neither bytes reading → IsAnswer options bytes a.outcome a.text.items) }
+    ensures { IfOk result (λ a. (bytes : List ℕ) → IsReading neither bytes reading
+        → IsAnswer options bytes a.outcome a.text.items) }
 {
     let Reading {
         history,
@@ -162,7 +163,8 @@ pub fn unread_text(alloc: Global, line: u64, fault: LineFault) -> Result<Vec<u8>
 
 /// The answer to a text.
 pub fn answer_to(alloc: Global, text: HistoryText, options: Options) -> Result<Answer, AllocError>
-    ensures { IfOk result (λ a. (bytes : List ℕ) → IsToldOf neither bytes text → IsAnswer options bytes a.outcome a.text.items) }
+    ensures { IfOk result (λ a. (bytes : List ℕ) → IsToldOf neither bytes text
+        → IsAnswer options bytes a.outcome a.text.items) }
 {
     match text {
         HistoryText::Read(reading) => reading_answer(alloc, reading, options),

@@ -10,9 +10,9 @@ use sgt_history_text::{Wanted, read_history};
 use sgt_names::{EngineFail, Outcome, Sink, Source, write_all};
 use std::alloc::Global;
 
-/// Reads a history, a transaction a line, and writes what it is: `yes` and how many transactions commit and abort, with an order that
-/// serves behind it where that is asked for; `no` and its first fault or a cycle of conflicts; or the first line that can't be read. No
-/// line behind that one is read. All is read before anything is written.
+/// Reads a history, a transaction a line, and writes what it is: `yes` and how many transactions commit and abort,
+/// with an order that serves behind it where that is asked for; `no` and its first fault or a cycle of conflicts; or
+/// the first line that can't be read. No line behind that one is read. All is read before anything is written.
 ///
 /// ReadFault where the reader failed, or no read is left, and Memory where a growth was refused: nothing was written.
 /// WriteFault where the writer failed: a front of the answer may have been written.

@@ -173,7 +173,8 @@ pub fn push_fault(
 ) -> Result<(), AllocError>
     requires { IsFirstFault (closed_of history.now) fault.line fault.flaw fault.place }
     ensures { OnOk result ((told : IsToldAs (closed_of history.now) fault)
-        × (out.new.items ≡ out.old.items ++ fault_text (spelled naming.now) (closed_of history.now) fault.line fault.flaw told.o told.evidence)) }
+        × (out.new.items ≡ out.old.items ++ fault_text (spelled naming.now) (closed_of history.now) fault.line
+        fault.flaw told.o told.evidence)) }
 {
     let Fault { line, flaw, place } = fault;
     let operation = operation_at(history, line, place);

@@ -1,5 +1,5 @@
-//! Where the names of items stand among one another: numbers before strings, by value or by bytes. Which of several steps is told rests
-//! on it, and nothing else.
+//! Where the names of items stand among one another: numbers before strings, by value or by bytes. Which of several
+//! steps is told rests on it, and nothing else.
 
 use sgt_history_text::Names;
 use std::alloc::{AllocError, Global};

@@ -91,7 +91,7 @@ record Splits (xs : List (List ℕ)) (n : ℕ) : Type 0 where
 known-split : (xs : List (List ℕ)) (n : ℕ) → Decidable (Splits xs n)
 known-split xs n =
     decidable-as (λ p. record { sites = p.0.0; events = p.0.1; few = p.1.0; first = p.1.1 })
-        (λ s. ((s.sites, s.events), (s.few, s.first)))
+    (λ s. ((s.sites, s.events), (s.few, s.first)))
     (decidable-both (decidable-both (known-sites 0 (take n xs)) (known-events (drop n xs)))
     (decidable-both (decidable-most n max_sites) (decidable-if (cases_eq n 0) (λ _. no-more (drop n xs)))))
 

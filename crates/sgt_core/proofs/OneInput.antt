@@ -49,15 +49,26 @@ record IsNextEvent (ss : List SiteLine) (es : List EventLine) (line : List ℕ) 
 events-more : (es fs : List EventLine) (line : List ℕ) → All IsEventLine es → All IsEventLine fs
     → map event_text es ++ line ∷ [] ≡ map event_text fs → IsNextEvent [] es line [] fs
 events-more [] [] line a b e = absurd cc
-events-more [] (f ∷ []) line a b e = record { event = f; is = All-head IsEventLine f [] b; text = heads _ _ _ _ e;
-    same = refl; more = refl }
+events-more [] (f ∷ []) line a b e = record {
+  event = f;
+  is = All-head IsEventLine f [] b;
+  text = heads _ _ _ _ e;
+  same = refl;
+  more = refl;
+}
 events-more [] (f ∷ g ∷ fs) line a b e = let rest = tails _ _ _ _ e in absurd cc
 events-more (x ∷ es) [] line a b e = absurd cc
 events-more (x ∷ es) (f ∷ fs) line a b e =
     let head = event-one x f (All-head IsEventLine x es a) (All-head IsEventLine f fs b) (heads _ _ _ _ e) in
     let rest = events-more es fs line (All-tail IsEventLine x es a) (All-tail IsEventLine f fs b) (tails _ _ _ _ e) in
-    record { event = rest.event; is = rest.is; text = rest.text; same = refl; more =
-        ap₂ (λ y ys. y ∷ ys) (sym head) rest.more }
+    record {
+      event = rest.event;
+      is = rest.is;
+      text = rest.text;
+      same = refl;
+      more =
+          ap₂ (λ y ys. y ∷ ys) (sym head) rest.more;
+    }
 
 lines-more : (ss ts : List SiteLine) (es fs : List EventLine) (line : List ℕ) → All IsSiteLine ss → All IsSiteLine ts
     → All IsEventLine es → All IsEventLine fs
@@ -77,16 +88,28 @@ lines-more (s ∷ ss) [] es (f ∷ fs) line a b c d e =
 lines-more (s ∷ ss) (t ∷ ts) es fs line a b c d e =
     let head = site-one s t (All-head IsSiteLine s ss a) (All-head IsSiteLine t ts b) (heads _ _ _ _ e) in
     longer head (lines-more ss ts es fs line (All-tail IsSiteLine s ss a) (All-tail IsSiteLine t ts b) c d
-        (tails _ _ _ _ e))
+    (tails _ _ _ _ e))
   where
     longer : s ≡ t → IsNextSite ss es line ts ⊎ IsNextEvent ss es line ts fs → IsNextSite (s ∷ ss) es line (t ∷ ts)
         ⊎ IsNextEvent (s ∷ ss) es line (t ∷ ts) fs
     longer head (inl n) =
-        inl (record { site = n.site; is = n.is; text = n.text; more = ap₂ (λ y ys. y ∷ ys) (sym head) n.more; none =
-        n.none })
+        inl (record {
+          site = n.site;
+          is = n.is;
+          text = n.text;
+          more = ap₂ (λ y ys. y ∷ ys) (sym head) n.more;
+          none =
+              n.none;
+        })
     longer head (inr n) =
-        inr (record { event = n.event; is = n.is; text = n.text; same = ap₂ (λ y ys. y ∷ ys) (sym head) n.same; more =
-        n.more })
+        inr (record {
+          event = n.event;
+          is = n.is;
+          text = n.text;
+          same = ap₂ (λ y ys. y ∷ ys) (sym head) n.same;
+          more =
+              n.more;
+        })
 
 -- a site is kept
 pub took-site : (old new : Input) (line : List ℕ) → old.events ≡ [] → new.events ≡ old.events
@@ -130,10 +153,10 @@ took-event old new line some kept (e, is, text, more) begun = (
 pub took-none : (old : Input) (line : List ℕ)
     → (old.events ≡ [] → (l : SiteLine) → IsSiteLine l → l.site ≡ length old.sites → line ≢ site_text l)
     → (old.sites ≢ [] → SpellsNone IsEventLine event_text line) → IsBegun old → Begins (input_lines old ++ line ∷ [])
-        → ⊥
+    → ⊥
 took-none old line no_site no_event begun (whole, is, same) =
     stands (lines-more old.sites whole.sites old.events whole.events line begun.each is.each begun.events is.events
-        same)
+    same)
   where
     stands : IsNextSite old.sites old.events line whole.sites
         ⊎ IsNextEvent old.sites old.events line whole.sites whole.events → ⊥

@@ -18,12 +18,14 @@ use Rattle.sgt_core.proofs.OneInput.{event-no_site}
 lines-no_lf : (ss : List SiteLine) (es : List EventLine) → All IsSiteLine ss → All IsEventLine es
     → AllByRecursion (HasNot 10) (map site_text ss ++ map event_text es)
 lines-no_lf [] [] a b = tt
-lines-no_lf [] (e ∷ es) a b =
-    (recursion_from_All (λ c. c ≢ 10) (event_text e) (event-no_lf e (All-head IsEventLine e es b)),
-        lines-no_lf [] es a (All-tail IsEventLine e es b))
-lines-no_lf (s ∷ ss) es a b =
-    (recursion_from_All (λ c. c ≢ 10) (site_text s) (site-no_lf s (All-head IsSiteLine s ss a)),
-        lines-no_lf ss es (All-tail IsSiteLine s ss a) b)
+lines-no_lf [] (e ∷ es) a b = (
+  recursion_from_All (λ c. c ≢ 10) (event_text e) (event-no_lf e (All-head IsEventLine e es b)),
+  lines-no_lf [] es a (All-tail IsEventLine e es b),
+)
+lines-no_lf (s ∷ ss) es a b = (
+  recursion_from_All (λ c. c ≢ 10) (site_text s) (site-no_lf s (All-head IsSiteLine s ss a)),
+  lines-no_lf ss es (All-tail IsSiteLine s ss a) b,
+)
 
 -- the lines are those of one list of sites and one list of events
 lines-one : (ss ts : List SiteLine) (es fs : List EventLine) → All IsSiteLine ss → All IsSiteLine ts
@@ -35,7 +37,7 @@ lines-one [] [] (x ∷ es) [] a b c d e = absurd cc
 lines-one [] [] (x ∷ es) (f ∷ fs) a b c d e =
     let head = event-one x f (All-head IsEventLine x es c) (All-head IsEventLine f fs d) (heads _ _ _ _ e) in
     let rest = lines-one [] [] es fs a b (All-tail IsEventLine x es c) (All-tail IsEventLine f fs d)
-        (tails _ _ _ _ e) in
+    (tails _ _ _ _ e) in
     (refl, ap₂ (λ y ys. y ∷ ys) head rest.1)
 lines-one [] (t ∷ ts) [] fs a b c d e = absurd cc
 lines-one [] (t ∷ ts) (x ∷ es) fs a b c d e =
@@ -50,6 +52,6 @@ lines-one (s ∷ ss) (t ∷ ts) es fs a b c d e =
 pub inputs-one : (bytes : List ℕ) (i j : Input) → Spells bytes i → Spells bytes j → i ≡ j
 inputs-one bytes i j (a, text) (b, text') =
     let lines = texts-one (input_lines i) (input_lines j) (lines-no_lf i.sites i.events a.0.each a.0.events)
-        (lines-no_lf j.sites j.events b.0.each b.0.events) (sym text ∙ text') in
+    (lines-no_lf j.sites j.events b.0.each b.0.events) (sym text ∙ text') in
     let same = lines-one i.sites j.sites i.events j.events a.0.each b.0.each a.0.events b.0.events lines in
     λ t. record { sites = same.0 t; events = same.1 t }

@@ -26,8 +26,11 @@ use Rattle.sgt_core.proofs.Unreadable.{nothing-kept, whole-input}
 -- nothing was played yet
 pub none-played : (sites : List SiteLine) (core : Option Parts) (text : List ℕ) → sites ≡ [] → core ≡ None → text ≡ []
     → HasPlayed sites core text []
-none-played sites None text none idle empty = (record { sites = sites; events = [] }, nothing-kept sites [] none refl,
-    (refl, refl, empty))
+none-played sites None text none idle empty = (
+  record { sites = sites; events = [] },
+  nothing-kept sites [] none refl,
+  (refl, refl, empty),
+)
 none-played sites (Some core) text none idle empty = absurd cc
 
 -- where there was no event the sites are kept, and nothing is written
@@ -36,7 +39,7 @@ pub idle-lines : (sites : List SiteLine) (core : Option Parts) (text : List ℕ)
     → HaveLines (record { sites = sites; events = [] }) lines × (text ≡ [])
 idle-lines sites None text lines idle (input, have, played) =
     let same : input ≡ record { sites = sites; events = [] } =
-        λ t. record { sites = played.0 t; events = played.1 t } in
+    λ t. record { sites = played.0 t; events = played.1 t } in
     (subst (λ (i : Input). HaveLines i lines) same have, played.2)
 idle-lines sites (Some core) text lines idle p = absurd cc
 
@@ -48,15 +51,28 @@ pushed-some (x ∷ es) e same = absurd cc
 pub event-played : {E : Type 0} (r : Result Bool E) (input : Input) (sites : List SiteLine) (old new : Parts)
     (line text written : List ℕ)
     → IsPlayed input sites (Some old) text → IfOk r (AnswersEvent old line new text written)
-        → IfOk r (PlaysOn input line sites (Some new) written)
+    → IfOk r (PlaysOn input line sites (Some new) written)
 event-played (Err e) input sites old new line text written played answers = tt
-event-played (Ok true) input sites old new line text written (some, filled, m, stands, writes) (e, is, spelled,
-    more) = (
+event-played (Ok true) input sites old new line text written (some, filled, m, stands, writes) (
+  e,
+  is,
+  spelled,
+  more,
+) = (
   record { sites = input.sites; events = input.events ++ e ∷ [] },
-  took-event input (record { sites = input.sites; events = input.events ++ e ∷ [] }) line some refl (e, is, spelled,
-      refl),
-  (some, pushed-some input.events e, m, stands,
-      replies-then m old new input.events (e ∷ []) [] text written writes more),
+  took-event input (record { sites = input.sites; events = input.events ++ e ∷ [] }) line some refl (
+    e,
+    is,
+    spelled,
+    refl,
+  ),
+  (
+    some,
+    pushed-some input.events e,
+    m,
+    stands,
+    replies-then m old new input.events (e ∷ []) [] text written writes more,
+  ),
 )
 event-played (Ok false) input sites old new line text written (some, filled, m, stands, writes) none =
     took-none input line (λ empty. absurd (filled empty)) (λ _. none)
@@ -82,7 +98,7 @@ first-played (Ok false) sites left opened new line written some no_site stands n
 pub line-played : {E : Type 0} (r : Result Bool E) (old : Input) (sites : List SiteLine) (core : Option Parts)
     (written line : List ℕ) (lines : List (List ℕ))
     → HaveLines old lines → IfOk r (PlaysOn old line sites core written)
-        → IfOk r (TakesLine Begins (HasPlayed sites core written) lines line)
+    → IfOk r (TakesLine Begins (HasPlayed sites core written) lines line)
 line-played (Err e) old sites core written line lines have plays = tt
 line-played (Ok true) old sites core written line lines have (new, takes, played) =
     let on = took-line IsBegun input_lines {E = ℕ} (Ok true) old new lines line have takes in
@@ -95,19 +111,19 @@ pub front-line : (line held : List ℕ) (n : ℕ) → n ≤ length held → take
     → take (n - 1) held ≡ line
 front-line line held n within front =
     let size : length line ≡ n - 1 =
-        omega (arith, ap length front, length-take-le n held within, length-append line (10 ∷ [])) in
+    omega (arith, ap length front, length-take-le n held within, length-append line (10 ∷ [])) in
     let text : held ≡ line ++ 10 ∷ drop n held =
     sym (take-append-drop n held) ∙ ap (λ (t : List ℕ). t ++ drop n held) front
-        ∙ append_assoc line (10 ∷ []) (drop n held) in
+    ∙ append_assoc line (10 ∷ []) (drop n held) in
     ap (λ (t : List ℕ). take (n - 1) t) text ∙ take_at line (10 ∷ drop n held) (n - 1) size
 
 -- the event whose line stands at the front is answered
 pub front-played : (e : EventLine) (input : Input) (sites : List SiteLine) (old new : Parts)
     (held text written : List ℕ) (lines : List (List ℕ)) (n : ℕ)
     → HaveLines input lines → IsPlayed input sites (Some old) text → IsEventLine e → n ≤ length held
-        → take n held ≡ event_text e ++ 10 ∷ []
+    → take n held ≡ event_text e ++ 10 ∷ []
     → WritesReplies old (e ∷ []) new text written
-        → TakesFront Begins (HasPlayed sites (Some new) written) lines held (Some n)
+    → TakesFront Begins (HasPlayed sites (Some new) written) lines held (Some n)
 front-played e input sites old new held text written lines n have played is within front more =
     let line = event_text e in
     let plays = event-played {E = ℕ} (Ok true) input sites old new line text written played (e, is, refl, more) in
@@ -135,7 +151,7 @@ none-opening input sites (Some core) text is played none = absurd cc
 pub played-run : (input : Input) (sites : List SiteLine) (core : Option Parts) (last : Parts) (text : List ℕ)
     → IsPlayed input sites core text
     → IsCoreAtEnd core sites last → (m : Parts) × StandsFor m (fresh (map (λ l. l.items) input.sites))
-        × WritesReplies m input.events last [] text
+    × WritesReplies m input.events last [] text
 played-run input sites None last text (same, none, empty) stands = (
   last,
   subst (λ ss. StandsFor last (fresh (map (λ l. l.items) ss))) (sym same) stands,

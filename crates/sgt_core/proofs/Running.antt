@@ -55,9 +55,9 @@ replies-then m n o xs ys text out out' first later c stands =
         run = both.0;
         appended = more.appended ∙ ap (λ (t : List ℕ). t ++ text_of_lines (reply_lines ys more.replies)) runs.appended
             ∙ append_assoc text (text_of_lines (reply_lines xs runs.replies))
-                (text_of_lines (reply_lines ys more.replies))
+            (text_of_lines (reply_lines ys more.replies))
             ∙ ap (λ (t : List ℕ). text ++ t)
-                (sym (text-append (reply_lines xs runs.replies) (reply_lines ys more.replies)))
+            (sym (text-append (reply_lines xs runs.replies) (reply_lines ys more.replies)))
             ∙ ap (λ ts. text ++ text_of_lines ts) (sym both.1);
       },
       then,
@@ -70,7 +70,7 @@ pub answers-step : (m n o : Parts) (line : EventLine) (e : Event) (reply told : 
 answers-step m n o line e reply told is same tells goes =
     subst (λ l. GoesOn (λ c d. MayAnswer c l told d) m o) (sym is)
     (subst (λ (p : Parts). GoesOn (λ c d. MayAnswer c (One e) told d) m p) (sym same)
-        (subst (λ r. GoesOn (λ c d. MayAnswer c (One e) r d) m n) (sym tells) goes))
+    (subst (λ r. GoesOn (λ c d. MayAnswer c (One e) r d) m n) (sym tells) goes))
 
 pub answers-to_decide : (m n o : Parts) (line : EventLine) (tx : ℕ) (reply told : Reply) → line ≡ ToDecide tx → o ≡ n
     → told ≡ reply
@@ -78,22 +78,29 @@ pub answers-to_decide : (m n o : Parts) (line : EventLine) (tx : ℕ) (reply tol
 answers-to_decide m n o line tx reply told is same tells goes =
     subst (λ l. GoesOn (λ c d. MayAnswer c l told d) m o) (sym is)
     (subst (λ (p : Parts). GoesOn (λ c d. MayAnswer c (ToDecide tx) told d) m p) (sym same)
-        (subst (λ r. GoesOn (λ c d. MayAnswer c (ToDecide tx) r d) m n) (sym tells) goes))
+    (subst (λ r. GoesOn (λ c d. MayAnswer c (ToDecide tx) r d) m n) (sym tells) goes))
 
 pub replies-one : (m n : Parts) (line : EventLine) (reply : Reply) (out out' : List ℕ) → AnswersLine m line reply n
     → out' ≡ (out ++ reply_text line reply) ++ 10 ∷ [] → WritesReplies m (line ∷ []) n out out'
 replies-one m n line reply out out' answers after c stands =
-    let (d, may, there) = answers.0 c stands in
-    (d, record { replies = reply ∷ []; run = (d, may, answers.1, refl); appended = after
-        ∙ append_assoc out (reply_text line reply) (10 ∷ [])
-        ∙ ap (λ (t : List ℕ). out ++ t) (sym (append-nil (reply_text line reply ++ 10 ∷ []))) }, there)
+    let (d, may, there) = answers.0 c stands in (
+      d,
+      record {
+        replies = reply ∷ [];
+        run = (d, may, answers.1, refl);
+        appended = after
+            ∙ append_assoc out (reply_text line reply) (10 ∷ [])
+            ∙ ap (λ (t : List ℕ). out ++ t) (sym (append-nil (reply_text line reply ++ 10 ∷ [])));
+      },
+      there,
+    )
 
 -- the run ends with the bundle
 pub ends-valid : (m : Parts) (b : Logs) (out mid bytes : List ℕ) → ((c : CoreState) → StandsFor m c → b ≡ bundle_of c)
     → IsValid b
     → ((c : CoreState) → StandsFor m c → c.certifier.active ≡ []) → bytes ≡ text_of b → mid ≡ out ++ codes "---\n"
     → (c : CoreState) → StandsFor m c → (ending : List ℕ) × EndsWith c outcome.Yes ending
-        × (mid ++ bytes ≡ out ++ ending)
+    × (mid ++ bytes ≡ out ++ ending)
 ends-valid m b out mid bytes same valid idle spelled first c stands =
     let e = same c stands in (
       codes "---\n" ++ text_of (bundle_of c),
@@ -122,9 +129,9 @@ only-memory ss f each refused not = allowed (map (λ l. l.items) ss) f (site-ite
 pub run-of : (input : Input) (o : Outcome) (m n : Parts) (sites : List SiteLine) (events : List EventLine)
     (start written text : List ℕ)
     → StandsFor m (fresh (map (λ l. l.items) sites)) → sites ≡ input.sites → events ≡ input.events → start ≡ []
-        → WritesReplies m events n start written
+    → WritesReplies m events n start written
     → ((c : CoreState) → StandsFor n c → (ending : List ℕ) × EndsWith c o ending × (text ≡ written ++ ending))
-        → IsRunText input o text
+    → IsRunText input o text
 run-of input o m n sites events start written text stands same-sites same empty writes ends =
     let (d, so, there) = writes (fresh (map (λ l. l.items) sites)) stands in
     let (ending, how, whole) = ends d there in

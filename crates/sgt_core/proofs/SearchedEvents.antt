@@ -55,7 +55,7 @@ module _ (Q : EventLine → Type 0) where
   no-event : (Q (One Begin) → ⊥) → (Q (One Close) → ⊥) → None_of IsAccess read_of → None_of IsUpdate put_of
       → None_of IsUpdate add_of
       → None_of IsVisit install_of → None_of IsTx (λ tx. One (Commit tx)) → None_of IsTx (λ tx. One (Withdraw tx))
-          → None_of IsTx (λ tx. ToDecide tx)
+      → None_of IsTx (λ tx. ToDecide tx)
       → (e : EventLine) → IsEventLine e → Q e → ⊥
   no-event b z r p d i c a v (One Begin) is q = b q
   no-event b z r p d i c a v (One Close) is q = z q
@@ -77,11 +77,11 @@ module _ (Q : EventLine → Type 0) where
       or_else (searched-updates (λ u. Q (put_of u)) (λ u. each (put_of u))) (λ r. (put_of r.0, r.1, r.2)) (λ p.
       or_else (searched-updates (λ u. Q (add_of u)) (λ u. each (add_of u))) (λ r. (add_of r.0, r.1, r.2)) (λ d.
       or_else (searched-visits (λ v. Q (install_of v)) (λ v. each (install_of v))) (λ r. (install_of r.0, r.1, r.2))
-          (λ i.
+      (λ i.
       or_else (searched-txs (λ tx. Q (One (Commit tx))) (λ tx. each (One (Commit tx))))
-          (λ r. (One (Commit r.0), r.1, r.2)) (λ c.
+      (λ r. (One (Commit r.0), r.1, r.2)) (λ c.
       or_else (searched-txs (λ tx. Q (One (Withdraw tx))) (λ tx. each (One (Withdraw tx))))
-          (λ r. (One (Withdraw r.0), r.1, r.2)) (λ a.
+      (λ r. (One (Withdraw r.0), r.1, r.2)) (λ a.
       or_else (searched-txs (λ tx. Q (ToDecide tx)) (λ tx. each (ToDecide tx))) (λ r. (ToDecide r.0, r.1, r.2)) (λ v.
       inr (λ r. no-event b z reads p d i c a v r.0 r.1 r.2))))))))))
 

@@ -31,9 +31,12 @@ front-events : (es : List EventLine) (xs zs : List (List ℕ)) → All IsEventLi
 front-events es [] zs a e = ([], All-nil IsEventLine, refl, omega arith)
 front-events [] (x ∷ xs) zs a e = absurd cc
 front-events (f ∷ es) (x ∷ xs) zs a e =
-    let rest = front-events es xs zs (All-tail IsEventLine f es a) (tails _ _ _ _ e) in
-    (f ∷ rest.0, All-cons IsEventLine f rest.0 (All-head IsEventLine f es a) rest.1,
-        ap₂ (λ y ys. y ∷ ys) (sym (heads _ _ _ _ e)) rest.2, omega (arith, rest.3))
+    let rest = front-events es xs zs (All-tail IsEventLine f es a) (tails _ _ _ _ e) in (
+      f ∷ rest.0,
+      All-cons IsEventLine f rest.0 (All-head IsEventLine f es a) rest.1,
+      ap₂ (λ y ys. y ∷ ys) (sym (heads _ _ _ _ e)) rest.2,
+      omega (arith, rest.3),
+    )
 
 -- the sites, numbered from n, and the events whose lines come first
 record IsFront (n : ℕ) (ss : List SiteLine) (es : List EventLine) (xs : List (List ℕ)) : Type 0 where
@@ -52,11 +55,31 @@ front-lines : (n : ℕ) (ss : List SiteLine) (es : List EventLine) (xs zs : List
     → All IsSiteLine ss → All IsEventLine es → map site_text ss ++ map event_text es ≡ xs ++ zs → IsFront n ss es xs
 front-lines n [] es xs zs number a b e =
     let f = front-events es xs zs b e in
-    record { sites = []; events = f.0; text = f.2; few = omega arith; fewer = f.3; numbered = refl; each =
-        All-nil IsSiteLine; are = f.1; first = λ none. inr refl }
+    record {
+      sites = [];
+      events = f.0;
+      text = f.2;
+      few = omega arith;
+      fewer = f.3;
+      numbered = refl;
+      each =
+          All-nil IsSiteLine;
+      are = f.1;
+      first = λ none. inr refl;
+    }
 front-lines n (s ∷ ss) es [] zs number a b e =
-    record { sites = []; events = []; text = refl; few = omega arith; fewer = omega arith; numbered = refl; each =
-        All-nil IsSiteLine; are = All-nil IsEventLine; first = λ none. inl refl }
+    record {
+      sites = [];
+      events = [];
+      text = refl;
+      few = omega arith;
+      fewer = omega arith;
+      numbered = refl;
+      each =
+          All-nil IsSiteLine;
+      are = All-nil IsEventLine;
+      first = λ none. inl refl;
+    }
 front-lines n (s ∷ ss) es (x ∷ xs) zs number a b e =
     let f = front-lines (n + 1) ss es xs zs (tails _ _ _ _ number) (All-tail IsSiteLine s ss a) b (tails _ _ _ _ e) in
     record {
@@ -101,9 +124,10 @@ lines-plain : (ss : List SiteLine) (es : List EventLine) → All IsSiteLine ss �
 lines-plain [] [] a b = tt
 lines-plain [] (e ∷ es) a b =
     let is = All-head IsEventLine e es b in
-    let short = event-short e is in
-    ((recursion_from_All (λ c. c ≢ 10) (event_text e) (event-no_lf e is), omega (arith, short)),
-        lines-plain [] es a (All-tail IsEventLine e es b))
+    let short = event-short e is in (
+      (recursion_from_All (λ c. c ≢ 10) (event_text e) (event-no_lf e is), omega (arith, short)),
+      lines-plain [] es a (All-tail IsEventLine e es b),
+    )
 lines-plain (s ∷ ss) es a b =
     let is = All-head IsSiteLine s ss a in
     (site-plain s is, lines-plain ss es (All-tail IsSiteLine s ss a) b)
@@ -152,8 +176,11 @@ has_line (s ∷ ss) es some none = nonempty _ _ none
 pub input-no_fault : (bytes : List ℕ) (i : Input) (n : ℕ) (f : NotationFault) → Spells bytes i
     → FirstUnreadable bytes n f → ⊥
 input-no_fault bytes i n f spells =
-    any.input-no_fault Begins are-inputs bytes (input_lines i) n f (i, spells.0.0,
-        refl) (has_line i.sites i.events spells.0.1) spells.1
+    any.input-no_fault Begins are-inputs bytes (input_lines i) n f (
+      i,
+      spells.0.0,
+      refl,
+    ) (has_line i.sites i.events spells.0.1) spells.1
 
 -- lines that an input may begin with, of which there are some, are those of an input
 pub has_site : (i : Input) → IsBegun i → input_lines i ≢ [] → i.sites ≢ []
@@ -172,7 +199,7 @@ pub kept-input : (sites ss : List SiteLine) (events es : List EventLine) (told :
     → es ≡ events
     → IsTaken Begins (HaveLines (record { sites = sites; events = events })) told
     → IsInput (record { sites = ss; events = es })
-        × IfSome told (λ bytes. Spells bytes (record { sites = ss; events = es }))
+    × IfSome told (λ bytes. Spells bytes (record { sites = ss; events = es }))
 kept-input sites ss events es told same equal taken =
     let kept : Input = record { sites = sites; events = events } in
     let there = sym same in
@@ -186,8 +213,14 @@ pub input-or_fault : (bytes : List ℕ)
 input-or_fault bytes =
     elim (read-or_not Begins known-begins bytes none-begins) [
       | inl (lines, begun, some, text) ↦
-          inl (begun.0, ((begun.1, has_site begun.0 begun.1 (λ none. some (begun.2 ∙ none))), text
-              ∙ ap text_of_lines begun.2))
+          inl (
+            begun.0,
+            (
+              (begun.1, has_site begun.0 begun.1 (λ none. some (begun.2 ∙ none))),
+              text
+                  ∙ ap text_of_lines begun.2,
+            ),
+          )
       | inr fault ↦ inr fault
     ]
 

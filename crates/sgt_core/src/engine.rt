@@ -144,13 +144,15 @@ fn write_both<W: Sink>(writer: &mut W, first: &[u8], second: &[u8]) -> Result<()
     }
 }
 
-/// Runs the events that the reader gives through a new core with the sites that it gives before them, and writes a line for
-/// each reply. Then, where no transaction is active, the line `---` and the bundle are written, and else the line `! E8`: the
-/// outcomes are Yes and No. Where a line can't be read, `! L1 line N` or `! L2 line N` of the first such line is all that is
-/// written, and the outcome is Unreadable. Nothing is written before the whole input was read.
+/// Runs the events that the reader gives through a new core with the sites that it gives before them, and writes a
+/// line for each reply. Then, where no transaction is active, the line `---` and the bundle are written, and else the
+/// line `! E8`: the outcomes are Yes and No. Where a line can't be read, `! L1 line N` or `! L2 line N` of the first
+/// such line is all that is written, and the outcome is Unreadable. Nothing is written before the whole input was
+/// read.
 ///
-/// ReadFault where the reader failed, or no read is left, and Memory where a growth was refused (no reply `! E9` is ever
-/// written): nothing was written. WriteFault where the writer failed: a front of the answer may have been written.
+/// ReadFault where the reader failed, or no read is left, and Memory where a growth was refused (no reply `! E9` is
+/// ever written): nothing was written. WriteFault where the writer failed: a front of the answer may have been
+/// written.
 pub fn replay<R: Source, W: Sink>(
     alloc: Global,
     reader: &mut R,

@@ -1,4 +1,5 @@
-//! The core: the certifier and its sites, driven by one thread over events; the laws of its runs; the replay of a file of events.
+//! The core: the certifier and its sites, driven by one thread over events; the laws of its runs; the replay of a
+//! file of events.
 #![tactic(auto)]
 
 mod engine;

@@ -45,8 +45,8 @@ fn take_event(events: &mut Vec<EventLine>, line: &[u8]) -> Result<bool, AllocErr
     }
 }
 
-/// Keeps what the line says, if it may stand behind those that were read: a site before the first event, or behind the first
-/// site an event.
+/// Keeps what the line says, if it may stand behind those that were read: a site before the first event, or behind
+/// the first site an event.
 fn take_line(
     alloc: Global,
     sites: &mut Vec<SiteLine>,
@@ -69,11 +69,11 @@ fn take_line(
     take_event(events, line)
 }
 
-/// Reads the whole input of a replay: a line for each site that it starts from, numbered from 0, and then a line for each
-/// event. `Unreadable` names the first line that can't be read. It is L2 where it is longer than `MAX_LINE`, whatever it
-/// holds, with its LF or without. It is L1 where it spells nothing, or not what may stand there: a site out of its order or
-/// behind an event, an event before the first site; where it has no LF; and, behind the last line, where there is no site.
-/// No further read is made once that line was read.
+/// Reads the whole input of a replay: a line for each site that it starts from, numbered from 0, and then a line for
+/// each event. `Unreadable` names the first line that can't be read. It is L2 where it is longer than `MAX_LINE`,
+/// whatever it holds, with its LF or without. It is L1 where it spells nothing, or not what may stand there: a site
+/// out of its order or behind an event, an event before the first site; where it has no LF; and, behind the last
+/// line, where there is no site. No further read is made once that line was read.
 ///
 /// An Err is ReadFault, where a read failed or too many were needed (`MOST_READS` of sgt_names), or Memory. How far was
 /// read then is not promised.

@@ -34,8 +34,13 @@ walks_more xs ys more a (step ∷ steps) h = (more _ h.0, walks_more xs ys more 
 -- the model's certifier after the decision
 abbrev pub all_committed : CoreState → ℕ → List ℕ → State
 all_committed c tx places =
-    record c.certifier { order = places; arcs = c.certifier.arcs ++ edges_of c tx; step = Some tx; rulings =
-        c.certifier.rulings ++ committed tx ∷ [] }
+    record c.certifier {
+      order = places;
+      arcs = c.certifier.arcs ++ edges_of c tx;
+      step = Some tx;
+      rulings =
+          c.certifier.rulings ++ committed tx ∷ [];
+    }
 
 abbrev pub all_refused : CoreState → ℕ → List Step → State
 all_refused c tx walk = record c.certifier { step = Some tx; rulings = c.certifier.rulings ++ refused tx walk ∷ [] }
@@ -72,7 +77,7 @@ module _ (u : State) (c : CoreState) (k : IsKept c) (carries : Carries u c.certi
         | inr new ↦
             let is = (are arc).0 new in
             reaches_alike (λ x y. Joins u.arcs x y ⊎ Joins (arcs_of u edges) x y) Given
-                (λ x y w. elim w [ inl o ↦ old_given x y o | inr n ↦ new_given x y n ]) a b
+            (λ x y w. elim w [ inl o ↦ old_given x y o | inr n ↦ new_given x y n ]) a b
             (h.lead arc is (everywhere arc.label.site (edge_site c tx arc k.sound.walked k.sound.legal is).1))
       ]
 
@@ -113,10 +118,18 @@ module _ (u : State) (c : CoreState) (k : IsKept c) (carries : Carries u c.certi
       noted = ruled_noted u c.certifier new (all_committed c tx d.places) tx carries.noted
           (ap (λ (st : State). st.step) d.after) refl none stays;
       same =
-          ap (λ (st : State). record st { order = d.places; arcs = c.certifier.arcs ++ edges_of c tx; step =
-              Some tx; rulings = st.rulings ++ committed tx ∷ [] }) carries.same
-          ∙ sym (ap (λ (st : State). record st { arcs = c.certifier.arcs ++ edges_of c tx; installs =
-              c.certifier.installs }) d.after);
+          ap (λ (st : State). record st {
+            order = d.places;
+            arcs = c.certifier.arcs ++ edges_of c tx;
+            step =
+                Some tx;
+            rulings = st.rulings ++ committed tx ∷ [];
+          }) carries.same
+          ∙ sym (ap (λ (st : State). record st {
+            arcs = c.certifier.arcs ++ edges_of c tx;
+            installs =
+                c.certifier.installs;
+          }) d.after);
       fewer = λ arc m. given_arc arc (subst (λ (st : State). Contains st.arcs arc) d.after m);
       lead = λ a b j. subst (λ (st : State). Reaches (Joins st.arcs) a b) (sym d.after) (own_lead a b j);
     }

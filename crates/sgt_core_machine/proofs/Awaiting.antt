@@ -15,7 +15,7 @@ use Rattle.sgt_names.proofs.Elements.{contains-none}
 pub rules_from : (old new : State) (table : List (Option Running)) (slot : ℕ) (edges : List Edge) (r : Running)
     → slice_get table slot ≡ Some (Some r) → (answer : Result Decided CertifierFault)
     → IfOk answer (λ reply. Serves old (call.Decide r.handle edges reply) new) → OnOk answer (new.installs ≡ [])
-        → IfOk answer (λ reply. RulesAt old new table slot edges reply)
+    → IfOk answer (λ reply. RulesAt old new table slot edges reply)
 rules_from old new table slot edges r runs (Ok reply) serves none = record {
   running = r;
   runs = runs;

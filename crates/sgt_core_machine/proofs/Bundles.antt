@@ -38,14 +38,14 @@ finals_are base es (h ∷ hs) [] same legal = absurd cc
 finals_are base es (h ∷ hs) (f ∷ fs) same legal =
     let item : f.item ≡ h.item = heads f.item h.item (names fs) (names hs) same in
     let value : unwrap_or (value_at base es h.item) 0 ≡ f.value =
-        ap (λ x. unwrap_or (value_at base es x) 0) (sym item)
-        ∙ ap (λ o. unwrap_or o 0) (All_at (λ (g : Holding). value_at base es g.item ≡ Some g.value) (f ∷ fs) 0 f legal
-        refl) in
+    ap (λ x. unwrap_or (value_at base es x) 0) (sym item)
+    ∙ ap (λ o. unwrap_or o 0) (All_at (λ (g : Holding). value_at base es g.item ≡ Some g.value) (f ∷ fs) 0 f legal
+    refl) in
     let first : f ≡ record { item = h.item; value = unwrap_or (value_at base es h.item) 0 } =
-        ap₂ (λ (x : Name) (v : ℕ). record { item = x; value = v }) item (sym value) in
+    ap₂ (λ (x : Name) (v : ℕ). record { item = x; value = v }) item (sym value) in
     ap₂ (λ (g : Holding) gs. g ∷ gs) first (finals_are base es hs fs (tails f.item h.item (names fs) (names hs) same)
     (Rattle.sgt_names.proofs.Places.All-from_at (λ (g : Holding). value_at base es g.item ≡ Some g.value) fs
-        (λ n g at. All_at (λ (g : Holding). value_at base es g.item ≡ Some g.value) (f ∷ fs) (suc n) g legal at)))
+    (λ n g at. All_at (λ (g : Holding). value_at base es g.item ≡ Some g.value) (f ∷ fs) (suc n) g legal at)))
 
 abbrev log_at : Place → SiteLog
 log_at p = site_log p.site.items p.site.entries
@@ -54,11 +54,11 @@ pub logs_are : (m : Parts) (c : CoreState) → StandsFor m c
     → map (λ (p : Place). site_log p.site.items p.site.entries) m.places ≡ (bundle_of c).sites
 logs_are m c s =
     same_lists (map log_at m.places) (map (λ (p : ℕ × List Holding). site_log p.1 (c.entries p.0))
-        (enumerate_from 0 c.items))
+    (enumerate_from 0 c.items))
     (length-map m.places log_at
-        ∙ (sym (site_count m c s)
-        ∙ sym (length-map (enumerate_from 0 c.items) (λ (p : ℕ × List Holding). site_log p.1 (c.entries p.0))
-        ∙ length-enumerate_from 0 c.items)))
+    ∙ (sym (site_count m c s)
+    ∙ sym (length-map (enumerate_from 0 c.items) (λ (p : ℕ × List Holding). site_log p.1 (c.entries p.0))
+    ∙ length-enumerate_from 0 c.items)))
     (λ k log at.
     let q = map_at (λ (p : ℕ × List Holding). site_log p.1 (c.entries p.0)) (enumerate_from 0 c.items) k log at in
     let e = enumerated 0 c.items k q.0 q.1 in
@@ -73,11 +73,11 @@ logs_are m c s =
 pub bundle_is : (m : Parts) (c : CoreState) (certificate : Certificate) (logs : List SiteLog) (count : ℕ)
     → StandsFor m c → certificate ≡ certificate_of m.certifier count → count ≡ length m.places
     → logs ≡ map (λ (p : Place). site_log p.site.items p.site.entries) m.places
-        → ◌≡◌ {A = BundleParts} (record { certificate = certificate; sites = logs }) (bundle_of c)
+    → ◌≡◌ {A = BundleParts} (record { certificate = certificate; sites = logs }) (bundle_of c)
 bundle_is m c certificate logs count s is many are =
     let same : certificate ≡ certificate_of c.certifier (length c.items) =
     is ∙ (ap (certificate_of m.certifier) (many ∙ sym (site_count m c s))
-        ∙ sym (ap (λ (st : State). certificate_of st (length c.items)) s.certifier.same)) in
+    ∙ sym (ap (λ (st : State). certificate_of st (length c.items)) s.certifier.same)) in
     ap₂ (λ (a : Certificate) (b : List SiteLog). record { certificate = a; sites = b }) same (are ∙ logs_are m c s)
 
 pub bundle_fits_there : (m : Parts) (c : CoreState) → StandsFor m c → FitTogether (bundle_of c)
@@ -88,7 +88,7 @@ pub same_log : (a : List Holding) (b : List Entry) (f items : List Holding) (ent
     → ◌≡◌ {A = SiteLog} (record { items = a; entries = b; finals = f }) (site_log items entries)
 same_log a b f items entries p q r =
     ap₂ (λ (x : List Holding) (y : List Entry). record { items = x; entries = y; finals = f }) p q
-        ∙ ap (λ (z : List Holding). record { items = items; entries = entries; finals = z }) r
+    ∙ ap (λ (z : List Holding). record { items = items; entries = entries; finals = z }) r
 
 pub is_of_some : {A : Type 0} (P : Type 0) (r : Option A) (a : A) {b : A} → r ≡ Some b → SomeIff r P a → b ≡ a
 is_of_some P None a {b} e h = absurd cc

@@ -115,79 +115,89 @@ like_edge c d i arc order log changes h = record {
   ends = subst (λ o. ((arc.from ≡ i) × Contains o arc.to) ⊎ ((arc.to ≡ i) × Contains o arc.from)) (sym order) h.ends;
   conflict =
       subst (λ es. Conflicts (es ++ as_changes i (d.changes i arc.label.site)) arc.label.kind arc.label.item arc.from
-          arc.to) (sym log)
+      arc.to) (sym log)
       (subst (λ cs. Conflicts (c.entries arc.label.site ++ as_changes i cs) arc.label.kind arc.label.item arc.from
-          arc.to) (sym changes) h.conflict);
+      arc.to) (sym changes) h.conflict);
 }
 
 module _ (m : Parts) (c : CoreState) (stands : StandsFor m c) (tx slot s : ℕ) (x : Name)
     (number : tx ≡ suc (m.before + slot)) (closed : IsOwnOpen c tx → ⊥)
     (ch : Option Change → Change) (table : List (Option Running)) (h : Redrafts m.table table slot (ChangesTo s x ch))
-        where
-  abbrev change : Change
-  change = ch (change_in (c.changes tx s) x)
+  where
+    abbrev change : Change
+    change = ch (change_in (c.changes tx s) x)
 
-  abbrev d : CoreState
-  d = with_change c tx s x change
+    abbrev d : CoreState
+    d = with_change c tx s x change
 
-  r : IsRunning c m.before slot h.before
-  r = stands.running slot (Some h.before) h.was
+    r : IsRunning c m.before slot h.before
+    r = stands.running slot (Some h.before) h.was
 
-  own_changes : (t : ℕ) → d.changes tx t ≡ writing_in (at_site t h.after.draft.touched)
-  own_changes t =
-      let was : (u : ℕ) → c.changes tx u ≡ writing_in (at_site u h.before.draft.touched) =
-          λ u. ap (λ i. c.changes i u) number ∙ r.changes u in
-      let old = h.before.draft.touched in
-      elim (cases_eq t s) [
-        | inl is ↦
-            let same : change ≡ ch (change_at old (s, x)) =
-                ap ch (ap (λ cs. change_in cs x) (was s) ∙ change_there old s x r.rising) in
-            let put : writing_in (at_site s h.after.draft.touched) ≡ put_in (x, ch (change_at old (s, x)))
-                (writing_in (at_site s old))
-            = put_there old h.after.draft.touched _ h.draft r.rising h.rising (ch (change_at old (s, x))) refl in
-            let now : d.changes tx s ≡ put_in (x, change) (c.changes tx s) =
-                changed_here tx s (put_in (x, change) (c.changes tx s)) c.changes in
-            ap (d.changes tx) is
-                ∙ (now ∙ (ap (λ k. put_in (x, k) (c.changes tx s)) same
-                ∙ (ap (put_in (x, ch (change_at old (s, x)))) (was s)
-                ∙ (sym put ∙ ap (λ u. writing_in (at_site u h.after.draft.touched)) (sym is)))))
-        | inr ne ↦ changed_there tx s (put_in (x, change) (c.changes tx s)) c.changes t ne
-            ∙ (was t ∙ ap writing_in (sym (other_sites old h.after.draft.touched _ h.draft t ne)))
-      ]
+    own_changes : (t : ℕ) → d.changes tx t ≡ writing_in (at_site t h.after.draft.touched)
+    own_changes t =
+        let was : (u : ℕ) → c.changes tx u ≡ writing_in (at_site u h.before.draft.touched) =
+        λ u. ap (λ i. c.changes i u) number ∙ r.changes u in
+        let old = h.before.draft.touched in
+        elim (cases_eq t s) [
+          | inl is ↦
+              let same : change ≡ ch (change_at old (s, x)) =
+              ap ch (ap (λ cs. change_in cs x) (was s) ∙ change_there old s x r.rising) in
+              let put : writing_in (at_site s h.after.draft.touched) ≡ put_in (x, ch (change_at old (s, x)))
+              (writing_in (at_site s old))
+              = put_there old h.after.draft.touched _ h.draft r.rising h.rising (ch (change_at old (s, x))) refl in
+              let now : d.changes tx s ≡ put_in (x, change) (c.changes tx s) =
+              changed_here tx s (put_in (x, change) (c.changes tx s)) c.changes in
+              ap (d.changes tx) is
+              ∙ (now ∙ (ap (λ k. put_in (x, k) (c.changes tx s)) same
+              ∙ (ap (put_in (x, ch (change_at old (s, x)))) (was s)
+              ∙ (sym put ∙ ap (λ u. writing_in (at_site u h.after.draft.touched)) (sym is)))))
+          | inr ne ↦ changed_there tx s (put_in (x, change) (c.changes tx s)) c.changes t ne
+              ∙ (was t ∙ ap writing_in (sym (other_sites old h.after.draft.touched _ h.draft t ne)))
+        ]
 
-  same_kept : (t : ℕ) → kept_in (at_site t h.after.draft.touched) ≡ kept_in (at_site t h.before.draft.touched)
-  same_kept t = elim (cases_eq t s) [
-    | inl is ↦
-        ap (λ u. kept_in (at_site u h.after.draft.touched)) is
-        ∙ (same_reads h.before.draft.touched h.after.draft.touched _ h.draft r.rising h.rising refl
-            ∙ ap (λ u. kept_in (at_site u h.before.draft.touched)) (sym is))
-    | inr ne ↦ ap kept_in (other_sites h.before.draft.touched h.after.draft.touched _ h.draft t ne)
-  ]
+    same_kept : (t : ℕ) → kept_in (at_site t h.after.draft.touched) ≡ kept_in (at_site t h.before.draft.touched)
+    same_kept t = elim (cases_eq t s) [
+      | inl is ↦
+          ap (λ u. kept_in (at_site u h.after.draft.touched)) is
+          ∙ (same_reads h.before.draft.touched h.after.draft.touched _ h.draft r.rising h.rising refl
+          ∙ ap (λ u. kept_in (at_site u h.before.draft.touched)) (sym is))
+      | inr ne ↦ ap kept_in (other_sites h.before.draft.touched h.after.draft.touched _ h.draft t ne)
+    ]
 
-  own_running : IsRunning d m.before slot h.after
-  own_running = record {
-    active = r.active;
-    handle = h.handle ∙ r.handle;
-    rising = h.rising;
-    used = h.used;
-    changes = λ t. ap (λ i. d.changes i t) (sym number) ∙ own_changes t;
-    reads = λ t. subst (KeepsReads (c.entries t) (suc (m.before + slot))) (sym (same_kept t)) (r.reads t);
-  }
+    own_running : IsRunning d m.before slot h.after
+    own_running = record {
+      active = r.active;
+      handle = h.handle ∙ r.handle;
+      rising = h.rising;
+      used = h.used;
+      changes = λ t. ap (λ i. d.changes i t) (sym number) ∙ own_changes t;
+      reads = λ t. subst (KeepsReads (c.entries t) (suc (m.before + slot))) (sym (same_kept t)) (r.reads t);
+    }
 
-  others : (i t : ℕ) → (i ≡ tx → ⊥) → d.changes i t ≡ c.changes i t
-  others i t ne = changed_others tx s (put_in (x, change) (c.changes tx s)) c.changes i t ne
+    others : (i t : ℕ) → (i ≡ tx → ⊥) → d.changes i t ≡ c.changes i t
+    others i t ne = changed_others tx s (put_in (x, change) (c.changes tx s)) c.changes i t ne
 
-  pub changed_stands : IsReached (with_change c tx s x (ch (change_in (c.changes tx s) x)))
-      → StandsFor (record m { table = table }) (with_change c tx s x (ch (change_in (c.changes tx s) x)))
-  changed_stands reached =
-      let all = redraft_stands m c stands tx slot number h.before h.after h.was h.handle closed c.entries d.changes
-          m.places others
-      (λ i t kept ne k. k)
-      (λ i arc ne. (
-        like_edge c d i arc refl refl (others i arc.label.site ne),
-        like_edge d c i arc refl refl (sym (others i arc.label.site ne)),
-      ))
-      (λ t p at. (p, at, record { number = refl; entries = (stands.places t p at).entries; installed = refl; pledge =
-          refl; part = refl }))
-      reached refl own_running in
-      subst (λ ts. StandsFor (record m { table = ts }) d) (sym h.is) all
+    pub changed_stands : IsReached (with_change c tx s x (ch (change_in (c.changes tx s) x)))
+        → StandsFor (record m { table = table }) (with_change c tx s x (ch (change_in (c.changes tx s) x)))
+    changed_stands reached =
+        let all = redraft_stands m c stands tx slot number h.before h.after h.was h.handle closed c.entries d.changes
+        m.places others
+        (λ i t kept ne k. k)
+        (λ i arc ne. (
+          like_edge c d i arc refl refl (others i arc.label.site ne),
+          like_edge d c i arc refl refl (sym (others i arc.label.site ne)),
+        ))
+        (λ t p at. (
+          p,
+          at,
+          record {
+            number = refl;
+            entries = (stands.places t p at).entries;
+            installed = refl;
+            pledge =
+                refl;
+            part = refl;
+          },
+        ))
+        reached refl own_running in
+        subst (λ ts. StandsFor (record m { table = ts }) d) (sym h.is) all

@@ -39,8 +39,13 @@ pub record IsDecision (c : CoreState) (tx : ℕ) (new : State) (reply : Decided)
   pub certifier : State
   pub due : ℕ → List Entry
   pub carries : Carries new certifier
-  pub same : certifier ≡ record c.certifier { order = certifier.order; arcs = certifier.arcs; step =
-      Some tx; rulings = certifier.rulings }
+  pub same : certifier ≡ record c.certifier {
+    order = certifier.order;
+    arcs = certifier.arcs;
+    step =
+        Some tx;
+    rulings = certifier.rulings;
+  }
   pub order : (i : ℕ) → Contains c.certifier.order i → Contains certifier.order i
   pub phase : (n : Parts) (d : CoreState) (o : Open) → d.certifier ≡ certifier → o.tx ≡ tx
       → IsPhase n d o (phase_after reply)
@@ -73,7 +78,7 @@ closes c i none = rw (all_empty c.due (sites_of c) none) refl
 module _ (m : Parts) (c : CoreState) (s : StandsFor m c) (tx slot : ℕ) (h : IsSlotOf m tx slot)
     (no_other : IsOtherOpen c tx → ⊥) (undecided : c.certifier.step ≡ None)
     (everywhere : (t : ℕ) → touches c tx t ≡ true → Contains (gathered_in c.step) t) (new : State) (reply : Decided)
-        (v : IsDecision c tx new reply) where
+    (v : IsDecision c tx new reply) where
   abbrev k : IsKept c
   k = reached_kept c s.reached
 
@@ -91,8 +96,11 @@ module _ (m : Parts) (c : CoreState) (s : StandsFor m c) (tx slot : ℕ) (h : Is
 
   handle_stays : (i : Install) → IsHandleOf c.certifier i → IsHandleOf v.certifier i
   handle_stays i (inl here) =
-      inl (here.0 ∙ sym generation_same, here.1 ∙ ap (λ b. suc (b + i.handle.index)) (sym before_same),
-      v.order i.tx here.2)
+      inl (
+        here.0 ∙ sym generation_same,
+        here.1 ∙ ap (λ b. suc (b + i.handle.index)) (sym before_same),
+        v.order i.tx here.2,
+      )
   handle_stays i (inr older) = inr (omega (arith, older.0, generation_same), omega (arith, older.1, before_same))
 
   -- the machine has the step open that the model has
@@ -100,7 +108,7 @@ module _ (m : Parts) (c : CoreState) (s : StandsFor m c) (tx slot : ℕ) (h : Is
   due_touched t p o a =
       let own = step_own m c tx no_other m.step s.step o a.open_step in
       subst (λ i. touches c i t ≡ true) (sym a.tx
-          ∙ own) (draft_touches c k m.before a.place t a.running (s.running a.place (Some a.running) a.there) a.touched)
+      ∙ own) (draft_touches c k m.before a.place t a.running (s.running a.place (Some a.running) a.there) a.touched)
 
   not_written : (n : ℕ) → c.certifier.step ≡ Some n → ⊥
   not_written n e = let f : Some n ≡ None = sym e ∙ undecided in absurd cc
@@ -141,8 +149,8 @@ module _ (m : Parts) (c : CoreState) (s : StandsFor m c) (tx slot : ℕ) (h : Is
         let own = step_own m c tx no_other m.step s.step o a.open_step in
         let same_place : a.place ≡ slot = omega (arith, a.tx, own, h.0) in
         let same : r ≡ a.running =
-            same_Some r a.running (same_Some (Some r) (Some a.running) (sym runs
-            ∙ (ap (slice_get m.table) (sym same_place) ∙ a.there))) in (
+        same_Some r a.running (same_Some (Some r) (Some a.running) (sym runs
+        ∙ (ap (slice_get m.table) (sym same_place) ∙ a.there))) in (
           record { tx = tx; phase = phase_after reply },
           record {
             open_step = refl;
@@ -161,28 +169,35 @@ module _ (m : Parts) (c : CoreState) (s : StandsFor m c) (tx slot : ℕ) (h : Is
     decided_place : (t : ℕ) (p : Place) → slice_get m.places t ≡ Some p → IsPlace n d t p
     decided_place t p at =
         let is = s.places t p at in
-        record { number = is.number; entries = is.entries; handles = λ i member. handle_stays i (is.handles i member);
-            apart = is.apart; part = decided_part t p p.part is.part }
+        record {
+          number = is.number;
+          entries = is.entries;
+          handles = λ i member. handle_stays i (is.handles i member);
+          apart = is.apart;
+          part = decided_part t p p.part is.part;
+        }
 
     open_there : (o : Option Open) → IsStep m c o → (q : Open) → o ≡ Some q
         → IsStep n d (Some (record { tx = tx; phase = phase_after reply }))
     open_there None is q e = absurd cc
     open_there (Some o) is q e =
-        let mine : o.tx ≡ tx = step_own m c tx no_other (Some o) is o refl in
-        (is.0, is.1 ∙ ap (λ i. Some (record { tx = i; gathered = is.0 })) mine,
-            v.phase n d (record { tx = tx; phase = phase_after reply }) refl refl)
+        let mine : o.tx ≡ tx = step_own m c tx no_other (Some o) is o refl in (
+          is.0,
+          is.1 ∙ ap (λ i. Some (record { tx = i; gathered = is.0 })) mine,
+          v.phase n d (record { tx = tx; phase = phase_after reply }) refl refl,
+        )
 
     pub decision_due : (t : ℕ) (p : Place) → slice_get m.places t ≡ Some p → p.part ≡ Due
         → (e : CoreState) × MayStep c (Decide tx) (reply_after reply) e
-            × StandsFor (record m { certifier = new; step = Some (record { tx = tx; phase = phase_after reply }) }) e
+        × StandsFor (record m { certifier = new; step = Some (record { tx = tx; phase = phase_after reply }) }) e
     decision_due t p at is =
         let here : (o : Open) × IsDueAt m c t p o = subst (IsPart m c t p) is (s.places t p at).part in
         let count = site_count m c s in
         let lt = slice_get_within m.places t p at in
         let open_still : decided c tx v.certifier v.due ≡ d =
-            stays_open d tx t (omega (arith, lt, count)) (v.some t (due_touched t p here.0 here.1)) in
+        stays_open d tx t (omega (arith, lt, count)) (v.some t (due_touched t p here.0 here.1)) in
         let may : MayStep c (Decide tx) (reply_after reply) d =
-            subst (MayStep c (Decide tx) (reply_after reply)) open_still v.may in (
+        subst (MayStep c (Decide tx) (reply_after reply)) open_still v.may in (
           d,
           may,
           record {
@@ -218,7 +233,7 @@ module _ (m : Parts) (c : CoreState) (s : StandsFor m c) (tx slot : ℕ) (h : Is
         → Contains (with_finished v.certifier tx).active i
     still_active i other there =
         member_filter (λ j. not (j == tx)) v.certifier.active i (subst (λ xs. Contains xs i) (sym active_same) there)
-            (ap not (ne_eqb i tx other))
+        (ap not (ne_eqb i tx other))
 
     ended_out : Contains (with_finished v.certifier tx).active tx → ⊥
     ended_out there = true≢false (sym (filter_member (λ j. not (j == tx)) v.certifier.active tx there).1
@@ -240,12 +255,12 @@ module _ (m : Parts) (c : CoreState) (s : StandsFor m c) (tx slot : ℕ) (h : Is
     ended_running j o at = elim (cases_eq j slot) [
       | inl is ↦
           let here : slice_get (slice_set m.table slot None) slot ≡ Some None =
-              get-slice_set_same m.table slot None (slice_get_within m.table slot _ h.1.1) in
+          get-slice_set_same m.table slot None (slice_get_within m.table slot _ h.1.1) in
           let same : None ≡ o =
-              same_Some None o (sym here ∙ (ap (slice_get (slice_set m.table slot None)) (sym is) ∙ at)) in
+          same_Some None o (sym here ∙ (ap (slice_get (slice_set m.table slot None)) (sym is) ∙ at)) in
           subst (λ w. RunsAt f m.before j w) same
-              (λ there. ended_out (subst (Contains (with_finished v.certifier tx).active)
-              (ap (λ i. suc (m.before + i)) is ∙ sym h.0) there))
+          (λ there. ended_out (subst (Contains (with_finished v.certifier tx).active)
+          (ap (λ i. suc (m.before + i)) is ∙ sym h.0) there))
       | inr ne ↦ ended_slot j o ne (s.running j o (sym (get-slice_set_other m.table slot j None ne) ∙ at))
     ]
 
@@ -258,8 +273,13 @@ module _ (m : Parts) (c : CoreState) (s : StandsFor m c) (tx slot : ℕ) (h : Is
     ended_place : (t : ℕ) (p : Place) → slice_get m.places t ≡ Some p → IsPlace b f t p
     ended_place t p at =
         let is = s.places t p at in
-        record { number = is.number; entries = is.entries; handles = λ i member. handle_stays i (is.handles i member);
-            apart = is.apart; part = ended_part t p at p.part refl is.part }
+        record {
+          number = is.number;
+          entries = is.entries;
+          handles = λ i member. handle_stays i (is.handles i member);
+          apart = is.apart;
+          part = ended_part t p at p.part refl is.part;
+        }
 
     nowhere_due : (t : ℕ) → v.due t ≡ []
     nowhere_due t = elim (cases_Bool (touches c tx t)) [
@@ -276,8 +296,8 @@ module _ (m : Parts) (c : CoreState) (s : StandsFor m c) (tx slot : ℕ) (h : Is
         gathered_out : (t : ℕ) → touches c tx t ≡ true → ⊥
         gathered_out t hit =
             let inside : t < length c.items =
-                below (length c.items) t (λ out. true≢false (sym hit
-                ∙ untouched_outside c tx t k.sound.walked k.sound.legal out)) in
+            below (length c.items) t (λ out. true≢false (sym hit
+            ∙ untouched_outside c tx t k.sound.walked k.sound.legal out)) in
             let count = site_count m c s in
             let p = within_at m.places t (omega (arith, inside, count)) in
             by_part t p.0 p.1 p.0.part refl (s.places t p.0 p.1).part (everywhere t hit)
@@ -290,7 +310,7 @@ module _ (m : Parts) (c : CoreState) (s : StandsFor m c) (tx slot : ℕ) (h : Is
     decision_ends =
         let closed : decided c tx v.certifier v.due ≡ f = closes (decided_state c v.certifier v.due) tx nowhere_due in
         let may : MayStep c (Decide tx) (reply_after reply) f =
-            subst (MayStep c (Decide tx) (reply_after reply)) closed v.may in (
+        subst (MayStep c (Decide tx) (reply_after reply)) closed v.may in (
           f,
           may,
           record {
@@ -298,10 +318,14 @@ module _ (m : Parts) (c : CoreState) (s : StandsFor m c) (tx slot : ℕ) (h : Is
             sites = s.sites;
             items = s.items;
             certifier = subst (λ (st : State). Carries st (with_finished v.certifier tx)) (sym finishes)
-                (record { same = ap (λ (st : State). with_finished st tx) v.carries.same; noted =
-                    ended_noted new v.certifier (record (with_finished new tx) { installs = [] })
-                    (with_finished v.certifier tx) v.carries.noted refl refl (λ j m. m); fewer = v.carries.fewer;
-                    lead = v.carries.lead });
+                (record {
+                  same = ap (λ (st : State). with_finished st tx) v.carries.same;
+                  noted =
+                      ended_noted new v.certifier (record (with_finished new tx) { installs = [] })
+                      (with_finished v.certifier tx) v.carries.noted refl refl (λ j m. m);
+                  fewer = v.carries.fewer;
+                  lead = v.carries.lead;
+                });
             before = before_same ∙ s.before;
             begun = begun_same ∙ s.begun;
             window = s.window ∙ ap (λ j. m.before + j) (sym (length-set m.table slot None));

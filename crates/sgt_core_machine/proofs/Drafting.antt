@@ -38,16 +38,18 @@ pub here_rise : (s : ℕ) (ts : List Touch) → AreRising ts → ItemsRise (at_s
 here_rise s ts rising =
     part-rises s (at_site s ts)
     (All-from_at (λ (t : Touch). t.site ≡ s) (at_site s ts)
-        (λ n t at. eqb-true t.site s
-        (filter_member (λ (u : Touch). u.site == s) ts t (Contains-from_at (at_site s ts) n t at)).1))
+    (λ n t at. eqb-true t.site s
+    (filter_member (λ (u : Touch). u.site == s) ts t (Contains-from_at (at_site s ts) n t at)).1))
     (AllPairs-filter R (λ (u : Touch). u.site == s) ts rising)
 
 pub touched_in : (ts : List Touch) (s : ℕ) (x : Name) → touched_at ts (s, x) ≡ touch_in (at_site s ts) x
 touched_in [] s x = refl
 touched_in (t ∷ ts) s x =
     elim (cases_Bool (t.site == s)) [
-      | inl hit ↦ rw hit (elim (cases_Bool (bytes_eq t.item x)) [ inl same ↦ rw same refl
-          | inr other ↦ rw other (touched_in ts s x) ])
+      | inl hit ↦ rw hit (elim (cases_Bool (bytes_eq t.item x)) [
+        | inl same ↦ rw same refl
+        | inr other ↦ rw other (touched_in ts s x)
+      ])
       | inr miss ↦ rw miss (touched_in ts s x)
     ]
 
@@ -58,7 +60,7 @@ by_change : (t : Touch) (part : List Touch) (x : Name) (o : Option Change) (b : 
     → bytes_eq t.item x ≡ b
     → change_in (writing_in part) x ≡ change_of_touch (touch_in part x)
     → change_in (cons_option (option_and_then (λ c. Some (t.item, c)) o) (writing_in part)) x ≡ cond b o
-        (change_of_touch (touch_in part x))
+    (change_of_touch (touch_in part x))
 by_change t part x None true rises is rest = rest ∙ ap change_of_touch (touch-later t part x rises is)
 by_change t part x None false rises is rest = rest
 by_change t part x (Some c) true rises is rest = rw is refl
@@ -74,7 +76,7 @@ change_among : (part : List Touch) (x : Name) → ItemsRise part
 change_among [] x rises = refl
 change_among (t ∷ part) x rises =
     by_change t part x t.change (bytes_eq t.item x) rises refl
-        (change_among part x (AllPairs-tail (λ (a b : Touch). slice_cmp nat_cmp a.item b.item ≡ Less) t part rises))
+    (change_among part x (AllPairs-tail (λ (a b : Touch). slice_cmp nat_cmp a.item b.item ≡ Less) t part rises))
     ∙ from_test t (touch_in part x) (bytes_eq t.item x)
 
 -- what is meant to be done to an item is what the draft has of it
@@ -92,7 +94,7 @@ seen_kept ts s x seen is =
           ap (option_and_then (λ (t : Touch). t.seen)) (touched_in ts s x ∙ none) in let f = sym is ∙ e in cc)
       | inr some ↦
           let e : seen_at ts (s, x) ≡ some.0.seen = ap (option_and_then (λ (t : Touch). t.seen)) (touched_in ts s x
-              ∙ some.1) in
+          ∙ some.1) in
           touch-kept (at_site s ts) x some.0 seen some.1 (sym e ∙ is)
     ]
 
@@ -200,7 +202,7 @@ module _ (old new : List Touch) (touch : Touch) (h : ChangesOnly old new touch) 
   old_here =
       let p = λ (t : Touch). t.site == touch.site in
       ap (at_site touch.site) h.was ∙ (filter_three p h.front (option_to_list h.there) h.rest
-          ∙ ap (λ l. F ++ (l ++ B)) (there_here h.there h.place))
+      ∙ ap (λ l. F ++ (l ++ B)) (there_here h.there h.place))
 
   module _ (old_rising : AreRising old) (new_rising : AreRising new) where
     new_rise : ItemsRise (F ++ (touch ∷ [] ++ B))
@@ -253,24 +255,24 @@ module _ (old new : List Touch) (touch : Touch) (h : ChangesOnly old new touch) 
         let low = λ (f : Name × Change). comes_before f.0 x in
         let high = λ (f : Name × Change). comes_before x f.0 in
         let own : writing_in (touch ∷ []) ≡ (x, change) ∷ [] =
-            ap (λ o. cons_option (option_and_then (λ (c : Change). Some (x, c)) o) []) is in
+        ap (λ o. cons_option (option_and_then (λ (c : Change). Some (x, c)) o) []) is in
         let now : writing_in (at_site touch.site new) ≡ writing_in F ++ ((x, change) ∷ [] ++ writing_in B)
         = ap writing_in new_here
-            ∙ (chosen_three writing_of F (touch ∷ []) B ∙ ap (λ l. writing_in F ++ (l ++ writing_in B)) own) in
+        ∙ (chosen_three writing_of F (touch ∷ []) B ∙ ap (λ l. writing_in F ++ (l ++ writing_in B)) own) in
         let was : writing_in (at_site touch.site old) ≡ writing_in F ++ (T ++ writing_in B)
         = ap writing_in old_here ∙ chosen_three writing_of F (option_to_list h.there) B in
         let lows : filter low (writing_in F ++ (T ++ writing_in B)) ≡ writing_in F
         = filter_three low (writing_in F) T (writing_in B)
         ∙ (ap₂ (λ a b. a ++ (b ++ filter low (writing_in B)))
-            (filter_all low (writing_in F) (λ d m. before_true d.0 x (in_front d m)))
-            (filter_nothing low T (λ d m. before_itself d.0 x (there_item h.there h.place d m)))
+        (filter_all low (writing_in F) (λ d m. before_true d.0 x (in_front d m)))
+        (filter_nothing low T (λ d m. before_itself d.0 x (there_item h.there h.place d m)))
         ∙ (ap (λ b. writing_in F ++ b) (filter_nothing low (writing_in B) (λ d m. before_false x d.0 (behind d m)))
-            ∙ nil_right (writing_in F))) in
+        ∙ nil_right (writing_in F))) in
         let highs : filter high (writing_in F ++ (T ++ writing_in B)) ≡ writing_in B
         = filter_three high (writing_in F) T (writing_in B)
         ∙ (ap₂ (λ a b. a ++ (b ++ filter high (writing_in B)))
-            (filter_nothing high (writing_in F) (λ d m. before_false d.0 x (in_front d m)))
-            (filter_nothing high T (λ d m. before_itself x d.0 (sym (there_item h.there h.place d m))))
+        (filter_nothing high (writing_in F) (λ d m. before_false d.0 x (in_front d m)))
+        (filter_nothing high T (λ d m. before_itself x d.0 (sym (there_item h.there h.place d m))))
         ∙ filter_all high (writing_in B) (λ d m. before_true x d.0 (behind d m))) in
         now ∙ (ap₂ (λ a b. a ++ (x, change) ∷ b) (sym lows) (sym highs) ∙ ap (put_in (x, change)) (sym was))
       where
@@ -298,7 +300,7 @@ module _ (old new : List Touch) (touch : Touch) (h : ChangesOnly old new touch) 
         found (Some u) place rise =
             let item : u.item ≡ touch.item = ap (λ (p : ℕ × Name). p.1) place in
             subst (λ x. touch_in (F ++ (u ∷ [] ++ B)) x ≡ Some u) item
-                (touch-there (F ++ (u ∷ [] ++ B)) (length F) u rise (middle_at F u B))
+            (touch-there (F ++ (u ∷ [] ++ B)) (length F) u rise (middle_at F u B))
 
     -- and what it has now
     pub now_there : touched_at new (touch.site, touch.item) ≡ Some touch
@@ -317,8 +319,8 @@ module _ (old new : List Touch) (touch : Touch) (h : ChangesOnly old new touch) 
         → kept_in (at_site touch.site new) ≡ kept_in (at_site touch.site old)
     same_reads is =
         ap kept_in new_here
-            ∙ (chosen_three kept_of F (touch ∷ []) B
-            ∙ (ap (λ l. kept_in F ++ (l ++ kept_in B)) (own h.there h.place (is ∙ was_seen))
+        ∙ (chosen_three kept_of F (touch ∷ []) B
+        ∙ (ap (λ l. kept_in F ++ (l ++ kept_in B)) (own h.there h.place (is ∙ was_seen))
         ∙ (sym (chosen_three kept_of F (option_to_list h.there) B) ∙ ap kept_in (sym old_here))))
       where
         own : (o : Option Touch) → IfSome o (λ t. place_of t ≡ place_of touch)
@@ -328,17 +330,17 @@ module _ (old new : List Touch) (touch : Touch) (h : ChangesOnly old new touch) 
             []) e
         own (Some u) place e =
             ap (λ s. cons_option (option_and_then (λ (seen : Seen). Some (touch.item, seen.value, seen.version)) s)
-                []) e
+            []) e
             ∙ ap (λ x. cons_option (option_and_then (λ (seen : Seen). Some (x, seen.value, seen.version)) u.seen) [])
-                (sym (ap (λ (p : ℕ × Name). p.1) place))
+            (sym (ap (λ (p : ℕ × Name). p.1) place))
 
     -- the change stays
     pub same_changes : touch.change ≡ change_at old (touch.site, touch.item)
         → writing_in (at_site touch.site new) ≡ writing_in (at_site touch.site old)
     same_changes is =
         ap writing_in new_here
-            ∙ (chosen_three writing_of F (touch ∷ []) B
-            ∙ (ap (λ l. writing_in F ++ (l ++ writing_in B)) (own h.there h.place (is ∙ was_changed))
+        ∙ (chosen_three writing_of F (touch ∷ []) B
+        ∙ (ap (λ l. writing_in F ++ (l ++ writing_in B)) (own h.there h.place (is ∙ was_changed))
         ∙ (sym (chosen_three writing_of F (option_to_list h.there) B) ∙ ap writing_in (sym old_here))))
       where
         own : (o : Option Touch) → IfSome o (λ t. place_of t ≡ place_of touch)
@@ -348,15 +350,15 @@ module _ (old new : List Touch) (touch : Touch) (h : ChangesOnly old new touch) 
         own (Some u) place e =
             ap (λ s. cons_option (option_and_then (λ (c : Change). Some (touch.item, c)) s) []) e
             ∙ ap (λ x. cons_option (option_and_then (λ (c : Change). Some (x, c)) u.change) [])
-                (sym (ap (λ (p : ℕ × Name). p.1) place))
+            (sym (ap (λ (p : ℕ × Name). p.1) place))
 
     -- a read is added
     pub more_reads : (seen : Seen) → touch.seen ≡ Some seen → seen_at old (touch.site, touch.item) ≡ None
         → (k : Name × ℕ × ℕ)
-            → (Contains (kept_in (at_site touch.site new)) k
-            → (((touch.item, seen.value, seen.version) ≡ k) ⊎ Contains (kept_in (at_site touch.site old)) k))
+        → (Contains (kept_in (at_site touch.site new)) k
+        → (((touch.item, seen.value, seen.version) ≡ k) ⊎ Contains (kept_in (at_site touch.site old)) k))
         × ((((touch.item, seen.value, seen.version) ≡ k) ⊎ Contains (kept_in (at_site touch.site old)) k)
-            → Contains (kept_in (at_site touch.site new)) k)
+        → Contains (kept_in (at_site touch.site new)) k)
     more_reads seen is none k =
         let own : kept_in (touch ∷ []) ≡ (touch.item, seen.value, seen.version) ∷ []
         = ap (λ s. cons_option (option_and_then (λ (q : Seen). Some (touch.item, q.value, q.version)) s) []) is in
@@ -364,8 +366,8 @@ module _ (old new : List Touch) (touch : Touch) (h : ChangesOnly old new touch) 
         = ap kept_in new_here ∙ (chosen_three kept_of F (touch ∷ []) B ∙ ap (λ l. kept_in F ++ (l ++ kept_in B)) own) in
         let was : kept_in (at_site touch.site old) ≡ kept_in F ++ kept_in B
         = ap kept_in old_here
-            ∙ (chosen_three kept_of F (option_to_list h.there) B
-            ∙ ap (λ l. kept_in F ++ (l ++ kept_in B)) (nothing h.there (sym was_seen ∙ none))) in (
+        ∙ (chosen_three kept_of F (option_to_list h.there) B
+        ∙ ap (λ l. kept_in F ++ (l ++ kept_in B)) (nothing h.there (sym was_seen ∙ none))) in (
           λ m. elim (Contains-append_cases (kept_in F) _ k (subst (λ l. Contains l k) now m)) [
             | inl front ↦ inr
                 (subst (λ l. Contains l k) (sym was) (Contains-append_left (kept_in F) (kept_in B) k front))

@@ -20,7 +20,7 @@ pub items_there : (m : Parts) (c : CoreState) (s : ℕ) (o : Option Place) → S
 items_there m c s o stands at =
     ap (λ items. items_in (slice_get items s)) stands.items
     ∙ (ap items_in (slice_get-map (λ (p : Place). p.site.items) m.places s)
-        ∙ ap (λ q. items_in (option_map (λ (p : Place). p.site.items) q)) at)
+    ∙ ap (λ q. items_in (option_map (λ (p : Place). p.site.items) q)) at)
 
 pub of_place : (m : Parts) (c : CoreState) (s : ℕ) (x : Name) (p : Place) → StandsFor m c
     → slice_get m.places s ≡ Some p → Contains (names p.site.items) x → IsOfSite c s x

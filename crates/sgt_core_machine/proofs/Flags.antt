@@ -39,7 +39,7 @@ set_each flags ts n t at within was k u upto there = elim (cases_lt k n) [
       let same : k ≡ n = omega (arith, upto, from) in
       let one : u ≡ t = same_Some u t (sym there ∙ (ap (slice_get ts) same ∙ at)) in
       ap (λ (v : Touch). get_or (set flags t.site true) v.site false) one
-          ∙ get_or-set_same flags t.site true false within
+      ∙ get_or-set_same flags t.site true false within
 ]
 
 -- all of them are set behind the last
@@ -56,7 +56,7 @@ set_all old flags ts n end hit kept each s = (
         let found = Any_at (λ (u : Touch). (u.site ≡ s) × IsUsed u) ts any in
         let within = slice_get_within ts found.0 found.1 found.2 in
         subst (λ (k : ℕ). get_or flags k false ≡ true) found.3.0
-            (each found.0 found.1 (omega (arith, end, within)) found.2)
+        (each found.0 found.1 (omega (arith, end, within)) found.2)
   ],
 )
 
@@ -67,7 +67,7 @@ module _ (old flags new : List Bool) (ps : List PartView) (n : ℕ) (p : PartVie
   pub parts_hit : ((s : ℕ) → get_or flags s false ≡ true
       → (get_or old s false ≡ true) ⊎ Any (λ (q : PartView). Touches q.touched s) ps)
       → (s : ℕ) → get_or new s false ≡ true
-          → (get_or old s false ≡ true) ⊎ Any (λ (q : PartView). Touches q.touched s) ps
+      → (get_or old s false ≡ true) ⊎ Any (λ (q : PartView). Touches q.touched s) ps
   parts_hit was s on = elim ((marks s).0 on) [
     | inl before ↦ was s before
     | inr any ↦ inr (Any-from_at (λ (q : PartView). Touches q.touched s) ps n p at any)
@@ -80,7 +80,7 @@ module _ (old flags new : List Bool) (ps : List PartView) (n : ℕ) (p : PartVie
   pub parts_each : ((k : ℕ) (q : PartView) → k < n → slice_get ps k ≡ Some q → (s : ℕ) → Touches q.touched s
       → get_or flags s false ≡ true)
       → (k : ℕ) (q : PartView) → k < n + 1 → slice_get ps k ≡ Some q → (s : ℕ) → Touches q.touched s
-          → get_or new s false ≡ true
+      → get_or new s false ≡ true
   parts_each was k q upto there s any = elim (cases_lt k n) [
     | inl before ↦ (marks s).1 (inl (was k q before there s any))
     | inr from ↦
@@ -91,10 +91,10 @@ module _ (old flags new : List Bool) (ps : List PartView) (n : ℕ) (p : PartVie
 
 pub parts_all : (old flags : List Bool) (ps : List PartView) (n : ℕ) → length ps ≤ n
     → ((s : ℕ) → get_or flags s false ≡ true
-        → (get_or old s false ≡ true) ⊎ Any (λ (q : PartView). Touches q.touched s) ps)
+    → (get_or old s false ≡ true) ⊎ Any (λ (q : PartView). Touches q.touched s) ps)
     → ((s : ℕ) → get_or old s false ≡ true → get_or flags s false ≡ true)
     → ((k : ℕ) (q : PartView) → k < n → slice_get ps k ≡ Some q → (s : ℕ) → Touches q.touched s
-        → get_or flags s false ≡ true)
+    → get_or flags s false ≡ true)
     → Marks old flags (λ s. Any (λ (q : PartView). Touches q.touched s) ps)
 parts_all old flags ps n end hit kept each s = (
   hit s,

@@ -103,8 +103,13 @@ noted-same c tx s = elim (cases_Bool (is_committed c tx)) [ inl hit ↦ rw hit r
 
 carries_install : (s t : State) (tx site : ℕ) (items : List Name) → Contains (serial t) tx → Carries s t
     → Carries (with_install s tx site []) (with_install t tx site items)
-carries_install s t tx site items member h = record { same = ap (λ st. with_install st tx site items) h.same; noted =
-    install_noted s t tx site items h.noted member; fewer = h.fewer; lead = h.lead }
+carries_install s t tx site items member h = record {
+  same = ap (λ st. with_install st tx site items) h.same;
+  noted =
+      install_noted s t tx site items h.noted member;
+  fewer = h.fewer;
+  lead = h.lead;
+}
 
 -- what is awaited at another site stays so
 still_unnoted : (s : State) (tx site u : ℕ) (items : List Name) → (u ≡ site → ⊥) → (IsNoted s tx u → ⊥)
@@ -133,8 +138,8 @@ carries_noted Committed m c new s tx v is h =
     let hit : is_committed c tx ≡ true = (is_in-Decides c.certifier.order tx).1 (v.committed refl) in
     let items = map (λ (d : Name × Change). d.0) (c.changes tx s) in
     rw hit (subst (λ (st : State). Carries st (with_install c.certifier tx s items)) (sym is.after)
-        (carries_install m.certifier c.certifier tx s items
-        (Contains-append_right c.certifier.past c.certifier.order tx (v.committed refl)) h))
+    (carries_install m.certifier c.certifier tx s items
+    (Contains-append_right c.certifier.past c.certifier.order tx (v.committed refl)) h))
 carries_noted Refused m c new s tx v is h =
     let miss : is_committed c tx ≡ false = elim (cases_Bool (is_committed c tx)) [
       | inl hit ↦ absurd (v.refused refl ((is_in-Decides c.certifier.order tx).0 hit))
@@ -151,7 +156,7 @@ handle_stays s t installs is i h = subst (λ (st : State). IsHandleOf st i) (sym
 pub handles_by : (verdict : Verdict) (s : State) (tx slot : ℕ) (handle : Handle) (installed : List Install)
     → (verdict ≡ Committed → Contains s.order tx) → tx ≡ suc (s.before + slot)
     → handle ≡ record { index = slot; generation = s.generation }
-        → ((i : Install) → Contains installed i → IsHandleOf s i)
+    → ((i : Install) → Contains installed i → IsHandleOf s i)
     → (i : Install) → Contains (installed_by verdict installed (record { tx = tx; handle = handle })) i → IsHandleOf s i
 handles_by Refused s tx slot handle installed order number is h i m = h i m
 handles_by Committed s tx slot handle installed order number is h i m =
@@ -185,8 +190,11 @@ due_some m c tx touched s verdict x e h none =
 
 -- the state with the block in the log, while the step is open
 abbrev pub written_state : CoreState → ℕ → ℕ → CoreState
-written_state c tx s = record (with_entries c (only_at s (c.due s))) { certifier = noted c tx s; due =
-    changed_at s [] c.due }
+written_state c tx s = record (with_entries c (only_at s (c.due s))) {
+  certifier = noted c tx s;
+  due =
+      changed_at s [] c.due;
+}
 
 -- the open step of the transaction at this place of the table is decided so, and its block is due at the site
 pub record IsToWrite (m : Parts) (c : CoreState) (verdict : Verdict) (tx slot s : ℕ) : Type 0 where
@@ -246,7 +254,7 @@ module _ (m : Parts) (c : CoreState) (s : StandsFor m c) (verdict : Verdict) (tx
   pub same_running : due_at.1.running ≡ r
   same_running =
       same_Some due_at.1.running r (same_Some (Some due_at.1.running) (Some r) (sym due_at.1.there
-          ∙ (ap (slice_get m.table) same_slot ∙ w.runs)))
+      ∙ (ap (slice_get m.table) same_slot ∙ w.runs)))
 
   pub due_of : IsDueBy m c tx r.draft.touched o.phase t
   due_of =
@@ -260,9 +268,9 @@ module _ (m : Parts) (c : CoreState) (s : StandsFor m c) (verdict : Verdict) (tx
   pub pledged_there : p.site.pledge ≡ Some (record { tx = tx; part = at_site t r.draft.touched })
   pledged_there =
       due_at.1.pledge
-          ∙ (ap (λ (q : Open). Some (record { tx = q.tx; part = at_site t due_at.1.running.draft.touched })) same_open
+      ∙ (ap (λ (q : Open). Some (record { tx = q.tx; part = at_site t due_at.1.running.draft.touched })) same_open
       ∙ (ap (λ i. Some (record { tx = i; part = at_site t due_at.1.running.draft.touched })) w.own
-          ∙ ap (λ (q : Running). Some (record { tx = tx; part = at_site t q.draft.touched })) same_running))
+      ∙ ap (λ (q : Running). Some (record { tx = tx; part = at_site t q.draft.touched })) same_running))
 
   own : IsRunning c m.before slot r
   own = s.running slot (Some r) w.runs
@@ -274,7 +282,7 @@ module _ (m : Parts) (c : CoreState) (s : StandsFor m c) (verdict : Verdict) (tx
   block =
       due_phase m c tx r.draft.touched t verdict o.phase w.verdict_is due_of
       ∙ (ap (block_by verdict tx) (changes t)
-          ∙ ap (λ n. block_by verdict tx (writing_in (at_site n r.draft.touched))) (sym at_t.number))
+      ∙ ap (λ n. block_by verdict tx (writing_in (at_site n r.draft.touched))) (sym at_t.number))
 
   inside : t < length c.items
   inside = subst (λ n. t < n) (sym (ap length s.items ∙ length-map m.places (λ (q : Place). q.site.items)))
@@ -324,10 +332,12 @@ module _ (m : Parts) (c : CoreState) (s : StandsFor m c) (verdict : Verdict) (tx
     pub new_places : n.places ≡ slice_set m.places t q
     new_places =
         h.block.is
-            ∙ (ap (λ (v : Place). slice_set m.places t (record { site = ended_by verdict tx h.block.running v.site;
-            part = Written })) wrote_place
+        ∙ (ap (λ (v : Place). slice_set m.places t (record {
+          site = ended_by verdict tx h.block.running v.site;
+          part = Written;
+        })) wrote_place
         ∙ ap (λ (v : Running). slice_set m.places t (record { site = ended_by verdict tx v p.site; part = Written }))
-            wrote_running)
+        wrote_running)
 
     same_table : n.table ≡ m.table
     same_table = ap (λ (v : Parts). v.table) h.is
@@ -398,7 +408,7 @@ module _ (m : Parts) (c : CoreState) (s : StandsFor m c) (verdict : Verdict) (tx
           ∙ ap (λ es. es ++ block_by verdict tx (writing_in (at_site p.site.number r.draft.touched))) at_t.entries;
       handles = λ i member. handle_stays c.certifier d.certifier d.certifier.installs same_state i
           (handles_by verdict c.certifier tx slot r.handle p.site.installed decided_so.committed (w.number
-              ∙ ap (λ b. suc (b + slot)) (sym s.before)) own.handle at_t.handles i member);
+          ∙ ap (λ b. suc (b + slot)) (sym s.before)) own.handle at_t.handles i member);
       apart = own_by c.certifier tx slot r.handle p.site.installed (w.number
           ∙ ap (λ b. suc (b + slot)) (sym s.before)) own.handle at_t.handles at_t.apart verdict;
       part = record {
@@ -418,10 +428,10 @@ module _ (m : Parts) (c : CoreState) (s : StandsFor m c) (verdict : Verdict) (tx
     written_places u v at = elim (cases_eq u t) [
       | inl is ↦
           let now : slice_get (slice_set m.places t q) t ≡ Some q =
-              get-slice_set_same m.places t q (slice_get_within m.places t p w.there) in
+          get-slice_set_same m.places t q (slice_get_within m.places t p w.there) in
           let same : q ≡ v =
-              same_Some q v (sym now
-              ∙ (ap (λ ps. slice_get ps t) (sym new_places) ∙ (ap (slice_get n.places) (sym is) ∙ at))) in
+          same_Some q v (sym now
+          ∙ (ap (λ ps. slice_get ps t) (sym new_places) ∙ (ap (slice_get n.places) (sym is) ∙ at))) in
           subst (IsPlace n d u) same (subst (λ i. IsPlace n d i q) (sym is) here)
       | inr ne ↦ elsewhere u ne v (s.places u v (sym (get-slice_set_other m.places t u q ne)
           ∙ (ap (λ ps. slice_get ps u) (sym new_places) ∙ at)))
@@ -448,12 +458,16 @@ module _ (m : Parts) (c : CoreState) (s : StandsFor m c) (verdict : Verdict) (tx
 
     phase_stays : (x : Phase) → verdict_in x ≡ Some verdict → IsPhase m c o x → IsPhase n d o x
     phase_stays (phase.Gathering edges) e g = absurd cc
-    phase_stays phase.Committed e g =
-        (ap (λ (st : State). st.step) same_state
-        ∙ g.0, subst (λ (st : State). Contains st.order o.tx) (sym same_state) g.1)
-    phase_stays phase.Refused e g =
-        (ap (λ (st : State). st.step) same_state
-        ∙ g.0, λ member. g.1 (subst (λ (st : State). Contains st.order o.tx) same_state member))
+    phase_stays phase.Committed e g = (
+      ap (λ (st : State). st.step) same_state
+          ∙ g.0,
+      subst (λ (st : State). Contains st.order o.tx) (sym same_state) g.1,
+    )
+    phase_stays phase.Refused e g = (
+      ap (λ (st : State). st.step) same_state
+          ∙ g.0,
+      λ member. g.1 (subst (λ (st : State). Contains st.order o.tx) same_state member),
+    )
 
     -- what the machine stands for while the step is open
     pub written_stands : IsReached (written_state c tx t) → StandsFor n (written_state c tx t)
@@ -468,6 +482,9 @@ module _ (m : Parts) (c : CoreState) (s : StandsFor m c) (verdict : Verdict) (tx
       unborn = λ i u lt. s.unborn i u (subst (λ b. b < i) (ap (λ (v : Parts). v.begun) h.is) lt);
       running = written_running;
       places = written_places;
-      step = subst (IsStep n d) (sym (same_step ∙ w.is)) (stepped.0, stepped.1,
-          phase_stays o.phase w.verdict_is stepped.2);
+      step = subst (IsStep n d) (sym (same_step ∙ w.is)) (
+        stepped.0,
+        stepped.1,
+        phase_stays o.phase w.verdict_is stepped.2,
+      );
     }

@@ -38,9 +38,13 @@ all_true p (x ∷ xs) h = rw (h x (cons_here x xs)) (all_true p xs (λ y member.
 
 carries_finished : (s t : State) (i : ℕ) → Carries s t
     → Carries (record (with_finished s i) { installs = [] }) (with_finished t i)
-carries_finished s t i h = record { same = ap (λ st. with_finished st i) h.same; noted =
-    ended_noted s t (record (with_finished s i) { installs = [] }) (with_finished t i) h.noted refl refl (λ j m. m);
-    fewer = h.fewer; lead = h.lead }
+carries_finished s t i h = record {
+  same = ap (λ st. with_finished st i) h.same;
+  noted =
+      ended_noted s t (record (with_finished s i) { installs = [] }) (with_finished t i) h.noted refl refl (λ j m. m);
+  fewer = h.fewer;
+  lead = h.lead;
+}
 
 module _ (m : Parts) (c : CoreState) (s : StandsFor m c) (verdict : Verdict) (tx slot t : ℕ)
     (w : IsToWrite m c verdict tx slot t) (n : Parts) (h : Writes verdict m n t slot tx) where
@@ -64,7 +68,7 @@ module _ (m : Parts) (c : CoreState) (s : StandsFor m c) (verdict : Verdict) (tx
       let due = subst (IsPart n d u v) is (places u v at).part in
       let same : due.0 ≡ w.open_step = same_Some due.0 w.open_step (sym due.1.open_step ∙ step_there) in
       let verdict_is = ap (λ (x : Open). Rattle.sgt_core_machine.specs.private.Installing.verdict_in x.phase) same
-          ∙ w.verdict_is in
+      ∙ w.verdict_is in
       due_some n d due.0.tx due.1.running.draft.touched u verdict due.0.phase verdict_is due.1.due none
 
   unwritten : Any IsDueThere n.places → is_written d ≡ false
@@ -85,10 +89,12 @@ module _ (m : Parts) (c : CoreState) (s : StandsFor m c) (verdict : Verdict) (tx
   open_goes allowed some =
       let left = unwritten some in
       let is : written_state c tx t ≡ installed c tx t = rw left refl in
-      let may : MayStep c (Write tx t) Installed (written_state c tx t) = (allowed, is) in
-      (written_state c tx t, may,
-          written_stands m c s verdict tx slot t w n h
-          (reached_more c (Write tx t) Installed (written_state c tx t) s.reached may))
+      let may : MayStep c (Write tx t) Installed (written_state c tx t) = (allowed, is) in (
+        written_state c tx t,
+        may,
+        written_stands m c s verdict tx slot t w n h
+            (reached_more c (Write tx t) Installed (written_state c tx t) s.reached may),
+      )
 
   -- ---- none is
 
@@ -121,8 +127,13 @@ module _ (m : Parts) (c : CoreState) (s : StandsFor m c) (verdict : Verdict) (tx
           let is : v ≡ record found.0 { part = Idle } = ends.places.each u found.0 v found.1 at in
           let g = places u found.0 found.1 in
           let clear = nothing_due u found.0 found.0.part (not_due u found.0 found.1) g.part in
-          subst (IsPlace e f u) (sym is) (record { number = g.number; entries = g.entries; handles = g.handles;
-              apart = g.apart; part = (clear.0, refl, λ member. contains-none u member) })
+          subst (IsPlace e f u) (sym is) (record {
+            number = g.number;
+            entries = g.entries;
+            handles = g.handles;
+            apart = g.apart;
+            part = (clear.0, refl, λ member. contains-none u member);
+          })
 
       freed : Contains f.certifier.active (suc (n.before + slot)) → ⊥
       freed member =
@@ -155,9 +166,9 @@ module _ (m : Parts) (c : CoreState) (s : StandsFor m c) (verdict : Verdict) (tx
         | inl is ↦
             let there = ap (λ (v : Parts). slice_get v.table slot) h.is ∙ w.runs in
             let now : slice_get (slice_set n.table slot None) slot ≡ Some None =
-                get-slice_set_same n.table slot None (slice_get_within n.table slot (Some w.running) there) in
+            get-slice_set_same n.table slot None (slice_get_within n.table slot (Some w.running) there) in
             let same : None ≡ x =
-                same_Some None x (sym now ∙ (ap (slice_get (slice_set n.table slot None)) (sym is) ∙ at)) in
+            same_Some None x (sym now ∙ (ap (slice_get (slice_set n.table slot None)) (sym is) ∙ at)) in
             subst (RunsAt f n.before j) same (subst (λ i. RunsAt f n.before i None) (sym is) freed)
         | inr ne ↦ stays j x ne
             (written_running m c s verdict tx slot t w n h j x (sym (get-slice_set_other n.table slot j None ne) ∙ at))
@@ -193,7 +204,7 @@ module _ (m : Parts) (c : CoreState) (s : StandsFor m c) (verdict : Verdict) (tx
           let begun : e.begun ≡ m.begun = ap (λ (v : Parts). v.begun) ends.is ∙ ap (λ (v : Parts). v.begun) h.is in
           let before : e.before ≡ m.before = ap (λ (v : Parts). v.before) ends.is ∙ ap (λ (v : Parts). v.before) h.is in
           let long : length e.table ≡ length m.table = ap (λ (v : Parts). length v.table) ends.is
-              ∙ (length-set n.table slot None ∙ ap length table) in
+          ∙ (length-set n.table slot None ∙ ap length table) in
           let window = s.window in (
             f,
             may,

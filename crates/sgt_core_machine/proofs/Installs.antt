@@ -113,7 +113,7 @@ module _ (m : Parts) (c : CoreState) (s : StandsFor m c) (tx slot : ℕ) (h : Is
       → Goes m c (Write tx t) reply
   install_early reply none e =
       let undecided : IsDecided c tx → ⊥ = λ d. let g : Some tx ≡ None = sym d
-          ∙ undecided_by m c m.step none s.step in absurd cc in
+      ∙ undecided_by m c m.step none s.step in absurd cc in
       install_too_early m c s tx slot h no_other t reply (slice_get_within m.places t p at) undecided e
 
   module _ (verdict : Verdict) (v : Some verdict ≡ verdict_of m.step) where
@@ -144,28 +144,39 @@ module _ (m : Parts) (c : CoreState) (s : StandsFor m c) (tx slot : ℕ) (h : Is
           | inr miss ↦ miss
         ] in
         refused_goes m c s (Write tx t) fault.NotTouched reply e
-            (install_untouched c tx t begun active no_other inside decided.decided miss)
+        (install_untouched c tx t begun active no_other inside decided.decided miss)
 
     pub again_goes : (reply : Reply) → p.part ≡ Written → reply ≡ Fault fault.AlreadyDone → Goes m c (Write tx t) reply
     again_goes reply written e =
         let part = subst (IsPart m c t p) written (s.places t p at).part in
         let number : suc (m.before + part.place) ≡ tx = same_Some (suc (m.before + part.place)) tx (sym part.decided
-            ∙ decided.decided) in
+        ∙ decided.decided) in
         let here_is = h.0 in
         let place : part.place ≡ slot = omega (arith, number, here_is) in
         let same : part.running ≡ h.1.0 =
-            same_Some part.running h.1.0 (same_Some (Some part.running) (Some h.1.0) (sym part.there
-            ∙ (ap (slice_get m.table) place ∙ h.1.1))) in
+        same_Some part.running h.1.0 (same_Some (Some part.running) (Some h.1.0) (sym part.there
+        ∙ (ap (slice_get m.table) place ∙ h.1.1))) in
         let hit =
-            here m c s tx slot h t (subst (λ (r : Running). Rattle.sgt_names.specs.Draft.Touches r.draft.touched t)
-            same part.touched) in
+        here m c s tx slot h t (subst (λ (r : Running). Rattle.sgt_names.specs.Draft.Touches r.draft.touched t)
+        same part.touched) in
         refused_goes m c s (Write tx t) fault.AlreadyDone reply e
-            (install_again c tx t begun active no_other inside decided.decided hit part.due)
+        (install_again c tx t begun active no_other inside decided.decided hit part.due)
 
     module _ (due : p.part ≡ Due) where
       pub to_write : IsToWrite m c verdict tx slot t
-      to_write = record { open_step = o; is = is; own = own; verdict_is = verdict_is; number = h.0; running =
-          h.1.0; runs = h.1.1; place = p; there = at; due = due }
+      to_write = record {
+        open_step = o;
+        is = is;
+        own = own;
+        verdict_is = verdict_is;
+        number = h.0;
+        running =
+            h.1.0;
+        runs = h.1.1;
+        place = p;
+        there = at;
+        due = due;
+      }
 
       allowed : IsAllowed c (Write tx t)
       unfolding to_write

@@ -59,15 +59,15 @@ arc_from s es arc m =
     let at = Contains_at (arcs_of s es) arc m in
     let from = map_at (arc_under s) (filter (λ (e : Edge). e.from.generation == s.generation) es) at.0 arc at.1 in
     let kept = filter_member (λ (e : Edge). e.from.generation == s.generation) es from.0
-        (Contains-from_at _ at.0 from.0 from.1) in
+    (Contains-from_at _ at.0 from.0 from.1) in
     (from.0, kept.0, eqb-true from.0.from.generation s.generation kept.1, from.2)
 
 pub arc_of_edge : (s : State) (es : List Edge) (e : Edge) → Contains es e → e.from.generation ≡ s.generation
     → Contains (arcs_of s es) (arc_under s e)
 arc_of_edge s es e m gen =
     let in_kept =
-        member_filter (λ (e : Edge). e.from.generation == s.generation) es e m
-        (eq-eqb e.from.generation s.generation gen) in
+    member_filter (λ (e : Edge). e.from.generation == s.generation) es e m
+    (eq-eqb e.from.generation s.generation gen) in
     let at = Contains_at (filter (λ (e : Edge). e.from.generation == s.generation) es) e in_kept in
     Contains-from_at (arcs_of s es) at.0 (arc_under s e) (get-mapped (arc_under s) _ at.0 e at.1)
 
@@ -79,11 +79,11 @@ handle_member [] tx h e = absurd cc
 handle_member (i ∷ is) tx h e = elim (cases_eq i.tx tx) [
   | inl same ↦
       let hit : Some i.handle ≡ Some h =
-          sym (ap (λ b. if b then Some i.handle else handle_of is tx) (eq-eqb i.tx tx same)) ∙ e in
+      sym (ap (λ b. if b then Some i.handle else handle_of is tx) (eq-eqb i.tx tx same)) ∙ e in
       subst (Contains (i ∷ is)) (one i.tx tx i.handle h same (same_Some i.handle h hit)) (cons_here i is)
   | inr other ↦
       let rest : handle_of is tx ≡ Some h =
-          sym (ap (λ b. if b then Some i.handle else handle_of is tx) (ne_eqb i.tx tx other)) ∙ e in
+      sym (ap (λ b. if b then Some i.handle else handle_of is tx) (ne_eqb i.tx tx other)) ∙ e in
       contains-later i is _ (handle_member is tx h rest)
 ]
   where
@@ -110,7 +110,7 @@ commit_handle s site tx has =
     let at = Contains_at s.entries (entry.Commit tx) has in
     let there = chosen_from committed_in s.entries at.0 (entry.Commit tx) tx at.1 refl in
     let in_commits : Contains (filter_map committed_in s.entries) tx =
-        Contains-from_at _ (count_before committed_in s.entries at.0) tx there in
+    Contains-from_at _ (count_before committed_in s.entries at.0) tx there in
     member_handle s.installed tx (subst (λ ts. Contains ts tx) (sym site.given) in_commits)
 
 -- ---- who is committed and stands in a log has a commit there
@@ -173,10 +173,10 @@ followed_older before tx es cs late w = record {
 module _ (m : Parts) (c : CoreState) (k : IsKept c) (carries : Carries m.certifier c.certifier)
     (same_before : c.certifier.before ≡ m.before)
     (undecided : c.certifier.step ≡ None) (tx slot : ℕ) (number : tx ≡ suc (m.before + slot)) (r : Running)
-        (own : IsRunning c m.before slot r)
+    (own : IsRunning c m.before slot r)
     (t : ℕ) (p : Place) (place : IsPlace m c t p) (site : IsSite p.site) (may : MayPledge p.site tx r.draft.touched)
     (more : List Edge) (gave : All (IsGiven p.site r.draft.touched r.handle) more)
-        (stand : StandsForAll p.site r.draft.touched r.handle more) (differ : AreApart more)
+    (stand : StandsForAll p.site r.draft.touched r.handle more) (differ : AreApart more)
     (fresh : Contains (gathered_in c.step) t → ⊥) where
   abbrev s : State
   s = c.certifier
@@ -207,7 +207,7 @@ module _ (m : Parts) (c : CoreState) (k : IsKept c) (carries : Carries m.certifi
       ap (λ es. es ++ as_changes tx (c.changes tx t)) place.entries
       ∙ ap (λ cs. p.site.entries ++ as_changes tx cs)
       (ap (λ i. c.changes i t) number
-          ∙ (own.changes t ∙ ap (λ u. writing_in (at_site u r.draft.touched)) (sym place.number)))
+      ∙ (own.changes t ∙ ap (λ u. writing_in (at_site u r.draft.touched)) (sym place.number)))
 
   windows : AreOlderFirst s.before (edges.followed p.site tx r.draft.touched)
   windows =
@@ -239,10 +239,16 @@ module _ (m : Parts) (c : CoreState) (k : IsKept c) (carries : Carries m.certifi
   fits e member =
       let is = conflict_of e member in
       elim is.which [
-        | inl to_me ↦ inr (to_me.1, λ from. is.apart (from ∙ sym to_me.1),
-            subst (IsKnown s) (sym to_me.0) (known_other is.other is.handle is.given))
-        | inr from_me ↦ inl (from_me.0, λ to. is.apart (from_me.0 ∙ sym to),
-            subst (IsKnown s) (sym from_me.1) (known_other is.other is.handle is.given))
+        | inl to_me ↦ inr (
+          to_me.1,
+          λ from. is.apart (from ∙ sym to_me.1),
+          subst (IsKnown s) (sym to_me.0) (known_other is.other is.handle is.given),
+        )
+        | inr from_me ↦ inl (
+          from_me.0,
+          λ to. is.apart (from_me.0 ∙ sym to),
+          subst (IsKnown s) (sym from_me.1) (known_other is.other is.handle is.given),
+        )
       ]
 
   -- none leads back to an older window
@@ -271,7 +277,7 @@ module _ (m : Parts) (c : CoreState) (k : IsKept c) (carries : Carries m.certifi
       elim is.which [
         | inl to_me ↦
             let here_gen : is.handle.generation ≡ s.generation = ap (λ (h : Handle). h.generation) (sym to_me.0)
-                ∙ gen in
+            ∙ gen in
             elim (known is.other is.handle is.given) [
               | inl here ↦
                   let from_is : is.other ≡ tx_under s e.from = here.1 ∙ ap (tx_under s) (sym to_me.0) in
@@ -283,7 +289,7 @@ module _ (m : Parts) (c : CoreState) (k : IsKept c) (carries : Carries m.certifi
                         (subst (λ a. Conflicts (edges.followed p.site tx r.draft.touched) e.label.kind e.label.item a
                         (tx_under s e.to)) from_is
                         (subst (Conflicts (edges.followed p.site tx r.draft.touched) e.label.kind e.label.item
-                            is.other) (sym to_is) to_me.2));
+                        is.other) (sym to_is) to_me.2));
                   }
               | inr older ↦ absurd (omega (arith, older.0, here_gen))
             ]
@@ -299,7 +305,7 @@ module _ (m : Parts) (c : CoreState) (k : IsKept c) (carries : Carries m.certifi
                   (subst (Conflicts (edges.followed p.site tx r.draft.touched) e.label.kind e.label.item
                   (tx_under s e.from)) to_is
                   (subst (λ a. Conflicts (edges.followed p.site tx r.draft.touched) e.label.kind e.label.item a
-                      is.other) (sym from_is) from_me.2));
+                  is.other) (sym from_is) from_me.2));
             }
       ]
     where
@@ -320,15 +326,15 @@ module _ (m : Parts) (c : CoreState) (k : IsKept c) (carries : Carries m.certifi
     | inr older ↦ absurd (omega (arith, older.0, gen))
     | inl first ↦
         let in_c : Conflicts (c.entries t) is.kind x is.first is.second =
-            subst (λ es. Conflicts es is.kind x is.first is.second) (sym place.entries) is.conflict in
+        subst (λ es. Conflicts es is.kind x is.first is.second) (sym place.entries) is.conflict in
         let lt = older_first s.before (c.entries t) (k.sound.ordered.windows t) is.kind x is.first is.second in_c
-            (in_order is.first first.2) in
+        (in_order is.first first.2) in
         let second = here_after is.second h is.to_second lt in
         let arc =
-            k.sound.ordered.edges t is.kind x is.first is.second first.2 second.2
-            (in_longer (c.entries t) (c.due t) is.kind x is.first is.second in_c) in
+        k.sound.ordered.edges t is.kind x is.first is.second first.2 second.2
+        (in_longer (c.entries t) (c.due t) is.kind x is.first is.second in_c) in
         let lead = reaches_alike (Joins given_arcs) Step (λ a b j. inl j) is.first is.second
-            (carries.lead is.first is.second (record { site = t; item = x; kind = is.kind }, arc)) in
+        (carries.lead is.first is.second (record { site = t; item = x; kind = is.kind }, arc)) in
         (second.0, subst (λ a. Reaches Step a (tx_under s h)) first.1 (subst (Reaches Step is.first) second.1 lead))
   ]
 
@@ -374,23 +380,23 @@ module _ (m : Parts) (c : CoreState) (k : IsKept c) (carries : Carries m.certifi
   commits_here e member ordered =
       let legal = (k.sound.legal.sites t (inside e member)).log in
       let log : (c.entries t ++ c.due t) ≡ c.entries t = ap (λ es. c.entries t ++ es) due_none
-          ∙ append-nil (c.entries t) in
+      ∙ append-nil (c.entries t) in
       elim (legal.stands e (Contains-append_left (c.entries t) (c.due t) e member)) [
         | inl free ↦
             let o : Some (tx_of e) ≡ None = sym (k.sound.ordered.certifier.committed_open (tx_of e) free.1.0 ordered)
-                ∙ undecided in
+            ∙ undecided in
             absurd cc
         | inr done ↦
             let f = done.1 in
             let committed_at =
-                k.sound.ruled.from_serial (tx_of e) (Contains-append_right s.past s.order (tx_of e) ordered) in
+            k.sound.ruled.from_serial (tx_of e) (Contains-append_right s.past s.order (tx_of e) ordered) in
             elim (legal.stands f.0 f.1) [
               | inl free ↦ absurd (read_no_end f.0 free.0 f.2)
               | inr ended ↦
                   let by = ended.0.1 in
                   let same =
-                      same_ruling s k.sound.ruled ended.0.0 committed_at.0 by.0 (committed (tx_of e)) by.1
-                      committed_at.1 (by.2 ∙ f.3) in
+                  same_ruling s k.sound.ruled ended.0.0 committed_at.0 by.0 (committed (tx_of e)) by.1
+                  committed_at.1 (by.2 ∙ f.3) in
                   let is = commit_is f.0 (tx_of e) f.2 (subst (SuitsRuling f.0) same by.3) in
                   subst (Contains (c.entries t)) (is ∙ ap entry.Commit f.3) (subst (λ es. Contains es f.0) log f.1)
             ]
@@ -450,15 +456,15 @@ module _ (m : Parts) (c : CoreState) (k : IsKept c) (carries : Carries m.certifi
   all_lead : (arc : Arc) → IsEdgeOf c tx arc → arc.label.site ≡ t → Reaches Step arc.from arc.to
   all_lead arc is at =
       let there : Conflicts (followed c tx t) arc.label.kind arc.label.item arc.from arc.to =
-          subst (λ u. Conflicts (followed c tx u) arc.label.kind arc.label.item arc.from arc.to) at is.conflict in
+      subst (λ u. Conflicts (followed c tx u) arc.label.kind arc.label.item arc.from arc.to) at is.conflict in
       elim is.ends [
         | inl from ↦
             let mine : Conflicts (followed c tx t) arc.label.kind arc.label.item tx arc.to =
-                subst (λ a. Conflicts (followed c tx t) arc.label.kind arc.label.item a arc.to) from.0 there in
+            subst (λ a. Conflicts (followed c tx t) arc.label.kind arc.label.item a arc.to) from.0 there in
             subst (λ a. Reaches Step a arc.to) (sym from.0) (lead_to arc.to arc.label.kind arc.label.item from.1 mine)
         | inr to ↦
             let mine : Conflicts (followed c tx t) arc.label.kind arc.label.item arc.from tx =
-                subst (Conflicts (followed c tx t) arc.label.kind arc.label.item arc.from) to.0 there in
+            subst (Conflicts (followed c tx t) arc.label.kind arc.label.item arc.from) to.0 there in
             subst (Reaches Step arc.from) (sym to.0) (lead_from arc.from arc.label.kind arc.label.item to.1 mine)
       ]
 
@@ -491,7 +497,7 @@ module _ (m : Parts) (c : CoreState) (k : IsKept c) (carries : Carries m.certifi
     handle_is =
         own.handle
         ∙ (ap (λ i. record { index = i; generation = s.generation }) (sym same_place)
-            ∙ ap (λ (st : State). record { index = h.place; generation = st.generation }) carries.same)
+        ∙ ap (λ (st : State). record { index = h.place; generation = st.generation }) carries.same)
 
     arcs_both : (arc : Arc) → Contains (arcs_of u (before_edges ++ more)) arc → Contains (arcs_of u before_edges) arc
         ⊎ Contains (arcs_of u more) arc
@@ -507,13 +513,13 @@ module _ (m : Parts) (c : CoreState) (k : IsKept c) (carries : Carries m.certifi
     arcs_left arc member =
         let e = arc_from u before_edges arc member in
         subst (Contains (arcs_of u (before_edges ++ more))) e.3
-            (arc_of_edge u (before_edges ++ more) e.0 (Contains-append_left before_edges more e.0 e.1) e.2)
+        (arc_of_edge u (before_edges ++ more) e.0 (Contains-append_left before_edges more e.0 e.1) e.2)
 
     arcs_right : (arc : Arc) → Contains (arcs_of u more) arc → Contains (arcs_of u (before_edges ++ more)) arc
     arcs_right arc member =
         let e = arc_from u more arc member in
         subst (Contains (arcs_of u (before_edges ++ more))) e.3
-            (arc_of_edge u (before_edges ++ more) e.0 (Contains-append_right before_edges more e.0 e.1) e.2)
+        (arc_of_edge u (before_edges ++ more) e.0 (Contains-append_right before_edges more e.0 e.1) e.2)
 
     pub gathered_more : AreGathered m.certifier
         (record c { step = Some (record { tx = tx; gathered = t ∷ gathered_in c.step }) }) tx (before_edges ++ more)
@@ -535,7 +541,7 @@ module _ (m : Parts) (c : CoreState) (k : IsKept c) (carries : Carries m.certifi
       ];
       once = AllPairs-append (λ e f. e ≢ f) before_edges more h.once differ (λ e f old_edge new_edge same.
           fresh (subst (Contains (gathered_in c.step)) (ap (λ (d : Edge). d.label.site) same
-              ∙ label_site f new_edge) (h.here e old_edge)));
+          ∙ label_site f new_edge) (h.here e old_edge)));
       own = λ arc member. elim (arcs_both arc member) [
         | inl old_arc ↦ too arc (h.own arc old_arc)
         | inr new_arc ↦
@@ -547,13 +553,15 @@ module _ (m : Parts) (c : CoreState) (k : IsKept c) (carries : Carries m.certifi
             reaches_alike Step (λ a b. Joins u.arcs a b ⊎ Joins (arcs_of u (before_edges ++ more)) a b)
             (λ a b j. elim j [
               | inl old_join ↦ inl old_join
-              | inr new_join ↦ inr (new_join.0,
-                  arcs_right (arc_between a b new_join.0) (subst (λ arcs. Contains arcs (arc_between a b new_join.0))
-                  (arcs_same more) new_join.1))
+              | inr new_join ↦ inr (
+                new_join.0,
+                arcs_right (arc_between a b new_join.0) (subst (λ arcs. Contains arcs (arc_between a b new_join.0))
+                    (arcs_same more) new_join.1),
+              )
             ]) arc.from arc.to (all_lead arc (back arc is) (sym here))
         | inr before ↦
             reaches_alike (λ a b. Joins u.arcs a b ⊎ Joins (arcs_of u before_edges) a b) (λ a b. Joins u.arcs a b
-                ⊎ Joins (arcs_of u (before_edges ++ more)) a b)
+            ⊎ Joins (arcs_of u (before_edges ++ more)) a b)
             (λ a b j. elim j [
               | inl old_join ↦ inl old_join
               | inr new_join ↦ inr (new_join.0, arcs_left (arc_between a b new_join.0) new_join.1)

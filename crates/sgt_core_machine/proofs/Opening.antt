@@ -32,7 +32,7 @@ last_is places p q i k (suc n) e found count = absurd cc
 pub one_opened : (sites : List (List Holding)) (places : List Place) (i : ℕ) (items : List Holding) (p : Place)
     → i < length sites → slice_get sites i ≡ Some items → AreOpened (take i sites) places
     → AreItems items → p ≡ record { site = opened i items; part = Idle }
-        → AreOpened (take (i + 1) sites) (places ++ p ∷ [])
+    → AreOpened (take (i + 1) sites) (places ++ p ∷ [])
 one_opened sites places i items p lt at h are is =
     let more = take_next sites i items at in
     let front : length (take i sites) ≡ i = length-take-le i sites (omega (arith, lt)) in
@@ -48,10 +48,14 @@ one_opened sites places i items p lt at h are is =
         | inr last ↦
             let same : (k ≡ i) × (p ≡ q) = last_is places p q i k last.0 last.1 last.2 count in
             let here : slice_get (take (i + 1) sites) i ≡ Some items = ap (λ l. slice_get l i) more
-                ∙ subst (λ n. slice_get (take i sites ++ items ∷ []) n ≡ Some items) front
-                (middle_at (take i sites) items []) in
-            (items, ap (slice_get (take (i + 1) sites)) same.0 ∙ here, are, sym same.1
-                ∙ (is ∙ ap (λ n. record { site = opened n items; part = Idle }) (sym same.0)))
+            ∙ subst (λ n. slice_get (take i sites ++ items ∷ []) n ≡ Some items) front
+            (middle_at (take i sites) items []) in (
+              items,
+              ap (slice_get (take (i + 1) sites)) same.0 ∙ here,
+              are,
+              sym same.1
+                  ∙ (is ∙ ap (λ n. record { site = opened n items; part = Idle }) (sym same.0)),
+            )
       ];
     }
 
@@ -80,13 +84,20 @@ same_lists (x ∷ xs) (y ∷ ys) long h =
     ap (λ z. z ∷ xs) first ∙ ap (λ zs. y ∷ zs) (same_lists xs ys (omega (arith, long)) (λ k z at. h (suc k) z at))
 
 abbrev start : List Place → State → Parts
-start places certifier = record { places = places; certifier = certifier; begun = 0; before = 0; table = []; step =
-    None }
+start places certifier = record {
+  places = places;
+  certifier = certifier;
+  begun = 0;
+  before = 0;
+  table = [];
+  step =
+      None;
+}
 
 pub new_stands : (sites : List (List Holding)) (places : List Place) (certifier : State) → AreOpened sites places
     → certifier ≡ opening → 1 ≤ length sites → length sites ≤ max_sites
     → StandsFor (record { places = places; certifier = certifier; begun = 0; before = 0; table = []; step = None })
-        (fresh sites)
+    (fresh sites)
 new_stands sites places certifier h is some few = record {
   reached = (sites, ([], ([], refl)));
   sites = record { some = some; few = few; each = opened_items sites places h };
@@ -98,9 +109,16 @@ new_stands sites places certifier h is some few = record {
       e.1 ∙ ap Some same);
   certifier =
       subst (λ (s : State). Carries s opening) (sym is)
-      (record { same = refl; noted = record { open_step = λ tx o site n. absurd (contains-none n.1 (n.0, n.2, n.3));
-      committed = λ i m. absurd (contains-none i m) }; fewer = λ arc m. m; lead =
-      λ a b j. absurd (contains-none _ j.1) });
+      (record {
+        same = refl;
+        noted = record {
+          open_step = λ tx o site n. absurd (contains-none n.1 (n.0, n.2, n.3));
+          committed = λ i m. absurd (contains-none i m);
+        };
+        fewer = λ arc m. m;
+        lead =
+            λ a b j. absurd (contains-none _ j.1);
+      });
   before = refl;
   begun = refl;
   window = refl;
@@ -123,7 +141,7 @@ new_stands sites places certifier h is some few = record {
 pub run_on : (first mid last : Parts) (events : List Event) (replies : List Reply) (event : Event) (reply : Reply)
     → GoesOn (λ c d. Run c events replies d) first mid
     → GoesOn (λ c d. MayStep c event reply d) mid last
-        → GoesOn (λ c d. Run c (events ++ event ∷ []) (replies ++ reply ∷ []) d) first last
+    → GoesOn (λ c d. Run c (events ++ event ∷ []) (replies ++ reply ∷ []) d) first last
 run_on first mid last events replies event reply run go c s =
     let a = run c s in
     let b = go a.0 a.2 in

@@ -33,8 +33,11 @@ own_stays s u same own = subst Own (sym same) own
 found : (is : List Install) (i : Install) (a : ℕ) (h : Handle) → handle_of (is ++ i ∷ []) a ≡ Some h
     → (handle_of is a ≡ Some h) ⊎ ((i.tx ≡ a) × (i.handle ≡ h))
 found [] i a h e = elim (cases_Bool (i.tx == a)) [
-  | inl hit ↦ inr (eqb-true i.tx a hit, same_Some i.handle h (sym (ap (λ b. if b then Some i.handle else None) hit)
-      ∙ e))
+  | inl hit ↦ inr (
+    eqb-true i.tx a hit,
+    same_Some i.handle h (sym (ap (λ b. if b then Some i.handle else None) hit)
+        ∙ e),
+  )
   | inr miss ↦ absurd (let none : None ≡ Some h = sym (ap (λ b. if b then Some i.handle else None) miss) ∙ e in cc)
 ]
 found (j ∷ is) i a h e = elim (cases_Bool (j.tx == a)) [

@@ -46,8 +46,8 @@ read_is tx x (entry.Read i y v) u h = elim (cases_eq i tx) [
   | inl own ↦ elim (cases_Bool (bytes_eq y x)) [
     | inl hit ↦
         let g : Some v ≡ Some u =
-            subst (λ b. cond b (Some v) None ≡ Some u) hit
-            (subst (λ b. cond b (cond (bytes_eq y x) (Some v) None) None ≡ Some u) (eq-eqb i tx own) h) in
+        subst (λ b. cond b (Some v) None ≡ Some u) hit
+        (subst (λ b. cond b (cond (bytes_eq y x) (Some v) None) None ≡ Some u) (eq-eqb i tx own) h) in
         three i tx y x v u own ((bytes_eq-Decides y x).0 hit) (same_Some v u g)
     | inr miss ↦ absurd (let g : None ≡ Some u =
         subst (λ b. cond b (Some v) None ≡ Some u) miss
@@ -91,7 +91,7 @@ module _ (es : List Entry) (tx s : ℕ) (x : Name) (ts : List Touch) (rising : A
         let from = chosen_at (read_of tx x) es 0 some.0 some.1 in
         let is = read_is tx x from.1 some.0 from.3 in
         let logged : LogsRead es tx x some.0 (version_at (take from.0 es) x) =
-            record { place = from.0; at = from.2 ∙ ap Some is; version = refl } in
+        record { place = from.0; at = from.2 ∙ ap Some is; version = refl } in
         let kept = (reads x some.0 (version_at (take from.0 es) x)).1 logged in
         some.1 ∙ sym (ap (option_map (λ (seen : Seen). seen.value)) (kept_seen ts s x some.0 _ rising kept))
   ]
@@ -102,7 +102,7 @@ module _ (es : List Entry) (tx s : ℕ) (x : Name) (ts : List Touch) (rising : A
         | inr some ↦
             let logged = (reads x some.0.value some.0.version).0 (seen_kept ts s x some.0 some.1) in
             absurd (nothing_chosen (read_of tx x) es logged.place _ some.0.value none logged.at
-                (read_hit tx x some.0.value))
+            (read_hit tx x some.0.value))
       ]
 
 abbrev looks : Option Touch → Option ℕ
@@ -118,9 +118,9 @@ pub look_there : (c : CoreState) (before slot : ℕ) (r : Running) (s : ℕ) (x 
 look_there c before slot r s x h =
     let ts = r.draft.touched in
     ap (λ o. value_with_any o (change_in (c.changes (suc (before + slot)) s) x))
-        (seen_there (c.entries s) (suc (before + slot)) s x ts h.rising (h.reads s))
+    (seen_there (c.entries s) (suc (before + slot)) s x ts h.rising (h.reads s))
     ∙ (ap (value_with_any _) (ap (λ cs. change_in cs x) (h.changes s) ∙ change_there ts s x h.rising)
-        ∙ looked (touched_at ts (s, x)))
+    ∙ looked (touched_at ts (s, x)))
 
 -- an item that it finds nothing of isn't read by the draft
 pub not_seen : (ts : List Touch) (s : ℕ) (x : Name) → option_and_then look_of (touched_at ts (s, x)) ≡ None
@@ -150,7 +150,7 @@ take_front (f ∷ es) fs = ap (λ gs. f ∷ gs) (take_front es fs)
 module _ (m : Parts) (c : CoreState) (stands : StandsFor m c) (tx slot s : ℕ) (x : Name)
     (number : tx ≡ suc (m.before + slot)) (closed : IsOwnOpen c tx → ⊥)
     (v : Seen) (places : List Place) (r : ReadsAt m.places places tx s x v) (table : List (Option Running))
-        (h : Redrafts m.table table slot (ReadsTo s x v))
+    (h : Redrafts m.table table slot (ReadsTo s x v))
     (unseen : seen_at h.before.draft.touched (s, x) ≡ None) where
   abbrev e : Entry
   e = entry.Read tx x v.value
@@ -168,8 +168,10 @@ module _ (m : Parts) (c : CoreState) (stands : StandsFor m c) (tx slot s : ℕ) 
   only_this t f member = elim (cases_eq t s) [
     | inl is ↦
         let one : more t ≡ e ∷ [] = ap more is ∙ only_here s (e ∷ []) in
-        elim (contains-cases e [] f (subst (λ es. Contains es f) one member)) [ inl same ↦ sym same
-            | inr empty ↦ absurd (contains-none f empty) ]
+        elim (contains-cases e [] f (subst (λ es. Contains es f) one member)) [
+          | inl same ↦ sym same
+          | inr empty ↦ absurd (contains-none f empty)
+        ]
     | inr ne ↦ absurd (contains-none f (subst (λ es. Contains es f) (only_there s (e ∷ []) t ne) member))
   ]
 
@@ -192,10 +194,14 @@ module _ (m : Parts) (c : CoreState) (stands : StandsFor m c) (tx slot s : ℕ) 
   not_end t i arc ne is f member =
       let same : tx_of f ≡ tx = ap tx_of (only_this t f member) in
       elim is.ends [
-        | inl from ↦ (λ q. ne (sym from.0 ∙ (sym q ∙ same)),
-            λ q. out (subst (Contains c.certifier.order) (sym q ∙ same) from.1))
-        | inr to ↦ (λ q. out (subst (Contains c.certifier.order) (sym q ∙ same) to.1),
-            λ q. ne (sym to.0 ∙ (sym q ∙ same)))
+        | inl from ↦ (
+          λ q. ne (sym from.0 ∙ (sym q ∙ same)),
+          λ q. out (subst (Contains c.certifier.order) (sym q ∙ same) from.1),
+        )
+        | inr to ↦ (
+          λ q. out (subst (Contains c.certifier.order) (sym q ∙ same) to.1),
+          λ q. ne (sym to.0 ∙ (sym q ∙ same)),
+        )
       ]
 
   longer : (i : ℕ) (arc : Arc) → (i ≡ tx → ⊥) → IsEdgeOf c i arc → IsEdgeOf d i arc
@@ -205,7 +211,7 @@ module _ (m : Parts) (c : CoreState) (stands : StandsFor m c) (tx slot s : ℕ) 
         (sym (append_assoc (c.entries arc.label.site) (more arc.label.site)
         (as_changes i (c.changes i arc.label.site))))
         (with_others (c.entries arc.label.site) (more arc.label.site) (as_changes i (c.changes i arc.label.site))
-            arc.label.kind arc.label.item arc.from arc.to is.conflict);
+        arc.label.kind arc.label.item arc.from arc.to is.conflict);
   }
 
   shorter : (i : ℕ) (arc : Arc) → (i ≡ tx → ⊥) → IsEdgeOf d i arc → IsEdgeOf c i arc
@@ -214,17 +220,21 @@ module _ (m : Parts) (c : CoreState) (stands : StandsFor m c) (tx slot s : ℕ) 
       let apart : (f : Entry) → Contains (more t) f → (tx_of f ≡ arc.from → ⊥) × (tx_of f ≡ arc.to → ⊥) = λ f member.
       let same : tx_of f ≡ tx = ap tx_of (only_this t f member) in
       elim is.ends [
-        | inl from ↦ (λ q. ne (sym from.0 ∙ (sym q ∙ same)),
-            λ q. out (subst (Contains c.certifier.order) (sym q ∙ same) from.1))
-        | inr to ↦ (λ q. out (subst (Contains c.certifier.order) (sym q ∙ same) to.1),
-            λ q. ne (sym to.0 ∙ (sym q ∙ same)))
+        | inl from ↦ (
+          λ q. ne (sym from.0 ∙ (sym q ∙ same)),
+          λ q. out (subst (Contains c.certifier.order) (sym q ∙ same) from.1),
+        )
+        | inr to ↦ (
+          λ q. out (subst (Contains c.certifier.order) (sym q ∙ same) to.1),
+          λ q. ne (sym to.0 ∙ (sym q ∙ same)),
+        )
       ] in
       record {
         ends = is.ends;
         conflict = without_others (c.entries t) (more t) (as_changes i (c.changes i t)) arc.label.kind arc.label.item
             arc.from arc.to (λ f member. (apart f member).0) (λ f member. (apart f member).1)
             (subst (λ es. Conflicts es arc.label.kind arc.label.item arc.from arc.to)
-                (append_assoc (c.entries t) (more t) (as_changes i (c.changes i t))) is.conflict);
+            (append_assoc (c.entries t) (more t) (as_changes i (c.changes i t))) is.conflict);
       }
 
   at_place : c.entries s ≡ r.place.site.entries
@@ -233,27 +243,27 @@ module _ (m : Parts) (c : CoreState) (stands : StandsFor m c) (tx slot s : ℕ) 
   own_reads : (t : ℕ) → KeepsReads (d.entries t) tx (kept_in (at_site t h.after.draft.touched))
   own_reads t =
       let was : KeepsReads (c.entries t) tx (kept_in (at_site t h.before.draft.touched)) =
-          subst (λ i. KeepsReads (c.entries t) i (kept_in (at_site t h.before.draft.touched))) (sym number)
-          (own.reads t) in
+      subst (λ i. KeepsReads (c.entries t) i (kept_in (at_site t h.before.draft.touched))) (sym number)
+      (own.reads t) in
       elim (cases_eq t s) [
         | inl is ↦ subst (λ u. KeepsReads (d.entries u) tx (kept_in (at_site u h.after.draft.touched))) (sym is)
             (here (subst (λ u. KeepsReads (c.entries u) tx (kept_in (at_site u h.before.draft.touched))) is was))
         | inr ne ↦
             let logs : d.entries t ≡ c.entries t = ap (λ es. c.entries t ++ es) (only_there s (e ∷ []) t ne)
-                ∙ append-nil (c.entries t) in
+            ∙ append-nil (c.entries t) in
             subst (λ es. KeepsReads es tx (kept_in (at_site t h.after.draft.touched))) (sym logs)
             (subst (λ (us : List Touch). KeepsReads (c.entries t) tx (kept_in us))
-                (sym (other_sites h.before.draft.touched h.after.draft.touched _ h.draft t ne)) was)
+            (sym (other_sites h.before.draft.touched h.after.draft.touched _ h.draft t ne)) was)
       ]
     where
       here : KeepsReads (c.entries s) tx (kept_in (at_site s h.before.draft.touched))
           → KeepsReads (d.entries s) tx (kept_in (at_site s h.after.draft.touched))
       here was y w n =
           let both = more_reads h.before.draft.touched h.after.draft.touched _ h.draft own.rising h.rising v refl
-              unseen (y, w, n) in
+          unseen (y, w, n) in
           let one : more s ≡ e ∷ [] = only_here s (e ∷ []) in
           let version : version_at (c.entries s) x ≡ v.version = ap (λ es. version_at es x) at_place
-              ∙ sym r.version in (
+          ∙ sym r.version in (
             λ member. elim (both.0 member) [
               | inl is ↦ subst (λ (k : Name × ℕ × ℕ). LogsRead (d.entries s) tx k.0 k.1 k.2) is (fresh_read one version)
               | inr old ↦ LogsRead-append (c.entries s) (more s) tx y w n ((was y w n).0 old)
@@ -282,14 +292,14 @@ module _ (m : Parts) (c : CoreState) (stands : StandsFor m c) (tx slot s : ℕ) 
               let item : x ≡ y = cc in
               let value : v.value ≡ w = cc in
               let ver : v.version ≡ n = sym version ∙ (ap (λ es. version_at es x) (sym (append-nil (c.entries s)))
-                  ∙ (ap (version_at (c.entries s ++ [])) item ∙ is)) in
+              ∙ (ap (version_at (c.entries s ++ [])) item ∙ is)) in
               ap (λ z. (z, v.value, v.version)) item ∙ (ap (λ z. (y, z, v.version)) value ∙ ap (λ z. (y, w, z)) ver)
           new_read (suc j) y w n one version at is = absurd cc
 
   own_changes : (t : ℕ) → c.changes tx t ≡ writing_in (at_site t h.after.draft.touched)
   own_changes t =
       let was : c.changes tx t ≡ writing_in (at_site t h.before.draft.touched) = ap (λ i. c.changes i t) number
-          ∙ own.changes t in
+      ∙ own.changes t in
       elim (cases_eq t s) [
         | inl is ↦ was ∙ (ap (λ u. writing_in (at_site u h.before.draft.touched)) is
             ∙ (sym (same_changes h.before.draft.touched h.after.draft.touched _ h.draft own.rising h.rising refl)
@@ -317,22 +327,34 @@ module _ (m : Parts) (c : CoreState) (stands : StandsFor m c) (tx slot s : ℕ) 
   like t q at = elim (cases_eq t s) [
     | inl is ↦
         let here : slice_get (slice_set m.places s new_place) s ≡ Some new_place =
-            get-slice_set_same m.places s new_place (slice_get_within m.places s r.place r.was) in
+        get-slice_set_same m.places s new_place (slice_get_within m.places s r.place r.was) in
         let same : new_place ≡ q =
-            same_Some new_place q (sym here
-            ∙ (ap (λ ps. slice_get ps s) (sym r.is) ∙ (ap (slice_get places) (sym is) ∙ at))) in
+        same_Some new_place q (sym here
+        ∙ (ap (λ ps. slice_get ps s) (sym r.is) ∙ (ap (slice_get places) (sym is) ∙ at))) in
         let logs : d.entries t ≡ new_place.site.entries = ap d.entries is
-            ∙ (ap (λ es. c.entries s ++ es) (only_here s (e ∷ [])) ∙ ap (λ es. es ++ e ∷ []) at_place) in
-        (r.place, ap (slice_get m.places) is
-            ∙ r.was, subst (λ w. IsLike r.place w (d.entries t)) same
-            (record { number = refl; entries = logs; installed = refl; pledge = refl; part = refl }))
+        ∙ (ap (λ es. c.entries s ++ es) (only_here s (e ∷ [])) ∙ ap (λ es. es ++ e ∷ []) at_place) in (
+          r.place,
+          ap (slice_get m.places) is
+              ∙ r.was,
+          subst (λ w. IsLike r.place w (d.entries t)) same
+              (record { number = refl; entries = logs; installed = refl; pledge = refl; part = refl }),
+        )
     | inr ne ↦
         let there : slice_get m.places t ≡ Some q = sym (get-slice_set_other m.places s t new_place ne)
-            ∙ (ap (λ ps. slice_get ps t) (sym r.is) ∙ at) in
+        ∙ (ap (λ ps. slice_get ps t) (sym r.is) ∙ at) in
         let logs : d.entries t ≡ c.entries t = ap (λ es. c.entries t ++ es) (only_there s (e ∷ []) t ne)
-            ∙ append-nil (c.entries t) in
-        (q, there, record { number = refl; entries = logs ∙ (stands.places t q there).entries; installed =
-            refl; pledge = refl; part = refl })
+        ∙ append-nil (c.entries t) in (
+          q,
+          there,
+          record {
+            number = refl;
+            entries = logs ∙ (stands.places t q there).entries;
+            installed =
+                refl;
+            pledge = refl;
+            part = refl;
+          },
+        )
   ]
 
   same_items : map (λ (p : Place). p.site.items) places ≡ map (λ (p : Place). p.site.items) m.places
@@ -350,7 +372,7 @@ module _ (m : Parts) (c : CoreState) (stands : StandsFor m c) (tx slot s : ℕ) 
       (with_entries c (only_at s (entry.Read tx x v.value ∷ [])))
   read_stands reached =
       let all = redraft_stands m c stands tx slot number h.before h.after h.was h.handle closed d.entries c.changes
-          places (λ i t ne. refl) other_reads
+      places (λ i t ne. refl) other_reads
       (λ i arc ne. (longer i arc ne, shorter i arc ne)) like reached same_items own_running in
       subst (λ ts. StandsFor (record m { places = places; table = ts }) d) (sym h.is) all
 
@@ -365,7 +387,7 @@ module _ (m : Parts) (c : CoreState) (stands : StandsFor m c) (tx slot s : ℕ) 
   read_finds none = absurd (
       let there = now_there h.before.draft.touched h.after.draft.touched _ h.draft own.rising h.rising in
       let looks_on : option_and_then look_of (touched_at h.after.draft.touched (s, x)) ≡ value_with_any (Some v.value)
-          (change_at h.before.draft.touched (s, x)) = ap (option_and_then look_of) there in
+      (change_at h.before.draft.touched (s, x)) = ap (option_and_then look_of) there in
       some_value v.value (change_at h.before.draft.touched (s, x)) (sym looks_on ∙ none))
     where
       some_value : (u : ℕ) (k : Option Change) → value_with_any (Some u) k ≡ None → ⊥
@@ -382,11 +404,28 @@ room_stands m c stands tx slot number closed table room =
     let r = stands.running slot (Some room.before) room.was in
     let q : Running = record room.before { draft = record { touched = room.before.draft.touched; has_room = true } } in
     let all = redraft_stands m c stands tx slot number room.before q room.was refl closed c.entries c.changes m.places
-        (λ i t ne. refl) (λ i t kept ne k. k) (λ i arc ne. (λ is. is, λ is. is))
-    (λ t p at. (p, at, record { number = refl; entries = (stands.places t p at).entries; installed = refl; pledge =
-        refl; part = refl })) stands.reached refl
-    (record { active = r.active; handle = r.handle; rising = r.rising; used = r.used; changes = r.changes; reads =
-        r.reads }) in
+    (λ i t ne. refl) (λ i t kept ne k. k) (λ i arc ne. (λ is. is, λ is. is))
+    (λ t p at. (
+      p,
+      at,
+      record {
+        number = refl;
+        entries = (stands.places t p at).entries;
+        installed = refl;
+        pledge =
+            refl;
+        part = refl;
+      },
+    )) stands.reached refl
+    (record {
+      active = r.active;
+      handle = r.handle;
+      rising = r.rising;
+      used = r.used;
+      changes = r.changes;
+      reads =
+          r.reads;
+    }) in
     subst (λ ts. StandsFor (record m { table = ts }) c) (sym room.is) all
 
 -- ---- the whole event
@@ -423,7 +462,7 @@ module _ (m : Parts) (c : CoreState) (stands : StandsFor m c) (tx slot s : ℕ) 
       unseen_there =
           let same : h.1.0 ≡ room.before = same_some (sym h.1.1 ∙ room.was) in
           not_seen room.before.draft.touched s x
-              (ap (λ (r : Running). option_and_then look_of (touched_at r.draft.touched (s, x))) (sym same) ∙ sym none)
+          (ap (λ (r : Running). option_and_then look_of (touched_at r.draft.touched (s, x))) (sym same) ∙ sym none)
         where
           same_some : {a b : Running} → Some (Some a) ≡ Some (Some b) → a ≡ b
           same_some {a} {b} e = same_Some a b (same_Some (Some a) (Some b) e)
@@ -433,28 +472,31 @@ module _ (m : Parts) (c : CoreState) (stands : StandsFor m c) (tx slot s : ℕ) 
         was_unseen : seen_at k.before.draft.touched (s, x) ≡ None
         was_unseen =
             let q : Running =
-                record room.before { draft = record { touched = room.before.draft.touched; has_room = true } } in
+            record room.before { draft = record { touched = room.before.draft.touched; has_room = true } } in
             let at : slice_get table slot ≡ Some (Some q) = ap (λ ts. slice_get ts slot) room.is
-                ∙ get-slice_set_same m.table slot (Some q) (slice_get_within m.table slot _ room.was) in
+            ∙ get-slice_set_same m.table slot (Some q) (slice_get_within m.table slot _ room.was) in
             let same : Some q ≡ Some k.before = same_Some (Some q) (Some k.before) (sym at ∙ k.was) in
             ap (λ (w : Running). seen_at w.draft.touched (s, x)) (sym (same_Some q k.before same)) ∙ unseen_there
 
         pub read_goes : (value : ℕ) → Some value ≡ option_and_then look_of (touched_at k.after.draft.touched (s, x))
             → (d : CoreState) × MayStep c (Read tx s x) (Value value) d
-                × StandsFor (record m { places = places; table = last }) d
+            × StandsFor (record m { places = places; table = last }) d
         read_goes value found =
             let d : CoreState = with_entries c (only_at s (entry.Read tx x v.value ∷ [])) in
             let logged : value_at (items_at c s) (c.entries s) x ≡ Some v.value =
             ap (λ es. value_at (items_at c s) es x) (stands.places s r.place r.was).entries
             ∙ (ap (λ is. value_at is r.place.site.entries x) (items_there m c s (Some r.place) stands r.was)
-                ∙ r.value) in
+            ∙ r.value) in
             let finds : look d tx s x ≡ Some value =
-                read_look n c roomy tx slot s x h.0 closed v places r last k was_unseen ∙ sym found in
+            read_look n c roomy tx slot s x h.0 closed v places r last k was_unseen ∙ sym found in
             let reads : Reads c tx s x value None d = (v.value, logged, refl, finds) in
             let may : MayStep c (Read tx s x) (Value value) d =
-                (allowed, subst (λ o. Reads c tx s x value o d) (none ∙ sym looked_up) reads) in
-            (d, may, read_stands n c roomy tx slot s x h.0 closed v places r last k was_unseen
-                (reached_more c (Read tx s x) (Value value) d stands.reached may))
+            (allowed, subst (λ o. Reads c tx s x value o d) (none ∙ sym looked_up) reads) in (
+              d,
+              may,
+              read_stands n c roomy tx slot s x h.0 closed v places r last k was_unseen
+                  (reached_more c (Read tx s x) (Value value) d stands.reached may),
+            )
 
         pub must_find : None ≡ option_and_then look_of (touched_at k.after.draft.touched (s, x)) → ⊥
         must_find e = read_finds n c roomy tx slot s x h.0 closed v places r last k was_unseen (sym e)

@@ -55,15 +55,15 @@ redraft_parts m places slot q = record m { places = places; table = slice_set m.
 module _ (m : Parts) (c : CoreState) (s : StandsFor m c) (tx slot : ℕ) (number : tx ≡ suc (m.before + slot))
     (r q : Running) (there : slice_get m.table slot ≡ Some (Some r))
     (handle : q.handle ≡ r.handle) (closed : IsOwnOpen c tx → ⊥) (entries : ℕ → List Entry) (changes : ℕ → ℕ
-        → List (Name × Change)) (places : List Place)
+    → List (Name × Change)) (places : List Place)
     (other_changes : (i t : ℕ) → (i ≡ tx → ⊥) → changes i t ≡ c.changes i t)
     (other_reads : (i t : ℕ) (kept : List (Name × ℕ × ℕ)) → (i ≡ tx → ⊥) → KeepsReads (c.entries t) i kept
-        → KeepsReads (entries t) i kept)
+    → KeepsReads (entries t) i kept)
     (other_edges : (i : ℕ) (arc : Arc) → (i ≡ tx → ⊥)
-        → (IsEdgeOf c i arc → IsEdgeOf (redrafted c entries changes) i arc)
-        × (IsEdgeOf (redrafted c entries changes) i arc → IsEdgeOf c i arc))
+    → (IsEdgeOf c i arc → IsEdgeOf (redrafted c entries changes) i arc)
+    × (IsEdgeOf (redrafted c entries changes) i arc → IsEdgeOf c i arc))
     (like : (t : ℕ) (q : Place) → slice_get places t ≡ Some q → (p : Place) × (slice_get m.places t ≡ Some p)
-        × IsLike p q (entries t)) where
+    × IsLike p q (entries t)) where
   abbrev d : CoreState
   d = redrafted c entries changes
 
@@ -184,9 +184,9 @@ module _ (m : Parts) (c : CoreState) (s : StandsFor m c) (tx slot : ℕ) (number
     redraft_running k o at = elim (cases_eq k slot) [
       | inl is ↦
           let here : slice_get (slice_set m.table slot (Some q)) slot ≡ Some (Some q) =
-              get-slice_set_same m.table slot (Some q) (slice_get_within m.table slot (Some r) there) in
+          get-slice_set_same m.table slot (Some q) (slice_get_within m.table slot (Some r) there) in
           let same : Some q ≡ o =
-              same_Some (Some q) o (sym here ∙ (ap (slice_get (slice_set m.table slot (Some q))) (sym is) ∙ at)) in
+          same_Some (Some q) o (sym here ∙ (ap (slice_get (slice_set m.table slot (Some q))) (sym is) ∙ at)) in
           subst (λ w. RunsAt d m.before k w) same (subst (λ j. IsRunning d m.before j q) (sym is) own)
       | inr ne ↦ redraft_slot k o ne (s.running k o (sym (get-slice_set_other m.table slot k (Some q) ne) ∙ at))
     ]

@@ -19,7 +19,7 @@ refused_events =
 
 refused_events-replies : refused_events.replies
     ≡ Begun 1 ∷ Fault fault.ActiveLeft ∷ Fault fault.Unknown ∷ Fault fault.UnknownItem ∷ Kept ∷ Gathered ∷ Yes
-        ∷ Fault fault.StepOpen ∷ Installed
+    ∷ Fault fault.StepOpen ∷ Installed
     ∷ Fault fault.Ended ∷ []
 unfolding play
 refused_events-replies = refl
@@ -32,14 +32,14 @@ refused_events-log = refl
 abbrev unknown_and_ended : Played
 unknown_and_ended = play single (
     Begin ∷ Withdraw 1 ∷ Read 2 9 x ∷ Put 2 0 x 1 ∷ Add 2 0 x 1 ∷ Gather 2 0 ∷ Decide 2 ∷ Write 2 0 ∷ Commit 2
-        ∷ Withdraw 2
+    ∷ Withdraw 2
     ∷ Read 1 9 x ∷ Put 1 0 x 1 ∷ Add 1 0 y 1 ∷ Gather 1 0 ∷ Decide 1 ∷ Write 1 0 ∷ Commit 1 ∷ Withdraw 1 ∷ [])
 
 unknown_and_ended-replies : unknown_and_ended.replies
     ≡ Begun 1 ∷ Withdrawn ∷ Fault fault.Unknown ∷ Fault fault.Unknown ∷ Fault fault.Unknown ∷ Fault fault.Unknown
-        ∷ Fault fault.Unknown
+    ∷ Fault fault.Unknown
     ∷ Fault fault.Unknown ∷ Fault fault.Unknown ∷ Fault fault.Unknown ∷ Fault fault.Ended ∷ Fault fault.Ended
-        ∷ Fault fault.Ended
+    ∷ Fault fault.Ended
     ∷ Fault fault.Ended ∷ Fault fault.Ended ∷ Fault fault.Ended ∷ Fault fault.Ended ∷ Fault fault.Ended ∷ []
 unfolding play
 unknown_and_ended-replies = refl
@@ -50,20 +50,20 @@ abbrev in_a_step : Played
 in_a_step = play apart (
     Begin ∷ Begin ∷ Put 1 0 x 6 ∷ Put 2 0 x 7 ∷ Put 1 1 y 3 ∷ Gather 1 0
     ∷ Read 1 0 x ∷ Put 1 0 x 8 ∷ Add 1 9 x 8 ∷ Begin ∷ Commit 1 ∷ Withdraw 1 ∷ Close ∷ Gather 2 0 ∷ Decide 2 ∷ Write 2
-        0 ∷ Commit 2 ∷ Withdraw 2
+    0 ∷ Commit 2 ∷ Withdraw 2
     ∷ Read 2 1 y ∷ Put 2 0 x 9 ∷ Gather 1 0 ∷ Decide 1 ∷ Write 1 0 ∷ Gather 1 1 ∷ Decide 1 ∷ Decide 1 ∷ Gather 1 1
     ∷ Write 1 1 ∷ Write 1 1 ∷ Read 1 0 x ∷ Write 1 0 ∷ Write 1 0 ∷ Withdraw 2 ∷ Close ∷ [])
 
 in_a_step-replies : in_a_step.replies
     ≡ Begun 1 ∷ Begun 2 ∷ Kept ∷ Kept ∷ Kept ∷ Gathered
     ∷ Fault fault.StepOpen ∷ Fault fault.StepOpen ∷ Fault fault.StepOpen ∷ Fault fault.StepOpen ∷ Fault fault.StepOpen
-        ∷ Fault fault.StepOpen
+    ∷ Fault fault.StepOpen
     ∷ Fault fault.StepOpen ∷ Fault fault.StepOpen ∷ Fault fault.StepOpen ∷ Fault fault.StepOpen ∷ Fault fault.StepOpen
-        ∷ Fault fault.StepOpen
+    ∷ Fault fault.StepOpen
     ∷ Value 2 ∷ Kept ∷ Fault fault.AlreadyDone ∷ Fault fault.NotGathered ∷ Fault fault.NotGathered ∷ Gathered ∷ Yes
-        ∷ Fault fault.AlreadyDone
+    ∷ Fault fault.AlreadyDone
     ∷ Fault fault.AlreadyDone ∷ Installed ∷ Fault fault.AlreadyDone ∷ Fault fault.StepOpen ∷ Installed
-        ∷ Fault fault.Ended ∷ Withdrawn ∷ Closed 1 ∷ []
+    ∷ Fault fault.Ended ∷ Withdrawn ∷ Closed 1 ∷ []
 unfolding play
 in_a_step-replies = refl
 
@@ -79,11 +79,11 @@ in_a_step-second = refl
 abbrev ended_in_a_step : Played
 ended_in_a_step = play apart
     (Begin ∷ Begin ∷ Withdraw 2 ∷ Put 1 0 x 6 ∷ Gather 1 0 ∷ Commit 2 ∷ Gather 2 0 ∷ Decide 2 ∷ Withdraw 2 ∷ Commit 9
-        ∷ Write 9 0 ∷ [])
+    ∷ Write 9 0 ∷ [])
 
 ended_in_a_step-replies : ended_in_a_step.replies
     ≡ Begun 1 ∷ Begun 2 ∷ Withdrawn ∷ Kept ∷ Gathered ∷ Fault fault.Ended ∷ Fault fault.Ended ∷ Fault fault.Ended
-        ∷ Fault fault.Ended
+    ∷ Fault fault.Ended
     ∷ Fault fault.Unknown ∷ Fault fault.Unknown ∷ []
 unfolding play
 ended_in_a_step-replies = refl
@@ -93,15 +93,15 @@ abbrev elsewhere : Played
 elsewhere = play apart (
     Begin ∷ Read 1 0 y ∷ Read 1 2 x ∷ Put 1 0 y 1 ∷ Put 1 2 x 1 ∷ Add 1 0 y 1 ∷ Add 1 2 x 1 ∷ Gather 1 2 ∷ Gather 1 1
     ∷ Write 1 2 ∷ Write 1 1 ∷ Put 1 0 x 6 ∷ Gather 1 1 ∷ Decide 1 ∷ Write 1 0 ∷ Gather 1 0 ∷ Write 1 0 ∷ Write 1 1
-        ∷ Decide 1 ∷ Write 1 1 ∷ [])
+    ∷ Decide 1 ∷ Write 1 1 ∷ [])
 
 elsewhere-replies : elsewhere.replies
     ≡ Begun 1 ∷ Fault fault.UnknownItem ∷ Fault fault.UnknownItem ∷ Fault fault.UnknownItem ∷ Fault fault.UnknownItem
-        ∷ Fault fault.UnknownItem
+    ∷ Fault fault.UnknownItem
     ∷ Fault fault.UnknownItem ∷ Fault fault.UnknownItem ∷ Fault fault.NotTouched ∷ Fault fault.UnknownItem
-        ∷ Fault fault.NotGathered ∷ Kept
+    ∷ Fault fault.NotGathered ∷ Kept
     ∷ Fault fault.NotTouched ∷ Fault fault.NotGathered ∷ Fault fault.NotGathered ∷ Gathered ∷ Fault fault.NotGathered
-        ∷ Fault fault.NotGathered ∷ Yes
+    ∷ Fault fault.NotGathered ∷ Yes
     ∷ Fault fault.NotTouched ∷ []
 unfolding play
 elsewhere-replies = refl

@@ -83,13 +83,13 @@ module _ (m : Parts) (c : CoreState) (s : StandsFor m c) (tx slot : ℕ) (h : Is
   here t any =
       let r = s.running slot (Some h.1.0) h.1.1 in
       subst (λ i. touches c i t ≡ true) (sym h.0)
-          (draft_touches c (reached_kept c s.reached) m.before slot t h.1.0 r any)
+      (draft_touches c (reached_kept c s.reached) m.before slot t h.1.0 r any)
 
   pub here_by_draft : (IsDecided c tx → ⊥) → (t : ℕ) → touches c tx t ≡ true → Touches h.1.0.draft.touched t
   here_by_draft undecided t hit =
       let r = s.running slot (Some h.1.0) h.1.1 in
       touches_draft c (reached_kept c s.reached) m.before slot t h.1.0 r (λ e. undecided (e ∙ ap Some (sym h.0)))
-          (subst (λ i. touches c i t ≡ true) h.0 hit)
+      (subst (λ i. touches c i t ≡ true) h.0 hit)
 
   pub step_open : (event : Event) → tx_in event ≡ Some tx → Fails c event fault.StepOpen → (reply : Reply)
       → reply ≡ Fault fault.StepOpen → Goes m c event reply
@@ -116,7 +116,7 @@ module _ (m : Parts) (c : CoreState) (s : StandsFor m c) (tx slot : ℕ) (h : Is
     gather_no_site t reply out e =
         let count = site_count m c s in
         refused_goes m c s (Gather tx t) fault.UnknownItem reply e
-            (gather_beyond c tx begun active no_other t (omega (arith, out, count)))
+        (gather_beyond c tx begun active no_other t (omega (arith, out, count)))
 
     pub gather_done : (t : ℕ) (p : Place) (reply : Reply) → slice_get m.places t ≡ Some p → (p.part ≡ Idle → ⊥)
         → reply ≡ Fault fault.AlreadyDone → Goes m c (Gather tx t) reply
@@ -124,7 +124,7 @@ module _ (m : Parts) (c : CoreState) (s : StandsFor m c) (tx slot : ℕ) (h : Is
         let count = site_count m c s in
         let inside = slice_get_within m.places t p at in
         refused_goes m c s (Gather tx t) fault.AlreadyDone reply e
-            (gather_again c tx begun active no_other t (omega (arith, inside, count)) (gathered_there t p at out))
+        (gather_again c tx begun active no_other t (omega (arith, inside, count)) (gathered_there t p at out))
 
     pub gather_no_touch : (t : ℕ) (p : Place) (reply : Reply) → slice_get m.places t ≡ Some p → p.part ≡ Idle
         → (Touches h.1.0.draft.touched t → ⊥) → reply ≡ Fault fault.NotTouched → Goes m c (Gather tx t) reply
@@ -139,8 +139,8 @@ module _ (m : Parts) (c : CoreState) (s : StandsFor m c) (tx slot : ℕ) (h : Is
           | inr miss ↦ miss
         ] in
         refused_goes m c s (Gather tx t) fault.NotTouched reply e
-            (gather_untouched c tx begun active no_other t (omega (arith, inside, count)) (fresh_there t p at fresh)
-            miss)
+        (gather_untouched c tx begun active no_other t (omega (arith, inside, count)) (fresh_there t p at fresh)
+        miss)
 
     pub may_gather : (t : ℕ) (p : Place) → slice_get m.places t ≡ Some p → p.part ≡ Idle
         → Touches h.1.0.draft.touched t → IsAllowed c (Gather tx t)
@@ -148,7 +148,7 @@ module _ (m : Parts) (c : CoreState) (s : StandsFor m c) (tx slot : ℕ) (h : Is
         let count = site_count m c s in
         let inside = slice_get_within m.places t p at in
         gather_allowed c tx begun active no_other t (omega (arith, inside, count)) (fresh_there t p at fresh)
-            (here t any)
+        (here t any)
 
     pub decide_too_early : (reply : Reply) → Any (λ (u : Touch). (p : Place) → slice_get m.places u.site ≡ Some p
         → p.part ≡ Idle) h.1.0.draft.touched → reply ≡ Fault fault.NotGathered → Goes m c (Decide tx) reply
@@ -157,19 +157,19 @@ module _ (m : Parts) (c : CoreState) (s : StandsFor m c) (tx slot : ℕ) (h : Is
         let ts = h.1.0.draft.touched in
         let found = Any_at (λ (u : Touch). (p : Place) → slice_get m.places u.site ≡ Some p → p.part ≡ Idle) ts some in
         let used =
-            All_in IsUsed ts found.1 (s.running slot (Some h.1.0) h.1.1).used
-            (Contains-from_at ts found.0 found.1 found.2) in
+        All_in IsUsed ts found.1 (s.running slot (Some h.1.0) h.1.1).used
+        (Contains-from_at ts found.0 found.1 found.2) in
         let hit =
-            here found.1.site (Any-from_at (λ (t : Touch). (t.site ≡ found.1.site) × IsUsed t) ts found.0 found.1
-            found.2 (refl, used)) in
+        here found.1.site (Any-from_at (λ (t : Touch). (t.site ≡ found.1.site) × IsUsed t) ts found.0 found.1
+        found.2 (refl, used)) in
         let inside : found.1.site < length c.items =
-            below_all (length c.items) found.1.site (λ out. true≢false (sym hit
-            ∙ untouched_outside c tx found.1.site k.sound.walked k.sound.legal out)) in
+        below_all (length c.items) found.1.site (λ out. true≢false (sym hit
+        ∙ untouched_outside c tx found.1.site k.sound.walked k.sound.legal out)) in
         let count = site_count m c s in
         let p = within_at m.places found.1.site (omega (arith, inside, count)) in
         refused_goes m c s (Decide tx) fault.NotGathered reply e
-            (decide_untimely c tx begun active no_other found.1.site inside hit
-            (fresh_there found.1.site p.0 p.1 (found.3 p.0 p.1)))
+        (decide_untimely c tx begun active no_other found.1.site inside hit
+        (fresh_there found.1.site p.0 p.1 (found.3 p.0 p.1)))
       where
         below_all : (n t : ℕ) → (n ≤ t → ⊥) → t < n
         below_all n t out = omega (arith, out)
@@ -182,13 +182,13 @@ module _ (m : Parts) (c : CoreState) (s : StandsFor m c) (tx slot : ℕ) (h : Is
           let k = reached_kept c s.reached in
           let a = Any_at (λ (u : Touch). (u.site ≡ t) × IsUsed u) h.1.0.draft.touched (here_by_draft undecided t hit) in
           let inside : t < length c.items =
-              below_all (length c.items) t (λ out. true≢false (sym hit
-              ∙ untouched_outside c tx t k.sound.walked k.sound.legal out)) in
+          below_all (length c.items) t (λ out. true≢false (sym hit
+          ∙ untouched_outside c tx t k.sound.walked k.sound.legal out)) in
           let count = site_count m c s in
           let p = within_at m.places t (omega (arith, inside, count)) in
           gathered_there t p.0 p.1
-              (λ is. none (Any-from_at (λ (u : Touch). (p : Place) → slice_get m.places u.site ≡ Some p
-              → p.part ≡ Idle) h.1.0.draft.touched a.0 a.1 a.2
+          (λ is. none (Any-from_at (λ (u : Touch). (p : Place) → slice_get m.places u.site ≡ Some p
+          → p.part ≡ Idle) h.1.0.draft.touched a.0 a.1 a.2
           (λ q at. ap (λ (w : Place). w.part) (same_Some q p.0 (sym at ∙ (ap (slice_get m.places) a.3.0 ∙ p.1))) ∙ is)))
     ]
       where
@@ -211,14 +211,14 @@ module _ (m : Parts) (c : CoreState) (s : StandsFor m c) (tx slot : ℕ) (h : Is
     install_no_site t reply out e =
         let count = site_count m c s in
         refused_goes m c s (Write tx t) fault.UnknownItem reply e
-            (install_beyond c tx begun active no_other t (omega (arith, out, count)))
+        (install_beyond c tx begun active no_other t (omega (arith, out, count)))
 
     pub install_too_early : (t : ℕ) (reply : Reply) → t < length m.places → (IsDecided c tx → ⊥)
         → reply ≡ Fault fault.NotGathered → Goes m c (Write tx t) reply
     install_too_early t reply inside undecided e =
         let count = site_count m c s in
         refused_goes m c s (Write tx t) fault.NotGathered reply e
-            (install_undecided c tx begun active no_other t (omega (arith, inside, count)) undecided)
+        (install_undecided c tx begun active no_other t (omega (arith, inside, count)) undecided)
 
 -- a step is open where the machine has one
 pub some_open : (m : Parts) (c : CoreState) (o : Option Open) → is_some o ≡ true → IsStep m c o → c.step ≡ None → ⊥

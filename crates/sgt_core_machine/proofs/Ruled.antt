@@ -86,8 +86,8 @@ module _ (m : Parts) (c : CoreState) (s : StandsFor m c) (tx slot : ℕ) (number
   pub gathered_in_step : (o : Option Open) → IsStep m c o → AreGathered m.certifier c tx (edges_in o)
   gathered_in_step None h =
       none_gathered m.certifier c tx slot (number
-          ∙ ap (λ b. suc (b + slot)) (sym s.before ∙ ap (λ (st : State). st.before) s.certifier.same))
-          (ap gathered_in h.0)
+      ∙ ap (λ b. suc (b + slot)) (sym s.before ∙ ap (λ (st : State). st.before) s.certifier.same))
+      (ap gathered_in h.0)
   gathered_in_step (Some o) h = gathered_by o (step_own m c tx no_other (Some o) h o refl) o.phase h.2
 
   module _ (new : State) (handle : Handle) (named : tx_under m.certifier handle ≡ tx) (edges : List Edge)
@@ -101,14 +101,14 @@ module _ (m : Parts) (c : CoreState) (s : StandsFor m c) (tx slot : ℕ) (number
       same = refl;
       order = λ i member.
           let there =
-              placed_old d.placed.0 m.certifier.order tx i
-              (subst (λ o. Contains o i) (ap (λ (st : State). st.order) s.certifier.same) member) in
+          placed_old d.placed.0 m.certifier.order tx i
+          (subst (λ o. Contains o i) (ap (λ (st : State). st.order) s.certifier.same) member) in
           subst (λ o. Contains o i) (sym d.placed.2) there;
       phase = λ n e o is mine. (
         ap (λ (st : State). st.step) is ∙ ap Some (sym mine),
         subst (λ (st : State). Contains st.order o.tx) (sym is)
             (subst (Contains d.places) (sym mine)
-                (subst (λ ps. Contains ps tx) (sym d.placed.2) (placed_self d.placed.0 m.certifier.order tx))),
+            (subst (λ ps. Contains ps tx) (sym d.placed.2) (placed_self d.placed.0 m.certifier.order tx))),
       );
       some = λ t hit none. no_block _ _ (sym (ap (λ b. cond b (commit_block tx (c.changes tx t)) []) hit) ∙ none);
       none = λ t miss. ap (λ b. cond b (commit_block tx (c.changes tx t)) []) miss;
@@ -141,7 +141,7 @@ module _ (m : Parts) (c : CoreState) (s : StandsFor m c) (tx slot : ℕ) (number
         ap (λ (st : State). st.step) is ∙ ap Some (sym mine),
         λ member.
             let there : Contains c.certifier.order tx =
-                subst (Contains c.certifier.order) mine (subst (λ (st : State). Contains st.order o.tx) is member) in
+            subst (Contains c.certifier.order) mine (subst (λ (st : State). Contains st.order o.tx) is member) in
             let open_tx = k.sound.ordered.certifier.committed_open tx (is_active c (Decide tx) tx allowed refl) there in
             let f : Some tx ≡ None = sym open_tx ∙ undecided in
             cc,
@@ -150,7 +150,7 @@ module _ (m : Parts) (c : CoreState) (s : StandsFor m c) (tx slot : ℕ) (number
       none = λ t miss. ap (λ b. cond b (refuse_block tx (c.changes tx t)) []) miss;
       due_by = λ n e touched t due changes hit awaits.
           ap (λ (f : ℕ → List Entry). f t) due ∙ (ap (λ b. cond b (refuse_block tx (c.changes tx t)) []) hit
-              ∙ ap (λ ch. refuse_block tx (ch tx t)) (sym changes));
+          ∙ ap (λ ch. refuse_block tx (ch tx t)) (sym changes));
       may = (
         allowed,
         record {
@@ -200,28 +200,32 @@ module _ (m : Parts) (c : CoreState) (s : StandsFor m c) (tx slot : ℕ) (h : Is
   pub rules_due : Any (λ (p : Place). p.part ≡ Due) m.places → (after : Parts)
       → after ≡ record m { certifier = new; step = Some (record { tx = tx; phase = phase_after reply }) }
       → (answer : Reply) → answer ≡ reply_after reply → (e : CoreState) × MayStep c (Decide tx) answer e
-          × StandsFor after e
+      × StandsFor after e
   rules_due some after is answer same =
       let p = Any_at (λ (p : Place). p.part ≡ Due) m.places some in
       let goes =
-          decision_due m c s tx slot h out (undecided m c s tx slot h.0 allowed)
-          (everywhere m c s tx slot h.0 allowed) new reply v r.running r.runs
-      (λ e t. subst (λ i. AwaitsInstall new i t) named (r.awaits e t)) p.0 p.1 p.2 p.3 in
-      (goes.0, subst (λ q. MayStep c (Decide tx) q goes.0) (sym same) goes.1,
-          subst (λ w. StandsFor w goes.0) (sym is) goes.2)
+      decision_due m c s tx slot h out (undecided m c s tx slot h.0 allowed)
+      (everywhere m c s tx slot h.0 allowed) new reply v r.running r.runs
+      (λ e t. subst (λ i. AwaitsInstall new i t) named (r.awaits e t)) p.0 p.1 p.2 p.3 in (
+        goes.0,
+        subst (λ q. MayStep c (Decide tx) q goes.0) (sym same) goes.1,
+        subst (λ w. StandsFor w goes.0) (sym is) goes.2,
+      )
 
   pub rules_end : (Any (λ (p : Place). p.part ≡ Due) m.places → ⊥) → (mid after : Parts)
       → mid ≡ record m { certifier = new; step = None } → EndsAt mid after tx slot
       → (answer : Reply) → answer ≡ reply_after reply → (e : CoreState) × MayStep c (Decide tx) answer e
-          × StandsFor after e
+      × StandsFor after e
   rules_end none mid after is ends answer same =
       let finishes : after.certifier ≡ record (with_finished new tx) { installs = [] } = ends.ends.after
-          ∙ ap (λ (w : Parts). record (with_finished w.certifier tx) { installs = [] }) is in
+      ∙ ap (λ (w : Parts). record (with_finished w.certifier tx) { installs = [] }) is in
       let goes =
-          decision_ends m c s tx slot h out (undecided m c s tx slot h.0 allowed)
-          (everywhere m c s tx slot h.0 allowed) new reply v after.certifier finishes
+      decision_ends m c s tx slot h out (undecided m c s tx slot h.0 allowed)
+      (everywhere m c s tx slot h.0 allowed) new reply v after.certifier finishes
       (λ t p at due. none (Any-from_at (λ (q : Place). q.part ≡ Due) m.places t p at due)) in
       let all : after ≡ record m { certifier = after.certifier; table = slice_set m.table slot None; step = None } =
-      ends.is ∙ ap (λ (w : Parts). record w { certifier = after.certifier; table = slice_set w.table slot None }) is in
-      (goes.0, subst (λ q. MayStep c (Decide tx) q goes.0) (sym same) goes.1,
-          subst (λ w. StandsFor w goes.0) (sym all) goes.2)
+      ends.is ∙ ap (λ (w : Parts). record w { certifier = after.certifier; table = slice_set w.table slot None }) is in (
+        goes.0,
+        subst (λ q. MayStep c (Decide tx) q goes.0) (sym same) goes.1,
+        subst (λ w. StandsFor w goes.0) (sym all) goes.2,
+      )

@@ -21,7 +21,7 @@ use Rattle.sgt_names.proofs.Elements.{contains-none}
 pub run_more : (old : CoreState) (events : List Event) (replies : List Reply) (mid : CoreState) (event : Event)
     (reply : Reply) (new : CoreState)
     → Run old events replies mid → MayStep mid event reply new
-        → Run old (events ++ event ∷ []) (replies ++ reply ∷ []) new
+    → Run old (events ++ event ∷ []) (replies ++ reply ∷ []) new
 run_more old [] [] mid event reply new run may = (new, subst (λ c. MayStep c event reply new) run may, refl)
 run_more old (x ∷ xs) (y ∷ ys) mid event reply new run may =
     (run.0, run.1, run_more run.0 xs ys mid event reply new run.2 may)
@@ -30,9 +30,13 @@ run_more old (x ∷ xs) [] mid event reply new run may = absurd run
 
 pub reached_more : (c : CoreState) (event : Event) (reply : Reply) (d : CoreState) → IsReached c
     → MayStep c event reply d → IsReached d
-reached_more c event reply d r may =
-    (r.0, (r.1.0 ++ event ∷ [],
-    (r.1.1.0 ++ reply ∷ [], run_more (fresh r.0) r.1.0 r.1.1.0 c event reply d r.1.1.1 may)))
+reached_more c event reply d r may = (
+  r.0,
+  (
+    r.1.0 ++ event ∷ [],
+    (r.1.1.0 ++ reply ∷ [], run_more (fresh r.0) r.1.0 r.1.1.0 c event reply d r.1.1.1 may),
+  ),
+)
 
 pub reached_kept : (c : CoreState) → IsReached c → IsKept c
 reached_kept c r = runs-kept r.0 r.1.0 r.1.1.0 c r.1.1.1
@@ -108,7 +112,7 @@ older_refused m c event tx s is le =
     let before = s.before in
     let window = k.sound.ordered.certifier.window in
     ended_refused c event tx is (omega arith) (λ active. let here = k.sound.ordered.certifier.active_here tx active in
-        omega (arith, here.0))
+    omega (arith, here.0))
 
 -- and so has one of the window at whose place nothing stands
 pub free_refused : (m : Parts) (c : CoreState) (event : Event) (tx slot : ℕ) → StandsFor m c → tx_in event ≡ Some tx
@@ -117,4 +121,4 @@ pub free_refused : (m : Parts) (c : CoreState) (event : Event) (tx slot : ℕ) �
 free_refused m c event tx slot s is le at there =
     let begun = s.begun in
     ended_refused c event tx is (omega arith)
-        (λ active. s.running slot None there (subst (Contains c.certifier.active) at active))
+    (λ active. s.running slot None there (subst (Contains c.certifier.active) at active))

@@ -83,8 +83,15 @@ nothing_due c k undecided t = empty (c.due t) (λ e m. let o : Some (tx_of e) �
 running_stays : (c : CoreState) (step : Option OpenStep) (before k : ℕ) (o : Option Running) → RunsAt c before k o
     → RunsAt (record c { step = step }) before k o
 running_stays c step before k None h = h
-running_stays c step before k (Some r) h = record { active = h.active; handle = h.handle; rising = h.rising; used =
-    h.used; changes = h.changes; reads = h.reads }
+running_stays c step before k (Some r) h = record {
+  active = h.active;
+  handle = h.handle;
+  rising = h.rising;
+  used =
+      h.used;
+  changes = h.changes;
+  reads = h.reads;
+}
 
 -- the open step is the transaction's, where it isn't another's
 pub step_own : (m : Parts) (c : CoreState) (tx : ℕ) → (IsOtherOpen c tx → ⊥) → (o : Option Open) → IsStep m c o
@@ -104,7 +111,7 @@ pub same_draft : (table : List (Option Running)) (slot : ℕ) (r q : Running) (t
     → Touches r.draft.touched t → Touches q.draft.touched t
 same_draft table slot r q t first second any =
     subst (λ (w : Running). Touches w.draft.touched t)
-        (same_Some r q (same_Some (Some r) (Some q) (sym first ∙ second))) any
+    (same_Some r q (same_Some (Some r) (Some q) (sym first ∙ second))) any
 
 -- ---- the step is closed
 
@@ -129,8 +136,11 @@ module _ (m : Parts) (c : CoreState) (s : StandsFor m c) (tx : ℕ) (no_other : 
       by_part Written is same out = same ∙ is.pledge
       by_part Due is same out =
           let own = step_own m c tx no_other m.step s.step is.0 is.1.open_step in
-          absurd (out (at_site t is.1.running.draft.touched, is.1.pledge
-              ∙ ap (λ i. Some (record { tx = i; part = at_site t is.1.running.draft.touched })) own))
+          absurd (out (
+            at_site t is.1.running.draft.touched,
+            is.1.pledge
+                ∙ ap (λ i. Some (record { tx = i; part = at_site t is.1.running.draft.touched })) own,
+          ))
 
   released_place : (t : ℕ) (q : Place) → slice_get places t ≡ Some q → IsPlace closed_parts closed_state t q
   released_place t q at =
@@ -147,8 +157,11 @@ module _ (m : Parts) (c : CoreState) (s : StandsFor m c) (tx : ℕ) (no_other : 
             λ i member. old.handles i (subst (λ is. Contains is i) (ap (λ (st : SiteState). st.installed) r.site)
             member);
         apart = own_stays p.site q.site (ap (λ (st : SiteState). st.installed) r.site) old.apart;
-        part = subst (IsPart closed_parts closed_state t q) (sym r.part) (no_pledge t p q r p.part old.part,
-            nothing_due c (reached_kept c s.reached) undecided t, λ g. contains-none t g);
+        part = subst (IsPart closed_parts closed_state t q) (sym r.part) (
+          no_pledge t p q r p.part old.part,
+          nothing_due c (reached_kept c s.reached) undecided t,
+          λ g. contains-none t g,
+        );
       }
 
   same_items : map (λ (p : Place). p.site.items) places ≡ map (λ (p : Place). p.site.items) m.places
@@ -169,7 +182,7 @@ module _ (m : Parts) (c : CoreState) (s : StandsFor m c) (tx : ℕ) (no_other : 
   pub released_goes : (event : Event) (reply : Reply) → reply ≡ Fault fault.Memory
       → MayStep c event (Fault fault.Memory) (record c { step = None })
       → (e : CoreState) × MayStep c event reply e
-          × StandsFor (record m { places = places; certifier = kept; step = None }) e
+      × StandsFor (record m { places = places; certifier = kept; step = None }) e
   released_goes event reply is may = (
     closed_state,
     subst (λ q. MayStep c event q closed_state) (sym is) may,
@@ -191,16 +204,16 @@ module _ (m : Parts) (c : CoreState) (s : StandsFor m c) (tx : ℕ) (no_other : 
 pub gives_up : (m : Parts) (c : CoreState) → StandsFor m c → (tx : ℕ) → (IsOtherOpen c tx → ⊥)
     → c.certifier.step ≡ None → (mid new : Parts)
     → mid ≡ record m { step = mid.step; certifier = mid.certifier } → mid.certifier ≡ m.certifier
-        → AreReleased tx mid.places new.places
+    → AreReleased tx mid.places new.places
     → new ≡ record mid { places = new.places; step = None } → (event : Event) (reply : Reply)
-        → reply ≡ Fault fault.Memory
+    → reply ≡ Fault fault.Memory
     → MayStep c event (Fault fault.Memory) (record c { step = None }) → (e : CoreState) × MayStep c event reply e
-        × StandsFor new e
+    × StandsFor new e
 gives_up m c s tx no_other undecided mid new same state h is event reply e may =
     let from_old = subst (λ (ps : List Place). AreReleased tx ps new.places) (ap (λ (w : Parts). w.places) same) h in
     let goes = released_goes m c s tx no_other undecided new.places from_old mid.certifier state event reply e may in
     let all : new ≡ record m { places = new.places; certifier = mid.certifier; step = None } = is
-        ∙ ap (λ (w : Parts). record w { places = new.places; step = None }) same in
+    ∙ ap (λ (w : Parts). record w { places = new.places; step = None }) same in
     (goes.0, goes.1, subst (λ w. StandsFor w goes.0) (sym all) goes.2)
 
 -- nothing but the step was changed before
@@ -224,7 +237,7 @@ record IsGrown (m : Parts) (d : CoreState) (tx : ℕ) (step : Option Open) : Typ
 module _ (m : Parts) (c : CoreState) (s : StandsFor m c) (tx slot : ℕ) (number : tx ≡ suc (m.before + slot))
     (no_other : IsOtherOpen c tx → ⊥) (t : ℕ)
     (new : Parts) (g : GathersAt m new tx slot t) (allowed : IsAllowed c (Gather tx t))
-        (touched : Touches g.pledge.running.draft.touched t) where
+    (touched : Touches g.pledge.running.draft.touched t) where
   abbrev k : IsKept c
   k = reached_kept c s.reached
 
@@ -261,16 +274,16 @@ module _ (m : Parts) (c : CoreState) (s : StandsFor m c) (tx slot : ℕ) (number
   grows edges h = gathered_more m c k s.certifier s.before undecided tx slot number r own t p at_t
       (subst (λ (q : Place). Rattle.sgt_site.specs.State.IsSite q.site) same_place g.given.legal) g.pledge.may g.edges
       (subst (λ (q : Place). Rattle.std.specs.Prelude.All
-          (Rattle.sgt_edges.specs.Edges.IsGiven q.site r.draft.touched r.handle) g.edges) same_place
+      (Rattle.sgt_edges.specs.Edges.IsGiven q.site r.draft.touched r.handle) g.edges) same_place
       (subst (λ (w : Running). Rattle.std.specs.Prelude.All
-          (Rattle.sgt_edges.specs.Edges.IsGiven g.given.place.site w.draft.touched w.handle) g.edges) same_running
-          g.given.given))
+      (Rattle.sgt_edges.specs.Edges.IsGiven g.given.place.site w.draft.touched w.handle) g.edges) same_running
+      g.given.given))
       (subst (λ (q : Place). Rattle.sgt_edges.specs.Edges.StandsForAll q.site r.draft.touched r.handle g.edges)
-          same_place
+      same_place
       (subst (λ (w : Running). Rattle.sgt_edges.specs.Edges.StandsForAll g.given.place.site w.draft.touched w.handle
-          g.edges) same_running g.given.stand))
+      g.edges) same_running g.given.stand))
       (g.given.once (subst (λ (q : Place). Rattle.sgt_edges.specs.Edges.HaveOwnHandles q.site)
-          (sym same_place) at_t.apart))
+      (sym same_place) at_t.apart))
       (not_yet c tx t allowed no_other) edges h
 
   grown : (o : Option Open) → IsStep m c o → ((q : Open) → o ≡ Some q → q.tx ≡ tx)
@@ -283,8 +296,8 @@ module _ (m : Parts) (c : CoreState) (s : StandsFor m c) (tx slot : ℕ) (number
     phase = refl;
     gathered = grows [] (none_gathered m.certifier c tx slot
         (number ∙ ap (λ b. suc (b + slot)) (sym s.before
-            ∙ ap (λ (st : Rattle.sgt_certifier.specs.Certifier.State). st.before) s.certifier.same))
-            (ap gathered_in h.0));
+        ∙ ap (λ (st : Rattle.sgt_certifier.specs.Certifier.State). st.before) s.certifier.same))
+        (ap gathered_in h.0));
   }
   grown (Some o) h own_step = by_phase o.phase refl h.2
     where
@@ -308,9 +321,14 @@ module _ (m : Parts) (c : CoreState) (s : StandsFor m c) (tx slot : ℕ) (number
   due_none u = nothing_due c k undecided u
 
   other_part : (u : ℕ) (q : Place) → (t ≡ u → ⊥) → (part : Part) → IsPart m c u q part → IsPart n d u q part
-  other_part u q ne Idle h =
-      (h.0, h.1, λ member. elim (contains-cases t (gathered_in c.step) u member) [ inl is ↦ ne is
-      | inr later ↦ h.2 later ])
+  other_part u q ne Idle h = (
+    h.0,
+    h.1,
+    λ member. elim (contains-cases t (gathered_in c.step) u member) [
+      | inl is ↦ ne is
+      | inr later ↦ h.2 later
+    ],
+  )
   other_part u q ne Written h = absurd (let f : Some (suc (m.before + h.place)) ≡ None = sym h.decided ∙ undecided in
       cc)
   other_part u q ne Due h =
@@ -334,8 +352,11 @@ module _ (m : Parts) (c : CoreState) (s : StandsFor m c) (tx slot : ℕ) (number
 
   abbrev pledged : Place
   pledged =
-      record { site =
-      record p.site { pledge = Some (record { tx = tx; part = at_site p.site.number r.draft.touched }) }; part = Due }
+      record {
+        site =
+            record p.site { pledge = Some (record { tx = tx; part = at_site p.site.number r.draft.touched }) };
+        part = Due;
+      }
 
   here_place : IsPlace n d t pledged
   here_place =
@@ -366,17 +387,23 @@ module _ (m : Parts) (c : CoreState) (s : StandsFor m c) (tx slot : ℕ) (number
   new_place u q at = elim (cases_eq u t) [
     | inl is ↦
         let here : slice_get (slice_set m.places t pledged) t ≡ Some pledged =
-            get-slice_set_same m.places t pledged (slice_get_within m.places t p g.pledge.there) in
+        get-slice_set_same m.places t pledged (slice_get_within m.places t p g.pledge.there) in
         let same : pledged ≡ q =
-            same_Some pledged q (sym here
-            ∙ (ap (λ ps. slice_get ps t) (sym g.pledge.is) ∙ (ap (slice_get new.places) (sym is) ∙ at))) in
+        same_Some pledged q (sym here
+        ∙ (ap (λ ps. slice_get ps t) (sym g.pledge.is) ∙ (ap (slice_get new.places) (sym is) ∙ at))) in
         subst (λ w. IsPlace n d u w) same (subst (λ v. IsPlace n d v pledged) (sym is) here_place)
     | inr ne ↦
         let there : slice_get m.places u ≡ Some q = sym (get-slice_set_other m.places t u pledged ne)
-            ∙ (ap (λ ps. slice_get ps u) (sym g.pledge.is) ∙ at) in
+        ∙ (ap (λ ps. slice_get ps u) (sym g.pledge.is) ∙ at) in
         let h = s.places u q there in
-        record { number = h.number; entries = h.entries; handles = h.handles; apart = h.apart; part =
-            other_part u q (λ e. ne (sym e)) q.part h.part }
+        record {
+          number = h.number;
+          entries = h.entries;
+          handles = h.handles;
+          apart = h.apart;
+          part =
+              other_part u q (λ e. ne (sym e)) q.part h.part;
+        }
   ]
 
   same_list : map (λ (w : Place). w.site.items) new.places ≡ map (λ (w : Place). w.site.items) m.places
@@ -408,8 +435,10 @@ module _ (m : Parts) (c : CoreState) (s : StandsFor m c) (tx slot : ℕ) (number
         step = subst (IsStep n d) (sym all.is) (
           t ∷ gathered_in c.step,
           ap (λ i. Some (record { tx = i; gathered = t ∷ gathered_in c.step })) (sym all.own),
-          subst (Rattle.sgt_core_machine.specs.Machine.IsPhase n d all.open_step) (sym all.phase) (undecided,
-              subst (λ i. AreGathered m.certifier d i all.edges) (sym all.own) all.gathered),
+          subst (Rattle.sgt_core_machine.specs.Machine.IsPhase n d all.open_step) (sym all.phase) (
+            undecided,
+            subst (λ i. AreGathered m.certifier d i all.edges) (sym all.own) all.gathered,
+          ),
         );
       } in
       (d, subst (λ q. MayStep c (Gather tx t) q d) (sym is) may, subst (λ w. StandsFor w d) (sym g.is) stands)

@@ -69,16 +69,16 @@ module _ (c : CoreState) (k : IsKept c) (before place s : ℕ) (r : Running) (h 
   logged_read : (c.certifier.step ≡ Some tx → ⊥) → (e : Entry) → Contains (c.entries s) e → tx_of e ≡ tx → IsRead e
   logged_read undecided e m own =
       elim ((k.sound.legal.sites s
-          (inside (length c.items) s
-          (λ out. contains-none e (subst (λ es. Contains es e) (k.sound.walked.outside s out) m)))).log.stands e
-          (Contains-append_left (c.entries s) (c.due s) e m)) [
+      (inside (length c.items) s
+      (λ out. contains-none e (subst (λ es. Contains es e) (k.sound.walked.outside s out) m)))).log.stands e
+      (Contains-append_left (c.entries s) (c.due s) e m)) [
         | inl free ↦ free.0
         | inr ruled ↦
             let by = ruled.0.1 in
             let active : Contains c.certifier.active tx = h.active in
             let open_tx =
-                k.sound.ruled.ended ruled.0.0 by.0 by.1
-                (subst (Contains c.certifier.active) (sym (by.2 ∙ own)) active) in
+            k.sound.ruled.ended ruled.0.0 by.0 by.1
+            (subst (Contains c.certifier.active) (sym (by.2 ∙ own)) active) in
             absurd (undecided (open_tx ∙ ap Some (by.2 ∙ own)))
       ]
     where
@@ -90,36 +90,36 @@ module _ (c : CoreState) (k : IsKept c) (before place s : ℕ) (r : Running) (h 
       let f = filter_member (λ (u : Touch). u.site == s) r.draft.touched t (Contains-from_at part n t at) in
       let where_is = Contains_at r.draft.touched t f.0 in
       Any-from_at (λ (u : Touch). (u.site ≡ s) × IsUsed u) r.draft.touched where_is.0 t where_is.1
-          (eqb-true t.site s f.1, All_in IsUsed r.draft.touched t h.used f.0)
+      (eqb-true t.site s f.1, All_in IsUsed r.draft.touched t h.used f.0)
 
   pub touches_draft : (c.certifier.step ≡ Some (suc (before + place)) → ⊥) → touches c (suc (before + place)) s ≡ true
       → Touches r.draft.touched s
   touches_draft undecided hit =
       elim (or_cases (list_any (λ e. tx_of e == tx) (c.entries s)) (is_some_change (c.changes tx s)) hit) [
-    | inl logged ↦
-        let e = any_member (λ e. tx_of e == tx) (c.entries s) logged in
-        let own : tx_of e.0 ≡ tx = eqb-true (tx_of e.0) tx e.2 in
-        let form = read_form e.0 (logged_read undecided e.0 e.1 own) in
-        let at = Contains_at (c.entries s) e.0 e.1 in
-        let is : e.0 ≡ entry.Read tx form.0 form.1.0 = form.1.1 ∙ ap (λ i. entry.Read i form.0 form.1.0) own in
-        let kept = (h.reads s form.0 form.1.0 (version_at (take at.0 (c.entries s)) form.0)).1
+        | inl logged ↦
+            let e = any_member (λ e. tx_of e == tx) (c.entries s) logged in
+            let own : tx_of e.0 ≡ tx = eqb-true (tx_of e.0) tx e.2 in
+            let form = read_form e.0 (logged_read undecided e.0 e.1 own) in
+            let at = Contains_at (c.entries s) e.0 e.1 in
+            let is : e.0 ≡ entry.Read tx form.0 form.1.0 = form.1.1 ∙ ap (λ i. entry.Read i form.0 form.1.0) own in
+            let kept = (h.reads s form.0 form.1.0 (version_at (take at.0 (c.entries s)) form.0)).1
             (record { place = at.0; at = at.1 ∙ ap Some is; version = refl }) in
-        let in_kept = Contains_at (kept_in part) _ kept in
-        let from = chosen_at kept_of part in_kept.0 _ in_kept.1 in
-        here_touches from.0 from.1 from.2
-    | inr changes ↦
-        let d = some_member (writing_in part) (subst (λ cs. is_some_change cs ≡ true) (h.changes s) changes) in
-        let at = Contains_at (writing_in part) d.0 d.1 in
-        let from = chosen_at writing_of part at.0 d.0 at.1 in
-        here_touches from.0 from.1 from.2
-  ]
+            let in_kept = Contains_at (kept_in part) _ kept in
+            let from = chosen_at kept_of part in_kept.0 _ in_kept.1 in
+            here_touches from.0 from.1 from.2
+        | inr changes ↦
+            let d = some_member (writing_in part) (subst (λ cs. is_some_change cs ≡ true) (h.changes s) changes) in
+            let at = Contains_at (writing_in part) d.0 d.1 in
+            let from = chosen_at writing_of part at.0 d.0 at.1 in
+            here_touches from.0 from.1 from.2
+      ]
 
   pub draft_touches : Touches r.draft.touched s → touches c (suc (before + place)) s ≡ true
   draft_touches any =
       let a = Any_at (λ (u : Touch). (u.site ≡ s) × IsUsed u) r.draft.touched any in
       let member =
-          member_filter (λ (u : Touch). u.site == s) r.draft.touched a.1
-          (Contains-from_at r.draft.touched a.0 a.1 a.2) (eq-eqb a.1.site s a.3.0) in
+      member_filter (λ (u : Touch). u.site == s) r.draft.touched a.1
+      (Contains-from_at r.draft.touched a.0 a.1 a.2) (eq-eqb a.1.site s a.3.0) in
       let at = Contains_at part a.1 member in
       by_use a.1 at.0 at.1 a.3.1
     where
@@ -127,22 +127,26 @@ module _ (c : CoreState) (k : IsKept c) (before place s : ℕ) (r : Running) (h 
       by_use t n at (inl seen) =
           let v = IsSome-value t.seen seen in
           let kept = Contains-from_at (kept_in part) (count_before kept_of part n) (t.item, v.0.value, v.0.version)
-              (chosen_from kept_of part n t (t.item, v.0.value, v.0.version) at
-              (ap (λ o. Rattle.std.specs.Prelude.option_and_then
-              (λ (q : Rattle.sgt_names.specs.declared.draft.Seen.Seen). Some (t.item, q.value, q.version)) o) v.1)) in
+          (chosen_from kept_of part n t (t.item, v.0.value, v.0.version) at
+          (ap (λ o. Rattle.std.specs.Prelude.option_and_then
+          (λ (q : Rattle.sgt_names.specs.declared.draft.Seen.Seen). Some (t.item, q.value, q.version)) o) v.1)) in
           let logged = (h.reads s t.item v.0.value v.0.version).0 kept in
           touches_own c tx s (entry.Read tx t.item v.0.value)
-              (Contains-from_at (c.entries s) logged.place _ logged.at) refl
+          (Contains-from_at (c.entries s) logged.place _ logged.at) refl
       by_use t n at (inr change) =
           let v = IsSome-value t.change change in
-          let written = Contains-from_at (writing_in part) (count_before writing_of part n) (t.item,
-              v.0) (chosen_from writing_of part n t (t.item,
-              v.0) at (ap (λ o. Rattle.std.specs.Prelude.option_and_then (λ (q : Change). Some (t.item, q)) o) v.1)) in
+          let written = Contains-from_at (writing_in part) (count_before writing_of part n) (
+            t.item,
+            v.0,
+          ) (chosen_from writing_of part n t (
+            t.item,
+            v.0,
+          ) at (ap (λ o. Rattle.std.specs.Prelude.option_and_then (λ (q : Change). Some (t.item, q)) o) v.1)) in
           let some : is_some_change (c.changes tx s) ≡ true =
-              subst (λ cs. is_some_change cs ≡ true) (sym (h.changes s))
-              (member_some (writing_in part) (t.item, v.0) written) in
+          subst (λ cs. is_some_change cs ≡ true) (sym (h.changes s))
+          (member_some (writing_in part) (t.item, v.0) written) in
           ap (λ b. list_any (λ e. tx_of e == tx) (c.entries s) || b) some
-              ∙ or_right (list_any (λ e. tx_of e == tx) (c.entries s))
+          ∙ or_right (list_any (λ e. tx_of e == tx) (c.entries s))
 
 -- ---- the events of a step
 
@@ -210,8 +214,10 @@ module _ (c : CoreState) (tx : ℕ) (begun : tx ≤ c.certifier.begun) (active :
   pub decide_untimely : (IsOtherOpen c tx → ⊥) → (s : ℕ) → s < length c.items → touches c tx s ≡ true
       → (IsGathered c tx s → ⊥)
       → IsRefused c (Decide tx) fault.NotGathered
-  decide_untimely no_other s inside hit out = ((s, member_filter (touches c tx) _ s (is_site c s inside) hit, out),
-      first)
+  decide_untimely no_other s inside hit out = (
+    (s, member_filter (touches c tx) _ s (is_site c s inside) hit, out),
+    first,
+  )
     where
       first : (g : CoreFault) → fault_place g < 5 → Fails c (Decide tx) g → ⊥
       first fault.Unknown lt h = known_tx h.0 h.1 h.2

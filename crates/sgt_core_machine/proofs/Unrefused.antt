@@ -82,7 +82,7 @@ no_end c tx t k lt active free ended =
     let a = Any_at (λ (e : Entry). (tx_of e ≡ tx) × IsEnd e) (c.entries t) ended in
     let member = Contains-append_left (c.entries t) (c.due t) a.1 (Contains-from_at (c.entries t) a.0 a.1 a.2) in
     read_no_end a.1 (free_reads (items_at c t) c.certifier (c.entries t ++ c.due t) tx (k.sound.legal.sites t lt).log
-        k.sound.ruled (active, free) a.1 member a.3.0) a.3.1
+    k.sound.ruled (active, free) a.1 member a.3.0) a.3.1
 
 pub idle_pledge : (m : Parts) (c : CoreState) (t : ℕ) (p : Place) (part : Part) → IsPart m c t p part → part ≡ Idle
     → p.site.pledge ≡ None
@@ -99,9 +99,14 @@ closed_pledge m c t p Written none h = h.pledge
 -- a read of the item in the log
 logged_read : (es : List Entry) (tx n : ℕ) (x : Name) (e : Entry) → slice_get es n ≡ Some e → tx_of e ≡ tx → Reads x e
     → (v : ℕ) × LogsRead es tx x v (version_at (take n es) x)
-logged_read es tx n x (entry.Read i y v) at own is =
-    (v, record { place = n; at = at ∙ ap Some (ap (λ j. entry.Read j y v) own ∙ ap (λ z. entry.Read tx z v) is);
-        version = refl })
+logged_read es tx n x (entry.Read i y v) at own is = (
+  v,
+  record {
+    place = n;
+    at = at ∙ ap Some (ap (λ j. entry.Read j y v) own ∙ ap (λ z. entry.Read tx z v) is);
+    version = refl;
+  },
+)
 logged_read es tx n x _ at own is = absurd is
 
 own_open : (m : Parts) (c : CoreState) (tx : ℕ) (o : Option Open) → IsStep m c o → (p : Open) → o ≡ Some p → p.tx ≡ tx
@@ -143,18 +148,18 @@ module _ (m : Parts) (c : CoreState) (s : StandsFor m c) (tx slot : ℕ) (number
       let count = site_count m c s in
       let inside = slice_get_within m.places t p here in
       no_end c tx t k (omega (arith, count, inside)) (subst (Contains c.certifier.active) (sym number) running.active)
-          free
+      free
       (subst (λ (es : List Entry). HasEnded es tx) (sym place.entries) ended)
 
   reads : KeepsReads p.site.entries tx (kept_in (at_site t ts))
   reads = subst (λ j. KeepsReads p.site.entries j (kept_in (at_site t ts))) (sym number)
       (subst (λ (es : List Entry). KeepsReads es (suc (m.before + slot)) (kept_in (at_site t ts))) place.entries
-          (running.reads t))
+      (running.reads t))
 
   changes : All (λ (d : Name × Change). IsHere p.site d.0) (writing_in (at_site t ts))
   changes = All-from_at (λ (d : Name × Change). IsHere p.site d.0) (writing_in (at_site t ts)) (λ n d at.
       let has = subst (λ (ds : List (Name × Change)). Contains ds d) (sym (running.changes t))
-          (Contains-from_at (writing_in (at_site t ts)) n d at) in
+      (Contains-from_at (writing_in (at_site t ts)) n d at) in
       to_place m c t d.0 p s here (k.sound.legal.changes_known (suc (m.before + slot)) t d has))
 
   pub may_pledge : (c.certifier.step ≡ Some tx → ⊥) → p.site.pledge ≡ None → MayPledge p.site tx r.draft.touched
@@ -175,7 +180,7 @@ module _ (m : Parts) (c : CoreState) (s : StandsFor m c) (tx slot : ℕ) (number
         let logged = logged_read p.site.entries tx a.0 x a.1 a.2 a.3.0 a.3.1 in
         let kept = (reads x logged.0 (version_at (take a.0 p.site.entries) x)).1 logged.1 in
         let e : ◌≡◌ {A = Option Seen} None (Some _) = sym (not_seen ts t x none)
-            ∙ kept_seen ts t x logged.0 _ running.rising kept in
+        ∙ kept_seen ts t x logged.0 _ running.rising kept in
         absurd cc;
     active = goes_on (λ mine. closed (k.together tx mine));
     free = no_pledge m c s tx closed t p p.part place.part;
@@ -190,7 +195,7 @@ is_active m c s slot r runs =
     let same = s.certifier.same in
     let first : m.before ≡ m.certifier.before = sym s.before ∙ ap (λ (st : State). st.before) same in
     let number : suc (m.before + slot) ≡ tx_under m.certifier r.handle =
-        ap₂ (λ (a b : ℕ). suc (a + b)) first (sym (ap (λ (h : Handle). h.index) running.handle)) in (
+    ap₂ (λ (a b : ℕ). suc (a + b)) first (sym (ap (λ (h : Handle). h.index) running.handle)) in (
       ap (λ (h : Handle). h.generation) running.handle ∙ ap (λ (st : State). st.generation) same,
       subst (Contains m.certifier.active) number
           (subst (λ xs. Contains xs (suc (m.before + slot))) (ap (λ (st : State). st.active) same) running.active),
@@ -240,9 +245,10 @@ module _ (m : Parts) (c : CoreState) (s : StandsFor m c) (tx slot : ℕ) (number
         let index : g.place ≡ slot = omega (arith, number, window, first) in
         let same : record { index = g.place; generation = m.certifier.generation } ≡ r.handle
         = ap₂ (λ (a b : ℕ). record { index = a; generation = b }) index
-            (sym (ap (λ (st : State). st.generation) s.certifier.same)) ∙ sym running.handle in
-        (subst (λ (h : Handle). Fits m.certifier h e) same (g.fit e member),
-            λ from. g.forward e member (from ∙ sym same))
+        (sym (ap (λ (st : State). st.generation) s.certifier.same)) ∙ sym running.handle in (
+          subst (λ (h : Handle). Fits m.certifier h e) same (g.fit e member),
+          λ from. g.forward e member (from ∙ sym same),
+        )
 
     may_rule : MayDecide m.certifier r.handle edges
     may_rule = record {

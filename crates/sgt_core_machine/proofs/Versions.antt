@@ -28,7 +28,7 @@ read_before es tx x v n read =
     let lt = slice_get_within es read.place (Read tx x v) read.at in
     let rises = count-rises (change_of x) es read.place (length es) (omega (arith, lt)) in
     let whole : version_at (take (length es) es) x ≡ version_at es x =
-        ap (λ (ds : List Entry). version_at ds x) (take_all (length es) es (omega arith)) in
+    ap (λ (ds : List Entry). version_at ds x) (take_all (length es) es (omega arith)) in
     let version = read.version in
     omega (arith, rises, whole, version)
 
@@ -38,13 +38,13 @@ not_too_new m c s slot at p r here runs too =
     let place = s.places at p here in
     let running = s.running slot (Some r) runs in
     let a = Any_at (λ (k : Name × ℕ × ℕ). version_at p.site.entries k.0 < k.2)
-        (kept_in (at_site p.site.number r.draft.touched)) too in
+    (kept_in (at_site p.site.number r.draft.touched)) too in
     let has = subst (λ n. Contains (kept_in (at_site n r.draft.touched)) a.1) place.number
-        (Contains-from_at (kept_in (at_site p.site.number r.draft.touched)) a.0 a.1 a.2) in
+    (Contains-from_at (kept_in (at_site p.site.number r.draft.touched)) a.0 a.1 a.2) in
     let read = (running.reads at a.1.0 a.1.1 a.1.2).0 has in
     let le = read_before (c.entries at) (suc (m.before + slot)) a.1.0 a.1.1 a.1.2 read in
     let same : version_at (c.entries at) a.1.0 ≡ version_at p.site.entries a.1.0 =
-        ap (λ (es : List Entry). version_at es a.1.0) place.entries in
+    ap (λ (es : List Entry). version_at es a.1.0) place.entries in
     let newer = a.3 in
     absurd (omega (arith, le, same, newer))
 

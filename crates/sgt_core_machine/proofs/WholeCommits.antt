@@ -83,8 +83,10 @@ module _ (c : CoreState) (tx : ℕ) (k : IsKept c) (allowed : IsAllowed c (Commi
     same = refl;
     alone = subst (λ o. StepIs (λ t. t ≡ tx → ⊥) o → ⊥) (sym closed) (λ n. n);
     gathered =
-        λ s. (λ m. absurd (contains-none s m),
-        λ m. absurd (contains-none s (subst (λ o. Contains (gathered_in o) s) closed m)));
+        λ s. (
+          λ m. absurd (contains-none s m),
+          λ m. absurd (contains-none s (subst (λ o. Contains (gathered_in o) s) closed m)),
+        );
   }
 
   module _ (o : Option OpenStep) (done : List ℕ) (h : GathersAll c tx done (record c { step = o })) where
@@ -96,9 +98,9 @@ module _ (c : CoreState) (tx : ℕ) (k : IsKept c) (allowed : IsAllowed c (Commi
           serves = subst (λ (es : List Event). ServesAll c es (map (λ t. Gathered) (done ++ s ∷ [])) e)
               (sym (map-push (Gather tx) done s))
               (subst (λ (rs : List Reply). ServesAll c (map (Gather tx) done ++ Gather tx s ∷ []) rs e)
-                  (sym (map-push (λ (t : ℕ). Gathered) done s))
+              (sym (map-push (λ (t : ℕ). Gathered) done s))
               (append-all c (map (Gather tx) done) (Gather tx s ∷ []) (map (λ t. Gathered) done) (Gathered ∷ [])
-                  (record c { step = o }) e h.serves (e, (may, refl), refl)));
+              (record c { step = o }) e h.serves (e, (may, refl), refl)));
           same = refl;
           alone = λ n. n refl;
           gathered = λ t. (
@@ -138,7 +140,7 @@ module _ (c : CoreState) (tx : ℕ) (k : IsKept c) (allowed : IsAllowed c (Commi
   gather_gives d done s h m new reply e step =
       let g = subst (GathersAll c tx done) h.same h in
       gather_by d.step done g s (gather_may d.step done g s m new) reply e
-          (subst (λ (x : CoreState). MayStep x (Gather tx s) reply e) h.same step)
+      (subst (λ (x : CoreState). MayStep x (Gather tx s) reply e) h.same step)
 
   -- ---- the decision
 
@@ -176,23 +178,23 @@ module _ (c : CoreState) (tx : ℕ) (k : IsKept c) (allowed : IsAllowed c (Commi
   due_blocks o mid block alone active begun step due =
       all_due (record c { step = o; certifier = mid; due = block }) tx (touched c tx) (distinct c tx k allowed)
       (λ s m. record {
-    active = subst (λ xs. Contains xs tx) (sym active) (going c tx k allowed o alone).active;
-    begun = subst (λ n. tx ≤ n) (sym begun) (going c tx k allowed o alone).begun;
-    alone = alone;
-    decided = step;
-    inside = inside c tx k allowed s m;
-    touched = hit c tx k allowed s m;
-    due = due s (hit c tx k allowed s m);
-  })
+        active = subst (λ xs. Contains xs tx) (sym active) (going c tx k allowed o alone).active;
+        begun = subst (λ n. tx ≤ n) (sym begun) (going c tx k allowed o alone).begun;
+        alone = alone;
+        decided = step;
+        inside = inside c tx k allowed s m;
+        touched = hit c tx k allowed s m;
+        due = due s (hit c tx k allowed s m);
+      })
 
   decides_with : (o : Option OpenStep) (verdict : Reply) (e : CoreState)
       → GathersAll c tx (touched c tx) (record c { step = o })
       → ServesAll (record c { step = o }) (Decide tx ∷ []) (verdict ∷ []) e
       → ServesAll c (map (Gather tx) (touched c tx) ++ Decide tx ∷ [])
-          (map (λ s. Gathered) (touched c tx) ++ verdict ∷ []) e
+      (map (λ s. Gathered) (touched c tx) ++ verdict ∷ []) e
   decides_with o verdict e h last =
       append-all c (map (Gather tx) (touched c tx)) (Decide tx ∷ []) (map (λ s. Gathered) (touched c tx))
-          (verdict ∷ []) (record c { step = o }) e h.serves last
+      (verdict ∷ []) (record c { step = o }) e h.serves last
 
   decide_by : (o : Option OpenStep) → GathersAll c tx (touched c tx) (record c { step = o })
       → IsAllowed (record c { step = o }) (Decide tx) → (reply : Reply) (e : CoreState)
@@ -205,7 +207,7 @@ module _ (c : CoreState) (tx : ℕ) (k : IsKept c) (allowed : IsAllowed c (Commi
         subst (λ (x : CoreState). AwaitsBlocks x tx (touched c tx)) (sym v.after)
             (due_decided mid tx v.certifier (committed_block mid tx) (touched c tx)
             (due_blocks o v.certifier (committed_block mid tx) h.alone (ap (λ (s : State). s.active) after)
-                (ap (λ (s : State). s.begun) after) (ap (λ (s : State). s.step) after)
+            (ap (λ (s : State). s.begun) after) (ap (λ (s : State). s.step) after)
             (λ s hit. some_block (touches c tx s) _ _ hit))),
       )
   decide_by o h may No e step =
@@ -216,7 +218,7 @@ module _ (c : CoreState) (tx : ℕ) (k : IsKept c) (allowed : IsAllowed c (Commi
         subst (λ (x : CoreState). AwaitsBlocks x tx (touched c tx)) (sym v.after)
             (due_decided mid tx v.certifier (refused_block mid tx) (touched c tx)
             (due_blocks o v.certifier (refused_block mid tx) h.alone (ap (λ (s : State). s.active) after)
-                (ap (λ (s : State). s.begun) after) (ap (λ (s : State). s.step) after)
+            (ap (λ (s : State). s.begun) after) (ap (λ (s : State). s.step) after)
             (λ s hit. some_block (touches c tx s) _ _ hit))),
       )
   decide_by o h may (Fault fault.Memory) e step = (allowed, step.1)
@@ -228,14 +230,17 @@ module _ (c : CoreState) (tx : ℕ) (k : IsKept c) (allowed : IsAllowed c (Commi
   decide_gives d h reply e step =
       let g = subst (GathersAll c tx (touched c tx)) h.same h in
       decide_by d.step g (decide_may c tx k allowed d.step g) reply e
-          (subst (λ (x : CoreState). MayStep x (Decide tx) reply e) h.same step)
+      (subst (λ (x : CoreState). MayStep x (Decide tx) reply e) h.same step)
 
 -- ---- the blocks are written
 
 -- after a block is written the others are still due
 still_due : (c : CoreState) (tx s : ℕ) → IsBlockDue c tx s → (ts : List ℕ) → (Contains ts s → ⊥) → AwaitsBlocks c tx ts
-    → AwaitsBlocks (record (with_entries c (only_at s (c.due s))) { certifier = noted c tx s; due =
-        changed_at s [] c.due }) tx ts
+    → AwaitsBlocks (record (with_entries c (only_at s (c.due s))) {
+      certifier = noted c tx s;
+      due =
+          changed_at s [] c.due;
+    }) tx ts
 still_due c tx s h [] out all = tt
 still_due c tx s h (t ∷ ts) out all =
     let a = all.0 in (
@@ -256,8 +261,11 @@ awaits_rest : (c : CoreState) (tx s : ℕ) → IsBlockDue c tx s → (ts : List 
     → AwaitsBlocks c tx ts → AwaitsBlocks (installed c tx s) tx ts
 awaits_rest c tx s h [] out all = tt
 awaits_rest c tx s h (t ∷ ts) out all =
-    let mid : CoreState = record (with_entries c (only_at s (c.due s))) { certifier = noted c tx s; due =
-        changed_at s [] c.due } in
+    let mid : CoreState = record (with_entries c (only_at s (c.due s))) {
+      certifier = noted c tx s;
+      due =
+          changed_at s [] c.due;
+    } in
     let rest = still_due c tx s h (t ∷ ts) out all in
     subst (λ (x : CoreState). AwaitsBlocks x tx (t ∷ ts)) (sym (stays_open mid tx t rest.0.inside rest.0.due)) rest
 
@@ -272,18 +280,21 @@ write_by c tx s may reply e step = absurd step.1
 pub install_gives : (c d : CoreState) (tx : ℕ) (done : List ℕ) (s : ℕ) (rest : List ℕ) → InstallsAll c tx done d
     → AwaitsBlocks d tx (s ∷ rest)
     → (reply : Reply) (e : CoreState) → MayStep d (Write tx s) reply e → InstallsAll c tx (done ++ s ∷ []) e
-        × AwaitsBlocks e tx rest
+    × AwaitsBlocks e tx rest
 install_gives c d tx done s rest h all reply e step =
     let a = all.0 in
     let may = write_allowed d tx s (record { active = a.active; begun = a.begun; alone = a.alone }) a.decided
-        (record { inside = a.inside; touched = a.touched; due = a.due }) in
+    (record { inside = a.inside; touched = a.touched; due = a.due }) in
     let is : e ≡ installed d tx s = write_by d tx s may reply e step in (
       subst (λ (es : List Event). ServesAll c es (map (λ t. Installed) (done ++ s ∷ [])) e)
           (sym (map-push (Write tx) done s))
           (subst (λ (rs : List Reply). ServesAll c (map (Write tx) done ++ Write tx s ∷ []) rs e)
-              (sym (map-push (λ (t : ℕ). Installed) done s))
-          (append-all c (map (Write tx) done) (Write tx s ∷ []) (map (λ t. Installed) done) (Installed ∷ []) d e h (e,
-              (may, is), refl))),
+          (sym (map-push (λ (t : ℕ). Installed) done s))
+          (append-all c (map (Write tx) done) (Write tx s ∷ []) (map (λ t. Installed) done) (Installed ∷ []) d e h (
+            e,
+            (may, is),
+            refl,
+          ))),
       subst (λ (x : CoreState). AwaitsBlocks x tx rest) (sym is) (awaits_rest d tx s a rest all.1.0 all.1.1),
     )
 
@@ -300,9 +311,9 @@ commits_by c mid new tx verdict out h all =
       subst (λ (es : List Event). ServesAll c es (map (λ s. Gathered) sites ++ verdict ∷ map (λ s. Installed) sites)
           new) (append_assoc (map (Gather tx) sites) (Decide tx ∷ []) (map (Write tx) sites))
           (subst (λ (rs : List Reply). ServesAll c ((map (Gather tx) sites ++ Decide tx ∷ []) ++ map (Write tx) sites)
-              rs new) (append_assoc (map (λ s. Gathered) sites) (verdict ∷ []) (map (λ s. Installed) sites))
+          rs new) (append_assoc (map (λ s. Gathered) sites) (verdict ∷ []) (map (λ s. Installed) sites))
           (append-all c (map (Gather tx) sites ++ Decide tx ∷ []) (map (Write tx) sites)
-              (map (λ s. Gathered) sites ++ verdict ∷ []) (map (λ s. Installed) sites) mid new h.0.1 all)),
+          (map (λ s. Gathered) sites ++ verdict ∷ []) (map (λ s. Installed) sites) mid new h.0.1 all)),
     )
 
 -- the blocks that are due after a verdict

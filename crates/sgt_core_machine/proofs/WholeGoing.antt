@@ -69,7 +69,7 @@ module _ (first mid last : Parts) (tx : ℕ) (sites : List ℕ) (whole : AreWhol
         b.0,
         subst (λ xs. DecidesWhole c tx xs reply b.0) (sym w.all)
             (decide_gives c tx (reached_kept c st.reached) w.allowed a.0
-                (subst (λ xs. GathersAll c tx xs a.0) w.all a.1) reply b.0 b.1),
+            (subst (λ xs. GathersAll c tx xs a.0) w.all a.1) reply b.0 b.1),
         b.2,
       )
 
@@ -85,7 +85,7 @@ module _ (first mid last : Parts) (tx : ℕ) (sites : List ℕ) (whole : AreWhol
   pub committing : (verdict : Reply) → ((f : CoreFault) → verdict ≡ Fault f → ⊥)
       → GoesOn (λ c d. DecidesWhole c tx sites verdict d) first mid
       → ((c : CoreState) → StandsFor mid c → AwaitsBlocks c tx sites → (d : CoreState) × InstallsAll c tx sites d
-          × StandsFor last d) → GoesOn (λ c d. MayStep c (Commit tx) verdict d) first last
+      × StandsFor last d) → GoesOn (λ c d. MayStep c (Commit tx) verdict d) first last
   committing verdict out run go c st =
       let a = run c st in
       let w = whole c st in

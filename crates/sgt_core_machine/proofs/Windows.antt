@@ -38,8 +38,12 @@ use Rattle.sgt_names.proofs.Elements.{contains-none, contains-cases}
 -- ---- a transaction begins
 
 pub carries_begun : (s t : State) → Carries s t → Carries (with_begun s) (with_begun t)
-carries_begun s t h = record { noted = same_noted s t (with_begun s) (with_begun t) h.noted refl refl refl (λ j m. m);
-    same = ap with_begun h.same; fewer = h.fewer; lead = h.lead }
+carries_begun s t h = record {
+  noted = same_noted s t (with_begun s) (with_begun t) h.noted refl refl refl (λ j m. m);
+  same = ap with_begun h.same;
+  fewer = h.fewer;
+  lead = h.lead;
+}
 
 -- none was read by one that isn't begun
 unread_by : (c : CoreState) → IsKept c → (s tx : ℕ) → c.certifier.begun < tx → KeepsReads (c.entries s) tx []
@@ -81,11 +85,20 @@ module _ (m : Parts) (c : CoreState) (s : StandsFor m c) (none : m.step ≡ None
       let begun = s.begun in
       elim (Contains-append_cases c.certifier.active (suc c.certifier.begun ∷ []) _ there) [
         | inl was ↦ out was
-        | inr n ↦ elim (contains-cases (suc c.certifier.begun) [] _ n) [ inl is ↦ omega (arith, is, lt)
-            | inr none_left ↦ contains-none _ none_left ]
+        | inr n ↦ elim (contains-cases (suc c.certifier.begun) [] _ n) [
+          | inl is ↦ omega (arith, is, lt)
+          | inr none_left ↦ contains-none _ none_left
+        ]
       ]
-  slot_stays k (Some q) lt h = record { active = Contains-append_left c.certifier.active _ _ h.active; handle =
-      h.handle; rising = h.rising; used = h.used; changes = h.changes; reads = h.reads }
+  slot_stays k (Some q) lt h = record {
+    active = Contains-append_left c.certifier.active _ _ h.active;
+    handle =
+        h.handle;
+    rising = h.rising;
+    used = h.used;
+    changes = h.changes;
+    reads = h.reads;
+  }
 
   begun_here : (k : ℕ) → k ≡ length m.table + 0 → IsRunning (begun_state c) m.before k r
   begun_here k is =
@@ -130,13 +143,19 @@ module _ (m : Parts) (c : CoreState) (s : StandsFor m c) (none : m.step ≡ None
   begun_place n p at =
       let h = s.places n p at in
       let closed = core_closed m c s none in
-      record { number = h.number; entries = h.entries; handles = h.handles; apart = h.apart; part =
-          part_closed m (begun_parts m new r) c (begun_state c) n p p.part h.part none closed closed refl }
+      record {
+        number = h.number;
+        entries = h.entries;
+        handles = h.handles;
+        apart = h.apart;
+        part =
+            part_closed m (begun_parts m new r) c (begun_state c) n p p.part h.part none closed closed refl;
+      }
 
   pub begin_goes : (d : CoreState) × MayStep c Begin (Begun tx) d × StandsFor (begun_parts m new r) d
   begin_goes =
       let may : MayStep c Begin (Begun tx) (begun_state c) =
-          (begin_allowed m c r.handle tx new s none serves, (begun_number, refl)) in
+      (begin_allowed m c r.handle tx new s none serves, (begun_number, refl)) in
       let begun = s.begun in
       let window = s.window in
       let long = length_push m.table (Some r) in (
@@ -163,10 +182,15 @@ module _ (m : Parts) (c : CoreState) (s : StandsFor m c) (none : m.step ≡ None
 
 pub carries_closed : (s t : State) → Carries s t → Carries (with_closed s) (with_closed t)
 carries_closed s t h =
-    record { noted =
-    same_noted s t (with_closed s) (with_closed t) h.noted refl refl refl
-    (λ j m. subst (λ xs. Contains xs j) (sym (append-nil (serial t))) m); same = ap with_closed h.same; fewer =
-    λ arc m. m; lead = λ a b j. absurd (contains-none _ j.1) }
+    record {
+      noted =
+          same_noted s t (with_closed s) (with_closed t) h.noted refl refl refl
+          (λ j m. subst (λ xs. Contains xs j) (sym (append-nil (serial t))) m);
+      same = ap with_closed h.same;
+      fewer =
+          λ arc m. m;
+      lead = λ a b j. absurd (contains-none _ j.1);
+    }
 
 close_allowed : (m : Parts) (c : CoreState) → StandsFor m c → m.step ≡ None → IsRequestAllowed m.certifier close
     → IsAllowed c Close
@@ -229,7 +253,7 @@ close_refused m c told.GenerationsSpent s none t =
 close_refused m c told.Memory s none t = (close_allowed m c s none t, refl)
 close_refused m c (told.StepOpen tx) s none t =
     absurd (let e : Some tx ≡ None = sym t.0 ∙ (sym (ap (λ (st : State). st.step) s.certifier.same)
-        ∙ certifier_closed m c s none) in cc)
+    ∙ certifier_closed m c s none) in cc)
 close_refused m c told.WindowFull s none t = absurd t.0
 close_refused m c told.Unknown s none t = absurd t.0
 close_refused m c told.Stale s none t = absurd t.0
@@ -267,7 +291,7 @@ module _ (m : Parts) (c : CoreState) (s : StandsFor m c) (none : m.step ≡ None
   close_goes =
       let given = serves.1.0 ∙ ap (λ (st : State). length (serial st)) (sym s.certifier.same) in
       let may : MayStep c Close (Closed ranks) (closed_state c) =
-          (close_allowed m c s none serves.0, (given, refl)) in (
+      (close_allowed m c s none serves.0, (given, refl)) in (
         closed_state c,
         may,
         record {

@@ -50,16 +50,16 @@ same_maps f (x ∷ xs) (y ∷ ys) long h = ap (λ z. z ∷ map f xs) (h 0 x y re
 -- one more place of the list is done
 module _ (R : Place → Place → Type 0) (old now : List Place) (at : ℕ) (p q : Place) (there : slice_get now at ≡ Some p)
     (done : (k : ℕ) (v w : Place) → k < at → slice_get old k ≡ Some v → slice_get now k ≡ Some w
-        → R v w) (rest : (k : ℕ) → at ≤ k → slice_get now k ≡ slice_get old k) (one : R p q) where
+    → R v w) (rest : (k : ℕ) → at ≤ k → slice_get now k ≡ slice_get old k) (one : R p q) where
   pub done_more : (k : ℕ) (v w : Place) → k < at + 1 → slice_get old k ≡ Some v
       → slice_get (slice_set now at q) k ≡ Some w → R v w
   done_more k v w lt at_v at_w = elim (cases_eq k at) [
     | inl is ↦
         let here : slice_get (slice_set now at q) at ≡ Some q =
-            get-slice_set_same now at q (slice_get_within now at p there) in
+        get-slice_set_same now at q (slice_get_within now at p there) in
         let same_w : q ≡ w = same_Some q w (sym here ∙ (ap (slice_get (slice_set now at q)) (sym is) ∙ at_w)) in
         let same_v : p ≡ v =
-            same_Some p v (sym there ∙ (rest at (omega arith) ∙ (ap (slice_get old) (sym is) ∙ at_v))) in
+        same_Some p v (sym there ∙ (rest at (omega arith) ∙ (ap (slice_get old) (sym is) ∙ at_v))) in
         subst (λ (x : Place). R x w) same_v (subst (R p) same_w one)
     | inr ne ↦ done k v w (omega (arith, lt, ne)) at_v (sym (get-slice_set_other now at k q ne) ∙ at_w)
   ]
@@ -129,8 +129,8 @@ module _ (m : Parts) (c : CoreState) (s : StandsFor m c) (none : m.step ≡ None
           ]
         ] in
         let site : r.site ≡ p.site = release.site
-            ∙ (ap (λ (w : Place). record w.site { pledge = r.site.pledge }) offer.same
-            ∙ ap (λ (g : Option Pledge). record p.site { pledge = g }) (gone ∙ sym idle.1)) in
+        ∙ (ap (λ (w : Place). record w.site { pledge = r.site.pledge }) offer.same
+        ∙ ap (λ (g : Option Pledge). record p.site { pledge = g }) (gone ∙ sym idle.1)) in
         ap₂ (λ (st : SiteState) (part : Part). record { site = st; part = part }) site (release.part ∙ sym idle.0)
 
     all_given_back : places ≡ m.places
@@ -149,9 +149,12 @@ module _ (m : Parts) (c : CoreState) (s : StandsFor m c) (none : m.step ≡ None
 
     pub withdraw_gives_back : (mid places : List Place) → AreOffered tx m.places mid → AreReleased tx mid places
         → (d : CoreState) × MayStep c (Withdraw tx) (Fault fault.Memory) d × StandsFor (record m { places = places }) d
-    withdraw_gives_back mid places offered released =
-        (c, (may_withdraw, refl), subst (λ (ps : List Place). StandsFor (record m { places = ps }) c)
-            (sym (all_given_back tx mid places offered released)) s)
+    withdraw_gives_back mid places offered released = (
+      c,
+      (may_withdraw, refl),
+      subst (λ (ps : List Place). StandsFor (record m { places = ps }) c)
+          (sym (all_given_back tx mid places offered released)) s,
+    )
 
     -- ---- it is withdrawn
 
@@ -193,22 +196,29 @@ module _ (m : Parts) (c : CoreState) (s : StandsFor m c) (none : m.step ≡ None
                 let stands = pledged.hit (subst (Touches r.draft.touched) (sym place.number) (touched_there t hit)) in
                 let block : withdrawn_block c tx t ≡ withdraw_block tx = rw hit refl in
                 written.pledged stands
-                ∙ (ap (λ (v : Place). record v { site =
-                    record v.site { entries = v.site.entries ++ withdraw_block tx; pledge = None } })
-                    pledged.offered.same
-                ∙ ap (λ (es : List Entry). record p { site = record p.site { entries = p.site.entries ++ es; pledge =
-                    None } }) (sym block))
+                ∙ (ap (λ (v : Place). record v {
+                  site =
+                      record v.site { entries = v.site.entries ++ withdraw_block tx; pledge = None };
+                })
+                pledged.offered.same
+                ∙ ap (λ (es : List Entry). record p {
+                  site = record p.site {
+                    entries = p.site.entries ++ es;
+                    pledge =
+                        None;
+                  };
+                }) (sym block))
             | inr miss ↦
                 let out : Touches r.draft.touched p.site.number
-                    → ⊥ = λ any. true≢false (sym (there_touched t (subst (Touches r.draft.touched) place.number any))
-                    ∙ miss) in
+                → ⊥ = λ any. true≢false (sym (there_touched t (subst (Touches r.draft.touched) place.number any))
+                ∙ miss) in
                 let gone : x.site.pledge ≡ None = pledged.miss out ∙ idle.1 in
                 let block : withdrawn_block c tx t ≡ [] = rw miss refl in
                 written.other (pledge_none x.site tx gone)
                 ∙ (pledged.offered.same
                 ∙ (ap (λ (g : Option Pledge). record p { site = record p.site { pledge = g } }) gone
                 ∙ ap (λ (es : List Entry). record p { site = record p.site { entries = es; pledge = None } })
-                    (sym (append-nil p.site.entries) ∙ ap (λ es. p.site.entries ++ es) (sym block))))
+                (sym (append-nil p.site.entries) ∙ ap (λ es. p.site.entries ++ es) (sym block))))
           ]
 
       long_new : length new.places ≡ length m.places
@@ -259,12 +269,12 @@ module _ (m : Parts) (c : CoreState) (s : StandsFor m c) (none : m.step ≡ None
       withdrawn_slot k o at = elim (cases_eq k slot) [
         | inl is ↦
             let here : slice_get (slice_set m.table slot None) slot ≡ Some None =
-                get-slice_set_same m.table slot None (slice_get_within m.table slot (Some r) w.offers.there) in
+            get-slice_set_same m.table slot None (slice_get_within m.table slot (Some r) w.offers.there) in
             let same : None ≡ o =
-                same_Some None o (sym here ∙ (ap (slice_get (slice_set m.table slot None)) (sym is) ∙ at)) in
+            same_Some None o (sym here ∙ (ap (slice_get (slice_set m.table slot None)) (sym is) ∙ at)) in
             subst (λ (v : Option Running). RunsAt d m.before k v) same (λ active. without_out tx c.certifier.active
             (subst (Contains (without tx c.certifier.active)) (sym (h.0 ∙ ap (λ j. suc (m.before + j)) (sym is)))
-                active))
+            active))
         | inr ne ↦ other_slot k o ne (s.running k o (sym (get-slice_set_other m.table slot k None ne) ∙ at))
       ]
 
@@ -273,15 +283,20 @@ module _ (m : Parts) (c : CoreState) (s : StandsFor m c) (none : m.step ≡ None
           let same = s.certifier.same in
           let number : suc (m.certifier.before + r.handle.index) ≡ tx =
           ap₂ (λ (a b : ℕ). suc (a + b)) (sym (ap (λ (st : State). st.before) same)
-              ∙ s.before) (ap (λ (g : Handle). g.index) own.handle) ∙ sym h.0 in
+          ∙ s.before) (ap (λ (g : Handle). g.index) own.handle) ∙ sym h.0 in
           let is : new.certifier ≡ with_withdrawn m.certifier tx =
-              (w.serves.1.1
-              ∙ ap (λ (g : Handle). with_withdrawn m.certifier (suc (m.certifier.before + g.index)))
-              w.offers.handle_is) ∙ ap (with_withdrawn m.certifier) number in
+          (w.serves.1.1
+          ∙ ap (λ (g : Handle). with_withdrawn m.certifier (suc (m.certifier.before + g.index)))
+          w.offers.handle_is) ∙ ap (with_withdrawn m.certifier) number in
           subst (λ (st : State). Carries st (with_withdrawn c.certifier tx)) (sym is)
-              (record { same = ap (λ (st : State). with_withdrawn st tx) same; noted =
-              same_noted m.certifier c.certifier (with_withdrawn m.certifier tx) (with_withdrawn c.certifier tx)
-              s.certifier.noted refl refl refl (λ j m. m); fewer = s.certifier.fewer; lead = s.certifier.lead })
+          (record {
+            same = ap (λ (st : State). with_withdrawn st tx) same;
+            noted =
+                same_noted m.certifier c.certifier (with_withdrawn m.certifier tx) (with_withdrawn c.certifier tx)
+                s.certifier.noted refl refl refl (λ j m. m);
+            fewer = s.certifier.fewer;
+            lead = s.certifier.lead;
+          })
 
       pub withdraw_goes : (e : CoreState) × MayStep c (Withdraw tx) Withdrawn e × StandsFor new e
       withdraw_goes =

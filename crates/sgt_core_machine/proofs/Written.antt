@@ -33,18 +33,18 @@ joined a b rest = grind (arith, common_steps)
 -- line 1 and 2 and the sections are the text
 pub whole_text : (out mid last : List ℕ) (second : Bool) (cert : Certificate) (sites : List SiteLog) → out ≡ []
     → mid ≡ out ++ text_of_lines (format_line second ∷ certificate_text cert ∷ [])
-        → last ≡ mid ++ text_of_lines (map line_text (sections_from 0 sites))
+    → last ≡ mid ++ text_of_lines (map line_text (sections_from 0 sites))
     → second ≡ has_increments sites → last ≡ text_of (record { certificate = cert; sites = sites })
 whole_text out mid last second cert sites none head rest is =
     let front : mid ≡ text_of_lines (format_line second ∷ certificate_text cert ∷ []) =
-        subst (λ (o : List ℕ). mid ≡ o ++ text_of_lines (format_line second ∷ certificate_text cert ∷ [])) none head in
+    subst (λ (o : List ℕ). mid ≡ o ++ text_of_lines (format_line second ∷ certificate_text cert ∷ [])) none head in
     let all : last ≡ text_of_lines (format_line second ∷ certificate_text cert ∷ map line_text
-        (sections_from 0 sites)) =
+    (sections_from 0 sites)) =
     rest ∙ (ap (λ (m : List ℕ). m ++ text_of_lines (map line_text (sections_from 0 sites))) front
-        ∙ joined (format_line second ++ 10 ∷ []) (certificate_text cert ++ 10 ∷ [])
-        (text_of_lines (map line_text (sections_from 0 sites)))) in
+    ∙ joined (format_line second ++ 10 ∷ []) (certificate_text cert ++ 10 ∷ [])
+    (text_of_lines (map line_text (sections_from 0 sites)))) in
     subst (λ (b : Bool). last ≡ text_of_lines (format_line b ∷ certificate_text cert ∷ map line_text
-        (sections_from 0 sites))) is all
+    (sections_from 0 sites))) is all
 
 -- so of a machine
 pub text_there : (m : Parts) (c : CoreState) (cert : Certificate) (count : ℕ) (text : List ℕ) → StandsFor m c
@@ -61,21 +61,21 @@ finals_there m c s = ap (λ (logs : List SiteLog). map (λ (log : SiteLog). log.
 finals_in_order : (log : SiteLog) → IsShapedLog log → AreItems log.finals
 finals_in_order log h =
     let long : length log.finals ≡ length log.items = sym (length-map log.finals (λ (d : Holding). d.item))
-        ∙ (ap length h.finals ∙ length-map log.items (λ (d : Holding). d.item)) in
+    ∙ (ap length h.finals ∙ length-map log.items (λ (d : Holding). d.item)) in
     let rising = subst (AllPairs ComesBefore) (sym h.finals) h.rising in
     record {
       room = let r = h.room in omega (arith, long, r);
       rising = AllPairs-from_at (λ (a b : Holding). slice_cmp nat_cmp a.item b.item ≡ Less) log.finals
           (λ p q a b lt at_a at_b.
           AllPairs_at ComesBefore (names log.finals) p q a.item b.item rising lt
-              (get-mapped (λ (d : Holding). d.item) log.finals p a at_a)
-              (get-mapped (λ (d : Holding). d.item) log.finals q b at_b));
+          (get-mapped (λ (d : Holding). d.item) log.finals p a at_a)
+          (get-mapped (λ (d : Holding). d.item) log.finals q b at_b));
     }
 
 pub sites_of_finals : (b : BundleParts) → FitTogether b → AreSites (finals_in b)
 sites_of_finals b fit =
     let long : length (finals_in b) ≡ b.certificate.sites = length-map b.sites (λ (log : SiteLog). log.finals)
-        ∙ fit.shape.each in
+    ∙ fit.shape.each in
     record {
       some = let s = fit.shape.some in omega (arith, long, s);
       few = let s = fit.shape.few in subst (λ n. n ≤ max_sites) (sym long) s;

@@ -17,15 +17,15 @@ use Rattle.sgt_core_machine.specs.declared.machine.Phase.TheVariants.{Gathering}
 -- the edges are given of the transaction at this place of the table, and stand for all of its edges
 -- at the site; no two are the same
 pub record AreGiven (places : List Place) (table : List (Option Running)) (site slot : ℕ) (edges : List Edge) : Type 0
-    where
-  pub place : Place
-  pub running : Running
-  pub there : slice_get places site ≡ Some place
-  pub runs : slice_get table slot ≡ Some (Some running)
-  pub legal : IsSite place.site
-  pub given : All (IsGiven place.site running.draft.touched running.handle) edges
-  pub stand : StandsForAll place.site running.draft.touched running.handle edges
-  pub once : HaveOwnHandles place.site → AreApart edges
+  where
+    pub place : Place
+    pub running : Running
+    pub there : slice_get places site ≡ Some place
+    pub runs : slice_get table slot ≡ Some (Some running)
+    pub legal : IsSite place.site
+    pub given : All (IsGiven place.site running.draft.touched running.handle) edges
+    pub stand : StandsForAll place.site running.draft.touched running.handle edges
+    pub once : HaveOwnHandles place.site → AreApart edges
 
 -- the site refuses no pledge of the transaction at this place of the table
 abbrev pub MayPledgeAt : List Place → List (Option Running) → (site slot tx : ℕ) → Type 0

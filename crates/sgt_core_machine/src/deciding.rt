@@ -18,7 +18,8 @@ use sgt_names::{Draft, Tx};
 use std::alloc::Global;
 
 impl Machine {
-    /// The transaction is decided, where it is gathered wherever it touches. Where it touches nothing, its step ends at once.
+    /// The transaction is decided, where it is gathered wherever it touches. Where it touches nothing, its step ends
+    /// at once.
     pub(crate) fn decide(&mut self, tx: Tx) -> Reply
         requires { Stands (parts_of self.old) }
         ensures { GoesOn (λ c d. MayStep c (event.Decide tx) result d) (parts_of self.old)
@@ -167,7 +168,8 @@ fn reply_of(decided: &Decided) -> Reply
     }
 }
 
-// Whether a block of the open step is still due. Blocks are mostly written by rising site, so the last sites are looked at first.
+// Whether a block of the open step is still due. Blocks are mostly written by rising site, so the last sites are
+// looked at first.
 pub(crate) fn is_due(places: &[Place]) -> bool
     ensures { IsTrue result ↔ Any (λ p. p.part ≡ Due) places.now }
 {

@@ -19,8 +19,8 @@ use sgt_site::SiteFault;
 use std::alloc::{AllocError, Global};
 use std::marker::Model;
 
-/// Runs transactions over sites, event after event. What it does is what some run of the model does (`StandsFor`): the model
-/// may have edges that the certifier wasn't handed, since neighbours carry them.
+/// Runs transactions over sites, event after event. What it does is what some run of the model does (`StandsFor`):
+/// the model may have edges that the certifier wasn't handed, since neighbours carry them.
 #[derive(Drop)]
 pub struct Core {
     machine: Machine,
@@ -59,8 +59,9 @@ impl Core {
         Ok(Core { machine })
     }
 
-    /// Serves an event, or refuses it: E1 to E12, the least number first, and E9 last. What is refused leaves the core as it
-    /// was; after E9 of a gather, a decision or a commit the step is closed as if it had never been opened.
+    /// Serves an event, or refuses it: E1 to E12, the least number first, and E9 last. What is refused leaves the
+    /// core as it was; after E9 of a gather, a decision or a commit the step is closed as if it had never been
+    /// opened.
     pub fn step(&mut self, event: Event) -> Reply
         ensures { GoesOn (λ c d. MayStep c event result d) self.old self.new }
     {
@@ -95,7 +96,8 @@ impl Core {
         self.machine.to_decide(tx)
     }
 
-    /// Serves the events, one after another. It errs where there is no memory for the replies, and then nothing was served.
+    /// Serves the events, one after another. It errs where there is no memory for the replies, and then nothing was
+    /// served.
     pub fn run(&mut self, alloc: Global, events: &[Event]) -> Result<Vec<Reply>, AllocError>
         ensures run { IfOk result
             (λ replies. GoesOn (λ c d. Run c events.now replies.items d) self.old self.new) }
@@ -118,8 +120,8 @@ impl Core {
         self.machine.certifier.active()
     }
 
-    /// The logs with the certificate. It errs with E8 where a transaction is active, and else with E9 where there is no memory.
-    /// Linear in the decisions and the logs.
+    /// The logs with the certificate. It errs with E8 where a transaction is active, and else with E9 where there is
+    /// no memory. Linear in the decisions and the logs.
     pub fn bundle(&self, alloc: Global) -> Result<Bundle, CoreFault>
         ensures ok { IfOk result (λ b. (c : CoreState) → StandsFor self.now c → b ≡ bundle_of c) }
         ensures valid { IfOk result IsValid }
@@ -135,8 +137,8 @@ impl Core {
         self.machine.bundle(alloc)
     }
 
-    /// As `bundle`, of a core that is given up, also where it errs: the bundle's logs are the sites' own, and the decisions go
-    /// once there is a certificate.
+    /// As `bundle`, of a core that is given up, also where it errs: the bundle's logs are the sites' own, and the
+    /// decisions go once there is a certificate.
     pub fn into_bundle(self, alloc: Global) -> Result<Bundle, CoreFault>
         ensures ok { IfOk result (λ b. (c : CoreState) → StandsFor self c → b ≡ bundle_of c) }
         ensures valid { IfOk result IsValid }
@@ -151,9 +153,9 @@ impl Core {
         machine.into_bundle(alloc)
     }
 
-    /// What a cut gives here: the text of the bundle, and a core over the last values, to which nothing has happened. It errs
-    /// as `bundle` does. The core itself stays as it is, so a cut is made by putting the new one in its place. The logs are not
-    /// copied. Linear in the decisions and the logs.
+    /// What a cut gives here: the text of the bundle, and a core over the last values, to which nothing has happened.
+    /// It errs as `bundle` does. The core itself stays as it is, so a cut is made by putting the new one in its
+    /// place. The logs are not copied. Linear in the decisions and the logs.
     pub fn cut(&self, alloc: Global) -> Result<Cut, CoreFault>
         ensures text { IfOk result
             (λ cut. (c : CoreState) → StandsFor self.now c

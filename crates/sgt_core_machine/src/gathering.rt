@@ -66,7 +66,8 @@ pub(crate) fn pledge_at(
     }
 }
 
-// Adds edges to the step of the transaction. Where none is open it is opened with their list, and the spare one is left there.
+// Adds edges to the step of the transaction. Where none is open it is opened with their list, and the spare one is
+// left there.
 pub(crate) fn add_edges(
     alloc: Global,
     step: &mut Option<Open>,

@@ -387,8 +387,8 @@ impl Machine {
 /// How many drafts of transactions that have ended are kept at most.
 pub(crate) const DRAFTS: usize = 16;
 
-// A draft without reads and changes, in the room of an older one if there is one. Where there is none, room is made to keep drafts
-// later, when no memory may be taken; none are kept if it is refused.
+// A draft without reads and changes, in the room of an older one if there is one. Where there is none, room is made
+// to keep drafts later, when no memory may be taken; none are kept if it is refused.
 fn empty_draft(alloc: Global, drafts: &mut Vec<Draft>) -> Draft
     ensures { result.touched ≡ [] }
 {

@@ -1,4 +1,5 @@
-//! A transaction is committed or refused as a whole: gathered at each site that it touches, decided, and its block written there.
+//! A transaction is committed or refused as a whole: gathered at each site that it touches, decided, and its block
+//! written there.
 
 ghost use Rattle.std.specs.Prelude.{◌≡◌, ◌<◌, ◌≤◌, false, Some, None, length, get_or, slice_get, All, Any, IfOk, IfErr, OnOk, OnErr};
 ghost use Rattle.sgt_names.specs.Draft.{IsUsed, Touches};

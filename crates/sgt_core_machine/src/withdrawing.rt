@@ -42,8 +42,8 @@ impl Machine {
         }
     }
 
-    // Withdraws the transaction at a place of the table. It errs for want of memory alone: pledges of it may stand then, and
-    // nothing else has changed.
+    // Withdraws the transaction at a place of the table. It errs for want of memory alone: pledges of it may stand
+    // then, and nothing else has changed.
     fn withdraw_at(&mut self, tx: Tx, slot: usize) -> Result<(), AllocError>
         requires slot { (r : ARunning) × (slice_get self.old.running.items slot ≡ Some (Some r)) }
         requires may { (t : ℕ)
@@ -104,8 +104,8 @@ fn offer_all(places: &mut Vec<Place>, tx: Tx, draft: &Draft) -> Result<(), SiteF
     Ok(())
 }
 
-// Makes room for the block of the transaction at a place of the table at each site that it touches, and answers its handle.
-// It errs for want of memory alone.
+// Makes room for the block of the transaction at a place of the table at each site that it touches, and answers its
+// handle. It errs for want of memory alone.
 fn offer_at(
     places: &mut Vec<Place>,
     table: &[Option<Running>],

@@ -67,7 +67,7 @@ one_place xs ys order i ps qs h p q =
     (λ hit. (q.1 a m).1 (reaches_alike (Joins xs) (Joins ys) there i a ((p.1 a m).0 hit)))
     (λ hit. (p.1 a m).1 (reaches_alike (Joins ys) (Joins xs) back i a ((q.1 a m).0 hit))) in
     p.2 ∙ (ap₂ (λ (front back : List ℕ). front ++ i ∷ back) (filter_alike (λ a. not (p.0 a)) (λ a. not (q.0 a)) order
-        (λ a m. ap not (same a m))) (filter_alike p.0 q.0 order same) ∙ sym q.2)
+    (λ a m. ap not (same a m))) (filter_alike p.0 q.0 order same) ∙ sym q.2)
 
 -- ---- states
 
@@ -93,8 +93,11 @@ module _ (c : CoreState) (arcs : List Arc) (rulings : List Ruling) (edges : Have
 
   closed_alike : (i : ℕ) → AreAlike (closed_if_written c i) (closed_if_written near i)
   closed_alike i =
-      let closed : CoreState → CoreState = λ (e : CoreState). record e { certifier = with_finished e.certifier i;
-          step = None; due = λ s. [] } in
+      let closed : CoreState → CoreState = λ (e : CoreState). record e {
+        certifier = with_finished e.certifier i;
+        step = None;
+        due = λ s. [];
+      } in
       elim (cases_Bool (is_written c)) [
         | inl hit ↦ subst (λ b. AreAlike (cond b (closed c) c) (cond b (closed near) near)) (sym hit)
             (record { same = refl; certifier = refl; edges = edges; rulings = decisions })
@@ -105,7 +108,7 @@ close_alike : (c d : CoreState) (i : ℕ) → AreAlike c d → AreAlike (closed_
 close_alike c d i h =
     let is = by_parts c d h in
     subst (λ (e : CoreState). AreAlike (closed_if_written c i) (closed_if_written e i)) (sym is)
-        (closed_alike c d.certifier.arcs d.certifier.rulings h.edges h.rulings i)
+    (closed_alike c d.certifier.arcs d.certifier.rulings h.edges h.rulings i)
 
 -- ---- steps
 
@@ -133,9 +136,9 @@ module _ (c : CoreState) (arcs : List Arc) (rulings : List Ruling) (edges : Have
   read_alike tx s x v None new other p q =
       let same = same_Some q.0 p.0 (sym q.1 ∙ p.1) in
       let read : CoreState → ℕ
-          → CoreState = λ (e : CoreState) (u : ℕ). with_entries e (only_at s (entry.Read tx x u ∷ [])) in
+      → CoreState = λ (e : CoreState) (u : ℕ). with_entries e (only_at s (entry.Read tx x u ∷ [])) in
       alike_at new other (read c p.0) (read d p.0) p.2 (q.2
-          ∙ ap (read d) same) (record { same = refl; certifier = refl; edges = edges; rulings = decisions })
+      ∙ ap (read d) same) (record { same = refl; certifier = refl; edges = edges; rulings = decisions })
 
   commit_alike : (i : ℕ) (new other : CoreState) → CommitsAt c i new → CommitsAt d i other → AreAlike new other
   commit_alike i new other p q =
@@ -143,47 +146,79 @@ module _ (c : CoreState) (arcs : List Arc) (rulings : List Ruling) (edges : Have
       let fs = arcs ++ q.arcs in
       let all = more_same c.certifier.arcs arcs p.arcs q.arcs edges (new_same i p.arcs q.arcs p.edges q.edges) in
       let one = one_place es fs c.certifier.order i p.commits.places q.commits.places all p.commits.placed
-          q.commits.placed in
+      q.commits.placed in
       let due = committed_block c i in
-      let first : State = record c.certifier { order = p.commits.places; arcs = es; step = Some i; rulings =
-          c.certifier.rulings ++ committed i ∷ [] } in
-      let second : State = record c.certifier { order = p.commits.places; arcs = fs; step = Some i; rulings =
-          rulings ++ committed i ∷ [] } in
+      let first : State = record c.certifier {
+        order = p.commits.places;
+        arcs = es;
+        step = Some i;
+        rulings =
+            c.certifier.rulings ++ committed i ∷ [];
+      } in
+      let second : State = record c.certifier {
+        order = p.commits.places;
+        arcs = fs;
+        step = Some i;
+        rulings =
+            rulings ++ committed i ∷ [];
+      } in
       let other_is : q.certifier ≡ second = q.commits.after
-          ∙ ap (λ (ps : List ℕ). record c.certifier { order = ps; arcs = fs; step = Some i; rulings =
-          rulings ++ committed i ∷ [] }) (sym one) in
+      ∙ ap (λ (ps : List ℕ). record c.certifier {
+        order = ps;
+        arcs = fs;
+        step = Some i;
+        rulings =
+            rulings ++ committed i ∷ [];
+      }) (sym one) in
       let x : CoreState = record c { certifier = first; due = due } in
       let y : CoreState = record c { certifier = second; due = due } in
       alike_at new other (closed_if_written x i) (closed_if_written y i) (p.after
-          ∙ ap (λ (k : State). closed_if_written (record c { certifier = k; due = due }) i) p.commits.after)
+      ∙ ap (λ (k : State). closed_if_written (record c { certifier = k; due = due }) i) p.commits.after)
       (q.after ∙ ap (λ (k : State). closed_if_written (record c { certifier = k; due = due }) i) other_is)
-      (close_alike x y i (record { same = refl; certifier = refl; edges = all; rulings =
-          rulings_more c.certifier.rulings rulings (committed i) (committed i) decisions refl }))
+      (close_alike x y i (record {
+        same = refl;
+        certifier = refl;
+        edges = all;
+        rulings =
+            rulings_more c.certifier.rulings rulings (committed i) (committed i) decisions refl;
+      }))
 
   refuse_alike : (i : ℕ) (new other : CoreState) → RefusesAt c i new → RefusesAt d i other → AreAlike new other
   refuse_alike i new other p q =
       let due = refused_block c i in
       let first : State =
-          record c.certifier { step = Some i; rulings = c.certifier.rulings ++ refused i p.walk ∷ [] } in
-      let second : State = record c.certifier { arcs = arcs; step = Some i; rulings =
-          rulings ++ refused i q.walk ∷ [] } in
+      record c.certifier { step = Some i; rulings = c.certifier.rulings ++ refused i p.walk ∷ [] } in
+      let second : State = record c.certifier {
+        arcs = arcs;
+        step = Some i;
+        rulings =
+            rulings ++ refused i q.walk ∷ [];
+      } in
       let x : CoreState = record c { certifier = first; due = due } in
       let y : CoreState = record c { certifier = second; due = due } in
       alike_at new other (closed_if_written x i) (closed_if_written y i) (p.after
-          ∙ ap (λ (k : State). closed_if_written (record c { certifier = k; due = due }) i) p.refuses.after)
+      ∙ ap (λ (k : State). closed_if_written (record c { certifier = k; due = due }) i) p.refuses.after)
       (q.after ∙ ap (λ (k : State). closed_if_written (record c { certifier = k; due = due }) i) q.refuses.after)
-      (close_alike x y i (record { same = refl; certifier = refl; edges = edges; rulings =
-          rulings_more c.certifier.rulings rulings (refused i p.walk) (refused i q.walk) decisions refl }))
+      (close_alike x y i (record {
+        same = refl;
+        certifier = refl;
+        edges = edges;
+        rulings =
+            rulings_more c.certifier.rulings rulings (refused i p.walk) (refused i q.walk) decisions refl;
+      }))
 
   install_alike : (i s : ℕ) (new other : CoreState) → new ≡ installed c i s → other ≡ installed d i s
       → AreAlike new other
   install_alike i s new other p q =
-      let wrote : State → CoreState = λ (k : State). record (with_entries c (only_at s (c.due s))) { certifier =
-          k; due = changed_at s [] c.due } in
+      let wrote : State → CoreState = λ (k : State). record (with_entries c (only_at s (c.due s))) {
+        certifier =
+            k;
+        due = changed_at s [] c.due;
+      } in
       let names = map (λ (e : Name × Change). e.0) (c.changes i s) in
       let by_commit : (b : Bool)
-          → AreAlike (wrote (cond b (with_install c.certifier i s names) c.certifier))
-          (wrote (cond b (with_install d.certifier i s names) d.certifier)) = λ b.
+      → AreAlike (wrote (cond b (with_install c.certifier i s names) c.certifier))
+      (wrote (cond b (with_install d.certifier i s names) d.certifier)) = λ b.
       elim (cases_Bool b) [
         | inl hit ↦ subst (λ a. AreAlike (wrote (cond a (with_install c.certifier i s names) c.certifier))
             (wrote (cond a (with_install d.certifier i s names) d.certifier))) (sym hit)
@@ -193,7 +228,7 @@ module _ (c : CoreState) (arcs : List Arc) (rulings : List Ruling) (edges : Have
             (record { same = refl; certifier = refl; edges = edges; rulings = decisions })
       ] in
       alike_at new other (closed_if_written (wrote (noted c i s)) i) (closed_if_written (wrote (noted d i s)) i) p q
-          (close_alike (wrote (noted c i s)) (wrote (noted d i s)) i (by_commit (is_committed c i)))
+      (close_alike (wrote (noted c i s)) (wrote (noted d i s)) i (by_commit (is_committed c i)))
 
   does_alike : (event : Event) (reply : Reply) (new other : CoreState) → Does c event reply new
       → Does d event reply other → AreAlike new other
@@ -210,11 +245,20 @@ module _ (c : CoreState) (arcs : List Arc) (rulings : List Ruling) (edges : Have
   does_alike (Decide tx) No new other p q = refuse_alike tx new other p q
   does_alike (Install tx s) Installed new other p q = install_alike tx s new other p q
   does_alike (Withdraw tx) Withdrawn new other p q =
-      alike_at new other _ _ p q (record { same = refl; certifier = refl; edges = edges; rulings =
-          rulings_more c.certifier.rulings rulings (withdrawn tx) (withdrawn tx) decisions refl })
+      alike_at new other _ _ p q (record {
+        same = refl;
+        certifier = refl;
+        edges = edges;
+        rulings =
+            rulings_more c.certifier.rulings rulings (withdrawn tx) (withdrawn tx) decisions refl;
+      })
   does_alike Close (Closed ranks) new other p q =
-      alike_at new other _ _ p.1 q.1 (record { same = refl; certifier = refl; edges = λ arc. (λ m. m, λ m. m);
-      rulings = decisions })
+      alike_at new other _ _ p.1 q.1 (record {
+        same = refl;
+        certifier = refl;
+        edges = λ arc. (λ m. m, λ m. m);
+        rulings = decisions;
+      })
   does_alike _ _ new other p q = absurd p
 
   memory_alike : (event : Event) (new other : CoreState) → AfterMemory c event new → AfterMemory d event other
@@ -233,7 +277,7 @@ serves_alike : (c d : CoreState) (event : Event) (reply : Reply) (new other : Co
     → Serves c event reply new → Serves d event reply other → AreAlike new other
 serves_alike c d event reply new other h p q =
     does_alike c d.certifier.arcs d.certifier.rulings h.edges h.rulings event reply new other p.1
-        (subst (λ (e : CoreState). Does e event reply other) (by_parts c d h) q.1)
+    (subst (λ (e : CoreState). Does e event reply other) (by_parts c d h) q.1)
 
 all_alike : (c d : CoreState) (events : List Event) (replies : List Reply) (new other : CoreState) → AreAlike c d
     → ServesAll c events replies new → ServesAll d events replies other → AreAlike new other
@@ -246,13 +290,13 @@ step_alike : (c d : CoreState) (event : Event) (reply : Reply) (new other : Core
     → MayStep c event reply new → MayStep d event reply other → AreAlike new other
 step_alike c d event (Fault fault.Memory) new other h p q =
     memory_alike c d.certifier.arcs d.certifier.rulings h.edges h.rulings event new other p.1
-        (subst (λ (e : CoreState). AfterMemory e event other) (by_parts c d h) q.1)
+    (subst (λ (e : CoreState). AfterMemory e event other) (by_parts c d h) q.1)
 step_alike c d event (Fault f) new other h p q = alike_at new other c d p.1 q.1 h
 step_alike c d (Commit tx) reply new other h p q =
     let sites = touched c tx in
     let same : touched d tx ≡ sites = ap (λ (e : CoreState). touched e tx) (by_parts c d h) in
     let served = subst (λ (ns : List ℕ). ServesAll d (parts_of_commit ns tx) (replies_of_commit ns reply) other) same
-        q.1 in
+    q.1 in
     all_alike c d _ _ new other h p.1 served
 step_alike c d event reply new other h p q = serves_alike c d event reply new other h p q
 
@@ -267,5 +311,10 @@ pub runs_alike : (items : List (List Holding)) (events : List Event) (replies : 
     → Run (fresh items) events replies new → Run (fresh items) events replies other
     → AreAlike new other
 runs_alike items events replies new other p q =
-    run_alike (fresh items) (fresh items) events replies new other (record { same = refl; certifier = refl; edges =
-        λ arc. (λ m. m, λ m. m); rulings = refl }) p q
+    run_alike (fresh items) (fresh items) events replies new other (record {
+      same = refl;
+      certifier = refl;
+      edges =
+          λ arc. (λ m. m, λ m. m);
+      rulings = refl;
+    }) p q

@@ -99,7 +99,7 @@ module _ (i : ℕ) (r : Ruling) (make : Name → Change → Entry) (last : Entry
         let h = map_at (λ (d : Name × Change). make d.0 d.1) cs q f at_f in
         AllPairs_at AreApart cs p q g.0 h.0 once lt g.1 h.1
         (form.writes g.0.0 g.0.1 x (subst (Writes x) (sym g.2) we)
-            ∙ sym (form.writes h.0.0 h.0.1 x (subst (Writes x) (sym h.2) wf))));
+        ∙ sym (form.writes h.0.0 h.0.1 x (subst (Writes x) (sym h.2) wf))));
     last_own = form.last_own;
     last_end = form.last_end;
     last_suits = form.last_suits;
@@ -117,9 +117,12 @@ module _ (i : ℕ) (r : Ruling) (make : Name → Change → Entry) (last : Entry
   form-blocks [] (suc n) e at_n opens = absurd cc
   form-blocks (d ∷ []) zero e at_n opens =
       (last, refl, subst (λ f. Continues f last) (same_Some (make d.0 d.1) e at_n) (form.ends d.0 d.1))
-  form-blocks (d ∷ g ∷ gs) zero e at_n opens =
-      (make g.0 g.1, refl, subst (λ f. Continues f (make g.0 g.1)) (same_Some (make d.0 d.1) e at_n)
-      (form.next d.0 g.0 d.1 g.1))
+  form-blocks (d ∷ g ∷ gs) zero e at_n opens = (
+    make g.0 g.1,
+    refl,
+    subst (λ f. Continues f (make g.0 g.1)) (same_Some (make d.0 d.1) e at_n)
+        (form.next d.0 g.0 d.1 g.1),
+  )
   form-blocks (d ∷ ds) (suc n) e at_n opens = form-blocks ds n e at_n opens
 
 pub blocks-nil : AreBlocks []
@@ -130,7 +133,7 @@ blocks-nil n e at_n opens = absurd cc
 pub committed-block : (items : List Holding) (i : ℕ) (cs : List (Name × Change))
     → ((d : Name × Change) → Contains cs d → Contains (names items) d.0)
     → AllPairs AreApart cs
-        → IsBlock items i (committed i) (map (λ (d : Name × Change). change_entry i d.0 d.1) cs) (entry.Commit i)
+    → IsBlock items i (committed i) (map (λ (d : Name × Change). change_entry i d.0 d.1) cs) (entry.Commit i)
 committed-block items i cs known once =
     form-block i (committed i) (change_entry i) (entry.Commit i) (committed_form i) items cs known once
 
@@ -176,8 +179,10 @@ pub block_reads : (items : List Holding) (i : ℕ) (r : Ruling) (ops : List Entr
 block_reads items i r ops last b false e c k = contains-none e c
 block_reads items i r ops last b true e c k = elim (Contains-append_cases ops (last ∷ []) e c) [
   | inl op ↦ open_read e (b.opens e op) k
-  | inr end ↦ elim (contains-cases last [] e end) [ inl is ↦ end_read e (subst IsEnd is b.last_end) k
-      | inr none ↦ absurd (contains-none e none) ]
+  | inr end ↦ elim (contains-cases last [] e end) [
+    | inl is ↦ end_read e (subst IsEnd is b.last_end) k
+    | inr none ↦ absurd (contains-none e none)
+  ]
 ]
   where
     open_read : (e : Entry) → IsOpen e → IsRead e → ⊥

@@ -62,9 +62,9 @@ put_in_apart d cs once =
     let behind = λ (f : Name × Change). comes_before d.0 f.0 in
     pairs_insert AreApart (filter before cs) (filter behind cs) d
     (AllPairs-append AreApart (filter before cs) (filter behind cs) (AllPairs-filter AreApart before cs once)
-        (AllPairs-filter AreApart behind cs once) (λ a b ca cb same.
+    (AllPairs-filter AreApart behind cs once) (λ a b ca cb same.
     not_back a.0 d.0 (filter_member before cs a ca).1
-        (subst (λ x. comes_before d.0 x ≡ true) (sym same) (filter_member behind cs b cb).1)))
+    (subst (λ x. comes_before d.0 x ≡ true) (sym same) (filter_member behind cs b cb).1)))
     (λ a ca same. not_itself a.0 (subst (λ x. comes_before a.0 x ≡ true) (sym same) (filter_member before cs a ca).1))
     (λ b cb same. not_itself b.0 (subst (λ x. comes_before x b.0 ≡ true) same (filter_member behind cs b cb).1))
 
@@ -87,7 +87,7 @@ change-legal c tx s x change l known = record {
   changes_known = λ u t g. changed_twice (λ cs. Contains cs g → Contains (names (items_at c t)) g.0) tx s
       (put_in (x, change) (c.changes tx s)) c.changes u t
       (λ at m. subst (λ n. Contains (names (items_at c n)) g.0) (sym at)
-          (elim (put_in_member (x, change) (c.changes tx s) g m) [
+      (elim (put_in_member (x, change) (c.changes tx s) g m) [
         | inl is ↦ subst (λ (k : Name × Change). Contains (names (items_at c s)) k.0) is known
         | inr was ↦ l.changes_known tx s g was
       ]))
@@ -128,8 +128,8 @@ pub unread : (c : CoreState) (tx s : ℕ) (x : Name) → look c tx s x ≡ None 
     → tx_of e ≡ tx → Reads x e → ⊥
 unread c tx s x none e m own k =
     let empty =
-        first_none (filter_map (read_of tx x) (c.entries s))
-        (unchanged_none (seen c tx s x) (change_in (c.changes tx s) x) none) in
+    first_none (filter_map (read_of tx x) (c.entries s))
+    (unchanged_none (seen c tx s x) (change_in (c.changes tx s) x) none) in
     let found = read_found tx x e own k in
     let f : Some found.0 ≡ None = sym found.1 ∙ none_found (read_of tx x) (c.entries s) empty e m in
     absurd cc

@@ -105,8 +105,14 @@ pub record AreGathered (c : CoreState) (tx : ℕ) (sites : List ℕ) : Type 0 wh
 
 unfoldable pub gather_all : (c : CoreState) (tx : ℕ) (sites : List ℕ) → IsGoing c tx → AreDistinct sites
     → ((s : ℕ) → Contains sites s → IsToGather c tx s) → AreGathered c tx sites
-gather_all c tx [] g d each = record { step = c.step; serves = refl; alone = g.alone; gathered =
-    λ s m. absurd (contains-none s m); kept = λ s h. h }
+gather_all c tx [] g d each = record {
+  step = c.step;
+  serves = refl;
+  alone = g.alone;
+  gathered =
+      λ s m. absurd (contains-none s m);
+  kept = λ s h. h;
+}
 gather_all c tx (s ∷ ss) g d each =
     let mid : CoreState = record c { step = Some (record { tx = tx; gathered = s ∷ gathered_in c.step }) } in
     let going : IsGoing mid tx = record { active = g.active; begun = g.begun; alone = λ n. n refl } in
@@ -173,9 +179,9 @@ still_touched c tx s more hit =
           (any_append (λ e. tx_of e == tx) (c.entries s) more logged)
       | inr none ↦
           let some : is_some_change (c.changes tx s) ≡ true =
-              subst (λ b. (b || is_some_change (c.changes tx s)) ≡ true) none hit in
+          subst (λ b. (b || is_some_change (c.changes tx s)) ≡ true) none hit in
           ap (λ b. list_any (λ e. tx_of e == tx) (c.entries s ++ more) || b) some
-              ∙ or_last (list_any (λ e. tx_of e == tx) (c.entries s ++ more))
+          ∙ or_last (list_any (λ e. tx_of e == tx) (c.entries s ++ more))
     ]
   where
     or_last : (b : Bool) → (b || true) ≡ true
@@ -185,16 +191,19 @@ still_touched c tx s more hit =
 unfoldable pub write_all : (c : CoreState) (tx : ℕ) (sites : List ℕ) → IsGoing c tx → c.certifier.step ≡ Some tx
     → AreDistinct sites
     → ((s : ℕ) → Contains sites s → IsToWrite c tx s)
-        → (new : CoreState) × ServesAll c (map (Write tx) sites) (map (λ s. Installed) sites) new
+    → (new : CoreState) × ServesAll c (map (Write tx) sites) (map (λ s. Installed) sites) new
 write_all c tx [] g own d each = (c, refl)
 write_all c tx (s ∷ []) g own d each =
     (installed c tx s, (installed c tx s, (write_allowed c tx s g own (each s (cons_here s [])), refl), refl))
 write_all c tx (s ∷ t ∷ ts) g own d each =
-    let mid : CoreState = record (with_entries c (only_at s (c.due s))) { certifier = noted c tx s; due =
-        changed_at s [] c.due } in
+    let mid : CoreState = record (with_entries c (only_at s (c.due s))) {
+      certifier = noted c tx s;
+      due =
+          changed_at s [] c.due;
+    } in
     let due_there : (n : ℕ) → Contains (t ∷ ts) n → mid.due n ≡ [] → ⊥
     = λ n m e. (each n (contains-later s (t ∷ ts) n m)).due
-        (sym (cleared_there s c.due n (λ is. d.0 (subst (Contains (t ∷ ts)) is m))) ∙ e) in
+    (sym (cleared_there s c.due n (λ is. d.0 (subst (Contains (t ∷ ts)) is m))) ∙ e) in
     let inside_t = (each t (contains-later s (t ∷ ts) t (cons_here t ts))).inside in
     let open_still : installed c tx s ≡ mid = stays_open mid tx t inside_t (due_there t (cons_here t ts)) in
     let going : IsGoing mid tx = record {
@@ -203,7 +212,7 @@ write_all c tx (s ∷ t ∷ ts) g own d each =
       alone = g.alone;
     } in
     let rest = write_all mid tx (t ∷ ts) going (noted-step c tx s ∙ own) d.1 (λ n m. let e =
-        each n (contains-later s (t ∷ ts) n m) in record {
+    each n (contains-later s (t ∷ ts) n m) in record {
       inside = e.inside;
       touched = still_touched c tx n (only_at s (c.due s) n) e.touched;
       due = due_there n m;
@@ -231,9 +240,11 @@ finishes c tx mid block (s ∷ ss) g own d each =
     let after : CoreState = record c { certifier = mid; due = block } in
     let here = each s (cons_here s ss) in
     let open_still : decided c tx mid block ≡ after = stays_open after tx s here.inside here.due in
-    let r = write_all after tx (s ∷ ss) g own d each in
-    (r.0, subst (λ (a : CoreState). ServesAll a (map (Write tx) (s ∷ ss)) (map (λ n. Installed) (s ∷ ss)) r.0)
-        (sym open_still) r.1)
+    let r = write_all after tx (s ∷ ss) g own d each in (
+      r.0,
+      subst (λ (a : CoreState). ServesAll a (map (Write tx) (s ∷ ss)) (map (λ n. Installed) (s ∷ ss)) r.0)
+          (sym open_still) r.1,
+    )
 
 pub some_block : (t : Bool) (ops : List Entry) (last : Entry) → t ≡ true → cond t (ops ++ last ∷ []) [] ≡ [] → ⊥
 some_block true ops last e none = no_block ops last none
@@ -248,14 +259,18 @@ commits c tx k allowed =
     let active = is_active c (Commit tx) tx allowed refl in
     let begun = at_most c.certifier.begun tx (λ lt. allowed fault.Unknown (tx, refl, lt)) in
     let going : IsGoing c tx =
-        record { active = active; begun = begun; alone = subst (λ o. StepIs (λ t. t ≡ tx → ⊥) o
-        → ⊥) (sym closed) (λ n. n) } in
+    record {
+      active = active;
+      begun = begun;
+      alone = subst (λ o. StepIs (λ t. t ≡ tx → ⊥) o
+          → ⊥) (sym closed) (λ n. n);
+    } in
     let distinct = filter-distinct (touches c tx) (sites_of c) (range-distinct 0 (length c.items)) in
     let inside : (s : ℕ) → Contains sites s → s < length c.items = λ s m.
     let r = in_range 0 (length c.items) s (filter_member (touches c tx) (sites_of c) s m).0 in
     omega (arith, r.1) in
     let hit : (s : ℕ) → Contains sites s → touches c tx s ≡ true =
-        λ s m. (filter_member (touches c tx) (sites_of c) s m).1 in
+    λ s m. (filter_member (touches c tx) (sites_of c) s m).1 in
     let all = gather_all c tx sites going distinct (λ s m. record {
       inside = inside s m;
       touched = hit s m;
@@ -283,10 +298,12 @@ commits c tx k allowed =
             (
               allowed,
               append-all c (map (Gather tx) sites) (Decide tx ∷ map (Write tx) sites) (map (λ s. Gathered) sites)
-                  (Yes ∷ map (λ s. Installed) sites) mid rest.0 all.serves
-                  (r.0, (may, v),
-                      subst (λ (a : CoreState). ServesAll a (map (Write tx) sites) (map (λ s. Installed) sites)
-                      rest.0) (sym v.after) rest.1),
+                  (Yes ∷ map (λ s. Installed) sites) mid rest.0 all.serves (
+                    r.0,
+                    (may, v),
+                    subst (λ (a : CoreState). ServesAll a (map (Write tx) sites) (map (λ s. Installed) sites)
+                        rest.0) (sym v.after) rest.1,
+                  ),
             ),
             tt,
           )
@@ -307,10 +324,12 @@ commits c tx k allowed =
             (
               allowed,
               append-all c (map (Gather tx) sites) (Decide tx ∷ map (Write tx) sites) (map (λ s. Gathered) sites)
-                  (No ∷ map (λ s. Installed) sites) mid rest.0 all.serves
-                  (r.0, (may, v),
-                      subst (λ (a : CoreState). ServesAll a (map (Write tx) sites) (map (λ s. Installed) sites)
-                      rest.0) (sym v.after) rest.1),
+                  (No ∷ map (λ s. Installed) sites) mid rest.0 all.serves (
+                    r.0,
+                    (may, v),
+                    subst (λ (a : CoreState). ServesAll a (map (Write tx) sites) (map (λ s. Installed) sites)
+                        rest.0) (sym v.after) rest.1,
+                  ),
             ),
             tt,
           )

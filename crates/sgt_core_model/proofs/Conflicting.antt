@@ -53,10 +53,14 @@ without_others xs ys zs kind x a b not_a not_b h =
       e = h.e;
       f = h.f;
       before = elim first.where_is [
-        | inl i ↦ elim second.where_is [ inl j ↦ omega (arith, i.0, i.1, j.0, j.1)
-            | inr j ↦ omega (arith, i.0, i.1, j.0, j.1) ]
-        | inr i ↦ elim second.where_is [ inl j ↦ omega (arith, i.0, i.1, j.0, j.1)
-            | inr j ↦ omega (arith, i.0, i.1, j.0, j.1) ]
+        | inl i ↦ elim second.where_is [
+          | inl j ↦ omega (arith, i.0, i.1, j.0, j.1)
+          | inr j ↦ omega (arith, i.0, i.1, j.0, j.1)
+        ]
+        | inr i ↦ elim second.where_is [
+          | inl j ↦ omega (arith, i.0, i.1, j.0, j.1)
+          | inr j ↦ omega (arith, i.0, i.1, j.0, j.1)
+        ]
       ];
       first = first.found;
       second = second.found;
@@ -95,8 +99,19 @@ without_last xs g kind x a b free h =
     elim (place_cases xs (g ∷ []) h.q h.f h.second) [
       | inl front_q ↦
           elim (place_cases xs (g ∷ []) h.p h.e h.first) [
-            | inl front_p ↦ record { p = h.p; q = h.q; e = h.e; f = h.f; before = h.before; first = front_p.1;
-                second = front_q.1; from = h.from; to = h.to; apart = h.apart; clash = h.clash }
+            | inl front_p ↦ record {
+              p = h.p;
+              q = h.q;
+              e = h.e;
+              f = h.f;
+              before = h.before;
+              first = front_p.1;
+              second = front_q.1;
+              from = h.from;
+              to = h.to;
+              apart = h.apart;
+              clash = h.clash;
+            }
             | inr back_p ↦ absurd (omega (arith, front_q.0, back_p.1))
           ]
       | inr back_q ↦ absurd (free h.e (subst (Clash kind x h.e) (last_is g h.f back_q.0 back_q.2) h.clash))
@@ -109,9 +124,11 @@ moved_place : (xs ys zs : List Entry) (n : ℕ) (e : Entry) → slice_get (xs ++
 moved_place xs ys zs n e h =
     elim (place_cases xs zs n e h) [
       | inl front ↦ (n, front_at xs (ys ++ zs) n e front.1, inl (front.0, refl))
-      | inr back ↦ (length xs + (length ys + back.0),
-          place_right xs (ys ++ zs) (length ys + back.0) e (place_right ys zs back.0 e back.2),
-          inr (omega (arith, back.1), omega (arith, back.1)))
+      | inr back ↦ (
+        length xs + (length ys + back.0),
+        place_right xs (ys ++ zs) (length ys + back.0) e (place_right ys zs back.0 e back.2),
+        inr (omega (arith, back.1), omega (arith, back.1)),
+      )
     ]
 
 -- a conflict stays one with others' entries put in
@@ -127,10 +144,14 @@ with_others xs ys zs kind x a b h =
       e = h.e;
       f = h.f;
       before = elim first.2 [
-        | inl i ↦ elim second.2 [ inl j ↦ omega (arith, i.0, i.1, j.0, j.1)
-            | inr j ↦ omega (arith, i.0, i.1, j.0, j.1) ]
-        | inr i ↦ elim second.2 [ inl j ↦ omega (arith, i.0, i.1, j.0, j.1)
-            | inr j ↦ omega (arith, i.0, i.1, j.0, j.1) ]
+        | inl i ↦ elim second.2 [
+          | inl j ↦ omega (arith, i.0, i.1, j.0, j.1)
+          | inr j ↦ omega (arith, i.0, i.1, j.0, j.1)
+        ]
+        | inr i ↦ elim second.2 [
+          | inl j ↦ omega (arith, i.0, i.1, j.0, j.1)
+          | inr j ↦ omega (arith, i.0, i.1, j.0, j.1)
+        ]
       ];
       first = first.1;
       second = second.1;
@@ -160,9 +181,12 @@ want_like i x (Add v) = record { tx = refl; reads = λ y k. k; writes = λ y k. 
 want_place : (i : ℕ) (cs : List (Name × Change)) (k : ℕ) (e : Entry) → slice_get (as_changes i cs) k ≡ Some e
     → (f : Entry) × (slice_get (as_wants i cs) k ≡ Some f) × IsLike e f
 want_place i [] k e h = absurd cc
-want_place i (d ∷ ds) zero e h =
-    (want_entry i d.0 d.1, refl, subst (λ g. IsLike g (want_entry i d.0 d.1)) (same_Some (change_entry i d.0 d.1) e h)
-    (want_like i d.0 d.1))
+want_place i (d ∷ ds) zero e h = (
+  want_entry i d.0 d.1,
+  refl,
+  subst (λ g. IsLike g (want_entry i d.0 d.1)) (same_Some (change_entry i d.0 d.1) e h)
+      (want_like i d.0 d.1),
+)
 want_place i (d ∷ ds) (suc k) e h = want_place i ds k e h
 
 like_place : (xs : List Entry) (i : ℕ) (cs : List (Name × Change)) (n : ℕ) (e : Entry)
@@ -170,12 +194,24 @@ like_place : (xs : List Entry) (i : ℕ) (cs : List (Name × Change)) (n : ℕ) 
     → (f : Entry) × (slice_get (xs ++ as_wants i cs) n ≡ Some f) × IsLike e f
 like_place xs i cs n e h =
     elim (place_cases xs (as_changes i cs) n e h) [
-      | inl front ↦ (e, front_at xs (as_wants i cs) n e front.1, record { tx = refl; reads = λ x k. k; writes =
-          λ x k. k; increment = λ k. k })
+      | inl front ↦ (
+        e,
+        front_at xs (as_wants i cs) n e front.1,
+        record {
+          tx = refl;
+          reads = λ x k. k;
+          writes =
+              λ x k. k;
+          increment = λ k. k;
+        },
+      )
       | inr back ↦
-          let w = want_place i cs back.0 e back.2 in
-          (w.0, subst (λ k. slice_get (xs ++ as_wants i cs) k ≡ Some w.0) (sym back.1)
-              (place_right xs (as_wants i cs) back.0 w.0 w.1), w.2)
+          let w = want_place i cs back.0 e back.2 in (
+            w.0,
+            subst (λ k. slice_get (xs ++ as_wants i cs) k ≡ Some w.0) (sym back.1)
+                (place_right xs (as_wants i cs) back.0 w.0 w.1),
+            w.2,
+          )
     ]
 
 -- a conflict with private changes is one with the changes that were asked for

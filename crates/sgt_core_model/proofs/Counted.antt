@@ -148,7 +148,7 @@ committed-version : (i : ℕ) (x : Name) (cs : List (Name × Change)) (b : Bool)
     → version_at (commit_block i cs) x ≡ cond b 1 0
 committed-version i x cs true once e =
     version-append (as_changes i cs) (entry.Commit i ∷ []) x
-        ∙ (let one = one-version i x cs (recursion_from_AllPairs AreApart cs once) e in omega arith)
+    ∙ (let one = one-version i x cs (recursion_from_AllPairs AreApart cs once) e in omega arith)
 committed-version i x cs false once e =
     version-append (as_changes i cs) (entry.Commit i ∷ []) x ∙ (let none = none-version i x cs e in omega arith)
 
@@ -190,9 +190,9 @@ change-counted c tx s x change free k = record {
       let other : i ≡ tx → ⊥ = λ is. free (subst (λ j. c.certifier.step ≡ Some j) is e) in
       let same : c.changes i t ≡ (with_change c tx s x change).changes i t
       = ap (λ b. cond b (changed_at s (put_in (x, change) (c.changes tx s)) (c.changes tx)) (c.changes i) t)
-          (sym (ne_eqb i tx other)) in
+      (sym (ne_eqb i tx other)) in
       subst (λ cs. (c.due t ≡ []) ⊎ (((is_committed c i ≡ true) × (c.due t ≡ commit_block i cs))
-          ⊎ ((is_committed c i ≡ false) × (c.due t ≡ refuse_block i cs)))) same (k.due i t e);
+      ⊎ ((is_committed c i ≡ false) × (c.due t ≡ refuse_block i cs)))) same (k.due i t e);
   counts = k.counts;
 }
 
@@ -207,10 +207,10 @@ yes-counted c i arcs mid m k = record {
       let is : i ≡ j = same_Some i j (sym (ap (λ (t : State). t.step) m.after) ∙ e) in
       let there : Contains mid.order i
       = subst (λ (t : State). Contains t.order i) (sym m.after)
-          (subst (λ p. Contains p i) (sym m.placed.2) (placed_self m.placed.0 c.certifier.order i)) in
+      (subst (λ p. Contains p i) (sym m.placed.2) (placed_self m.placed.0 c.certifier.order i)) in
       let hit = (is_in-Decides mid.order i).1 there in
       subst (λ t. IsDueBlock (record c { certifier = mid; due = committed_block c i }) t s) is
-          (elim (either (touches c i s) (commit_block i (c.changes i s))) [
+      (elim (either (touches c i s) (commit_block i (c.changes i s))) [
         | inl none ↦ inl none
         | inr some ↦ inr (inl (hit, some))
       ]);
@@ -220,16 +220,16 @@ yes-counted c i arcs mid m k = record {
 pub no-counted : (c : CoreState) (i : ℕ) (arcs : List Arc) (walk : List Step) (mid : State)
     → (Contains c.certifier.order i → ⊥)
     → Refuses c.certifier i arcs walk mid → IsCounted c
-        → IsCounted (record c { certifier = mid; due = refused_block c i })
+    → IsCounted (record c { certifier = mid; due = refused_block c i })
 no-counted c i arcs walk mid out r k = record {
   due = λ j s e.
       let is : i ≡ j = same_Some i j (sym (ap (λ (t : State). t.step) r.after) ∙ e) in
       let absent : Contains mid.order i → ⊥ = λ m. out (subst (λ (t : State). Contains t.order i) r.after m) in
       let miss : list_any (λ t. t == i) mid.order ≡ false =
-          elim (cases_Bool (list_any (λ t. t == i) mid.order))
-          [ inl hit ↦ absurd (absent ((is_in-Decides mid.order i).0 hit)) | inr no_hit ↦ no_hit ] in
+      elim (cases_Bool (list_any (λ t. t == i) mid.order))
+      [ inl hit ↦ absurd (absent ((is_in-Decides mid.order i).0 hit)) | inr no_hit ↦ no_hit ] in
       subst (λ t. IsDueBlock (record c { certifier = mid; due = refused_block c i }) t s) is
-          (elim (either (touches c i s) (refuse_block i (c.changes i s))) [
+      (elim (either (touches c i s) (refuse_block i (c.changes i s))) [
         | inl none ↦ inl none
         | inr some ↦ inr (inr (miss, some))
       ]);
@@ -244,7 +244,7 @@ closing-counted c i k = record { due = λ j s e. absurd cc; counts = k.counts }
 written-counted : (c : CoreState) (i k : ℕ) (mid : State) → c.certifier.step ≡ Some i → mid.step ≡ c.certifier.step
     → mid.order ≡ c.certifier.order
     → ((s : ℕ) (x : Name)
-        → version_at (c.entries s ++ only_at k (c.due k) s) x ≡ count_by (changes_item s x) mid.installs) → IsCounted c
+    → version_at (c.entries s ++ only_at k (c.due k) s) x ≡ count_by (changes_item s x) mid.installs) → IsCounted c
     → IsCounted (record (with_entries c (only_at k (c.due k))) { certifier = mid; due = changed_at k [] c.due })
 written-counted c i k mid own same_step same_order counts h = record {
   due = λ j s e. elim (cases_eq s k) [
@@ -279,21 +279,21 @@ on_top c k x = version-append (c.entries k) (only_at k (c.due k) k) x
 committed-counts : (c : CoreState) (i k : ℕ) → AllPairs AreApart (c.changes i k)
     → c.due k ≡ commit_block i (c.changes i k) → IsCounted c → (s : ℕ) (x : Name)
     → version_at (c.entries s ++ only_at k (c.due k) s) x ≡ count_by (changes_item s x)
-        (c.certifier.installs ++ install_at i k (items_of (c.changes i k)) ∷ [])
+    (c.certifier.installs ++ install_at i k (items_of (c.changes i k)) ∷ [])
 committed-counts c i k once block h s x =
     let items = items_of (c.changes i k) in
     elim (cases_eq s k) [
       | inl here ↦
           let b = list_any (bytes_eq x) items in
           let added : version_at (c.due k) x ≡ cond b 1 0 = ap (λ es. version_at es x) block
-              ∙ committed-version i x (c.changes i k) b once refl in
+          ∙ committed-version i x (c.changes i k) b once refl in
           let counted = count_here k x c.certifier.installs i items b refl in
           let was = h.counts k x in
           let top = on_top c k x in
           subst (λ n. version_at (c.entries n ++ only_at k (c.due k) n) x ≡ count_by (changes_item n x)
-              (c.certifier.installs ++ install_at i k items ∷ [])) (sym here)
+          (c.certifier.installs ++ install_at i k items ∷ [])) (sym here)
           (top ∙ (ap (λ n. n + version_at (c.due k) x) was
-              ∙ (ap (λ n. count_by (changes_item k x) c.certifier.installs + n) added ∙ sym counted)))
+          ∙ (ap (λ n. count_by (changes_item k x) c.certifier.installs + n) added ∙ sym counted)))
       | inr there ↦ elsewhere c k s x there
           ∙ (h.counts s x ∙ sym (count_there k s x c.certifier.installs i items there))
     ]
@@ -304,11 +304,11 @@ refused-counts c i k block h s x =
     elim (cases_eq s k) [
       | inl here ↦
           let none : version_at (c.due k) x ≡ 0 = ap (λ es. version_at es x) block
-              ∙ refused-version i x (c.changes i k) in
+          ∙ refused-version i x (c.changes i k) in
           let was = h.counts k x in
           let top = on_top c k x in
           subst (λ n. version_at (c.entries n ++ only_at k (c.due k) n) x ≡ count_by (changes_item n x)
-              c.certifier.installs) (sym here) (omega arith)
+          c.certifier.installs) (sym here) (omega arith)
       | inr there ↦ elsewhere c k s x there ∙ h.counts s x
     ]
 

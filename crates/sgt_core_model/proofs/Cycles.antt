@@ -53,12 +53,21 @@ module _ (edge : ℕ → ℕ → Type 0) where
       ]
 
   simple : (a : ℕ) (xs : List ℕ) (b : ℕ) → Leads edge a xs b → IsSimple edge a b
-  simple a [] b h = record { between = []; leads = h; distinct = (λ c. contains-none a c, tt); short =
-      λ c. contains-none b c }
+  simple a [] b h = record {
+    between = [];
+    leads = h;
+    distinct = (λ c. contains-none a c, tt);
+    short =
+        λ c. contains-none b c;
+  }
   simple a (c ∷ cs) b h =
       elim (cases_eq c b) [
-        | inl is ↦ record { between = []; leads = subst (edge a) is h.0; distinct = (λ k. contains-none a k, tt);
-            short = λ k. contains-none b k }
+        | inl is ↦ record {
+          between = [];
+          leads = subst (edge a) is h.0;
+          distinct = (λ k. contains-none a k, tt);
+          short = λ k. contains-none b k;
+        }
         | inr other ↦ step_before a c b h.0 other (simple c cs b h.1)
       ]
 
@@ -68,8 +77,10 @@ distinct-pairs (x ∷ xs) d = (others x xs d.0, distinct-pairs xs d.1)
   where
     others : (x : ℕ) (xs : List ℕ) → (Contains xs x → ⊥) → AllByRecursion (λ y. x ≡ y → ⊥) xs
     others x [] out = tt
-    others x (y ∷ ys) out = (λ is. out (subst (Contains (y ∷ ys)) (sym is) (cons_here y ys)),
-        others x ys (λ c. out (contains-later y ys x c)))
+    others x (y ∷ ys) out = (
+      λ is. out (subst (Contains (y ∷ ys)) (sym is) (cons_here y ys)),
+      others x ys (λ c. out (contains-later y ys x c)),
+    )
 
 -- ---- its steps
 

@@ -55,9 +55,11 @@ one_verdict c i new other y n =
     let all = c.certifier.arcs ++ n.arcs in
     let w = n.refuses.cycle in
     let there = led all i w.between i n.walk w.steps w.closed in
-    y.commits.free (w.between,
-        leads_in (Joins all) (Joins (c.certifier.arcs ++ y.arcs)) (joins_same c i n.arcs y.arcs n.edges y.edges) i
-        w.between i there)
+    y.commits.free (
+      w.between,
+      leads_in (Joins all) (Joins (c.certifier.arcs ++ y.arcs)) (joins_same c i n.arcs y.arcs n.edges y.edges) i
+          w.between i there,
+    )
 
 -- ---- one answer
 
@@ -115,7 +117,7 @@ one_commit c tx (s ∷ ss) rest r q rs qs new other a b =
     let same : b.0 ≡ a.0 = b.1.1 ∙ sym a.1.1 in
     one_commit a.0 tx ss rest r q rs qs new other a.2
     (subst (λ (d : CoreState). ServesAll d (map (Gather tx) ss ++ Decide tx ∷ rest) (map (λ n. Gathered) ss ++ q ∷ qs)
-        other) same b.2)
+    other) same b.2)
 
 -- ---- one reply
 

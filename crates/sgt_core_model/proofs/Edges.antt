@@ -70,10 +70,10 @@ clashes-Decides Wr x e f = Decides-and (writes x e) (reads x f) (writes-Decides 
 clashes-Decides Rw x e f = Decides-and (reads x e) (writes x f) (reads-Decides x e) (writes-Decides x f)
 clashes-Decides Ww x e f =
     Decides-like (writes x e && (writes x f && not (is_increment e && is_increment f))) (λ k. (k.0, k.1.0, k.1.1))
-        (λ k. (k.0, (k.1, k.2)))
+    (λ k. (k.0, (k.1, k.2)))
     (Decides-and (writes x e) (writes x f && not (is_increment e && is_increment f)) (writes-Decides x e)
     (Decides-and (writes x f) (not (is_increment e && is_increment f)) (writes-Decides x f)
-        (both-Decides (is_increment e) (is_increment f))))
+    (both-Decides (is_increment e) (is_increment f))))
 
 -- ---- the arcs of two entries
 
@@ -105,14 +105,20 @@ item_arc s (Some x) e f kind arc m =
     elim (cases_Bool (conflicting x e f kind)) [
       | inl hit ↦
           elim (contains-cases (arc_of s x e f kind) [] arc
-              (subst (λ b. Contains (if b then arc_of s x e f kind ∷ [] else []) arc) hit m)) [
+          (subst (λ b. Contains (if b then arc_of s x e f kind ∷ [] else []) arc) hit m)) [
             | inl is ↦
                 let apart = Decides-not (tx_of e == tx_of f) (Decides-eqb (tx_of e) (tx_of f)) in
                 let both =
-                    (Decides-and (clashes kind x e f) (not (tx_of e == tx_of f)) (clashes-Decides kind x e f) apart).0
-                    hit in
-                subst (IsOfPair s e f) is (record { site = refl; from = refl; to = refl; apart = both.1; clash =
-                    both.0 })
+                (Decides-and (clashes kind x e f) (not (tx_of e == tx_of f)) (clashes-Decides kind x e f) apart).0
+                hit in
+                subst (IsOfPair s e f) is (record {
+                  site = refl;
+                  from = refl;
+                  to = refl;
+                  apart = both.1;
+                  clash =
+                      both.0;
+                })
             | inr none ↦ absurd (contains-none arc none)
           ]
       | inr miss ↦ absurd
@@ -137,7 +143,7 @@ made_arc s x e f kind clash apart =
     let hit : conflicting x e f kind ≡ true = rw ((clashes-Decides kind x e f).1 clash) differ in
     let there : Contains (with_item s (Some x) e f kind) (arc_of s x e f kind)
     = subst (λ b. Contains (if b then arc_of s x e f kind ∷ [] else []) (arc_of s x e f kind)) (sym hit)
-        (cons_here (arc_of s x e f kind) []) in
+    (cons_here (arc_of s x e f kind) []) in
     subst (λ o. Contains (with_item s o e f kind) (arc_of s x e f kind)) (sym (clash-item kind x e f clash)) there
 
 of_kind : (s : ℕ) (e f : Entry) (arc : Arc) (kind : Kind) → Contains (with_item s (item_of e) e f kind) arc
@@ -233,7 +239,7 @@ arcs_have s (g ∷ gs) zero (suc q) e f kind x lt at_p at_q apart clash =
     (subst (λ h. Contains (of_pair s h f) (arc_of s x e f kind)) (sym g_is) (made_pair s e f x kind clash apart)))
 arcs_have s (g ∷ gs) (suc p) (suc q) e f kind x lt at_p at_q apart clash =
     Contains-append_right (flat_map (of_pair s g) gs) (arcs_in s gs) (arc_of s x e f kind)
-        (arcs_have s gs p q e f kind x (omega arith) at_p at_q apart clash)
+    (arcs_have s gs p q e f kind x (omega arith) at_p at_q apart clash)
 
 -- ---- the edges of a transaction
 
@@ -276,13 +282,13 @@ edges_are c i h arc = (
       let inside = is_site c s (edge_site c i arc h.walked h.legal e).0 in
       let differ : tx_of k.e ≡ tx_of k.f → ⊥ = λ same. k.apart (sym k.from ∙ same ∙ k.to) in
       let there = arcs_have s (followed c i s) k.p k.q k.e k.f arc.label.kind arc.label.item k.before k.first k.second
-          differ k.clash in
+      differ k.clash in
       let there2 : Contains (arcs_in s (followed c i s)) arc =
-          subst (λ a. Contains (arcs_in s (followed c i s)) (record { from = a; to = arc.to; label = arc.label }))
-          k.from
+      subst (λ a. Contains (arcs_in s (followed c i s)) (record { from = a; to = arc.to; label = arc.label }))
+      k.from
       (subst (λ b. Contains (arcs_in s (followed c i s)) (record { from = tx_of k.e; to = b; label = arc.label }))
-          k.to there) in
+      k.to there) in
       member_filter (joins_committed c i) (all_arcs c i) arc
-          (flat_in (λ t. arcs_in t (followed c i t)) (sites_of c) s arc inside there2)
-          ((joined-Decides c i arc).1 e.ends),
+      (flat_in (λ t. arcs_in t (followed c i t)) (sites_of c) s arc inside there2)
+      ((joined-Decides c i arc).1 e.ends),
 )

@@ -125,7 +125,7 @@ ranks_continue_after_close-decisions = refl
 abbrev reader_torn_by_install : Played
 reader_torn_by_install = play apart
     (Begin ∷ Begin ∷ Put 1 0 x 6 ∷ Put 1 1 y 3 ∷ Gather 1 0 ∷ Gather 1 1 ∷ Decide 1 ∷ Write 1 0 ∷ Read 2 0 x
-        ∷ Read 2 1 y ∷ Write 1 1 ∷ Commit 2 ∷ [])
+    ∷ Read 2 1 y ∷ Write 1 1 ∷ Commit 2 ∷ [])
 
 reader_torn_by_install-replies : reader_torn_by_install.replies
     ≡ Begun 1 ∷ Begun 2 ∷ Kept ∷ Kept ∷ Gathered ∷ Gathered ∷ Yes ∷ Installed ∷ Value 6 ∷ Value 2 ∷ Installed ∷ No ∷ []
@@ -153,7 +153,7 @@ read_in_step_as_replay = play three
 
 read_in_step_as_replay-replies : read_in_step_as_replay.replies
     ≡ Begun 1 ∷ Begun 2 ∷ Value 1 ∷ Value 2 ∷ Kept ∷ Gathered ∷ Gathered ∷ Yes ∷ Value 5 ∷ Installed ∷ Installed ∷ Yes
-        ∷ []
+    ∷ []
 unfolding play
 read_in_step_as_replay-replies = refl
 
@@ -168,8 +168,12 @@ read_in_step_as_replay-decisions = refl
 
 -- an install is noted with the items that it changes there
 read_in_step_as_replay-installs : read_in_step_as_replay.installs
-    ≡ record { tx = 1; site = 0; items = x ∷ [] } ∷ record { tx = 1; site = 2; items = [] } ∷ record { tx = 2; site =
-        0; items = [] }
+    ≡ record { tx = 1; site = 0; items = x ∷ [] } ∷ record { tx = 1; site = 2; items = [] } ∷ record {
+      tx = 2;
+      site =
+          0;
+      items = [];
+    }
     ∷ record { tx = 2; site = 1; items = [] } ∷ []
 unfolding play
 read_in_step_as_replay-installs = refl
@@ -185,12 +189,12 @@ abbrev read_between_blocks_as_replay : Played
 read_between_blocks_as_replay = play five
     (Begin ∷ Begin ∷ Read 1 3 (codes "a") ∷ Read 2 4 (codes "b") ∷ Put 1 0 x 6 ∷ Put 1 1 (codes "u") 1 ∷ Put 1 2 y 3
     ∷ Gather 1 0 ∷ Gather 1 1 ∷ Gather 1 2 ∷ Gather 1 3 ∷ Decide 1 ∷ Write 1 0 ∷ Write 1 1 ∷ Read 2 0 x ∷ Read 2 2 y
-        ∷ Write 1 2 ∷ Write 1 3
+    ∷ Write 1 2 ∷ Write 1 3
     ∷ Commit 2 ∷ [])
 
 read_between_blocks_as_replay-replies : read_between_blocks_as_replay.replies
     ≡ Begun 1 ∷ Begun 2 ∷ Value 0 ∷ Value 0 ∷ Kept ∷ Kept ∷ Kept ∷ Gathered ∷ Gathered ∷ Gathered ∷ Gathered ∷ Yes
-        ∷ Installed ∷ Installed
+    ∷ Installed ∷ Installed
     ∷ Value 6 ∷ Value 2 ∷ Installed ∷ Installed ∷ No ∷ []
 unfolding play
 read_between_blocks_as_replay-replies = refl
@@ -258,7 +262,7 @@ increments_commute-decisions = refl
 abbrev read_after_own_increment : Played
 read_after_own_increment = play single
     (Begin ∷ Add 1 0 x 3 ∷ Read 1 0 x ∷ Add 1 0 x 4 ∷ Read 1 0 x ∷ Commit 1 ∷ Begin ∷ Put 2 0 x 7 ∷ Add 2 0 x 1
-        ∷ Read 2 0 x ∷ Commit 2 ∷ [])
+    ∷ Read 2 0 x ∷ Commit 2 ∷ [])
 
 read_after_own_increment-replies : read_after_own_increment.replies ≡ Begun 1 ∷ Kept ∷ Value 8 ∷ Kept ∷ Value 12 ∷ Yes
     ∷ Begun 2 ∷ Kept ∷ Kept ∷ Value 8 ∷ Yes ∷ []

@@ -190,7 +190,7 @@ fails-Decides c event fault.Unknown = tx-Decides (λ tx. nat_lt c.certifier.begu
     (λ tx. Decides-ltb c.certifier.begun tx) (tx_in event)
 fails-Decides c event fault.Ended =
     tx-Decides (λ tx. nat_le tx c.certifier.begun && not (is_in c.certifier.active tx)) (HasEnded c) (ended-Decides c)
-        (tx_in event)
+    (tx_in event)
 fails-Decides c (Read tx s x) fault.StepOpen = own-Decides c tx
 fails-Decides c (Put tx s x v) fault.StepOpen = own-Decides c tx
 fails-Decides c (Add tx s x v) fault.StepOpen = own-Decides c tx
@@ -205,7 +205,7 @@ fails-Decides c (Gather tx s) fault.UnknownItem = at_most-Decides (length c.item
 fails-Decides c (Install tx s) fault.UnknownItem = at_most-Decides (length c.items) s
 fails-Decides c (Decide tx) fault.NotGathered =
     some_site (λ s. not (is_gathered c tx s)) (λ s. IsGathered c tx s
-        → ⊥) (λ s. Decides-not (is_gathered c tx s) (gathered-Decides c tx s)) (touched c tx)
+    → ⊥) (λ s. Decides-not (is_gathered c tx s) (gathered-Decides c tx s)) (touched c tx)
 fails-Decides c (Install tx s) fault.NotGathered = Decides-not (is_decided c tx) (num-Decides tx c.certifier.step)
 fails-Decides c (Gather tx s) fault.AlreadyDone = gathered-Decides c tx s
 fails-Decides c (Decide tx) fault.AlreadyDone = num-Decides tx c.certifier.step
@@ -225,7 +225,7 @@ fails-Decides _ _ _ = never
 abbrev pub faults : List CoreFault
 faults =
     fault.Unknown ∷ fault.Ended ∷ fault.StepOpen ∷ fault.UnknownItem ∷ fault.NotGathered ∷ fault.AlreadyDone
-        ∷ fault.WindowFull
+    ∷ fault.WindowFull
     ∷ fault.ActiveLeft ∷ fault.GenerationsSpent ∷ fault.NumbersSpent ∷ fault.NotTouched ∷ []
 
 -- the first of these that is there
@@ -295,7 +295,7 @@ first_there c event (h ∷ hs) rising f first =
     elim (cases_Bool (fails c event h)) [
       | inl hit ↦
           let is : h ≡ f =
-              same_Some h f (subst (λ b. (if b then Some h else first_in c event hs) ≡ Some f) hit first) in (
+          same_Some h f (subst (λ b. (if b then Some h else first_in c event hs) ≡ Some f) hit first) in (
             subst (Fails c event) is ((fails-Decides c event h).0 hit),
             λ g m lt there. elim (contains-cases h hs g m) [
               | inl same ↦ let e = ap fault_place (sym is ∙ same) in omega (arith, lt, e)
@@ -304,7 +304,7 @@ first_there c event (h ∷ hs) rising f first =
           )
       | inr miss ↦
           let r = first_there c event hs rising.1 f
-              (subst (λ b. (if b then Some h else first_in c event hs) ≡ Some f) miss first) in (
+          (subst (λ b. (if b then Some h else first_in c event hs) ≡ Some f) miss first) in (
             r.0,
             λ g m lt there. elim (contains-cases h hs g m) [
               | inl same ↦ not_from_Decides (fails c event h) (fails-Decides c event h) miss
@@ -324,16 +324,20 @@ all_pass : (p : CoreFault → Bool) (fs : List CoreFault) (g : CoreFault) → li
 all_pass p [] g t c = absurd (contains-none g c)
 all_pass p (f ∷ fs) g t c =
     let both = (Decides-and (p f) (list_all p fs) (true-Decides (p f)) (true-Decides (list_all p fs))).0 t in
-    elim (contains-cases f fs g c) [ inl is ↦ subst (λ h. p h ≡ true) is both.0
-        | inr later ↦ all_pass p fs g both.1 later ]
+    elim (contains-cases f fs g c) [
+      | inl is ↦ subst (λ h. p h ≡ true) is both.0
+      | inr later ↦ all_pass p fs g both.1 later
+    ]
 
 rise-true : (fs : List CoreFault) → rise fs ≡ true → AreRising fs
 rise-true [] t = tt
 rise-true (f ∷ fs) t =
     let first = list_all (λ g. nat_lt (fault_place f) (fault_place g)) fs in
-    let both = (Decides-and first (rise fs) (true-Decides first) (true-Decides (rise fs))).0 t in
-    (λ g m. (Decides-ltb (fault_place f) (fault_place g)).0
-        (all_pass (λ g. nat_lt (fault_place f) (fault_place g)) fs g both.0 m), rise-true fs both.1)
+    let both = (Decides-and first (rise fs) (true-Decides first) (true-Decides (rise fs))).0 t in (
+      λ g m. (Decides-ltb (fault_place f) (fault_place g)).0
+          (all_pass (λ g. nat_lt (fault_place f) (fault_place g)) fs g both.0 m),
+      rise-true fs both.1,
+    )
 
 pub first_told : (c : CoreState) (event : Event) (f : CoreFault) → told c event ≡ Some f → IsRefused c event f
 first_told c event f first =
@@ -360,9 +364,9 @@ allowed_or_refused c event = told_by c event (told c event) refl
 abbrev placed : List CoreFault
 placed =
     fault.Unknown ∷ fault.Unknown ∷ fault.Ended ∷ fault.StepOpen ∷ fault.UnknownItem ∷ fault.NotGathered
-        ∷ fault.AlreadyDone
+    ∷ fault.AlreadyDone
     ∷ fault.WindowFull ∷ fault.ActiveLeft ∷ fault.ActiveLeft ∷ fault.GenerationsSpent ∷ fault.NumbersSpent
-        ∷ fault.NotTouched
+    ∷ fault.NotTouched
     ∷ fault.Memory ∷ []
 
 at_place : (f : CoreFault) → slice_get placed (fault_place f) ≡ Some f
@@ -383,7 +387,7 @@ at_place fault.NotTouched = refl
 pub one_refusal : (c : CoreState) (event : Event) (f g : CoreFault) → IsRefused c event f → IsRefused c event g → f ≡ g
 one_refusal c event f g p q =
     let same : fault_place f ≡ fault_place g =
-        level (fault_place f) (fault_place g) (λ lt. q.1 f lt p.0) (λ lt. p.1 g lt q.0) in
+    level (fault_place f) (fault_place g) (λ lt. q.1 f lt p.0) (λ lt. p.1 g lt q.0) in
     same_Some f g (sym (at_place f) ∙ ap (slice_get placed) same ∙ at_place g)
   where
     level : (m n : ℕ) → (m < n → ⊥) → (n < m → ⊥) → m ≡ n

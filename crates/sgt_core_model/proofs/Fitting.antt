@@ -96,7 +96,7 @@ log-shape items es are = record {
       let g = map_at (λ (h : Holding). h.item) items p x at_x in
       let h = map_at (λ (h : Holding). h.item) items q y at_y in
       let less = AllPairs_at (λ (a b : Holding). slice_cmp nat_cmp a.item b.item ≡ Less) items p q g.0 h.0 are.rising
-          lt g.1 h.1 in
+      lt g.1 h.1 in
       subst (λ z. slice_cmp nat_cmp z y ≡ Less) g.2 (subst (λ z. slice_cmp nat_cmp g.0.item z ≡ Less) h.2 less));
   finals = finals-names (λ h. unwrap_or (value_at items es h.item) 0) items;
 }
@@ -120,7 +120,7 @@ ruling-within c n (committed tx) h at_n = tt
 ruling-within c n (withdrawn tx) h at_n = tt
 ruling-within c n (refused tx walk) h at_n =
     All-from_recursion (λ (step : Step). step.label.site < length c.items) walk
-        (steps-within c tx walk (h.walked.walks n tx walk at_n))
+    (steps-within c tx walk (h.walked.walks n tx walk at_n))
 
 decisions-within : (c : CoreState) → IsSound c
     → All (HasStepsWithin (length c.items)) (bundle_of c).certificate.decisions

@@ -41,8 +41,13 @@ unfoldable pub commits_so : (c : CoreState) (i : ℕ) → IsSound c → reaches 
 commits_so c i h e =
     let all = all_edges c i in
     let places = placed (reaches all i) c.certifier.order i in
-    let mid : State = record c.certifier { order = places; arcs = all; step = Some i; rulings =
-        c.certifier.rulings ++ committed i ∷ [] } in (
+    let mid : State = record c.certifier {
+      order = places;
+      arcs = all;
+      step = Some i;
+      rulings =
+          c.certifier.rulings ++ committed i ∷ [];
+    } in (
       decided c i mid (committed_block c i),
       record {
         arcs = edges_of c i;
@@ -65,8 +70,8 @@ refuses_so c i h none active e =
     let out = uncommitted c.certifier i h.ordered.certifier none active in
     let new_edges = edges-new c i (edges_of c i) (edges_are c i h) in
     let walk =
-        cycle c.certifier i (edges_of c i) h.ordered.certifier out new_edges
-        ((reaches-Decides (all_edges c i) i i).0 e) in
+    cycle c.certifier i (edges_of c i) h.ordered.certifier out new_edges
+    ((reaches-Decides (all_edges c i) i i).0 e) in
     let mid : State = record c.certifier { step = Some i; rulings = c.certifier.rulings ++ refused i walk.0 ∷ [] } in (
       decided c i mid (refused_block c i),
       record {
@@ -98,7 +103,7 @@ looked c tx s x u value (Some v) e = (v, after_read c tx s x u, (u, value, refl,
 looked c tx s x u value None e =
     let r = entry.Read tx x u in
     let logged : Contains (c.entries s ++ only_at s (r ∷ []) s) r =
-        Contains-append_right (c.entries s) (only_at s (r ∷ []) s) r
+    Contains-append_right (c.entries s) (only_at s (r ∷ []) s) r
     (subst (λ es. Contains es r) (sym (only_here s (r ∷ []))) (cons_here r [])) in
     absurd (unread (after_read c tx s x u) tx s x e r logged refl refl)
 
@@ -125,9 +130,9 @@ unfoldable pub decides : (c : CoreState) (tx : ℕ) → IsKept c → IsAllowed c
     → (reply : Reply) × (new : CoreState) × Serves c (Decide tx) reply new
 decides c tx k allowed =
     elim (verdict c tx k.sound (decide_idle c tx k allowed) (is_active c (Decide tx) tx allowed refl)) [
-  | inl r ↦ (Yes, r.0, (allowed, r.1))
-  | inr r ↦ (No, r.0, (allowed, r.1))
-]
+      | inl r ↦ (Yes, r.0, (allowed, r.1))
+      | inr r ↦ (No, r.0, (allowed, r.1))
+    ]
 
 -- an event that is no whole commit
 abbrev pub IsPart : Event → Type 0
@@ -136,21 +141,29 @@ IsPart event = Unit {0}
 
 unfoldable pub goes_on : (c : CoreState) (event : Event) → IsKept c → IsPart event → IsAllowed c event
     → (reply : Reply) × (new : CoreState) × Serves c event reply new
-goes_on c Begin k part allowed = (Begun (suc c.certifier.begun), record c { certifier = with_begun c.certifier },
-    (allowed, (refl, refl)))
+goes_on c Begin k part allowed = (
+  Begun (suc c.certifier.begun),
+  record c { certifier = with_begun c.certifier },
+  (allowed, (refl, refl)),
+)
 goes_on c (Read tx s x) k part allowed =
     let r = reads c tx s x (look c tx s x) allowed in
     (Value r.0, r.1, (allowed, r.2))
 goes_on c (Put tx s x v) k part allowed = (Kept, with_change c tx s x (change.Put v), (allowed, refl))
-goes_on c (Add tx s x v) k part allowed = (Kept, with_change c tx s x (added_to (change_in (c.changes tx s) x) v),
-    (allowed, refl))
+goes_on c (Add tx s x v) k part allowed = (
+  Kept,
+  with_change c tx s x (added_to (change_in (c.changes tx s) x) v),
+  (allowed, refl),
+)
 goes_on c (Gather tx s) k part allowed =
     (Gathered, record c { step = Some (record { tx = tx; gathered = s ∷ gathered_in c.step }) }, (allowed, refl))
 goes_on c (Decide tx) k part allowed = decides c tx k allowed
 goes_on c (Install tx s) k part allowed = (Installed, installed c tx s, (allowed, refl))
 goes_on c (Commit tx) k part allowed = absurd part
-goes_on c (Withdraw tx) k part allowed =
-    (Withdrawn, record (with_entries c (withdrawn_block c tx)) { certifier = with_withdrawn c.certifier tx },
-        (allowed, refl))
+goes_on c (Withdraw tx) k part allowed = (
+  Withdrawn,
+  record (with_entries c (withdrawn_block c tx)) { certifier = with_withdrawn c.certifier tx },
+  (allowed, refl),
+)
 goes_on c Close k part allowed =
     (Closed (length (serial c.certifier)), record c { certifier = with_closed c.certifier }, (allowed, (refl, refl)))

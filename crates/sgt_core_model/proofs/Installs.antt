@@ -50,7 +50,7 @@ changed_own : (i : ℕ) (cs : List (Name × Change)) → changed_by i (as_change
 changed_own i [] = refl
 changed_own i (d ∷ ds) =
     ap (λ o. cons_option o (changed_by i (as_changes i ds))) (own_item i d.0 d.1)
-        ∙ ap (λ xs. d.0 ∷ xs) (changed_own i ds)
+    ∙ ap (λ xs. d.0 ∷ xs) (changed_own i ds)
 
 -- in its own block, those of its private changes
 block_own : (i : ℕ) (cs : List (Name × Change)) → changed_by i (commit_block i cs) ≡ items_of cs
@@ -62,7 +62,7 @@ block_none : (tx : ℕ) (make : Name → Change → Entry) (last : Entry) (cs : 
 block_none tx make last [] each end = ap (λ o. cons_option o []) end
 block_none tx make last (d ∷ ds) each end =
     ap (λ o. cons_option o (changed_by tx (map (λ (f : Name × Change). make f.0 f.1) ds ++ last ∷ []))) (each d.0 d.1)
-        ∙ block_none tx make last ds each end
+    ∙ block_none tx make last ds each end
 
 -- in another's block, none
 block_other : (tx i : ℕ) (cs : List (Name × Change)) → (i ≡ tx → ⊥) → changed_by tx (commit_block i cs) ≡ []
@@ -77,8 +77,10 @@ last_here i cs = Contains-append_right (as_changes i cs) (entry.Commit i ∷ [])
 commit_own : (i tx : ℕ) (cs : List (Name × Change)) → Contains (commit_block i cs) (entry.Commit tx) → tx ≡ i
 commit_own i tx cs m = elim (Contains-append_cases (as_changes i cs) (entry.Commit i ∷ []) (entry.Commit tx) m) [
   | inl op ↦ let d = of_change (change_entry i) cs (entry.Commit tx) op in ap tx_of (sym d.2) ∙ change_tx i d.0.0 d.0.1
-  | inr end ↦ elim (contains-cases (entry.Commit i) [] (entry.Commit tx) end) [ inl is ↦ ap tx_of (sym is)
-      | inr none ↦ absurd (contains-none (entry.Commit tx) none) ]
+  | inr end ↦ elim (contains-cases (entry.Commit i) [] (entry.Commit tx) end) [
+    | inl is ↦ ap tx_of (sym is)
+    | inr none ↦ absurd (contains-none (entry.Commit tx) none)
+  ]
 ]
 
 -- ---- entries that tell no install
@@ -94,8 +96,10 @@ quiet_nil = record { commits = λ tx. contains-none (entry.Commit tx); changes =
 quiet_one : (e : Entry) → ((tx : ℕ) → e ≡ entry.Commit tx → ⊥) → ((tx : ℕ) → changed_item tx e ≡ None)
     → AreQuiet (e ∷ [])
 quiet_one e commit none = record {
-  commits = λ tx m. elim (contains-cases e [] (entry.Commit tx) m) [ inl is ↦ commit tx is
-      | inr later ↦ contains-none (entry.Commit tx) later ];
+  commits = λ tx m. elim (contains-cases e [] (entry.Commit tx) m) [
+    | inl is ↦ commit tx is
+    | inr later ↦ contains-none (entry.Commit tx) later
+  ];
   changes = λ tx. ap (λ o. cons_option o []) (none tx);
 }
 
@@ -122,10 +126,12 @@ refused-quiet i cs = record {
   commits =
       λ tx m. elim (Contains-append_cases (map (λ (d : Name × Change). want_entry i d.0 d.1) cs) (entry.Refuse i ∷ [])
       (entry.Commit tx) m) [
-    | inl op ↦ let d = of_change (want_entry i) cs (entry.Commit tx) op in subst IsOpen d.2 (want_open i d.0.0 d.0.1)
-    | inr end ↦ elim (contains-cases (entry.Refuse i) [] (entry.Commit tx) end) [ inl is ↦ absurd cc
-        | inr none ↦ contains-none (entry.Commit tx) none ]
-  ];
+        | inl op ↦ let d = of_change (want_entry i) cs (entry.Commit tx) op in subst IsOpen d.2 (want_open i d.0.0 d.0.1)
+        | inr end ↦ elim (contains-cases (entry.Refuse i) [] (entry.Commit tx) end) [
+          | inl is ↦ absurd cc
+          | inr none ↦ contains-none (entry.Commit tx) none
+        ]
+      ];
   changes = λ tx. block_none tx (want_entry i) (entry.Refuse i) cs (λ x c. want_none tx i x c) refl;
 }
 
@@ -137,18 +143,21 @@ pub grown-installs : (logs more : ℕ → List Entry) (installs : List Install) 
     → AreInstalls (λ s. logs s ++ more s) installs
 grown-installs logs more installs quiet h =
     let same : (s tx : ℕ) → changed_by tx (logs s ++ more s) ≡ changed_by tx (logs s) =
-        λ s tx. changed-same tx (logs s) (more s) ((quiet s).changes tx) in
+    λ s tx. changed-same tx (logs s) (more s) ((quiet s).changes tx) in
     let longer : (s tx : ℕ) → Contains (logs s) (entry.Commit tx) → Contains (logs s ++ more s) (entry.Commit tx) =
-        λ s tx m. Contains-append_left (logs s) (more s) (entry.Commit tx) m in
+    λ s tx m. Contains-append_left (logs s) (more s) (entry.Commit tx) m in
     let was : (s tx : ℕ) → Contains (logs s ++ more s) (entry.Commit tx) → Contains (logs s) (entry.Commit tx) =
-        λ s tx m. elim (Contains-append_cases (logs s) (more s) (entry.Commit tx) m) [
+    λ s tx m. elim (Contains-append_cases (logs s) (more s) (entry.Commit tx) m) [
       | inl old ↦ old
       | inr new ↦ absurd ((quiet s).commits tx new)
     ] in
     record {
       noted = λ a. (
-        λ m. let l = (h.noted a).0 m in record { logged = longer a.site a.tx l.logged; items = l.items
-            ∙ sym (same a.site a.tx) },
+        λ m. let l = (h.noted a).0 m in record {
+          logged = longer a.site a.tx l.logged;
+          items = l.items
+              ∙ sym (same a.site a.tx);
+        },
         λ l. (h.noted a).1 (record { logged = was a.site a.tx l.logged; items = l.items ∙ same a.site a.tx }),
       );
       once = h.once;
@@ -184,7 +193,7 @@ module _ (logs : ℕ → List Entry) (installs : List Install) (i k : ℕ) (cs :
   own_changes =
       changed-append i (logs k) (only_at k (commit_block i cs) k)
       ∙ (ap (λ xs. xs ++ changed_by i (only_at k (commit_block i cs) k)) (h.uncommitted k i new)
-          ∙ (ap (changed_by i) (only_here k (commit_block i cs)) ∙ block_own i cs))
+      ∙ (ap (changed_by i) (only_here k (commit_block i cs)) ∙ block_own i cs))
 
   own_commit : Contains (after k) (entry.Commit i)
   own_commit = Contains-append_right (logs k) (only_at k (commit_block i cs) k) (entry.Commit i)
@@ -197,8 +206,10 @@ module _ (logs : ℕ → List Entry) (installs : List Install) (i k : ℕ) (cs :
     | inr block ↦ elim (cases_eq s k) [
       | inl here ↦
           let at_k = subst (λ n. Contains (only_at k (commit_block i cs) n) (entry.Commit tx)) here block in
-          inr (here,
-              commit_own i tx cs (subst (λ es. Contains es (entry.Commit tx)) (only_here k (commit_block i cs)) at_k))
+          inr (
+            here,
+            commit_own i tx cs (subst (λ es. Contains es (entry.Commit tx)) (only_here k (commit_block i cs)) at_k),
+          )
       | inr there ↦ absurd
           (contains-none (entry.Commit tx)
           (subst (λ es. Contains es (entry.Commit tx)) (only_there k (commit_block i cs) s there) block))
@@ -209,8 +220,11 @@ module _ (logs : ℕ → List Entry) (installs : List Install) (i k : ℕ) (cs :
   told a m = elim (Contains-append_cases installs (install ∷ []) a m) [
     | inl old ↦
         let l = (h.noted a).0 old in
-        record { logged = longer a.site a.tx l.logged; items = l.items
-            ∙ sym (others_same a.site a.tx (was_other a.site a.tx l.logged)) }
+        record {
+          logged = longer a.site a.tx l.logged;
+          items = l.items
+              ∙ sym (others_same a.site a.tx (was_other a.site a.tx l.logged));
+        }
     | inr last ↦ elim (contains-cases install [] a last) [
       | inl is ↦ subst (IsLoggedInstall after) is (record { logged = own_commit; items = sym own_changes })
       | inr none ↦ absurd (contains-none a none)
@@ -223,10 +237,10 @@ module _ (logs : ℕ → List Entry) (installs : List Install) (i k : ℕ) (cs :
         ((h.noted a).1 (record { logged = old; items = l.items ∙ others_same a.site a.tx (was_other a.site a.tx old) }))
     | inr own ↦
         let items : items_of cs ≡ a.items =
-            sym (l.items
-            ∙ (ap (λ t. changed_by t (after a.site)) own.1 ∙ (ap (λ s. changed_by i (after s)) own.0 ∙ own_changes))) in
+        sym (l.items
+        ∙ (ap (λ t. changed_by t (after a.site)) own.1 ∙ (ap (λ s. changed_by i (after s)) own.0 ∙ own_changes))) in
         let is : install ≡ a = ap (λ t. install_at t k (items_of cs)) (sym own.1)
-            ∙ (ap (λ s. install_at a.tx s (items_of cs)) (sym own.0) ∙ ap (install_at a.tx a.site) items) in
+        ∙ (ap (λ s. install_at a.tx s (items_of cs)) (sym own.0) ∙ ap (install_at a.tx a.site) items) in
         Contains-append_right installs (install ∷ []) a (subst (Contains (install ∷ [])) is (cons_here install []))
   ]
 
@@ -237,8 +251,8 @@ module _ (logs : ℕ → List Entry) (installs : List Install) (i k : ℕ) (cs :
         (λ a m same. was_other a.site a.tx ((h.noted a).0 m).logged same.1 same.0);
     uncommitted = λ s tx none.
         others_same s tx
-            (λ here own. none (subst (λ n. Contains (after n) (entry.Commit tx)) (sym here)
-            (subst (λ t. Contains (after k) (entry.Commit t)) (sym own) own_commit)))
+        (λ here own. none (subst (λ n. Contains (after n) (entry.Commit tx)) (sym here)
+        (subst (λ t. Contains (after k) (entry.Commit t)) (sym own) own_commit)))
         ∙ h.uncommitted s tx (λ m. none (longer s tx m));
   }
 
@@ -253,7 +267,7 @@ not_yet c i k inside h block m =
 pub install-installs : (c : CoreState) (i k : ℕ) → c.certifier.step ≡ Some i → (c.due k ≡ [] → ⊥) → k < length c.items
     → IsLegal c → IsCounted c
     → AreInstalls c.entries c.certifier.installs
-        → AreInstalls (λ s. c.entries s ++ only_at k (c.due k) s) (noted c i k).installs
+    → AreInstalls (λ s. c.entries s ++ only_at k (c.due k) s) (noted c i k).installs
 install-installs c i k own due inside legal counted h = elim (counted.due i k own) [
   | inl none ↦ absurd (due none)
   | inr some ↦ elim some [
@@ -263,7 +277,7 @@ install-installs c i k own due inside legal counted h = elim (counted.due i k ow
         (committed-installs c.entries c.certifier.installs i k (c.changes i k) (not_yet c i k inside legal p.1) h))
     | inr p ↦ rw p.0 (subst (λ es. AreInstalls (λ s. c.entries s ++ only_at k es s) c.certifier.installs) (sym p.1)
         (grown-installs c.entries (only_at k (refuse_block i (c.changes i k))) c.certifier.installs
-            (quiet_at k (refuse_block i (c.changes i k)) (refused-quiet i (c.changes i k))) h))
+        (quiet_at k (refuse_block i (c.changes i k)) (refused-quiet i (c.changes i k))) h))
   ]
 ]
 
@@ -286,15 +300,15 @@ pub logged-inside : (c : CoreState) (s tx : ℕ) → IsSound c → Contains (c.e
     → s < length c.items
 logged-inside c s tx h m =
     let out : length c.items ≤ s
-        → ⊥ = λ le. contains-none (entry.Commit tx)
-        (subst (λ es. Contains es (entry.Commit tx)) (h.walked.outside s le) m) in
+    → ⊥ = λ le. contains-none (entry.Commit tx)
+    (subst (λ es. Contains es (entry.Commit tx)) (h.walked.outside s le) m) in
     omega (arith, out)
 
 pub logged-committed : (c : CoreState) (s tx : ℕ) → IsSound c → Contains (c.entries s) (entry.Commit tx)
     → Contains (serial c.certifier) tx
 logged-committed c s tx h m =
     elim ((h.legal.sites s (logged-inside c s tx h m)).log.stands (entry.Commit tx)
-        (Contains-append_left (c.entries s) (c.due s) (entry.Commit tx) m)) [
+    (Contains-append_left (c.entries s) (c.due s) (entry.Commit tx) m)) [
       | inl read ↦ absurd read.0
       | inr done ↦
           let by = done.0.1 in

@@ -162,7 +162,7 @@ abbrev pub IsDueBlock : CoreState → ℕ → ℕ → Type 0
 IsDueBlock c i s =
     (c.due s ≡ [])
     ⊎ (((is_committed c i ≡ true) × (c.due s ≡ commit_block i (c.changes i s)))
-        ⊎ ((is_committed c i ≡ false) × (c.due s ≡ refuse_block i (c.changes i s))))
+    ⊎ ((is_committed c i ≡ false) × (c.due s ≡ refuse_block i (c.changes i s))))
 
 -- the installs that were noted are the versions of the items
 pub record IsCounted (c : CoreState) : Type 0 where

@@ -40,7 +40,7 @@ pairs_across R xs ys h a b ca cb =
     let q = Contains_at ys b cb in
     let inside = slice_get_within xs p.0 a p.1 in
     AllPairs_at R (xs ++ ys) p.0 (length xs + q.0) a b h (omega arith) (front_at xs ys p.0 a p.1)
-        (place_right xs ys q.0 b q.1)
+    (place_right xs ys q.0 b q.1)
 
 pairs_one : {A : Type 0} (R : A → A → Type 0) (r : A) → AllPairs R (r ∷ [])
 pairs_one R r i j d lt within = absurd (omega arith)
@@ -50,16 +50,22 @@ pub pairs_insert : {A : Type 0} (R : A → A → Type 0) (xs ys : List A) (r : A
 pairs_insert R xs ys r h before after =
     AllPairs-append R xs (r ∷ ys) (pairs_front R xs ys h)
     (AllPairs-append R (r ∷ []) ys (pairs_one R r) (pairs_back R xs ys h)
-        (λ a b ca cb. elim (contains-cases r [] a ca) [ inl e ↦ subst (λ z. R z b) e (after b cb)
-        | inr none ↦ absurd (contains-none a none) ]))
-    (λ a b ca cb. elim (contains-cases r ys b cb) [ inl e ↦ subst (R a) e (before a ca)
-        | inr later ↦ pairs_across R xs ys h a b ca later ])
+    (λ a b ca cb. elim (contains-cases r [] a ca) [
+      | inl e ↦ subst (λ z. R z b) e (after b cb)
+      | inr none ↦ absurd (contains-none a none)
+    ]))
+    (λ a b ca cb. elim (contains-cases r ys b cb) [
+      | inl e ↦ subst (R a) e (before a ca)
+      | inr later ↦ pairs_across R xs ys h a b ca later
+    ])
 
 pub insert_cases : {A : Type 0} (xs ys : List A) (r a : A) → Contains (xs ++ r ∷ ys) a → (r ≡ a) ⊎ Contains (xs ++ ys) a
 insert_cases xs ys r a c = elim (Contains-append_cases xs (r ∷ ys) a c) [
   | inl front ↦ inr (Contains-append_left xs ys a front)
-  | inr back ↦ elim (contains-cases r ys a back) [ inl e ↦ inl e
-      | inr later ↦ inr (Contains-append_right xs ys a later) ]
+  | inr back ↦ elim (contains-cases r ys a back) [
+    | inl e ↦ inl e
+    | inr later ↦ inr (Contains-append_right xs ys a later)
+  ]
 ]
 
 pub inserted : {A : Type 0} (xs ys : List A) (r a : A) → Contains (xs ++ ys) a → Contains (xs ++ r ∷ ys) a
@@ -78,13 +84,13 @@ free_reads items s log t h ruled_ free e c own = elim (h.stands e c) [
   | inr done ↦
       let by = done.0.1 in
       absurd (free.1 (subst (λ u. s.step ≡ Some u) (by.2
-          ∙ own) (ruled_.ended done.0.0 by.0 by.1 (subst (Contains s.active) (sym (by.2 ∙ own)) free.0))))
+      ∙ own) (ruled_.ended done.0.0 by.0 by.1 (subst (Contains s.active) (sym (by.2 ∙ own)) free.0))))
 ]
 
 pub read-legal : (items : List Holding) (s : State) (xs ys : List Entry) (t : ℕ) (x : Name) (v : ℕ)
     → IsLegalLog items s (xs ++ ys) → IsRuled s → IsFree s t → Contains (names items) x
     → ((e : Entry) → Contains (xs ++ ys) e → tx_of e ≡ t → Reads x e → ⊥)
-        → IsLegalLog items s (xs ++ entry.Read t x v ∷ ys)
+    → IsLegalLog items s (xs ++ entry.Read t x v ∷ ys)
 read-legal items s xs ys t x v h ruled_ free known fresh =
     let r = entry.Read t x v in
     let front : (e : Entry) → Contains xs e → Contains (xs ++ ys) e = λ e c. Contains-append_left xs ys e c in
@@ -96,10 +102,14 @@ read-legal items s xs ys t x v h ruled_ free known fresh =
         | inr was ↦ h.known e was
       ];
       once = pairs_insert NotTwice xs ys r h.once
-          (λ e c y k. elim k.1 [ inl both ↦ fresh e (front e c) k.0 (subst (λ z. Reads z e) (sym both.1) both.0)
-              | inr both ↦ both.1 ])
-          (λ f c y k. elim k.1 [ inl both ↦ fresh f (back f c) (sym k.0) (subst (λ z. Reads z f) (sym both.0) both.1)
-              | inr both ↦ both.0 ]);
+          (λ e c y k. elim k.1 [
+            | inl both ↦ fresh e (front e c) k.0 (subst (λ z. Reads z e) (sym both.1) both.0)
+            | inr both ↦ both.1
+          ])
+          (λ f c y k. elim k.1 [
+            | inl both ↦ fresh f (back f c) (sym k.0) (subst (λ z. Reads z f) (sym both.0) both.1)
+            | inr both ↦ both.0
+          ]);
       closed = pairs_insert NotEnded xs ys r h.closed
           (λ e c end same. read_no_end e (free_reads items s (xs ++ ys) t h ruled_ free e (front e c) same) end)
           (λ f c end same. end);
@@ -142,7 +152,7 @@ block_of t ops last = cond t (ops ++ last ∷ []) []
 module _ (items : List Holding) (old new : State) (log : List Entry) (i : ℕ) (r : Ruling) (ops : List Entry)
     (last : Entry)
     (h : IsLegalLog items old log) (ruled_ : IsRuled old) (free : IsFree old i) (d : Decides old i r new)
-        (b : IsBlock items i r ops last) where
+    (b : IsBlock items i r ops last) where
   -- an end in the log is of another transaction, decided before
   old_number : (e : Entry) → Contains log e → IsEnd e → (m : ℕ) (q : Ruling) → slice_get new.rulings m ≡ Some q
       → ruled q ≡ tx_of e → slice_get old.rulings m ≡ Some q
@@ -187,17 +197,36 @@ module _ (items : List Holding) (old new : State) (log : List Entry) (i : ℕ) (
     | inl read ↦ elim (cases_eq (tx_of e) i) [
       | inl own ↦
           let f = ended e c own in
-          inr ((length old.rulings,
-              (r, subst (λ rs. slice_get rs (length old.rulings) ≡ Some r) (sym d.rulings)
-              (get-push_last old.rulings r), d.of_i ∙ sym own, read_suits e r read.0)), (f.0, f.1, f.2, f.3 ∙ sym own))
+          inr (
+            (
+              length old.rulings,
+              (
+                r,
+                subst (λ rs. slice_get rs (length old.rulings) ≡ Some r) (sym d.rulings)
+                    (get-push_last old.rulings r),
+                d.of_i ∙ sym own,
+                read_suits e r read.0,
+              ),
+            ),
+            (f.0, f.1, f.2, f.3 ∙ sym own),
+          )
       | inr other ↦ inl (read.0, d.others (tx_of e) other read.1)
     ]
     | inr done ↦
         let by = done.0.1 in
-        inr ((done.0.0,
-            (by.0, subst (λ rs. slice_get rs done.0.0 ≡ Some by.0) (sym d.rulings)
-            (front_at old.rulings (r ∷ []) done.0.0 by.0 by.1), by.2, by.3)),
-            (done.1.0, kept done.1.0 done.1.1, done.1.2, done.1.3))
+        inr (
+          (
+            done.0.0,
+            (
+              by.0,
+              subst (λ rs. slice_get rs done.0.0 ≡ Some by.0) (sym d.rulings)
+                  (front_at old.rulings (r ∷ []) done.0.0 by.0 by.1),
+              by.2,
+              by.3,
+            ),
+          ),
+          (done.1.0, kept done.1.0 done.1.1, done.1.2, done.1.3),
+        )
   ]
 
   -- the transaction doesn't touch the site
@@ -224,9 +253,9 @@ module _ (items : List Holding) (old new : State) (log : List Entry) (i : ℕ) (
       let block = ops ++ last ∷ [] in
       let whole = log ++ block in
       let last_in : Contains whole last =
-          Contains-append_right log block last (Contains-append_right ops (last ∷ []) last (cons_here last [])) in
+      Contains-append_right log block last (Contains-append_right ops (last ∷ []) last (cons_here last [])) in
       let own_read : (e : Entry) → Contains log e → tx_of e ≡ i
-          → IsRead e = λ e c own. free_reads items old log i h ruled_ free e c own in
+      → IsRead e = λ e c own. free_reads items old log i h ruled_ free e c own in
       record {
         known = λ e c. elim (Contains-append_cases log block e c) [
           | inl was ↦ h.known e was
@@ -261,7 +290,7 @@ module _ (items : List Holding) (old new : State) (log : List Entry) (i : ℕ) (
         closed = AllPairs-append NotEnded log block h.closed
             (AllPairs-append NotEnded ops (last ∷ [])
             (AllPairs-from_at NotEnded ops
-                (λ p k e f lt at_e at_f end. absurd (open_no_end e (b.opens e (Contains-from_at ops p e at_e)) end)))
+            (λ p k e f lt at_e at_f end. absurd (open_no_end e (b.opens e (Contains-from_at ops p e at_e)) end)))
             (pairs_one NotEnded last)
             (λ e f ce cf end. absurd (open_no_end e (b.opens e ce) end)))
             (λ e f ce cf end same. read_no_end e (own_read e ce (same ∙ block_own f cf)) end);
@@ -270,18 +299,35 @@ module _ (items : List Holding) (old new : State) (log : List Entry) (i : ℕ) (
               (λ f k own. (last, last_in, b.last_end, b.last_own)) e was
           | inr new_one ↦
               let suits : SuitsRuling e r =
-                  elim (block_member e new_one) [ inl op ↦ b.suits e op
-                  | inr is ↦ subst (λ f. SuitsRuling f r) is b.last_suits ] in
+              elim (block_member e new_one) [
+                | inl op ↦ b.suits e op
+                | inr is ↦ subst (λ f. SuitsRuling f r) is b.last_suits
+              ] in
               let own = block_own e new_one in
-              inr ((length old.rulings,
-                  (r, subst (λ rs. slice_get rs (length old.rulings) ≡ Some r) (sym d.rulings)
-                  (get-push_last old.rulings r), d.of_i ∙ sym own, suits)), (last, last_in, b.last_end, b.last_own
-                  ∙ sym own))
+              inr (
+                (
+                  length old.rulings,
+                  (
+                    r,
+                    subst (λ rs. slice_get rs (length old.rulings) ≡ Some r) (sym d.rulings)
+                        (get-push_last old.rulings r),
+                    d.of_i ∙ sym own,
+                    suits,
+                  ),
+                ),
+                (
+                  last,
+                  last_in,
+                  b.last_end,
+                  b.last_own
+                      ∙ sym own,
+                ),
+              )
         ];
         in_order = AllPairs-append (EndInRulingOrder new.rulings) log block old_in_order
             (AllPairs-append (EndInRulingOrder new.rulings) ops (last ∷ [])
             (AllPairs-from_at (EndInRulingOrder new.rulings) ops
-                (λ p k e f lt at_e at_f end. absurd (open_no_end e (b.opens e (Contains-from_at ops p e at_e)) end)))
+            (λ p k e f lt at_e at_f end. absurd (open_no_end e (b.opens e (Contains-from_at ops p e at_e)) end)))
             (pairs_one (EndInRulingOrder new.rulings) last)
             (λ e f ce cf end. absurd (open_no_end e (b.opens e ce) end)))
             (λ e f ce cf end end_f m n q q' at_m at_n is_e is_f.

@@ -38,13 +38,19 @@ state-legal items s t log same free h = record {
   ];
   in_order = AllPairs-from_at (EndInRulingOrder t.rulings) log (λ p q e f lt at_e at_f end end_f m n r r_ at_m at_n.
       AllPairs_at (EndInRulingOrder s.rulings) log p q e f h.in_order lt at_e at_f end end_f m n r r_
-          (subst (λ rs. slice_get rs m ≡ Some r) same at_m) (subst (λ rs. slice_get rs n ≡ Some r_) same at_n));
+      (subst (λ rs. slice_get rs m ≡ Some r) same at_m) (subst (λ rs. slice_get rs n ≡ Some r_) same at_n));
 }
 
 pub site-state : (items : List Holding) (s t : State) (es due : List Entry) → t.rulings ≡ s.rulings
     → ((j : ℕ) → IsFree s j → IsFree t j) → IsLegalSite items s es due → IsLegalSite items t es due
-site-state items s t es due same free h = record { log = state-legal items s t (es ++ due) same free h.log; blocks =
-    h.blocks; due_blocks = h.due_blocks; reads = h.reads; due_reads = h.due_reads }
+site-state items s t es due same free h = record {
+  log = state-legal items s t (es ++ due) same free h.log;
+  blocks =
+      h.blocks;
+  due_blocks = h.due_blocks;
+  reads = h.reads;
+  due_reads = h.due_reads;
+}
 
 blocks-append : (xs ys : List Entry) → AreBlocks xs → AreBlocks ys → AreBlocks (xs ++ ys)
 blocks-append xs ys hx hy n e at_n opens =
@@ -62,7 +68,7 @@ read_closed t x v (suc n) e at_n opens = absurd cc
 
 reads-append : (items : List Holding) (xs ys : List Entry) → ReadsAreLegal items xs
     → ((k t : ℕ) (x : Name) (v : ℕ) → slice_get ys k ≡ Some (entry.Read t x v)
-        → (k ≡ 0) × (value_at items xs x ≡ Some v)) → ReadsAreLegal items (xs ++ ys)
+    → (k ≡ 0) × (value_at items xs x ≡ Some v)) → ReadsAreLegal items (xs ++ ys)
 reads-append items xs ys h last n t x v at_n =
     elim (place_cases xs ys n (entry.Read t x v) at_n) [
       | inl front ↦
@@ -72,7 +78,7 @@ reads-append items xs ys h last n t x v at_n =
           let r = last back.0 t x v back.2 in
           let all : n ≡ length xs = omega (arith, back.1, r.0) in
           subst (λ k. value_at items (take k (xs ++ ys)) x ≡ Some v) (sym all)
-              (subst (λ es. value_at items es x ≡ Some v) (sym (take_all xs ys)) r.1)
+          (subst (λ es. value_at items es x ≡ Some v) (sym (take_all xs ys)) r.1)
     ]
   where
     take_all : (xs ys : List Entry) → take (length xs) (xs ++ ys) ≡ xs
@@ -95,7 +101,7 @@ one_read items es t x v legal (suc k) u y w at_k = absurd cc
 pub site-read : (items : List Holding) (s : State) (es due : List Entry) (t : ℕ) (x : Name) (v : ℕ)
     → IsLegalSite items s es due → IsRuled s → IsFree s t → Contains (names items) x
     → ((e : Entry) → Contains es e → tx_of e ≡ t → Reads x e → ⊥) → value_at items es x ≡ Some v
-        → IsLegalSite items s (es ++ entry.Read t x v ∷ []) due
+    → IsLegalSite items s (es ++ entry.Read t x v ∷ []) due
 site-read items s es due t x v h ruled_ free known fresh legal = record {
   log = subst (IsLegalLog items s) (sym (append_assoc es (entry.Read t x v ∷ []) due))
       (read-legal items s es due t x v h.log ruled_ free known (λ e c own k. elim (Contains-append_cases es due e c) [
@@ -127,7 +133,7 @@ site-written items s es due h = record {
 pub site-due : (items : List Holding) (s t : State) (es : List Entry) (i : ℕ) (r : Ruling) (ops : List Entry)
     (last : Entry) (touched : Bool)
     → IsLegalSite items s es [] → IsRuled s → IsFree s i → Decides s i r t → IsBlock items i r ops last
-        → ((b : Bool) → AreBlocks (block_of b ops last))
+    → ((b : Bool) → AreBlocks (block_of b ops last))
     → ((e : Entry) → Contains es e → tx_of e ≡ i → touched ≡ true) → IsLegalSite items t es (block_of touched ops last)
 site-due items s t es i r ops last touched h ruled_ free d b blocks touches_ = record {
   log = decided-legal items s t es i r ops last (subst (IsLegalLog items s) (append-nil es) h.log) ruled_ free d b

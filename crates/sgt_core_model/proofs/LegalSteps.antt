@@ -76,14 +76,14 @@ read-legal_at c t k x v h ruled_ free known fresh legal = record {
   sites = λ s lt. elim (cases_eq s k) [
     | inl here ↦
         let at_k =
-            site-read (items_at c k) c.certifier (c.entries k) (c.due k) t x v
-            (h.sites k (subst (λ n. n < length c.items) here lt)) ruled_ free known fresh legal in
+        site-read (items_at c k) c.certifier (c.entries k) (c.due k) t x v
+        (h.sites k (subst (λ n. n < length c.items) here lt)) ruled_ free known fresh legal in
         let at_k2 : IsLegalSite (items_at c k) c.certifier (c.entries k ++ only_at k (entry.Read t x v ∷ []) k)
-            (c.due k)
+        (c.due k)
         = subst (λ es. IsLegalSite (items_at c k) c.certifier (c.entries k ++ es) (c.due k))
-            (sym (only_here k (entry.Read t x v ∷ []))) at_k in
+        (sym (only_here k (entry.Read t x v ∷ []))) at_k in
         subst (λ n. IsLegalSite (items_at c n) c.certifier (c.entries n ++ only_at k (entry.Read t x v ∷ []) n)
-            (c.due n)) (sym here) at_k2
+        (c.due n)) (sym here) at_k2
     | inr there ↦ subst (λ es. IsLegalSite (items_at c s) c.certifier es (c.due s))
         (unchanged_there c k s (entry.Read t x v ∷ []) there) (h.sites s lt)
   ];
@@ -113,10 +113,13 @@ pub closing-legal : (c : CoreState) (i : ℕ) → ((s : ℕ) → s < length c.it
 closing-legal c i there h open_i done = record {
   sites = λ s lt.
       let none : c.due s ≡ [] =
-          empty_is (c.due s) (all_pass (λ n. is_empty (c.due n)) (sites_of c) s done (there s lt)) in
+      empty_is (c.due s) (all_pass (λ n. is_empty (c.due n)) (sites_of c) s done (there s lt)) in
       site-state (items_at c s) c.certifier (with_finished c.certifier i) (c.entries s) [] refl
-      (λ j f. (member_filter (λ a. not (a == i)) c.certifier.active j f.0
-          (ap not (ne_eqb j i (λ same. f.1 (open_i ∙ ap Some (sym same))))), λ e. absurd cc))
+      (λ j f. (
+        member_filter (λ a. not (a == i)) c.certifier.active j f.0
+            (ap not (ne_eqb j i (λ same. f.1 (open_i ∙ ap Some (sym same))))),
+        λ e. absurd cc,
+      ))
       (subst (IsLegalSite (items_at c s) c.certifier (c.entries s)) none (h.sites s lt));
   changes_known = h.changes_known;
   changes_once = h.changes_once;
@@ -128,22 +131,22 @@ install-legal c k h = record {
   sites = λ s lt. elim (cases_eq s k) [
     | inl here ↦
         let at_k =
-            site-written (items_at c k) c.certifier (c.entries k) (c.due k)
-            (h.sites k (subst (λ n. n < length c.items) here lt)) in
+        site-written (items_at c k) c.certifier (c.entries k) (c.due k)
+        (h.sites k (subst (λ n. n < length c.items) here lt)) in
         let with_due : IsLegalSite (items_at c k) c.certifier (c.entries k ++ c.due k) (changed_at k [] c.due k)
         = subst (IsLegalSite (items_at c k) c.certifier (c.entries k ++ c.due k)) (sym (cleared_here k c.due)) at_k in
         let at_k2 : IsLegalSite (items_at c k) c.certifier (c.entries k ++ only_at k (c.due k) k)
-            (changed_at k [] c.due k)
+        (changed_at k [] c.due k)
         = subst (λ es. IsLegalSite (items_at c k) c.certifier (c.entries k ++ es) (changed_at k [] c.due k))
-            (sym (only_here k (c.due k))) with_due in
+        (sym (only_here k (c.due k))) with_due in
         subst (λ n. IsLegalSite (items_at c n) c.certifier (c.entries n ++ only_at k (c.due k) n)
-            (changed_at k [] c.due n)) (sym here) at_k2
+        (changed_at k [] c.due n)) (sym here) at_k2
     | inr other ↦
         let same : IsLegalSite (items_at c s) c.certifier (c.entries s ++ only_at k (c.due k) s) (c.due s)
         = subst (λ es. IsLegalSite (items_at c s) c.certifier es (c.due s)) (unchanged_there c k s (c.due k) other)
-            (h.sites s lt) in
+        (h.sites s lt) in
         subst (IsLegalSite (items_at c s) c.certifier (c.entries s ++ only_at k (c.due k) s))
-            (sym (cleared_there k c.due s other)) same
+        (sym (cleared_there k c.due s other)) same
   ];
   changes_known = h.changes_known;
   changes_once = h.changes_once;
@@ -177,7 +180,7 @@ free_idle s i none active = (active, λ e. let f : None ≡ Some i = sym none �
 pub yes-legal : (c : CoreState) (i : ℕ) (arcs : List Arc) (mid : State) → IsOrdered c → IsRuled c.certifier
     → IsLegal c → c.certifier.step ≡ None
     → Contains c.certifier.active i → Commits c.certifier i arcs mid
-        → IsLegal (record c { certifier = mid; due = committed_block c i })
+    → IsLegal (record c { certifier = mid; due = committed_block c i })
 yes-legal c i arcs mid o ruled_ h none active m =
     let d : Decides c.certifier i (committed i) mid = record {
       rulings = ap (λ s. s.rulings) m.after;
@@ -190,7 +193,7 @@ yes-legal c i arcs mid o ruled_ h none active m =
           (idle_site c s o h none lt) ruled_ (free_idle c.certifier i none active) d
           (committed-block (items_at c s) i (c.changes i s) (h.changes_known i s) (h.changes_once i s))
           (either_blocks (as_changes i (c.changes i s)) (entry.Commit i) (committed-blocks i (c.changes i s)))
-              (touches_own c i s);
+          (touches_own c i s);
       changes_known = h.changes_known;
       changes_once = h.changes_once;
     }
@@ -211,7 +214,7 @@ no-legal c i arcs walk mid o ruled_ h none active m =
           (idle_site c s o h none lt) ruled_ (free_idle c.certifier i none active) d
           (refused-block (items_at c s) i walk (c.changes i s) (h.changes_known i s) (h.changes_once i s))
           (either_blocks (as_wants i (c.changes i s)) (entry.Refuse i) (refused-blocks i walk (c.changes i s)))
-              (touches_own c i s);
+          (touches_own c i s);
       changes_known = h.changes_known;
       changes_once = h.changes_once;
     }
@@ -228,13 +231,13 @@ withdraw-legal c i o ruled_ h none active =
     record {
       sites = λ s lt.
           let due = site-due (items_at c s) c.certifier (with_withdrawn c.certifier i) (c.entries s) i (withdrawn i)
-              [] (entry.Withdraw i) (touches c i s) (idle_site c s o h none lt) ruled_
-              (free_idle c.certifier i none active) d
+          [] (entry.Withdraw i) (touches c i s) (idle_site c s o h none lt) ruled_
+          (free_idle c.certifier i none active) d
           (withdrawn-block (items_at c s) i) (either_blocks [] (entry.Withdraw i) (withdrawn-blocks i))
-              (touches_own c i s) in
+          (touches_own c i s) in
           subst (IsLegalSite (items_at c s) (with_withdrawn c.certifier i) (c.entries s ++ withdrawn_block c i s))
-              (sym (none_due c s o none)) (site-written (items_at c s) (with_withdrawn c.certifier i) (c.entries s)
-              (withdrawn_block c i s) due);
+          (sym (none_due c s o none)) (site-written (items_at c s) (with_withdrawn c.certifier i) (c.entries s)
+          (withdrawn_block c i s) due);
       changes_known = h.changes_known;
       changes_once = h.changes_once;
     }

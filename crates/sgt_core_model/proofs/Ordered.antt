@@ -36,14 +36,14 @@ pub topological-fewer : (E F : ℕ → ℕ → Type 0) (order : List ℕ) → Is
     → ((a b : ℕ) → Contains order a → Contains order b → F a b → E a b) → IsTopological F order
 topological-fewer E F order h fewer = AllPairs-from_at (NotBack F) order (λ p q a b lt at_a at_b f.
     AllPairs_at (NotBack E) order p q a b h lt at_a at_b
-        (fewer b a (Contains-from_at order q b at_b) (Contains-from_at order p a at_a) f))
+    (fewer b a (Contains-from_at order q b at_b) (Contains-from_at order p a at_a) f))
 
 -- a conflict is one without the entries of others behind it
 without_end : (xs ys : List Entry) (kind : Kind) (x : Name) (a b : ℕ) → ((e : Entry) → Contains ys e → tx_of e ≡ a → ⊥)
     → ((e : Entry) → Contains ys e → tx_of e ≡ b → ⊥) → Conflicts (xs ++ ys) kind x a b → Conflicts xs kind x a b
 without_end xs ys kind x a b not_a not_b h =
     let long : Conflicts (xs ++ (ys ++ [])) kind x a b =
-        subst (λ zs. Conflicts (xs ++ zs) kind x a b) (sym (append-nil ys)) h in
+    subst (λ zs. Conflicts (xs ++ zs) kind x a b) (sym (append-nil ys)) h in
     subst (λ zs. Conflicts zs kind x a b) (append-nil xs) (without_others xs ys [] kind x a b not_a not_b long)
 
 -- ---- along the serial order no logged conflict goes back
@@ -51,11 +51,11 @@ without_end xs ys kind x a b not_a not_b h =
 place_older : (c : CoreState) (s : ℕ) (h : IsOrdered c) (q : ℕ) (f : Entry) → slice_get (written c s) q ≡ Some f
     → tx_of f ≤ c.certifier.before
     → (n : ℕ) × (q < n) × ((p : ℕ) (e : Entry) → p < n → slice_get (written c s) p ≡ Some e
-        → tx_of e ≤ c.certifier.before)
+    → tx_of e ≤ c.certifier.before)
 place_older c s h q f at_q early =
     let w = h.windows s in
     let all_is : written c s ≡ w.older ++ (w.newer ++ c.due s) = ap (λ xs. xs ++ c.due s) w.parts
-        ∙ append_assoc w.older w.newer (c.due s) in
+    ∙ append_assoc w.older w.newer (c.due s) in
     elim (place_cases w.older (w.newer ++ c.due s) q f (ap (λ xs. slice_get xs q) (sym all_is) ∙ at_q)) [
       | inl front ↦ (
         length w.older,
@@ -91,7 +91,7 @@ ordered-serial c h =
     let E = IsLoggedConflict (written c) in
     AllPairs-append (NotBack E) c.certifier.past c.certifier.order h.past
     (topological-fewer (Joins c.certifier.arcs) E c.certifier.order h.certifier.topological
-        (λ a b ca cb k. (_, h.edges k.0 k.1 k.2 a b ca cb k.3)))
+    (λ a b ca cb k. (_, h.edges k.0 k.1 k.2 a b ca cb k.3)))
     (λ a b ca cb k. never_back c h a b (h.certifier.past_before a ca) (h.certifier.order_here b cb).0 k)
 
 -- ---- entries of a transaction that isn't committed
@@ -99,19 +99,19 @@ ordered-serial c h =
 grown-ordered : (c : CoreState) (j : ℕ) (more : ℕ → List Entry) → IsOrdered c → c.certifier.before < j
     → j ≤ c.certifier.begun
     → (Contains c.certifier.order j → ⊥) → ((s : ℕ) (e : Entry) → Contains (more s) e → tx_of e ≡ j)
-        → IsOrdered (with_entries c more)
+    → IsOrdered (with_entries c more)
 grown-ordered c j more h late begun out own =
     let shorter : (s : ℕ) (kind : Kind) (x : Name) (a b : ℕ) → (a ≡ j → ⊥) → (b ≡ j → ⊥)
-        → Conflicts (written (with_entries c more) s) kind x a b
+    → Conflicts (written (with_entries c more) s) kind x a b
     → Conflicts (written c s) kind x a b
     = λ s kind x a b not_a not_b k.
     without_others (c.entries s) (more s) (c.due s) kind x a b (λ e m f. not_a (sym f ∙ own s e m))
-        (λ e m f. not_b (sym f ∙ own s e m))
+    (λ e m f. not_b (sym f ∙ own s e m))
     (subst (λ zs. Conflicts zs kind x a b) (append_assoc (c.entries s) (more s) (c.due s)) k) in
     let not_placed : (a : ℕ) → Contains c.certifier.order a → a ≡ j
-        → ⊥ = λ a ca e. out (subst (Contains c.certifier.order) e ca) in
+    → ⊥ = λ a ca e. out (subst (Contains c.certifier.order) e ca) in
     let not_past : (a : ℕ) → Contains c.certifier.past a → a ≡ j → ⊥ = λ a ca e. let p =
-        h.certifier.past_before a ca in omega arith in
+    h.certifier.past_before a ca in omega arith in
     record {
       certifier = h.certifier;
       due = h.due;
@@ -142,9 +142,9 @@ pub closing-ordered : (c : CoreState) (i : ℕ) → IsOrdered c → c.certifier.
     → IsOrdered (record c { certifier = with_finished c.certifier i; step = None; due = λ s. [] })
 closing-ordered c i h open_i =
     let longer : (s : ℕ) (kind : Kind) (x : Name) (a b : ℕ) → Conflicts (c.entries s ++ []) kind x a b
-        → Conflicts (written c s) kind x a b
+    → Conflicts (written c s) kind x a b
     = λ s kind x a b k. in_longer (c.entries s) (c.due s) kind x a b
-        (subst (λ zs. Conflicts zs kind x a b) (append-nil (c.entries s)) k) in
+    (subst (λ zs. Conflicts zs kind x a b) (append-nil (c.entries s)) k) in
     record {
       certifier = finished-sound c.certifier i h.certifier open_i;
       due = λ s e m. absurd (contains-none e m);
@@ -191,8 +191,14 @@ read-ordered c tx s x v o active free =
 
 pub same-ordered : (c : CoreState) (changes : ℕ → ℕ → List (Name × Change)) (step : Option OpenStep) → IsOrdered c
     → IsOrdered (record c { changes = changes; step = step })
-same-ordered c changes step o = record { certifier = o.certifier; due = o.due; begun = o.begun; windows = o.windows;
-    edges = o.edges; past = o.past }
+same-ordered c changes step o = record {
+  certifier = o.certifier;
+  due = o.due;
+  begun = o.begun;
+  windows = o.windows;
+  edges = o.edges;
+  past = o.past;
+}
 
 -- ---- blocks
 
@@ -202,8 +208,11 @@ block_tx : (t : Bool) (ops : List Entry) (last : Entry) (i : ℕ) → ((e : Entr
 block_tx false ops last i own end e m = absurd (contains-none e m)
 block_tx true ops last i own end e m = elim (Contains-append_cases ops (last ∷ []) e m) [
   | inl op ↦ own e op
-  | inr at_end ↦ elim (contains-cases last [] e at_end) [ inl is ↦ ap tx_of (sym is)
-      ∙ end | inr none ↦ absurd (contains-none e none) ]
+  | inr at_end ↦ elim (contains-cases last [] e at_end) [
+    | inl is ↦ ap tx_of (sym is)
+        ∙ end
+    | inr none ↦ absurd (contains-none e none)
+  ]
 ]
 
 pub changes_tx : (i : ℕ) (cs : List (Name × Change)) (e : Entry) → Contains (as_changes i cs) e → tx_of e ≡ i
@@ -225,7 +234,7 @@ block_conflict false xs ops i kind x a b k =
     in_longer xs ops kind x a b (subst (λ zs. Conflicts zs kind x a b) (append-nil xs) k)
 block_conflict true xs ops i kind x a b k =
     without_last (xs ++ ops) (entry.Commit i) kind x a b (commit_free kind x i)
-        (subst (λ zs. Conflicts zs kind x a b) (sym (append_assoc xs ops (entry.Commit i ∷ []))) k)
+    (subst (λ zs. Conflicts zs kind x a b) (sym (append_assoc xs ops (entry.Commit i ∷ []))) k)
 
 -- ---- decisions
 
@@ -252,34 +261,39 @@ module _ (c : CoreState) (i : ℕ) (block : ℕ → List Entry) (own : (s : ℕ)
   before_block s kind x a b not_a not_b k =
       in_longer (c.entries s) (c.due s) kind x a b
       (without_end (c.entries s) (block s) kind x a b (λ e n f. not_a (sym f ∙ own s e n))
-          (λ e n f. not_b (sym f ∙ own s e n)) k)
+      (λ e n f. not_b (sym f ∙ own s e n)) k)
 
   before_past : IsOrdered c → Contains c.certifier.active i
       → IsTopological (IsLoggedConflict (λ s. c.entries s ++ block s)) c.certifier.past
   before_past h active =
       let late = (h.certifier.active_here i active).0 in
       let not_past : (a : ℕ) → Contains c.certifier.past a → a ≡ i → ⊥ = λ a ca e. let p =
-          h.certifier.past_before a ca in omega arith in
+      h.certifier.past_before a ca in omega arith in
       topological-fewer (IsLoggedConflict (written c)) (IsLoggedConflict (λ s. c.entries s ++ block s))
-          c.certifier.past h.past
+      c.certifier.past h.past
       (λ a b ca cb k. (k.0, k.1, k.2, before_block k.0 k.1 k.2 a b (not_past a ca) (not_past b cb) k.3))
 
 pub yes-ordered : (c : CoreState) (i : ℕ) (arcs : List Arc) (mid : State) → IsOrdered c → c.certifier.step ≡ None
     → Contains c.certifier.active i
     → AreEdges c i arcs → Commits c.certifier i arcs mid
-        → IsOrdered (record c { certifier = mid; due = committed_block c i })
+    → IsOrdered (record c { certifier = mid; due = committed_block c i })
 yes-ordered c i arcs mid h none active edges m =
     let old = c.certifier in
     let out : Contains old.order i → ⊥ = uncommitted old i h.certifier none active in
     let sound : IsSoundCertifier mid =
-        committed-sound old i arcs mid h.certifier none active (edges-new c i arcs edges) m in
+    committed-sound old i arcs mid h.certifier none active (edges-new c i arcs edges) m in
     let after : CoreState = record c {
-      certifier = record old { order = m.places; arcs = old.arcs ++ arcs; step = Some i; rulings =
-          old.rulings ++ committed i ∷ [] };
+      certifier = record old {
+        order = m.places;
+        arcs = old.arcs ++ arcs;
+        step = Some i;
+        rulings =
+            old.rulings ++ committed i ∷ [];
+      };
       due = committed_block c i;
     } in
     let member : (t : ℕ) → Contains m.places t → (t ≡ i) ⊎ Contains old.order t =
-        λ t k. placed_member m.placed.0 old.order i t (subst (λ p. Contains p t) m.placed.2 k) in
+    λ t k. placed_member m.placed.0 old.order i t (subst (λ p. Contains p t) m.placed.2 k) in
     let not_old : (a : ℕ) → Contains old.order a → a ≡ i → ⊥ = λ a ca e. out (subst (Contains old.order) e ca) in
     let result : IsOrdered after = record {
       certifier = subst IsSoundCertifier m.after sound;
@@ -289,7 +303,7 @@ yes-ordered c i arcs mid h none active edges m =
       edges = λ s kind x a b ca cb k.
           let arc : Arc = record { from = a; to = b; label = record { site = s; item = x; kind = kind } } in
           let own : Conflicts (c.entries s ++ as_changes i (c.changes i s)) kind x a b =
-              block_conflict (touches c i s) (c.entries s) (as_changes i (c.changes i s)) i kind x a b k in
+          block_conflict (touches c i s) (c.entries s) (as_changes i (c.changes i s)) i kind x a b k in
           elim (member a ca) [
             | inl a_is ↦
                 elim (member b cb) [
@@ -304,8 +318,8 @@ yes-ordered c i arcs mid h none active edges m =
                   | inr b_old ↦
                       Contains-append_left old.arcs arcs arc
                       (h.edges s kind x a b a_old b_old
-                          (before_block c i (committed_block c i) (committed_tx c i) s kind x a b (not_old a a_old)
-                          (not_old b b_old) k))
+                      (before_block c i (committed_block c i) (committed_tx c i) s kind x a b (not_old a a_old)
+                      (not_old b b_old) k))
                 ]
           ];
       past = before_past c i (committed_block c i) (committed_tx c i) h active;
@@ -315,14 +329,17 @@ yes-ordered c i arcs mid h none active edges m =
 pub no-ordered : (c : CoreState) (i : ℕ) (arcs : List Arc) (walk : List Step) (mid : State) → IsOrdered c
     → c.certifier.step ≡ None
     → Contains c.certifier.active i → Refuses c.certifier i arcs walk mid
-        → IsOrdered (record c { certifier = mid; due = refused_block c i })
+    → IsOrdered (record c { certifier = mid; due = refused_block c i })
 no-ordered c i arcs walk mid h none active r =
     let old = c.certifier in
     let out : Contains old.order i → ⊥ = uncommitted old i h.certifier none active in
     let sound : IsSoundCertifier mid = refused-sound old i arcs walk mid h.certifier none active r in
     let after : CoreState =
-        record c { certifier = record old { step = Some i; rulings = old.rulings ++ refused i walk ∷ [] }; due =
-        refused_block c i } in
+    record c {
+      certifier = record old { step = Some i; rulings = old.rulings ++ refused i walk ∷ [] };
+      due =
+          refused_block c i;
+    } in
     let not_old : (a : ℕ) → Contains old.order a → a ≡ i → ⊥ = λ a ca e. out (subst (Contains old.order) e ca) in
     let result : IsOrdered after = record {
       certifier = subst IsSoundCertifier r.after sound;
@@ -366,10 +383,10 @@ pub install-ordered : (c : CoreState) (k : ℕ) → IsOrdered c
 install-ordered c k o =
     let more = only_at k (c.due k) in
     let here : (e : Entry) → Contains (c.due k) e → IsOfWindow c.certifier (tx_of e) =
-        λ e m. o.certifier.active_here (tx_of e) (o.certifier.open_active (tx_of e) (o.due k e m)) in
+    λ e m. o.certifier.active_here (tx_of e) (o.certifier.open_active (tx_of e) (o.due k e m)) in
     let after : CoreState = record (with_entries c more) { due = changed_at k [] c.due } in
     let before : (s : ℕ) (kind : Kind) (x : Name) (a b : ℕ) → Conflicts (written after s) kind x a b
-        → Conflicts (written c s) kind x a b
+    → Conflicts (written c s) kind x a b
     = λ s kind x a b n. subst (λ zs. Conflicts zs kind x a b) (moved_block c.entries c.due k s) n in
     record {
       certifier = o.certifier;
@@ -411,7 +428,7 @@ pub withdraw-ordered : (c : CoreState) (tx : ℕ) → IsOrdered c → c.certifie
 withdraw-ordered c tx o none active =
     let here = o.certifier.active_here tx active in
     let g = grown-ordered c tx (withdrawn_block c tx) o here.0 here.1
-        (uncommitted c.certifier tx o.certifier none active) (withdrawn_tx c tx) in
+    (uncommitted c.certifier tx o.certifier none active) (withdrawn_tx c tx) in
     record {
       certifier = withdrawn-sound c.certifier tx o.certifier none;
       due = g.due;
@@ -427,8 +444,13 @@ close-ordered c o idle none = record {
   certifier = closed-sound c.certifier o.certifier idle none;
   due = o.due;
   begun = o.begun;
-  windows = λ s. record { older = c.entries s; newer = []; parts = sym (append-nil (c.entries s)); old = o.begun s;
-      new = λ e m. absurd (contains-none e m) };
+  windows = λ s. record {
+    older = c.entries s;
+    newer = [];
+    parts = sym (append-nil (c.entries s));
+    old = o.begun s;
+    new = λ e m. absurd (contains-none e m);
+  };
   edges = λ s kind x a b ca cb n. absurd (contains-none a ca);
   past = ordered-serial c o;
 }
@@ -438,8 +460,14 @@ fresh-ordered items = record {
   certifier = opening-sound;
   due = λ s e m. absurd (contains-none e m);
   begun = λ s e m. absurd (contains-none e m);
-  windows = λ s. record { older = []; newer = []; parts = refl; old = λ e m. absurd (contains-none e m); new =
-      λ e m. absurd (contains-none e m) };
+  windows = λ s. record {
+    older = [];
+    newer = [];
+    parts = refl;
+    old = λ e m. absurd (contains-none e m);
+    new =
+        λ e m. absurd (contains-none e m);
+  };
   edges = λ s kind x a b ca cb n. absurd (contains-none a ca);
   past = λ i j d lt within. absurd (omega arith);
 }

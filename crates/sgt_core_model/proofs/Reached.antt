@@ -123,7 +123,7 @@ reaches-Decides (e ∷ es) a b =
     let behind = Decides-or (e.to == b) (reaches es e.to b) (Decides-eqb e.to b) (reaches-Decides es e.to b) in
     Decides-like (reaches (e ∷ es) a b) (through-reaches e es a b) (λ r. leads-through e es a r.0 b r.1)
     (Decides-or (reaches es a b) (((a == e.from) || reaches es a e.from) && ((e.to == b) || reaches es e.to b))
-        (reaches-Decides es a b)
+    (reaches-Decides es a b)
     (Decides-and ((a == e.from) || reaches es a e.from) ((e.to == b) || reaches es e.to b) before behind))
 
 -- the test tells who is reached

@@ -80,7 +80,7 @@ undecided c tx h no_other not_decided =
             | inl closed ↦ absurd (subst (StepIs (λ t. t ≡ some.0)) closed (h.together some.0 some.1))
             | inr open_step ↦
                 let own : open_step.0.tx ≡ some.0 =
-                    subst (StepIs (λ t. t ≡ some.0)) open_step.1 (h.together some.0 some.1) in
+                subst (StepIs (λ t. t ≡ some.0)) open_step.1 (h.together some.0 some.1) in
                 elim (cases_eq open_step.0.tx tx) [
                   | inl same ↦ absurd (not_decided (some.1 ∙ ap Some (sym own ∙ same)))
                   | inr other ↦ absurd (no_other (subst (StepIs (λ t. t ≡ tx → ⊥)) (sym open_step.1) other))
@@ -113,8 +113,11 @@ touching_there c i s hit = either (list_any (λ e. tx_of e == i) (c.entries s)) 
         ]
 
     either : (t : Bool) → list_any (λ e. tx_of e == i) (c.entries s) ≡ t → IsThere c i s
-    either true e = let r = logged (c.entries s) e in inl (r.0, Contains-append_left (c.entries s) (c.due s) r.0 r.1,
-        r.2)
+    either true e = let r = logged (c.entries s) e in inl (
+      r.0,
+      Contains-append_left (c.entries s) (c.due s) r.0 r.1,
+      r.2,
+    )
     either false e = inr (subst (λ b. (b || is_some_change (c.changes i s)) ≡ true) e hit)
 
 -- where a Gather is allowed, its transaction isn't decided
@@ -136,14 +139,19 @@ name_cases (y ∷ ys) x =
       | inl hit ↦ inl (subst (Contains (y ∷ ys)) ((bytes_eq-Decides y x).0 hit) (cons_here y ys))
       | inr miss ↦ elim (name_cases ys x) [
         | inl later ↦ inl (contains-later y ys x later)
-        | inr none ↦ inr (λ c. elim (contains-cases y ys x c) [ inl is ↦ true≢false (sym ((bytes_eq-Decides y x).1 is)
-            ∙ miss) | inr later ↦ none later ])
+        | inr none ↦ inr (λ c. elim (contains-cases y ys x c) [
+          | inl is ↦ true≢false (sym ((bytes_eq-Decides y x).1 is)
+              ∙ miss)
+          | inr later ↦ none later
+        ])
       ]
     ]
 
 pub known_item : (c : CoreState) (s : ℕ) (x : Name) → ((IsOfSite c s x → ⊥) → ⊥) → Contains (names (items_at c s)) x
-known_item c s x twice = elim (name_cases (names (items_at c s)) x) [ inl known ↦ known
-    | inr none ↦ absurd (twice none) ]
+known_item c s x twice = elim (name_cases (names (items_at c s)) x) [
+  | inl known ↦ known
+  | inr none ↦ absurd (twice none)
+]
 
 range_has : (low n k : ℕ) → k < n → Contains (range_with_len low n) (low + k)
 range_has low zero k lt = absurd (omega arith)
@@ -152,7 +160,7 @@ range_has low (suc n) zero lt = let e : low ≡ low + 0 = omega arith in
 range_has low (suc n) (suc k) lt =
     let e : low + 1 + k ≡ low + suc k = omega arith in
     contains-later low (range_with_len (low + 1) n) (low + suc k)
-        (subst (Contains (range_with_len (low + 1) n)) e (range_has (low + 1) n k (omega arith)))
+    (subst (Contains (range_with_len (low + 1) n)) e (range_has (low + 1) n k (omega arith)))
 
 pub is_site : (c : CoreState) (s : ℕ) → s < length c.items → Contains (sites_of c) s
 is_site c s lt = let e : 0 + s ≡ s = omega arith in subst (Contains (sites_of c)) e (range_has 0 (length c.items) s lt)
@@ -162,7 +170,7 @@ is_site c s lt = let e : 0 + s ≡ s = omega arith in subst (Contains (sites_of 
 -- the step closes, or it stays open, and is the core's
 ending-kept : (c : CoreState) (i : ℕ) → IsSound c → c.certifier.step ≡ Some i → (is_written c ≡ false → IsOwnOpen c i)
     → ((s : ℕ) → IsThere c i s → Contains (gathered_in c.step) s) → IsCounted c
-        → AreInstalls c.entries c.certifier.installs → IsKept (closed_if_written c i)
+    → AreInstalls c.entries c.certifier.installs → IsKept (closed_if_written c i)
 ending-kept c i h open_i own gathered counted installs =
     elim (cases_Bool (is_written c)) [
       | inl done ↦ rw done (record {
@@ -220,19 +228,19 @@ still_open : (c : CoreState) (tx : ℕ) (last : Entry) (ops : ℕ → List Entry
 still_open c tx last ops gathered left =
     let r = some_fails (λ s. is_empty (cond (touches c tx s) (ops s ++ last ∷ []) [])) (sites_of c) left in
     own_if_gathered c tx r.0
-        (gathered r.0
-        (member_filter (touches c tx) (sites_of c) r.0 r.1 (due_touched (touches c tx r.0) (ops r.0 ++ last ∷ []) r.2)))
+    (gathered r.0
+    (member_filter (touches c tx) (sites_of c) r.0 r.1 (due_touched (touches c tx r.0) (ops r.0 ++ last ∷ []) r.2)))
 
 -- at its decision a transaction is there, with its block, only where it touches
 block_touches : (c : CoreState) (tx : ℕ) (mid : State) (last : Entry) (ops : ℕ → List Entry) (s : ℕ)
     → IsThere (record c { certifier = mid; due = λ n. cond (touches c tx n) (ops n ++ last ∷ []) [] }) tx s
-        → touches c tx s ≡ true
+    → touches c tx s ≡ true
 block_touches c tx mid last ops s there = elim there [
   | inl logged ↦ elim (Contains-append_cases (c.entries s) (cond (touches c tx s) (ops s ++ last ∷ []) []) logged.0
       logged.1) [
-    | inl was ↦ touches_own c tx s logged.0 was logged.2
-    | inr new ↦ only_if (touches c tx s) (ops s ++ last ∷ []) logged.0 new
-  ]
+        | inl was ↦ touches_own c tx s logged.0 was logged.2
+        | inr new ↦ only_if (touches c tx s) (ops s ++ last ∷ []) logged.0 new
+      ]
   | inr some ↦ ap (λ b. list_any (λ e. tx_of e == tx) (c.entries s) || b) some
       ∙ or_right (list_any (λ e. tx_of e == tx) (c.entries s))
 ]
@@ -247,7 +255,7 @@ pub block_gathered : (c : CoreState) (tx : ℕ) → IsSound c
     → (s : ℕ) → touches c tx s ≡ true → Contains (gathered_in c.step) s
 block_gathered c tx h gathered s hit =
     let inside =
-        below (length c.items) s (λ out. true≢false (sym hit ∙ untouched_outside c tx s h.walked h.legal out)) in
+    below (length c.items) s (λ out. true≢false (sym hit ∙ untouched_outside c tx s h.walked h.legal out)) in
     elim (contains_cases (gathered_in c.step) s) [
       | inl is ↦ is
       | inr none ↦ absurd (gathered s (member_filter (touches c tx) (sites_of c) s (is_site c s inside) hit)
@@ -289,9 +297,9 @@ begin-kept c k allowed = record {
 read_tx : (k tx : ℕ) (x : Name) (v s : ℕ) (e : Entry) → Contains (only_at k (entry.Read tx x v ∷ []) s) e → tx_of e ≡ tx
 read_tx k tx x v s e m =
     only_tx k (entry.Read tx x v ∷ []) tx (λ f n. elim (contains-cases (entry.Read tx x v) [] f n) [
-  | inl is ↦ ap tx_of (sym is)
-  | inr none ↦ absurd (contains-none f none)
-]) s e m
+      | inl is ↦ ap tx_of (sym is)
+      | inr none ↦ absurd (contains-none f none)
+    ]) s e m
 
 reads_site-kept : (c : CoreState) (tx s : ℕ) (x : Name) (v : ℕ) (new : CoreState) → IsKept c
     → IsAllowed c (Read tx s x) → look c tx s x ≡ None
@@ -310,7 +318,7 @@ reads_site-kept c tx s x v new k allowed none r =
       together = k.together;
       gathered = λ i t e there. k.gathered i t e
           (there_before c tx (only_at s (entry.Read tx x r.0 ∷ [])) (read_tx s tx x r.0) i t
-              (λ is. free (subst (λ j. c.certifier.step ≡ Some j) is e)) there);
+          (λ is. free (subst (λ j. c.certifier.step ≡ Some j) is e)) there);
       counted = grown-counted c (only_at s (entry.Read tx x r.0 ∷ [])) (read-none s tx x r.0) k.counted;
       installs = grown-installs c.entries (only_at s (entry.Read tx x r.0 ∷ [])) c.certifier.installs
           (read-quiet s tx x r.0) k.installs;
@@ -338,8 +346,8 @@ change-kept c tx s x change k closed known = record {
     | inr some ↦
         let other : i ≡ tx → ⊥ = λ is. closed (k.together tx (subst (λ j. c.certifier.step ≡ Some j) is e)) in
         inr (subst
-            (λ b. is_some_change (cond b (changed_at s (put_in (x, change) (c.changes tx s)) (c.changes tx))
-            (c.changes i) t) ≡ true) (ne_eqb i tx other) some)
+        (λ b. is_some_change (cond b (changed_at s (put_in (x, change) (c.changes tx s)) (c.changes tx))
+        (c.changes i) t) ≡ true) (ne_eqb i tx other) some)
   ]);
   counted = change-counted c tx s x change (λ e. closed (k.together tx e)) k.counted;
   installs = k.installs;
@@ -374,18 +382,18 @@ yes-kept c tx new k allowed d =
     let none = decide_idle c tx k allowed in
     let active = is_active c (Decide tx) tx allowed refl in
     subst IsKept (sym d.after) (ending-kept (record c { certifier = d.certifier; due = committed_block c tx }) tx
-        (record {
+    (record {
       ordered = yes-ordered c tx d.arcs d.certifier h.ordered none active d.edges d.commits;
       ruled = committed-ruled c.certifier tx d.arcs d.certifier h.ordered.certifier h.ruled none active d.commits;
       legal = yes-legal c tx d.arcs d.certifier h.ordered h.ruled h.legal none active d.commits;
       walked = yes-walked c tx d.arcs d.certifier h.walked h.legal (λ s. none_due c s h.ordered none) d.edges d.commits;
     }) (ap (λ (s : State). s.step) d.commits.after)
-        (still_open c tx (entry.Commit tx) (λ s. as_changes tx (c.changes tx s))
-        (λ s m g. allowed fault.NotGathered (s, m, g)))
+    (still_open c tx (entry.Commit tx) (λ s. as_changes tx (c.changes tx s))
+    (λ s m g. allowed fault.NotGathered (s, m, g)))
     (λ s m. block_gathered c tx h (λ t n g. allowed fault.NotGathered (t, n, g)) s
     (block_touches c tx d.certifier (entry.Commit tx) (λ n. as_changes tx (c.changes tx n)) s m))
     (yes-counted c tx d.arcs d.certifier d.commits k.counted) (subst (λ (s : State). AreInstalls c.entries s.installs)
-        (sym d.commits.after) k.installs))
+    (sym d.commits.after) k.installs))
 
 no-kept : (c : CoreState) (tx : ℕ) (new : CoreState) → IsKept c → IsAllowed c (Decide tx) → RefusesAt c tx new
     → IsKept new
@@ -395,7 +403,7 @@ no-kept c tx new k allowed d =
     let active = is_active c (Decide tx) tx allowed refl in
     let out = uncommitted c.certifier tx h.ordered.certifier none active in
     subst IsKept (sym d.after) (ending-kept (record c { certifier = d.certifier; due = refused_block c tx }) tx
-        (record {
+    (record {
       ordered = no-ordered c tx d.arcs d.walk d.certifier h.ordered none active d.refuses;
       ruled = refused-ruled c.certifier tx d.arcs d.walk d.certifier h.ordered.certifier h.ruled none active out
           d.refuses;
@@ -403,12 +411,12 @@ no-kept c tx new k allowed d =
       walked = no-walked c tx d.arcs d.walk d.certifier h.walked h.legal (λ s. none_due c s h.ordered none) d.edges
           d.refuses;
     }) (ap (λ (s : State). s.step) d.refuses.after)
-        (still_open c tx (entry.Refuse tx) (λ s. as_wants tx (c.changes tx s))
-        (λ s m g. allowed fault.NotGathered (s, m, g)))
+    (still_open c tx (entry.Refuse tx) (λ s. as_wants tx (c.changes tx s))
+    (λ s m g. allowed fault.NotGathered (s, m, g)))
     (λ s m. block_gathered c tx h (λ t n g. allowed fault.NotGathered (t, n, g)) s
     (block_touches c tx d.certifier (entry.Refuse tx) (λ n. as_wants tx (c.changes tx n)) s m))
     (no-counted c tx d.arcs d.walk d.certifier out d.refuses k.counted)
-        (subst (λ (s : State). AreInstalls c.entries s.installs) (sym d.refuses.after) k.installs))
+    (subst (λ (s : State). AreInstalls c.entries s.installs) (sym d.refuses.after) k.installs))
 
 -- the install is noted, or there is nothing to note
 noted-sound : (c : CoreState) (tx s : ℕ) → IsSound c → IsSound (record c { certifier = noted c tx s })
@@ -446,8 +454,11 @@ install-kept c tx s k allowed =
       legal = install-legal mid s h.legal;
       walked = install-walked mid s inside h.walked;
     }) (noted-step c tx s ∙ open_tx) (λ left. k.together tx open_tx) (λ t there. k.gathered tx t open_tx (elim there [
-      | inl logged ↦ inl (logged.0, subst (λ es. Contains es logged.0) (moved_block c.entries c.due s t) logged.1,
-          logged.2)
+      | inl logged ↦ inl (
+        logged.0,
+        subst (λ es. Contains es logged.0) (moved_block c.entries c.due s t) logged.1,
+        logged.2,
+      )
       | inr some ↦ inr some
     ])) (install-counted c tx s open_tx (install_due c tx s allowed) (k.sound.legal.changes_once tx s) k.counted)
     (install-installs c tx s open_tx (install_due c tx s allowed) inside k.sound.legal k.counted k.installs)
@@ -547,8 +558,13 @@ run-kept old _ _ new k r = absurd r
 
 pub fresh-kept : (items : List (List Holding)) → IsKept (fresh items)
 fresh-kept items = record {
-  sound = record { ordered = fresh-ordered items; ruled = opening-ruled; legal = fresh-legal items; walked =
-      fresh-walked items };
+  sound = record {
+    ordered = fresh-ordered items;
+    ruled = opening-ruled;
+    legal = fresh-legal items;
+    walked =
+        fresh-walked items;
+  };
   together = λ i e. absurd cc;
   gathered = λ i s e m. absurd cc;
   counted = fresh-counted items;

@@ -71,8 +71,12 @@ unfoldable pub answered : (c : CoreState) (event : Event) → IsKept c
     → (reply : Reply) × (new : CoreState) × MayStep c event reply new × (IsMemory reply → ⊥)
 answered c event k = elim (allowed_or_refused c event) [
   | inl allowed ↦ let r = allowed-answered c event k allowed in (r.0, r.1, r.2, answer-no_memory r.0 r.3)
-  | inr refused ↦ (Fault refused.0, c, refused-answered c event refused.0 refused.1,
-      refused-no_memory c event refused.0 refused.1)
+  | inr refused ↦ (
+    Fault refused.0,
+    c,
+    refused-answered c event refused.0 refused.1,
+    refused-no_memory c event refused.0 refused.1,
+  )
 ]
 
 -- each list of events has a run without want of memory
@@ -87,7 +91,7 @@ plays c (event ∷ events) k =
 -- from sites where nothing has happened
 unfoldable pub played : (items : List (List Holding)) (events : List Event)
     → (replies : List Reply) × (new : CoreState) × Run (fresh items) events replies new × All (λ r. IsMemory r
-        → ⊥) replies
+    → ⊥) replies
 played items events = plays (fresh items) events (fresh-kept items)
 
 -- ---- a decision as a whole

@@ -65,10 +65,10 @@ finals-legal items es = All-from_at (λ (h : Holding). value_at items es h.item 
     let m = map_at (final_of items es) items n f at_n in
     let h = m.0 in
     let in_names : Contains (names items) h.item =
-        Contains-from_at (names items) n h.item (get-mapped (λ (k : Holding). k.item) items n h m.1) in
+    Contains-from_at (names items) n h.item (get-mapped (λ (k : Holding). k.item) items n h m.1) in
     let w = valued items es h.item in_names in
     subst (λ (k : Holding). value_at items es k.item ≡ Some k.value) m.2 (w.1
-        ∙ ap Some (sym (ap (λ o. unwrap_or o 0) w.1))))
+    ∙ ap Some (sym (ap (λ o. unwrap_or o 0) w.1))))
 
 -- ---- decisions
 
@@ -157,16 +157,23 @@ module _ (c : CoreState) (h : IsSound c) (none : c.certifier.active ≡ []) (s :
   agrees = record {
     decided = All-from_at (λ e. (n : ℕ) × IsDecided decisions e n) (c.entries s) (λ n e at_n.
         let by = (done e (Contains-from_at (c.entries s) n e at_n)).0 in
-        let r = by.1 in
-        (by.0, (ranked order r.0, get-mapped (ranked order) c.certifier.rulings by.0 r.0 r.1, decided_ranked order r.0
-            ∙ r.2, suits-ranked order e r.0 r.3)));
+        let r = by.1 in (
+          by.0,
+          (
+            ranked order r.0,
+            get-mapped (ranked order) c.certifier.rulings by.0 r.0 r.1,
+            decided_ranked order r.0
+                ∙ r.2,
+            suits-ranked order e r.0 r.3,
+          ),
+        ));
     in_order =
         subst (AllPairs (EndInOrder decisions)) log_is
         (AllPairs-from_at (EndInOrder decisions) log (λ p q e f le at_e at_f end end_f m n de df.
         let a = ruling_of e m de in
         let b = ruling_of f n df in
         AllPairs_at (EndInRulingOrder c.certifier.rulings) log p q e f legal.log.in_order le at_e at_f end end_f m n
-            a.0 b.0 a.1 b.1 a.2 b.2));
+        a.0 b.0 a.1 b.1 a.2 b.2));
   }
 
   is_ranked : IsRanked decisions (c.entries s)
@@ -180,11 +187,23 @@ module _ (c : CoreState) (h : IsSound c) (none : c.certifier.active ≡ []) (s :
       let e_in = h.ruled.to_serial m (tx_of e) (a.1 ∙ ap Some a_is.0) in
       let f_in = h.ruled.to_serial n (tx_of f) (b.1 ∙ ap Some b_is.0) in
       let conflict : Conflicts (c.entries s) kind x (tx_of e) (tx_of f) =
-          record { p = p; q = q; e = e; f = f; before = le; first = at_e; second = at_f; from = refl; to =
-          refl; apart = apart; clash = clash } in
+      record {
+        p = p;
+        q = q;
+        e = e;
+        f = f;
+        before = le;
+        first = at_e;
+        second = at_f;
+        from = refl;
+        to =
+            refl;
+        apart = apart;
+        clash = clash;
+      } in
       let less = forward (IsLoggedConflict (written c)) order (ordered-serial c h.ordered) (tx_of e)
-          (tx_of f) e_in f_in (s, kind, x, in_longer (c.entries s) (c.due s) kind x (tx_of e) (tx_of f) conflict)
-          apart in
+      (tx_of f) e_in f_in (s, kind, x, in_longer (c.entries s) (c.due s) kind x (tx_of e) (tx_of f) conflict)
+      apart in
       let r_is = a_is.1 in
       let r__is = b_is.1 in
       omega arith)
@@ -228,10 +247,10 @@ valid_site c h none n log at_n =
     let valid = valid_log c h none n (slice_get_within c.items n p.1 e.1) in
     let items_is : items_at c n ≡ p.1 = ap items_in e.1 in
     let at_p : IsValidLog (map (ranked (serial c.certifier)) c.certifier.rulings) (site_log p.1 (c.entries p.0)) =
-        subst (λ i. IsValidLog (map (ranked (serial c.certifier)) c.certifier.rulings) (site_log p.1 (c.entries i)))
-        (sym number)
+    subst (λ i. IsValidLog (map (ranked (serial c.certifier)) c.certifier.rulings) (site_log p.1 (c.entries i)))
+    (sym number)
     (subst (λ items. IsValidLog (map (ranked (serial c.certifier)) c.certifier.rulings)
-        (site_log items (c.entries n))) items_is valid) in
+    (site_log items (c.entries n))) items_is valid) in
     subst (IsValidLog (map (ranked (serial c.certifier)) c.certifier.rulings)) m.2 at_p
 
 logged_step : (c : CoreState) → IsSound c → c.certifier.active ≡ [] → (a : ℕ) (step : Step)
@@ -243,11 +262,14 @@ logged_step c h none a step at =
       | inr present ↦
           let items = present.0 in
           let place = get-mapped (λ (p : ℕ × List Holding). site_log p.1 (c.entries p.0)) (enumerate_from 0 c.items) s
-              (0 + s, items) (enumerate_place 0 c.items s items present.1) in
+          (0 + s, items) (enumerate_place 0 c.items s items present.1) in
           let at_s : slice_get (bundle_of c).sites s ≡ Some (site_log items (c.entries s)) = place
-              ∙ ap (λ i. Some (site_log items (c.entries i))) (zero-add s) in
-          (site_log items (c.entries s), at_s, subst (λ es. Conflicts es step.label.kind step.label.item a step.to)
-              (log_is c h none s at.site) at.conflict)
+          ∙ ap (λ i. Some (site_log items (c.entries i))) (zero-add s) in (
+            site_log items (c.entries s),
+            at_s,
+            subst (λ es. Conflicts es step.label.kind step.label.item a step.to)
+                (log_is c h none s at.site) at.conflict,
+          )
     ]
 
 logged_walk : (c : CoreState) → IsSound c → c.certifier.active ≡ [] → (a : ℕ) (steps : List Step) → AreAt c a steps
@@ -261,8 +283,9 @@ valid-bundle c h none = record {
   once = certificate-once c.certifier h.ruled;
   ranks = certificate-ranks c.certifier h.ruled;
   cycles = λ n tx walk at_n.
-      let m = map_at (ranked (serial c.certifier)) c.certifier.rulings n (decision.Refuse tx walk) at_n in
-      (certificate-cycles c.certifier h.ruled n tx walk at_n,
-          logged_walk c h none tx walk (h.walked.walks n tx walk (m.1
-          ∙ ap Some (ranked_refusal (serial c.certifier) m.0 tx walk m.2))));
+      let m = map_at (ranked (serial c.certifier)) c.certifier.rulings n (decision.Refuse tx walk) at_n in (
+        certificate-cycles c.certifier h.ruled n tx walk at_n,
+        logged_walk c h none tx walk (h.walked.walks n tx walk (m.1
+            ∙ ap Some (ranked_refusal (serial c.certifier) m.0 tx walk m.2))),
+      );
 }

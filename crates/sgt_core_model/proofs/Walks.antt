@@ -59,10 +59,14 @@ closing-walked c i there w done =
       site = h.site;
       conflict = subst (λ es. Conflicts (c.entries label.site ++ es) label.kind label.item a b)
           (empty_is (c.due label.site) (all_pass (λ n. is_empty (c.due n)) (sites_of c) label.site done
-              (there label.site h.site))) h.conflict;
+          (there label.site h.site))) h.conflict;
     } in
-    record { outside = w.outside; arcs = λ arc m. g arc.label arc.from arc.to (w.arcs arc m); walks =
-        grown_walks c after w g (λ n tx walk e. e) }
+    record {
+      outside = w.outside;
+      arcs = λ arc m. g arc.label arc.from arc.to (w.arcs arc m);
+      walks =
+          grown_walks c after w g (λ n tx walk e. e);
+    }
 
 no_changes_outside : (c : CoreState) (i s : ℕ) → IsLegal c → length c.items ≤ s → c.changes i s ≡ []
 no_changes_outside c i s l out =
@@ -77,13 +81,13 @@ no_changes_outside c i s l out =
 pub untouched_outside : (c : CoreState) (i s : ℕ) → IsWalked c → IsLegal c → length c.items ≤ s → touches c i s ≡ false
 untouched_outside c i s w l out =
     ap (λ es. list_any (λ e. tx_of e == i) es || is_some_change (c.changes i s)) (w.outside s out)
-        ∙ ap is_some_change (no_changes_outside c i s l out)
+    ∙ ap is_some_change (no_changes_outside c i s l out)
 
 touches_with : (c : CoreState) (i s n : ℕ) (e : Entry)
     → slice_get (c.entries s ++ as_changes i (c.changes i s)) n ≡ Some e → tx_of e ≡ i → touches c i s ≡ true
 touches_with c i s n e at_n own =
     elim (Contains-append_cases (c.entries s) (as_changes i (c.changes i s)) e
-        (Contains-from_at (c.entries s ++ as_changes i (c.changes i s)) n e at_n)) [
+    (Contains-from_at (c.entries s ++ as_changes i (c.changes i s)) n e at_n)) [
       | inl logged ↦ touches_own c i s e logged own
       | inr mine ↦ ap (λ b. list_any (λ f. tx_of f == i) (c.entries s) || b) (some_change (c.changes i s) e mine)
           ∙ or_right (list_any (λ f. tx_of f == i) (c.entries s))
@@ -121,8 +125,8 @@ due_grow c mid block none label a b h = record {
   site = h.site;
   conflict = in_longer (c.entries label.site) (block label.site) label.kind label.item a b
       (subst (λ es. Conflicts es label.kind label.item a b) (append-nil (c.entries label.site))
-          (subst (λ es. Conflicts (c.entries label.site ++ es) label.kind label.item a b)
-          (none label.site) h.conflict));
+      (subst (λ es. Conflicts (c.entries label.site ++ es) label.kind label.item a b)
+      (none label.site) h.conflict));
 }
 
 pub yes-walked : (c : CoreState) (i : ℕ) (arcs : List Arc) (mid : State) → IsWalked c → IsLegal c
@@ -136,20 +140,23 @@ yes-walked c i arcs mid w l none edges m =
       arcs = λ arc member. elim
           (Contains-append_cases c.certifier.arcs arcs arc
           (subst (λ (s : State). Contains s.arcs arc) m.after member)) [
-        | inl was ↦ g arc.label arc.from arc.to (w.arcs arc was)
-        | inr new ↦
-            let e = (edges arc).0 new in
-            let at = edge_site c i arc w l e in
-            record { site = at.0; conflict =
-                block_grow (c.entries arc.label.site) (as_changes i (c.changes i arc.label.site)) (entry.Commit i)
-                (touches c i arc.label.site) arc.label.kind arc.label.item arc.from arc.to at.1 e.conflict }
-      ];
+            | inl was ↦ g arc.label arc.from arc.to (w.arcs arc was)
+            | inr new ↦
+                let e = (edges arc).0 new in
+                let at = edge_site c i arc w l e in
+                record {
+                  site = at.0;
+                  conflict =
+                      block_grow (c.entries arc.label.site) (as_changes i (c.changes i arc.label.site)) (entry.Commit i)
+                      (touches c i arc.label.site) arc.label.kind arc.label.item arc.from arc.to at.1 e.conflict;
+                }
+          ];
       walks = grown_walks c after w g
           (λ n tx walk at_n. elim (get-push_cases c.certifier.rulings (committed i) n (refused tx walk)
           (subst (λ (s : State). slice_get s.rulings n ≡ Some (refused tx walk)) m.after at_n)) [
-        | inl was ↦ was
-        | inr new ↦ let e = new.1 in absurd cc
-      ]);
+            | inl was ↦ was
+            | inr new ↦ let e = new.1 in absurd cc
+          ]);
     }
 
 pub no-walked : (c : CoreState) (i : ℕ) (arcs : List Arc) (walk : List Step) (mid : State) → IsWalked c → IsLegal c
@@ -159,7 +166,7 @@ no-walked c i arcs walk mid w l none edges m =
     let after : CoreState = record c { certifier = mid; due = refused_block c i } in
     let g = due_grow c mid (refused_block c i) none in
     let each : (arc : Arc) → Contains (c.certifier.arcs ++ arcs) arc → IsAt after arc.label arc.from arc.to =
-        λ arc member. elim (Contains-append_cases c.certifier.arcs arcs arc member) [
+    λ arc member. elim (Contains-append_cases c.certifier.arcs arcs arc member) [
       | inl was ↦ g arc.label arc.from arc.to (w.arcs arc was)
       | inr new ↦
           let e = (edges arc).0 new in
@@ -179,14 +186,14 @@ no-walked c i arcs walk mid w l none edges m =
           (w.arcs arc (subst (λ (s : State). Contains s.arcs arc) m.after member));
       walks = λ n tx steps at_n. elim (get-push_cases c.certifier.rulings (refused i walk) n (refused tx steps)
           (subst (λ (s : State). slice_get s.rulings n ≡ Some (refused tx steps)) m.after at_n)) [
-        | inl was ↦ steps_grow c after g tx steps (w.walks n tx steps was)
-        | inr new ↦
-            let e = new.1 in
-            let i_is : i ≡ tx = cc in
-            let walk_is : walk ≡ steps = cc in
-            subst (λ t. AreAt after t steps) i_is
+            | inl was ↦ steps_grow c after g tx steps (w.walks n tx steps was)
+            | inr new ↦
+                let e = new.1 in
+                let i_is : i ≡ tx = cc in
+                let walk_is : walk ≡ steps = cc in
+                subst (λ t. AreAt after t steps) i_is
                 (subst (AreAt after i) walk_is (along after (c.certifier.arcs ++ arcs) each i walk m.cycle.steps))
-      ];
+          ];
     }
   where
     along : (d : CoreState) (all : List Arc) → ((arc : Arc) → Contains all arc → IsAt d arc.label arc.from arc.to)
@@ -212,10 +219,12 @@ install-walked c k lt w =
 pub withdraw-walked : (c : CoreState) (i : ℕ) → IsWalked c → IsLegal c
     → IsWalked (record (with_entries c (withdrawn_block c i)) { certifier = with_withdrawn c.certifier i })
 withdraw-walked c i w l =
-    let after : CoreState = record (with_entries c (withdrawn_block c i)) { certifier =
-        with_withdrawn c.certifier i } in
+    let after : CoreState = record (with_entries c (withdrawn_block c i)) {
+      certifier =
+          with_withdrawn c.certifier i;
+    } in
     let g : Grows c after = λ label a b h. let e = entries_grow c (withdrawn_block c i) label a b h in
-        record { site = e.site; conflict = e.conflict } in
+    record { site = e.site; conflict = e.conflict } in
     record {
       outside = λ s out. ap (λ b. c.entries s ++ cond b (entry.Withdraw i ∷ []) []) (untouched_outside c i s w l out)
           ∙ append-nil (c.entries s) ∙ w.outside s out;
@@ -251,8 +260,12 @@ same-walked c mid changes step w fewer same =
     }
 
 pub fresh-walked : (items : List (List Holding)) → IsWalked (fresh items)
-fresh-walked items = record { outside = λ s out. refl; arcs = λ arc m. absurd (contains-none arc m); walks =
-    λ n tx walk at_n. absurd cc }
+fresh-walked items = record {
+  outside = λ s out. refl;
+  arcs = λ arc m. absurd (contains-none arc m);
+  walks =
+      λ n tx walk at_n. absurd cc;
+}
 
 pub site_of_item : (c : CoreState) (s : ℕ) (x : Name) → Contains (names (items_at c s)) x → s < length c.items
 site_of_item c s x m =

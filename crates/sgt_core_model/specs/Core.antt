@@ -169,8 +169,12 @@ is_written c = list_all (λ s. is_empty (c.due s)) (sites_of c)
 
 -- the step of i is closed, and i with it, if no block is still due
 abbrev pub closed_if_written : CoreState → ℕ → CoreState
-closed_if_written c i = if is_written c then record c { certifier = with_finished c.certifier i; step = None; due =
-    λ s. [] } else c
+closed_if_written c i = if is_written c then record c {
+  certifier = with_finished c.certifier i;
+  step = None;
+  due =
+      λ s. [];
+} else c
 
 -- i was decided: the certifier is this one now, and these blocks are due
 abbrev pub decided : CoreState → ℕ → State → (ℕ → List Entry) → CoreState

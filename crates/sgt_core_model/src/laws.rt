@@ -17,9 +17,10 @@ ghost use Rattle.sgt_notation.specs.declared.event.Event.{Event};
 ghost use Rattle.sgt_core_model.specs.declared.reply.Reply.{Reply};
 ghost use Rattle.sgt_core_model.specs.declared.reply.CoreFault.{CoreFault};
 
-/// After whatever events, the edges among committed transactions make no cycle, and no logged conflict between committed
-/// transactions goes back in rank, across windows too and while blocks of a step are still due. Whenever no transaction is
-/// active, the logs with the certificate are valid. They fit together as a bundle at any time, where the items are in order.
+/// After whatever events, the edges among committed transactions make no cycle, and no logged conflict between
+/// committed transactions goes back in rank, across windows too and while blocks of a step are still due. Whenever no
+/// transaction is active, the logs with the certificate are valid. They fit together as a bundle at any time, where
+/// the items are in order.
 pub fn runs_are_serializable()
     ensures acyclic { (items : List (List Holding))
         (events : List Event) (replies : List Reply) (c : CoreState)
@@ -36,8 +37,8 @@ pub fn runs_are_serializable()
         → AreSites items → Run (fresh items) events replies c → FitTogether (bundle_of c) }
 {}
 
-/// After whatever events, the version of each item, which is the number of its changes in the log, is the number of the installs
-/// that change it and that the certifier was told of.
+/// After whatever events, the version of each item, which is the number of its changes in the log, is the number of
+/// the installs that change it and that the certifier was told of.
 pub fn installs_are_versions()
     ensures { (items : List (List Holding))
         (events : List Event) (replies : List Reply) (c : CoreState) (s : ℕ) (x : Name)
@@ -45,9 +46,9 @@ pub fn installs_are_versions()
         → version_at (c.entries s) x ≡ count_by (changes_item s x) c.certifier.installs }
 {}
 
-/// After whatever events, an install is noted exactly where the commit of its transaction stands in the site's log, and its items are
-/// those that the transaction changes there, in the order of the log. Each is of a committed transaction and of a site of the run, and
-/// none is noted twice.
+/// After whatever events, an install is noted exactly where the commit of its transaction stands in the site's log,
+/// and its items are those that the transaction changes there, in the order of the log. Each is of a committed
+/// transaction and of a site of the run, and none is noted twice.
 pub fn installs_are_logged()
     ensures noted { (items : List (List Holding))
         (events : List Event) (replies : List Reply) (c : CoreState) (install : Install)
@@ -75,7 +76,8 @@ pub fn refusals_are_determined()
         → IsRefused c event g → f ≡ g }
 {}
 
-/// Every list of events has a run in which want of memory is never answered, and after each run an event that is allowed has an answer.
+/// Every list of events has a run in which want of memory is never answered, and after each run an event that is
+/// allowed has an answer.
 pub fn runs_go_on()
     ensures run { (items : List (List Holding)) (events : List Event)
         → (replies : List Reply) × (c : CoreState) × Run (fresh items) events replies c
@@ -93,16 +95,16 @@ pub fn replies_are_determined()
         → (IsMemory r → ⊥) → (IsMemory q → ⊥) → r ≡ q }
 {}
 
-/// Two runs of the same events with the same replies, want of memory included, leave the same state, but for the order of the edges and
-/// the walks that refusals show: the same logs, private changes, orders and ranks.
+/// Two runs of the same events with the same replies, want of memory included, leave the same state, but for the
+/// order of the edges and the walks that refusals show: the same logs, private changes, orders and ranks.
 pub fn states_are_determined()
     ensures { (items : List (List Holding))
         (events : List Event) (replies : List Reply) (c d : CoreState)
         → Run (fresh items) events replies c → Run (fresh items) events replies d → AreAlike c d }
 {}
 
-/// A transaction that is gathered wherever it touches and decided is so by a run of these gathers and this decision; and where that is
-/// refused, as its commit is.
+/// A transaction that is gathered wherever it touches and decided is so by a run of these gathers and this decision;
+/// and where that is refused, as its commit is.
 pub fn decisions_are_runs()
     ensures decided { (c : CoreState) (tx : ℕ) (reply : Reply) (d : CoreState)
         → MayDecide c tx reply d → IsAnswer reply

@@ -28,8 +28,8 @@ pub enum Reply {
     Fault { fault: CoreFault },
 }
 
-/// Why the core refuses an event. The least number is told, but want of memory last. The state is then as it was; after want
-/// of memory at a gather, a decision or a commit the step is closed, as if it had never been opened.
+/// Why the core refuses an event. The least number is told, but want of memory last. The state is then as it was;
+/// after want of memory at a gather, a decision or a commit the step is closed, as if it had never been opened.
 #[derive(Clone, Copy, Debug, PartialEq, Eq, Error)]
 pub enum CoreFault {
     /// The transaction was never begun.
@@ -38,8 +38,8 @@ pub enum CoreFault {
     /// It has ended.
     #[error("E2: the transaction has ended")]
     Ended,
-    /// A step is open that has to be closed before: its own before it reads or changes items, another's before a part of its
-    /// own, and any before the other events.
+    /// A step is open that has to be closed before: its own before it reads or changes items, another's before a part
+    /// of its own, and any before the other events.
     #[error("E3: a step is open")]
     StepOpen,
     /// There is no such site, or no such item there.

@@ -1,5 +1,6 @@
-//! What is told of events one after another, with each fault in its place: a fault that is told goes before each greater one that
-//! is there too, and the events behind it go on. Expected answers are those of the table of events and refusals.
+//! What is told of events one after another, with each fault in its place: a fault that is told goes before each
+//! greater one that is there too, and the events behind it go on. Expected answers are those of the table of events
+//! and refusals.
 
 use crate::rows::opened;
 use sgt_core::{Core, CoreFault, Event, Reply, number_of, write_reply};
@@ -8,8 +9,8 @@ use sgt_notation::{EventLine, read_event};
 use std::alloc::{AllocError, Global};
 use std::test::Fail;
 
-/// Events over x=5 at site 0 and y=2 at site 1, each with the line that is told of it. `gather` stands before the line of the
-/// install that it comes before, and `decide` before that of the commit that it is a part of.
+/// Events over x=5 at site 0 and y=2 at site 1, each with the line that is told of it. `gather` stands before the
+/// line of the install that it comes before, and `decide` before that of the commit that it is a part of.
 struct Script {
     name: &'static str,
     lines: &'static str,

@@ -1,5 +1,6 @@
-//! Growths that are refused: what is refused for want of memory leaves the core as it was, so that what is given again is served.
-//! The test holds where no growth is refused, and where any one is; a script beside the benchmarks refuses each in turn.
+//! Growths that are refused: what is refused for want of memory leaves the core as it was, so that what is given
+//! again is served. The test holds where no growth is refused, and where any one is; a script beside the benchmarks
+//! refuses each in turn.
 
 use crate::rows::{ROWS, Row, opened};
 use sgt_cert::Bundle;
@@ -34,7 +35,8 @@ enum Served {
 #[derive(Drop)]
 struct Shown {
     active: u64,
-    /// What it answers to events that it refuses in each state, by its state, and to reads from drafts. None takes memory.
+    /// What it answers to events that it refuses in each state, by its state, and to reads from drafts. None takes
+    /// memory.
     replies: Vec<Reply>,
     /// Its bundle, where no transaction is active.
     bundle: Vec<u8>,
@@ -48,8 +50,8 @@ impl Shown {
     }
 }
 
-/// Asks the transaction for a read and for parts of a step at a site that isn't there: which refusal is told says whether it was begun,
-/// has ended, is decided, and whether its step or another's is open.
+/// Asks the transaction for a read and for parts of a step at a site that isn't there: which refusal is told says
+/// whether it was begun, has ended, is decided, and whether its step or another's is open.
 fn ask_transaction(core: &mut Core, tx: Tx, replies: &mut Vec<Reply>) -> Option<()> {
     let site = SiteNo::new(63).ok()?;
     let item = Item::new(b"x").ok()?;
@@ -111,8 +113,9 @@ fn serve(core: &mut Core, event: &EventLine, sites: &[SiteNo]) -> Reply {
     }
 }
 
-/// What is replied to the event behind those that were served. Where a growth was refused and the core shows what it did before, it is
-/// what is replied to the event given again, of a step from its first gather on. None: a growth was refused to the test.
+/// What is replied to the event behind those that were served. Where a growth was refused and the core shows what it
+/// did before, it is what is replied to the event given again, of a step from its first gather on. None: a growth was
+/// refused to the test.
 fn serve_again(
     alloc: Global,
     tried: &mut Tried,
@@ -132,7 +135,8 @@ fn serve_again(
     Some(reply)
 }
 
-/// The lines of the replies to the row's events, each given again where need be. None: a growth was refused to the test.
+/// The lines of the replies to the row's events, each given again where need be. None: a growth was refused to the
+/// test.
 fn replies_to(alloc: Global, tried: &mut Tried, row: &Row) -> Option<Vec<u8>> {
     let sites = [SiteNo::new(0).ok()?, SiteNo::new(1).ok()?];
     let mut served = Vec::new(alloc);
@@ -168,7 +172,8 @@ fn is_output(alloc: Global, row: &Row, text: &[u8], bundle: &Bundle) -> Option<b
     }
 }
 
-/// Whether the row's events are answered as the row says, and leave its bundle, byte for byte. None: a growth was refused to the test.
+/// Whether the row's events are answered as the row says, and leave its bundle, byte for byte. None: a growth was
+/// refused to the test.
 fn served_as_told(alloc: Global, tried: &mut Tried, row: &Row) -> Option<bool> {
     let mut text = replies_to(alloc, tried, row)?;
     text.extend_from_slice(b"---\n").ok()?;

@@ -74,7 +74,8 @@ impl Bundles for Forgetful {
     }
 }
 
-// A place without memory: the cut is refused for that, nothing is lost, and it may be asked for again; at the end it is want of memory.
+// A place without memory: the cut is refused for that, nothing is lost, and it may be asked for again; at the end it
+// is want of memory.
 #[test]
 fn a_place_without_memory_is_told_as_such(rt: HostRuntime) -> Result<(), Fail> {
     let alloc = rt.alloc();

@@ -36,22 +36,39 @@ use Rattle.sgt_courses.specs.Chained.{GoOn, items_in}
 pub front : (old new : CoreState) (turns more : List Turn) (bundles : List Numbered)
     → Course old (turns ++ more) bundles new
     → (mid : CoreState) × (handed : List Numbered) × (later : List Numbered) × Course old turns handed mid
-        × (bundles ≡ handed ++ later) × Course mid more later new
+    × (bundles ≡ handed ++ later) × Course mid more later new
 front old new [] more bundles c = (old, [], bundles, (refl, refl), refl, c)
 front old new (turn ∷ turns) more bundles (mid, here, rest, take, is, c) =
-    let (last, handed, later, course, same, behind) = front mid new turns more rest c in
-    (last, here ++ handed, later, (mid, here, handed, take, refl, course), is
-        ∙ (ap (λ hs. here ++ hs) same ∙ sym (append_assoc here handed later)), behind)
+    let (last, handed, later, course, same, behind) = front mid new turns more rest c in (
+      last,
+      here ++ handed,
+      later,
+      (mid, here, handed, take, refl, course),
+      is
+          ∙ (ap (λ hs. here ++ hs) same ∙ sym (append_assoc here handed later)),
+      behind,
+    )
 
 pub one_more : (old mid new : CoreState) (turns : List Turn) (bundles handed : List Numbered) (turn : Turn)
     → Course old turns bundles mid
     → MayTake mid turn.asked turn.answer handed new → Course old (turns ++ turn ∷ []) (bundles ++ handed) new
-one_more old mid new [] bundles handed turn (none, same) take =
-    (new, handed, [], subst (λ c. MayTake c turn.asked turn.answer handed new) same take, ap (λ bs. bs ++ handed) none
-        ∙ sym (append-nil handed), (refl, refl))
-one_more old mid new (first ∷ turns) bundles handed turn (next, here, rest, one, is, c) take =
-    (next, here, rest ++ handed, one, ap (λ bs. bs ++ handed) is ∙ append_assoc here rest handed,
-        one_more next mid new turns rest handed turn c take)
+one_more old mid new [] bundles handed turn (none, same) take = (
+  new,
+  handed,
+  [],
+  subst (λ c. MayTake c turn.asked turn.answer handed new) same take,
+  ap (λ bs. bs ++ handed) none
+      ∙ sym (append-nil handed),
+  (refl, refl),
+)
+one_more old mid new (first ∷ turns) bundles handed turn (next, here, rest, one, is, c) take = (
+  next,
+  here,
+  rest ++ handed,
+  one,
+  ap (λ bs. bs ++ handed) is ∙ append_assoc here rest handed,
+  one_more next mid new turns rest handed turn c take,
+)
 
 -- ---- runs
 
@@ -101,21 +118,24 @@ pub are_runs : (items : List (List Holding)) (old : CoreState) (turns : List Tur
 are_runs items old [] bundles c run (none, same) = ([], subst (IsRunTo items) (sym same) run, ap bundles_in none)
 are_runs items old (turn ∷ turns) bundles c run (mid, here, rest, take, is, course) =
     elim turn.answer as (λ a. MayTake old turn.asked a here mid → Ran items bundles c) [
-  | Replies reply ↦ λ t.
-      let r = are_runs items mid turns rest c (replies_on items old mid t.0.0 reply run t.0.3) course in
-      (r.0, r.1, ap bundles_in (is ∙ ap (λ hs. hs ++ rest) t.1) ∙ r.2)
-  | Cut number ↦ λ t.
-      let begun = subst (IsRunTo (last_values old)) (sym t.1.2) ([], [], refl) in
-      let r = are_runs (last_values old) mid turns rest c begun course in
-      (old ∷ r.0, (run, t.1.0, r.1), ap bundles_in (is ∙ ap (λ hs. hs ++ rest) t.1.1)
-          ∙ ap (λ bs. bundle_of old ∷ bs) r.2)
-  | Uncut fault ↦ λ t.
-      let r = are_runs items mid turns rest c (subst (IsRunTo items) (sym t.3) run) course in
-      (r.0, r.1, ap bundles_in (is ∙ ap (λ hs. hs ++ rest) t.2) ∙ r.2)
-  | Unreadable ↦ λ t.
-      let r = are_runs items mid turns rest c (subst (IsRunTo items) (sym t.2) run) course in
-      (r.0, r.1, ap bundles_in (is ∙ ap (λ hs. hs ++ rest) t.1) ∙ r.2)
-] take
+      | Replies reply ↦ λ t.
+          let r = are_runs items mid turns rest c (replies_on items old mid t.0.0 reply run t.0.3) course in
+          (r.0, r.1, ap bundles_in (is ∙ ap (λ hs. hs ++ rest) t.1) ∙ r.2)
+      | Cut number ↦ λ t.
+          let begun = subst (IsRunTo (last_values old)) (sym t.1.2) ([], [], refl) in
+          let r = are_runs (last_values old) mid turns rest c begun course in (
+            old ∷ r.0,
+            (run, t.1.0, r.1),
+            ap bundles_in (is ∙ ap (λ hs. hs ++ rest) t.1.1)
+                ∙ ap (λ bs. bundle_of old ∷ bs) r.2,
+          )
+      | Uncut fault ↦ λ t.
+          let r = are_runs items mid turns rest c (subst (IsRunTo items) (sym t.3) run) course in
+          (r.0, r.1, ap bundles_in (is ∙ ap (λ hs. hs ++ rest) t.2) ∙ r.2)
+      | Unreadable ↦ λ t.
+          let r = are_runs items mid turns rest c (subst (IsRunTo items) (sym t.2) run) course in
+          (r.0, r.1, ap bundles_in (is ∙ ap (λ hs. hs ++ rest) t.1) ∙ r.2)
+    ] take
 
 pub course_runs : (items : List (List Holding)) (turns : List Turn) (bundles : List Numbered) (c : CoreState)
     → Course (fresh items) turns bundles c → Ran items bundles c
@@ -128,7 +148,7 @@ ran_items items c (es, rs, run) = run-same (fresh items) es rs c run
 
 items_from : (entries : ℕ → List Entry) (k : ℕ) (items : List (List Holding))
     → map (λ (log : SiteLog). log.items) (map (λ (p : ℕ × List Holding). site_log p.1 (entries p.0))
-        (enumerate_from k items)) ≡ items
+    (enumerate_from k items)) ≡ items
 items_from entries k [] = refl
 items_from entries k (xs ∷ items) = ap (λ (ys : List (List Holding)). xs ∷ ys) (items_from entries (k + 1) items)
 
@@ -140,17 +160,17 @@ pub all_valid : (items : List (List Holding)) (ended : List CoreState) (c : Core
 all_valid items [] c runs = All-nil IsValid
 all_valid items (e ∷ ended) c ((es, rs, run), none, more) =
     All-cons IsValid (bundle_of e) (map bundle_of ended) (valid-bundle e (runs-kept items es rs e run).sound none)
-        (all_valid (last_values e) ended c more)
+    (all_valid (last_values e) ended c more)
 
 pub all_fit : (items : List (List Holding)) (ended : List CoreState) (c : CoreState) → AreSites items
     → AreRuns items ended c → All FitTogether (map bundle_of ended)
 all_fit items [] c sites runs = All-nil FitTogether
 all_fit items (e ∷ ended) c sites (run, none, more) =
     let fit : FitTogether (bundle_of e) =
-        bundle-fits e (runs-kept items run.0 run.1 e run.2).sound
-        (subst AreSites (sym (ran_items items e run)) sites) in
+    bundle-fits e (runs-kept items run.0 run.1 e run.2).sound
+    (subst AreSites (sym (ran_items items e run)) sites) in
     All-cons FitTogether (bundle_of e) (map bundle_of ended) fit
-        (all_fit (last_values e) ended c (sites_of_finals (bundle_of e) fit) more)
+    (all_fit (last_values e) ended c (sites_of_finals (bundle_of e) fit) more)
 
 -- the first one's items, in the bundles of runs over these
 first_there : (items : List (List Holding)) (ended : List CoreState) (c : CoreState) (d : Parts)

@@ -9,8 +9,8 @@ ghost use Rattle.sgt_core_model.specs.Runs.{AreSites};
 ghost use Rattle.sgt_courses.specs.Course.{AreRuns, Course, Numbered, Turn, bundles_in};
 ghost use Rattle.sgt_courses.specs.Chained.{GoOn};
 
-/// Each front of a course is a course, and what comes behind it is one from where it ended. So what is said of courses holds
-/// at every moment.
+/// Each front of a course is a course, and what comes behind it is one from where it ended. So what is said of
+/// courses holds at every moment.
 pub fn fronts_are_courses()
     ensures { (old new : CoreState) (turns more : List Turn) (bundles : List Numbered)
         → Course old (turns ++ more) bundles new
@@ -18,8 +18,9 @@ pub fn fronts_are_courses()
         × Course old turns handed mid × (bundles ≡ handed ++ later) × Course mid more later new }
 {}
 
-/// A course is a list of runs of the model: the first over the items that it starts from, and each other one over the last
-/// values of the one before it, which left no transaction active. Its bundles are those of the runs that are over.
+/// A course is a list of runs of the model: the first over the items that it starts from, and each other one over the
+/// last values of the one before it, which left no transaction active. Its bundles are those of the runs that are
+/// over.
 pub fn courses_are_runs()
     ensures { (items : List (List Holding)) (turns : List Turn) (bundles : List Numbered) (c : CoreState)
         → Course (fresh items) turns bundles c

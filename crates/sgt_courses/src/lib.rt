@@ -1,4 +1,5 @@
-//! What a core that is cut again and again does: turns, the runs of the model that they are, and the chain of its bundles.
+//! What a core that is cut again and again does: turns, the runs of the model that they are, and the chain of its
+//! bundles.
 #![tactic(auto)]
 
 mod answer;

@@ -1,4 +1,5 @@
--- What stands for all edges, shown on two small sites. At the first, 1 and 2 wrote x, 3 read what 2 wrote, and the draft is to write x.
+-- What stands for all edges, shown on two small sites. At the first, 1 and 2 wrote x, 3 read what 2 wrote, and the
+-- draft is to write x.
 use Rattle.std.proofs.Common.{◌≡◌, ◌≢◌, ◌==◌, true, false, ℕ, zero, suc, List, [], ◌∷◌, Some, None, refl, sym, ap, ◌∙◌, subst, arith, lit<, get_or, Contains, ◌<◌}
 use Rattle.std.specs.Prelude.{codes, slice_get}
 use Rattle.std.proofs.lemmas.Option.{same_Some}
@@ -36,7 +37,11 @@ site = record {
   number = 0;
   items = record { item = x; value = 5 } ∷ [];
   entries = Write 1 x 6 ∷ Commit 1 ∷ Write 2 x 7 ∷ Commit 2 ∷ Read 3 x 7 ∷ Commit 3 ∷ [];
-  installed = record { tx = 1; handle = handle 1 } ∷ record { tx = 2; handle = handle 2 } ∷ record { tx = 3; handle = handle 3 } ∷ [];
+  installed = record { tx = 1; handle = handle 1 } ∷ record { tx = 2; handle = handle 2 } ∷ record {
+    tx = 3;
+    handle =
+        handle 3;
+  } ∷ [];
   pledge = None;
 }
 
@@ -61,8 +66,11 @@ is_x z c asks = ap (λ (d : Name × Change). d.0) (sym (is_single (x, Put 9) (z,
 -- each writer walks to me over the reader
 over_reader : (k : ℕ) (w : Writer) → IsWriter site x k w → Walks site x from_reader w.handle me
 over_reader zero w is =
-    let same : handle 1 ≡ w.handle = ap (λ (u : Writer). u.handle) (same_Some (record { tx = 1; handle = handle 1; increment = false }) w is) in
-    subst (λ h. Walks site x from_reader h me) same (on (handle 1) (handle 3) me (old (handle 1) (handle 3) from_first) (given (edge 0 (handle 3) me x Rw) (Contains-from_at from_reader 0 (edge 0 (handle 3) me x Rw) refl) refl))
+    let same : handle 1 ≡ w.handle =
+    ap (λ (u : Writer). u.handle) (same_Some (record { tx = 1; handle = handle 1; increment = false }) w is) in
+    subst (λ h. Walks site x from_reader h me) same
+    (on (handle 1) (handle 3) me (old (handle 1) (handle 3) from_first)
+    (given (edge 0 (handle 3) me x Rw) (Contains-from_at from_reader 0 (edge 0 (handle 3) me x Rw) refl) refl))
   where
     from_first : IsOldEdge site x (handle 1) (handle 3)
     from_first = record {
@@ -86,8 +94,11 @@ over_reader zero w is =
       };
     }
 over_reader (suc zero) w is =
-    let same : handle 2 ≡ w.handle = ap (λ (u : Writer). u.handle) (same_Some (record { tx = 2; handle = handle 2; increment = false }) w is) in
-    subst (λ h. Walks site x from_reader h me) same (on (handle 2) (handle 3) me (old (handle 2) (handle 3) from_second) (given (edge 0 (handle 3) me x Rw) (Contains-from_at from_reader 0 (edge 0 (handle 3) me x Rw) refl) refl))
+    let same : handle 2 ≡ w.handle =
+    ap (λ (u : Writer). u.handle) (same_Some (record { tx = 2; handle = handle 2; increment = false }) w is) in
+    subst (λ h. Walks site x from_reader h me) same
+    (on (handle 2) (handle 3) me (old (handle 2) (handle 3) from_second)
+    (given (edge 0 (handle 3) me x Rw) (Contains-from_at from_reader 0 (edge 0 (handle 3) me x Rw) refl) refl))
   where
     from_second : IsOldEdge site x (handle 2) (handle 3)
     from_second = record {
@@ -124,7 +135,9 @@ reader_is r is = by_place is.1.1.place is.1.1.at
     by_place (suc zero) at = absurd cc
     by_place (suc (suc zero)) at = absurd cc
     by_place (suc (suc (suc zero))) at = absurd cc
-    by_place (suc (suc (suc (suc zero)))) at = same_Some (handle 3) r.handle (ap (handle_of site.installed) (is_third r.tx is.1.0 (same_Some (Read 3 x 7) (Read r.tx x is.1.0) at)) ∙ is.0)
+    by_place (suc (suc (suc (suc zero)))) at =
+        same_Some (handle 3) r.handle
+        (ap (handle_of site.installed) (is_third r.tx is.1.0 (same_Some (Read 3 x 7) (Read r.tx x is.1.0) at)) ∙ is.0)
     by_place (suc (suc (suc (suc (suc zero))))) at = absurd cc
     by_place (suc (suc (suc (suc (suc (suc n)))))) at = absurd cc
 
@@ -133,10 +146,13 @@ by_case : (z : Name) (f t : Handle) (k : Kind) → Precedes site draft me z f t 
 by_case z f t k (wrote_before n m w saw less is) = absurd (omega (arith, saw.1.1))
 by_case z f t k (wrote_after n m w saw more is) = absurd (omega (arith, saw.1.1))
 by_case z f t k (wrote_too c m w asks is far) =
-    subst (λ (y : Name). Walks site y from_reader w.handle me) (is_x z c asks) (over_reader m w (subst (λ (y : Name). IsWriter site y m w) (sym (is_x z c asks)) is))
+    subst (λ (y : Name). Walks site y from_reader w.handle me) (is_x z c asks)
+    (over_reader m w (subst (λ (y : Name). IsWriter site y m w) (sym (is_x z c asks)) is))
 by_case z f t k (read_it c r asks is) =
     let same = reader_is r (subst (λ (y : Name). HasReader site y r) (sym (is_x z c asks)) is) in
-    subst (λ (y : Name). Walks site y from_reader r.handle me) (is_x z c asks) (subst (λ h. Walks site x from_reader h me) same (given (edge 0 (handle 3) me x Rw) (Contains-from_at from_reader 0 (edge 0 (handle 3) me x Rw) refl) refl))
+    subst (λ (y : Name). Walks site y from_reader r.handle me) (is_x z c asks)
+    (subst (λ h. Walks site x from_reader h me) same
+    (given (edge 0 (handle 3) me x Rw) (Contains-from_at from_reader 0 (edge 0 (handle 3) me x Rw) refl) refl))
 
 pub reader-stands_for_all : StandsForAll site draft me from_reader
 reader-stands_for_all z f t k is = by_case z f t k is.1
@@ -171,11 +187,16 @@ to_no_end Rw z tx e clash = clash.1
 to_no_end Ww z tx e clash = clash.1
 
 -- nothing conflicts with an earlier entry of 3
-nothing_after : (p q : ℕ) (e f : Entry) (kind : Kind) → slice_get site.entries p ≡ Some e → slice_get site.entries q ≡ Some f → p < q → tx_of e ≡ 3 → Clash kind x e f → ⊥
-nothing_after zero q e f kind at_p at_q lt of clash = eqb-false 1 3 refl (ap tx_of (same_Some (Write 1 x 6) e at_p) ∙ of)
-nothing_after (suc zero) q e f kind at_p at_q lt of clash = eqb-false 1 3 refl (ap tx_of (same_Some (Commit 1) e at_p) ∙ of)
-nothing_after (suc (suc zero)) q e f kind at_p at_q lt of clash = eqb-false 2 3 refl (ap tx_of (same_Some (Write 2 x 7) e at_p) ∙ of)
-nothing_after (suc (suc (suc zero))) q e f kind at_p at_q lt of clash = eqb-false 2 3 refl (ap tx_of (same_Some (Commit 2) e at_p) ∙ of)
+nothing_after : (p q : ℕ) (e f : Entry) (kind : Kind) → slice_get site.entries p ≡ Some e
+    → slice_get site.entries q ≡ Some f → p < q → tx_of e ≡ 3 → Clash kind x e f → ⊥
+nothing_after zero q e f kind at_p at_q lt of clash = eqb-false 1 3 refl (ap tx_of (same_Some (Write 1 x 6) e at_p)
+    ∙ of)
+nothing_after (suc zero) q e f kind at_p at_q lt of clash = eqb-false 1 3 refl (ap tx_of (same_Some (Commit 1) e at_p)
+    ∙ of)
+nothing_after (suc (suc zero)) q e f kind at_p at_q lt of clash =
+    eqb-false 2 3 refl (ap tx_of (same_Some (Write 2 x 7) e at_p) ∙ of)
+nothing_after (suc (suc (suc zero))) q e f kind at_p at_q lt of clash =
+    eqb-false 2 3 refl (ap tx_of (same_Some (Commit 2) e at_p) ∙ of)
 nothing_after (suc (suc (suc (suc zero)))) q e f kind at_p at_q lt of clash = by_second q at_q lt
   where
     by_second : (n : ℕ) → slice_get site.entries n ≡ Some f → 4 < n → ⊥
@@ -184,20 +205,30 @@ nothing_after (suc (suc (suc (suc zero)))) q e f kind at_p at_q lt of clash = by
     by_second (suc (suc zero)) at lt = absurd (omega (arith, lt))
     by_second (suc (suc (suc zero))) at lt = absurd (omega (arith, lt))
     by_second (suc (suc (suc (suc zero)))) at lt = absurd (omega (arith, lt))
-    by_second (suc (suc (suc (suc (suc zero))))) at lt = to_no_end kind x 3 e (subst (Clash kind x e) (sym (same_Some (Commit 3) f at)) clash)
+    by_second (suc (suc (suc (suc (suc zero))))) at lt =
+        to_no_end kind x 3 e (subst (Clash kind x e) (sym (same_Some (Commit 3) f at)) clash)
     by_second (suc (suc (suc (suc (suc (suc n)))))) at lt = absurd cc
-nothing_after (suc (suc (suc (suc (suc zero))))) q e f kind at_p at_q lt of clash = no_end kind x 3 f (subst (λ d. Clash kind x d f) (sym (same_Some (Commit 3) e at_p)) clash)
+nothing_after (suc (suc (suc (suc (suc zero))))) q e f kind at_p at_q lt of clash =
+    no_end kind x 3 f (subst (λ d. Clash kind x d f) (sym (same_Some (Commit 3) e at_p)) clash)
 nothing_after (suc (suc (suc (suc (suc (suc n)))))) q e f kind at_p at_q lt of clash = absurd cc
 
 no_walk : (f t : Handle) → Walks site x from_writer f t → f ≢ handle 3
-no_walk f t (given e has item) same = other_handle 2 3 (eqb-false 2 3 refl) (ap (λ (d : Edge). d.from) (sym (is_single (edge 0 (handle 2) me x Ww) e has)) ∙ same)
-no_walk f t (old g h o) same = nothing_after o.conflict.p o.conflict.q o.conflict.e o.conflict.f o.kind o.conflict.first o.conflict.second o.conflict.before (o.conflict.from ∙ third_is o.first (o.from_first ∙ ap Some same)) o.conflict.clash
+no_walk f t (given e has item) same =
+    other_handle 2 3 (eqb-false 2 3 refl)
+    (ap (λ (d : Edge). d.from) (sym (is_single (edge 0 (handle 2) me x Ww) e has)) ∙ same)
+no_walk f t (old g h o) same =
+    nothing_after o.conflict.p o.conflict.q o.conflict.e o.conflict.f o.kind o.conflict.first o.conflict.second
+    o.conflict.before (o.conflict.from ∙ third_is o.first (o.from_first ∙ ap Some same)) o.conflict.clash
 no_walk f t (on g h i first second) same = no_walk g h first same
 
 -- the edge from the last writer doesn't: nothing leads on from the reader
 pub writer-does_not_stand_for_all : StandsForAll site draft me from_writer → ⊥
 writer-does_not_stand_for_all stands =
-    no_walk (handle 3) me (stands x (handle 3) me Rw (other_handle 3 0 (eqb-false 3 0 refl), read_it (Put 9) (record { tx = 3; handle = handle 3; version = 2 }) (Contains-from_at ((x, Put 9) ∷ []) 0 (x, Put 9) refl) reader)) refl
+    no_walk (handle 3) me (stands x (handle 3) me Rw (
+      other_handle 3 0 (eqb-false 3 0 refl),
+      read_it (Put 9) (record { tx = 3; handle = handle 3; version = 2 })
+          (Contains-from_at ((x, Put 9) ∷ []) 0 (x, Put 9) refl) reader,
+    )) refl
   where
     reads : LogsRead site.entries 3 x 7 2
     reads = record { place = 4; at = refl; version = refl }
@@ -223,7 +254,13 @@ two_items = record {
 }
 
 abbrev both : List Touch
-both = record { site = 0; item = x; seen = None; change = Some (Put 9) } ∷ record { site = 0; item = y; seen = None; change = Some (Put 9) } ∷ []
+both = record { site = 0; item = x; seen = None; change = Some (Put 9) } ∷ record {
+  site = 0;
+  item = y;
+  seen =
+      None;
+  change = Some (Put 9);
+} ∷ []
 
 abbrev over_y : Edge
 over_y = edge 0 (handle 1) me y Ww
@@ -243,11 +280,13 @@ no_write_of_x zero e at writes = subst (Writes x) (sym (same_Some (Read 1 x 5) e
 no_write_of_x (suc zero) e at writes = other_item (subst (Writes x) (sym (same_Some (Write 1 y 7) e at)) writes)
 no_write_of_x (suc (suc zero)) e at writes = subst (Writes x) (sym (same_Some (Commit 1) e at)) writes
 no_write_of_x (suc (suc (suc zero))) e at writes = subst (Writes x) (sym (same_Some (Read 2 x 5) e at)) writes
-no_write_of_x (suc (suc (suc (suc zero)))) e at writes = other_item (subst (Writes x) (sym (same_Some (Write 2 y 8) e at)) writes)
+no_write_of_x (suc (suc (suc (suc zero)))) e at writes =
+    other_item (subst (Writes x) (sym (same_Some (Write 2 y 8) e at)) writes)
 no_write_of_x (suc (suc (suc (suc (suc zero))))) e at writes = subst (Writes x) (sym (same_Some (Commit 2) e at)) writes
 no_write_of_x (suc (suc (suc (suc (suc (suc n)))))) e at writes = absurd cc
 
-no_conflict : (p q : ℕ) (e f : Entry) (kind : Kind) → slice_get two_items.entries p ≡ Some e → slice_get two_items.entries q ≡ Some f → Clash kind x e f → ⊥
+no_conflict : (p q : ℕ) (e f : Entry) (kind : Kind) → slice_get two_items.entries p ≡ Some e
+    → slice_get two_items.entries q ≡ Some f → Clash kind x e f → ⊥
 no_conflict p q e f Wr at_p at_q clash = no_write_of_x p e at_p clash.0
 no_conflict p q e f Rw at_p at_q clash = no_write_of_x q f at_q clash.1
 no_conflict p q e f Ww at_p at_q clash = no_write_of_x p e at_p clash.0
@@ -260,18 +299,25 @@ from_first e has item same = by_place at.0 at.1
 
     by_place : (n : ℕ) → slice_get by_items n ≡ Some e → ⊥
     by_place zero here = other_item (ap (λ (d : Edge). d.label.item) (same_Some over_y e here) ∙ item)
-    by_place (suc zero) here = other_handle 2 1 (eqb-false 2 1 refl) (ap (λ (d : Edge). d.from) (same_Some over_x e here) ∙ same)
+    by_place (suc zero) here =
+        other_handle 2 1 (eqb-false 2 1 refl) (ap (λ (d : Edge). d.from) (same_Some over_x e here) ∙ same)
     by_place (suc (suc n)) here = absurd cc
 
 no_walk_of_x : (f t : Handle) → Walks two_items x by_items f t → f ≢ handle 1
 no_walk_of_x f t (given e has item) same = from_first e has item same
-no_walk_of_x f t (old g h o) same = no_conflict o.conflict.p o.conflict.q o.conflict.e o.conflict.f o.kind o.conflict.first o.conflict.second o.conflict.clash
+no_walk_of_x f t (old g h o) same =
+    no_conflict o.conflict.p o.conflict.q o.conflict.e o.conflict.f o.kind o.conflict.first o.conflict.second
+    o.conflict.clash
 no_walk_of_x f t (on g h i first second) same = no_walk_of_x g h first same
 
 -- a walk keeps to its item: neither the edge over y nor the conflict on y leads from 1 to me on x
 pub other_items-do_not_stand_for_all : StandsForAll two_items both me by_items → ⊥
 other_items-do_not_stand_for_all stands =
-    no_walk_of_x (handle 1) me (stands x (handle 1) me Rw (other_handle 1 0 (eqb-false 1 0 refl), read_it (Put 9) (record { tx = 1; handle = handle 1; version = 0 }) (Contains-from_at ((x, Put 9) ∷ (y, Put 9) ∷ []) 0 (x, Put 9) refl) reader)) refl
+    no_walk_of_x (handle 1) me (stands x (handle 1) me Rw (
+      other_handle 1 0 (eqb-false 1 0 refl),
+      read_it (Put 9) (record { tx = 1; handle = handle 1; version = 0 })
+          (Contains-from_at ((x, Put 9) ∷ (y, Put 9) ∷ []) 0 (x, Put 9) refl) reader,
+    )) refl
   where
     reads : LogsRead two_items.entries 1 x 5 0
     reads = record { place = 0; at = refl; version = refl }

@@ -32,7 +32,11 @@ use Rattle.sgt_edges.specs.declared.edge.Edge.{Edge}
 handle_or : (a b : Handle) → (a ≡ b) ⊎ (a ≢ b)
 handle_or a b = elim (cases_Bool (a.index == b.index)) [
   | inl hit ↦ elim (cases_Bool (a.generation == b.generation)) [
-    | inl same ↦ inl (λ i. record { index = (eqb-true a.index b.index hit) i; generation = (eqb-true a.generation b.generation same) i })
+    | inl same ↦ inl (λ i. record {
+      index = (eqb-true a.index b.index hit) i;
+      generation =
+          (eqb-true a.generation b.generation same) i;
+    })
     | inr other ↦ inr (λ e. eqb-false a.generation b.generation other (ap (λ (h : Handle). h.generation) e))
   ]
   | inr miss ↦ inr (λ e. eqb-false a.index b.index miss (ap (λ (h : Handle). h.index) e))
@@ -69,7 +73,8 @@ module _ (s : SiteState) (x : Name) (site : IsSite s) where
       omega (arith, many, lt)
 
   -- from a version on there are increments alone up to another, or there is a write between
-  run_or_write : (n m : ℕ) → m ≤ last → AddsOnly s x n m ⊎ ((j : ℕ) × (w : Writer) × (n ≤ j) × (j < m) × IsWriter s x j w × (w.increment ≡ false))
+  run_or_write : (n m : ℕ) → m ≤ last
+      → AddsOnly s x n m ⊎ ((j : ℕ) × (w : Writer) × (n ≤ j) × (j < m) × IsWriter s x j w × (w.increment ≡ false))
   run_or_write n zero le = inl (λ j w from below is. absurd (omega (arith, below)))
   run_or_write n (suc m) le = elim (run_or_write n m (omega (arith, le))) [
     | inr found ↦ let lt = found.3 in inr (found.0, found.1, found.2, omega (arith, lt), found.4, found.5)
@@ -83,20 +88,23 @@ module _ (s : SiteState) (x : Name) (site : IsSite s) where
               | inl early ↦ run j u from early is
               | inr late ↦
                   let here : j ≡ m = omega (arith, below, late) in
-                  ap (λ (v : Writer). v.increment) (same_Some u w.0 (sym is ∙ ap (slice_get (writers_of s.installed s.entries x)) here ∙ w.1)) ∙ adds
+                  ap (λ (v : Writer). v.increment)
+                  (same_Some u w.0 (sym is ∙ ap (slice_get (writers_of s.installed s.entries x)) here ∙ w.1)) ∙ adds
             ])
           ]
         ]
   ]
 
   -- of two changes that are not both increments, the earlier one has an edge to the later
-  writers_old : (k m : ℕ) (w u : Writer) → k < m → IsWriter s x k w → IsWriter s x m u → (w.increment ≡ false) ⊎ (u.increment ≡ false) → IsOldEdge s x w.handle u.handle
+  writers_old : (k m : ℕ) (w u : Writer) → k < m → IsWriter s x k w → IsWriter s x m u
+      → (w.increment ≡ false) ⊎ (u.increment ≡ false) → IsOldEdge s x w.handle u.handle
   writers_old k m w u lt is_w is_u which =
       let a = writer_at s site x k w is_w in
       let b = writer_at s site x m u is_u in
       let order : a.place < b.place = elim (cases_lt a.place b.place) [
         | inl less ↦ less
-        | inr le ↦ let more = count-rises (change_of x) s.entries b.place a.place le in absurd (omega (arith, more, a.number, b.number, lt))
+        | inr le ↦ let more = count-rises (change_of x) s.entries b.place a.place le in
+            absurd (omega (arith, more, a.number, b.number, lt))
       ] in
       record {
         first = w.tx;
@@ -114,23 +122,40 @@ module _ (s : SiteState) (x : Name) (site : IsSite s) where
           second = b.at;
           from = a.is.tx;
           to = b.is.tx;
-          apart = λ same. AllPairs_at (λ e f. (y : Name) → Repeats y e f → ⊥) s.entries a.place b.place a.entry b.entry site.orderly.once order a.at b.at x (a.is.tx ∙ same ∙ sym b.is.tx, inr (change-writes x a.entry a.is.change a.is.changes, change-writes x b.entry b.is.change b.is.changes));
-          clash = (change-writes x a.entry a.is.change a.is.changes, change-writes x b.entry b.is.change b.is.changes, not_both a.entry b.entry a.is.adds b.is.adds which);
+          apart = λ same. AllPairs_at (λ e f. (y : Name) → Repeats y e f
+              → ⊥) s.entries a.place b.place a.entry b.entry site.orderly.once order a.at b.at x (
+                a.is.tx ∙ same
+                    ∙ sym b.is.tx,
+                inr (
+                  change-writes x a.entry a.is.change a.is.changes,
+                  change-writes x b.entry b.is.change b.is.changes,
+                ),
+              );
+          clash = (
+            change-writes x a.entry a.is.change a.is.changes,
+            change-writes x b.entry b.is.change b.is.changes,
+            not_both a.entry b.entry a.is.adds b.is.adds which,
+          );
         };
       }
     where
-      not_both : (e f : _) → is_increment e ≡ w.increment → is_increment f ≡ u.increment → (w.increment ≡ false) ⊎ (u.increment ≡ false) → is_increment e ≡ true → is_increment f ≡ true → ⊥
+      not_both : (e f : _) → is_increment e ≡ w.increment → is_increment f ≡ u.increment
+          → (w.increment ≡ false) ⊎ (u.increment ≡ false) → is_increment e ≡ true → is_increment f ≡ true → ⊥
       not_both e f of_w of_u (inl write) adds_e adds_f = absurd cc
       not_both e f of_w of_u (inr write) adds_e adds_f = absurd cc
 
   -- a reader has an edge to each later change by another transaction
-  reader_old : (r : Reader) (m : ℕ) (u : Writer) → HasReader s x r → IsWriter s x m u → r.version ≤ m → r.tx ≢ u.tx → IsOldEdge s x r.handle u.handle
+  reader_old : (r : Reader) (m : ℕ) (u : Writer) → HasReader s x r → IsWriter s x m u → r.version ≤ m → r.tx ≢ u.tx
+      → IsOldEdge s x r.handle u.handle
   reader_old r m u reads is le other =
       let l = reads.1.1 in
       let b = writer_at s site x m u is in
       let order : l.place < b.place = elim (cases_order b.place l.place) [
-        | inl same ↦ absurd (read-changes_nothing x b.entry b.is.change r.tx x reads.1.0 b.is.changes (same_Some b.entry (Read r.tx x reads.1.0) (sym b.at ∙ ap (slice_get s.entries) same ∙ l.at)))
-        | inr (inl less) ↦ let one = count-next (change_of x) s.entries b.place l.place b.entry b.is.change b.at b.is.changes less in absurd (omega (arith, one, b.number, l.version, le))
+        | inl same ↦ absurd (read-changes_nothing x b.entry b.is.change r.tx x reads.1.0 b.is.changes
+            (same_Some b.entry (Read r.tx x reads.1.0) (sym b.at ∙ ap (slice_get s.entries) same ∙ l.at)))
+        | inr (inl less) ↦ let one =
+            count-next (change_of x) s.entries b.place l.place b.entry b.is.change b.at b.is.changes less in
+            absurd (omega (arith, one, b.number, l.version, le))
         | inr (inr more) ↦ more
       ] in
       record {
@@ -155,13 +180,15 @@ module _ (s : SiteState) (x : Name) (site : IsSite s) where
       }
 
   -- a change has an edge to each later reader of another transaction
-  old_reader : (k : ℕ) (w : Writer) (r : Reader) → IsWriter s x k w → HasReader s x r → k < r.version → w.tx ≢ r.tx → IsOldEdge s x w.handle r.handle
+  old_reader : (k : ℕ) (w : Writer) (r : Reader) → IsWriter s x k w → HasReader s x r → k < r.version → w.tx ≢ r.tx
+      → IsOldEdge s x w.handle r.handle
   old_reader k w r is reads lt other =
       let l = reads.1.1 in
       let b = writer_at s site x k w is in
       let order : b.place < l.place = elim (cases_lt b.place l.place) [
         | inl less ↦ less
-        | inr le ↦ let more = count-rises (change_of x) s.entries l.place b.place le in absurd (omega (arith, more, b.number, l.version, lt))
+        | inr le ↦ let more = count-rises (change_of x) s.entries l.place b.place le in
+            absurd (omega (arith, more, b.number, l.version, lt))
       ] in
       record {
         first = w.tx;
@@ -185,25 +212,31 @@ module _ (s : SiteState) (x : Name) (site : IsSite s) where
       }
 
   -- a reader that changed the item itself has one handle
-  same_handle : (r : Reader) (m : ℕ) (u : Writer) → HasReader s x r → IsWriter s x m u → r.tx ≡ u.tx → r.handle ≡ u.handle
-  same_handle r m u reads is same = same_Some r.handle u.handle (sym reads.0 ∙ ap (handle_of s.installed) same ∙ (writer_at s site x m u is).is.given)
+  same_handle : (r : Reader) (m : ℕ) (u : Writer) → HasReader s x r → IsWriter s x m u → r.tx ≡ u.tx
+      → r.handle ≡ u.handle
+  same_handle r m u reads is same = same_Some r.handle u.handle (sym reads.0 ∙ ap (handle_of s.installed) same
+      ∙ (writer_at s site x m u is).is.given)
 
   pub reader_below : (r : Reader) → HasReader s x r → r.version ≤ last
   reader_below r reads =
       let l = reads.1.1 in
       let lt = slice_get_within s.entries l.place (Read r.tx x reads.1.0) l.at in
       let more = count-rises (change_of x) s.entries l.place (length s.entries) (omega (arith, lt)) in
-      let whole : version_at (take (length s.entries) s.entries) x ≡ last = ap (λ es. version_at es x) (take-length s.entries) in
+      let whole : version_at (take (length s.entries) s.entries) x ≡ last =
+      ap (λ es. version_at es x) (take-length s.entries) in
       omega (arith, more, whole, l.version)
 
   -- a committed reader of a version from n on and below m
   abbrev IsRead : ℕ → ℕ → Type 0
   IsRead n m = (r : Reader) × HasReader s x r × (n ≤ r.version) × (r.version < m)
 
-  -- there is one whose read has this place in the log, or one whose read has an earlier place, or one at all, or there is none
-  read_at : (n m p : ℕ) → ((r : Reader) (is : HasReader s x r) → is.1.1.place ≡ p → n ≤ r.version → r.version < m → ⊥) ⊎ IsRead n m
+  -- there is one whose read has this place in the log, or one whose read has an earlier place, or one at all, or
+  -- there is none
+  read_at : (n m p : ℕ) → ((r : Reader) (is : HasReader s x r) → is.1.1.place ≡ p → n ≤ r.version → r.version < m → ⊥)
+      ⊎ IsRead n m
   read_at n m p = elim (option_cases (slice_get s.entries p)) [
-    | inl none ↦ inl (λ r is here from below. absurd (let e = sym none ∙ ap (slice_get s.entries) (sym here) ∙ is.1.1.at in cc))
+    | inl none ↦ inl (λ r is here from below. absurd (let e = sym none ∙ ap (slice_get s.entries) (sym here)
+        ∙ is.1.1.at in cc))
     | inr some ↦ elim (reads_or x some.0) [
       | inl other ↦ inl (λ r is here from below. other (subst (Reads x) (sym (read_is some.0 some.1 r is here)) refl))
       | inr read ↦ elim (option_cases (handle_of s.installed read.0)) [
@@ -226,13 +259,16 @@ module _ (s : SiteState) (x : Name) (site : IsSite s) where
     ]
   ]
     where
-      read_is : (e : Entry) → slice_get s.entries p ≡ Some e → (r : Reader) (is : HasReader s x r) → is.1.1.place ≡ p → e ≡ Read r.tx x is.1.0
-      read_is e at r is here = same_Some e (Read r.tx x is.1.0) (sym at ∙ ap (slice_get s.entries) (sym here) ∙ is.1.1.at)
+      read_is : (e : Entry) → slice_get s.entries p ≡ Some e → (r : Reader) (is : HasReader s x r) → is.1.1.place ≡ p
+          → e ≡ Read r.tx x is.1.0
+      read_is e at r is here = same_Some e (Read r.tx x is.1.0) (sym at ∙ ap (slice_get s.entries) (sym here)
+          ∙ is.1.1.at)
 
       version_is : (r : Reader) (is : HasReader s x r) → is.1.1.place ≡ p → version_at (take p s.entries) x ≡ r.version
       version_is r is here = ap (λ q. version_at (take q s.entries) x) (sym here) ∙ is.1.1.version
 
-  read_within : (n m p : ℕ) → ((r : Reader) (is : HasReader s x r) → is.1.1.place < p → n ≤ r.version → r.version < m → ⊥) ⊎ IsRead n m
+  read_within : (n m p : ℕ) → ((r : Reader) (is : HasReader s x r) → is.1.1.place < p → n ≤ r.version → r.version < m
+      → ⊥) ⊎ IsRead n m
   read_within n m zero = inl (λ r is lt from below. omega (arith, lt))
   read_within n m (suc p) = elim (read_within n m p) [
     | inr found ↦ inr found
@@ -248,7 +284,9 @@ module _ (s : SiteState) (x : Name) (site : IsSite s) where
   read_or_not : (n m : ℕ) → IsUnread s x n m ⊎ IsRead n m
   read_or_not n m = elim (read_within n m (length s.entries)) [
     | inr found ↦ inr found
-    | inl none ↦ inl (λ r is from below. none r is (slice_get_within s.entries is.1.1.place (Read r.tx x is.1.0) is.1.1.at) from below)
+    | inl none ↦ inl
+        (λ r is from below. none r is (slice_get_within s.entries is.1.1.place (Read r.tx x is.1.0) is.1.1.at) from
+        below)
   ]
 
   module _ (touched : List Touch) (me : Handle) (edges : List Edge) (have : HaveNeighbours s touched me edges) where
@@ -270,49 +308,57 @@ module _ (s : SiteState) (x : Name) (site : IsSite s) where
     to_me : (h : Handle) (kind : Kind) → IsNeighbour s touched me x h me kind → ToMe h
     to_me h kind near = elim (handle_or h me) [
       | inl same ↦ inl same
-      | inr far ↦ inr (given (record { from = h; to = me; label = record { site = s.number; item = x; kind = kind } }) (have x h me kind far near) refl)
+      | inr far ↦ inr (given (record { from = h; to = me; label = record { site = s.number; item = x; kind = kind } })
+          (have x h me kind far near) refl)
     ]
 
     from_me : (h : Handle) (kind : Kind) → IsNeighbour s touched me x me h kind → FromMe h
     from_me h kind near = elim (handle_or me h) [
       | inl same ↦ inl same
-      | inr far ↦ inr (given (record { from = me; to = h; label = record { site = s.number; item = x; kind = kind } }) (have x me h kind far near) refl)
+      | inr far ↦ inr (given (record { from = me; to = h; label = record { site = s.number; item = x; kind = kind } })
+          (have x me h kind far near) refl)
     ]
 
     -- a reader leads over a later change
-    reader_over : (r : Reader) (m : ℕ) (u : Writer) → HasReader s x r → IsWriter s x m u → r.version ≤ m → ToMe u.handle → ToMe r.handle
+    reader_over : (r : Reader) (m : ℕ) (u : Writer) → HasReader s x r → IsWriter s x m u → r.version ≤ m
+        → ToMe u.handle → ToMe r.handle
     reader_over r m u reads is le leads = elim (cases_Bool (r.tx == u.tx)) [
       | inl hit ↦ subst ToMe (sym (same_handle r m u reads is (eqb-true r.tx u.tx hit))) leads
       | inr miss ↦ over_old r.handle u.handle (reader_old r m u reads is le (eqb-false r.tx u.tx miss)) leads
     ]
 
     -- a change leads over a later reader
-    writer_over : (k : ℕ) (w : Writer) (r : Reader) → IsWriter s x k w → HasReader s x r → k < r.version → ToMe r.handle → ToMe w.handle
+    writer_over : (k : ℕ) (w : Writer) (r : Reader) → IsWriter s x k w → HasReader s x r → k < r.version
+        → ToMe r.handle → ToMe w.handle
     writer_over k w r is reads lt leads = elim (cases_Bool (w.tx == r.tx)) [
       | inl hit ↦ subst ToMe (same_handle r k w reads is (sym (eqb-true w.tx r.tx hit))) leads
       | inr miss ↦ over_old w.handle r.handle (old_reader k w r is reads lt (eqb-false w.tx r.tx miss)) leads
     ]
 
     -- and where one is led to, so is the other behind it
-    reader_from : (k : ℕ) (w : Writer) (r : Reader) → IsWriter s x k w → HasReader s x r → k < r.version → FromMe w.handle → FromMe r.handle
+    reader_from : (k : ℕ) (w : Writer) (r : Reader) → IsWriter s x k w → HasReader s x r → k < r.version
+        → FromMe w.handle → FromMe r.handle
     reader_from k w r is reads lt leads = elim (cases_Bool (w.tx == r.tx)) [
       | inl hit ↦ subst FromMe (sym (same_handle r k w reads is (sym (eqb-true w.tx r.tx hit)))) leads
       | inr miss ↦ old_over w.handle r.handle leads (old_reader k w r is reads lt (eqb-false w.tx r.tx miss))
     ]
 
-    writer_from : (r : Reader) (m : ℕ) (u : Writer) → HasReader s x r → IsWriter s x m u → r.version ≤ m → FromMe r.handle → FromMe u.handle
+    writer_from : (r : Reader) (m : ℕ) (u : Writer) → HasReader s x r → IsWriter s x m u → r.version ≤ m
+        → FromMe r.handle → FromMe u.handle
     writer_from r m u reads is le leads = elim (cases_Bool (r.tx == u.tx)) [
       | inl hit ↦ subst FromMe (same_handle r m u reads is (eqb-true r.tx u.tx hit)) leads
       | inr miss ↦ old_over r.handle u.handle leads (reader_old r m u reads is le (eqb-false r.tx u.tx miss))
     ]
 
     -- each writer in front of a version leads over those directly in front of it
-    front : (fuel n k : ℕ) (w : Writer) → n ≤ last → n ≤ k + fuel → k < n → IsWriter s x k w → ((j : ℕ) (u : Writer) → IsInFront s x n j u → ToMe u.handle) → ToMe w.handle
+    front : (fuel n k : ℕ) (w : Writer) → n ≤ last → n ≤ k + fuel → k < n → IsWriter s x k w
+        → ((j : ℕ) (u : Writer) → IsInFront s x n j u → ToMe u.handle) → ToMe w.handle
     front zero n k w le far lt is near = absurd (omega (arith, far, lt))
     front (suc fuel) n k w le far lt is near = elim (run_or_write (suc k) n le) [
       | inr found ↦
           let more = found.2 in
-          over_old w.handle found.1.handle (writers_old k found.0 w found.1 (omega (arith, more)) is found.4 (inr found.5)) (front fuel n found.0 found.1 le (omega (arith, far, more)) found.3 found.4 near)
+          over_old w.handle found.1.handle (writers_old k found.0 w found.1 (omega (arith, more)) is found.4
+          (inr found.5)) (front fuel n found.0 found.1 le (omega (arith, far, more)) found.3 found.4 near)
       | inl run ↦ elim (cases_Bool w.increment) [
         | inl adds ↦ elim (read_or_not (suc k) n) [
           | inl unread ↦ near k w record { writer = is; before = lt; run = run; which = inl adds; unread = unread }
@@ -321,7 +367,8 @@ module _ (s : SiteState) (x : Name) (site : IsSite s) where
               let below = read.3 in
               let u = writer_there read.0.version (omega (arith, below, le)) in
               let leads = front fuel n read.0.version u.0 le (omega (arith, far, later)) below u.1 near in
-              writer_over k w read.0 is read.1 (omega (arith, later)) (reader_over read.0 read.0.version u.0 read.1 u.1 (omega arith) leads)
+              writer_over k w read.0 is read.1 (omega (arith, later))
+              (reader_over read.0 read.0.version u.0 read.1 u.1 (omega arith) leads)
         ]
         | inr write ↦ elim (cases_lt (suc k) n) [
           | inr end ↦ near k w record {
@@ -333,44 +380,53 @@ module _ (s : SiteState) (x : Name) (site : IsSite s) where
           }
           | inl less ↦
               let u = writer_there (suc k) (omega (arith, less, le)) in
-              over_old w.handle u.0.handle (writers_old k (suc k) w u.0 (omega arith) is u.1 (inl write)) (front fuel n (suc k) u.0 le (omega (arith, far)) less u.1 near)
+              over_old w.handle u.0.handle (writers_old k (suc k) w u.0 (omega arith) is u.1 (inl write))
+              (front fuel n (suc k) u.0 le (omega (arith, far)) less u.1 near)
         ]
       ]
     ]
 
     -- each write leads over the last one
-    front_write : (fuel k : ℕ) (w : Writer) → last ≤ k + fuel → IsWriter s x k w → w.increment ≡ false → ((j : ℕ) (u : Writer) → IsLastWrite s x j u → ToMe u.handle) → ToMe w.handle
+    front_write : (fuel k : ℕ) (w : Writer) → last ≤ k + fuel → IsWriter s x k w → w.increment ≡ false
+        → ((j : ℕ) (u : Writer) → IsLastWrite s x j u → ToMe u.handle) → ToMe w.handle
     front_write zero k w far is write near = absurd (let lt = writer_below k w is in omega (arith, far, lt))
     front_write (suc fuel) k w far is write near = elim (run_or_write (suc k) last (omega arith)) [
       | inl run ↦ near k w record { writer = is; write = write; run = run }
       | inr found ↦
           let more = found.2 in
-          over_old w.handle found.1.handle (writers_old k found.0 w found.1 (omega (arith, more)) is found.4 (inl write)) (front_write fuel found.0 found.1 (omega (arith, far, more)) found.4 found.5 near)
+          over_old w.handle found.1.handle (writers_old k found.0 w found.1 (omega (arith, more)) is found.4
+          (inl write)) (front_write fuel found.0 found.1 (omega (arith, far, more)) found.4 found.5 near)
     ]
 
     -- and each writer from a version on is led to over those up to the next write
-    after : (fuel n k : ℕ) (w : Writer) → k ≤ fuel → n ≤ k → IsWriter s x k w → ((j : ℕ) (u : Writer) → IsBehind s x n j u → FromMe u.handle) → FromMe w.handle
+    after : (fuel n k : ℕ) (w : Writer) → k ≤ fuel → n ≤ k → IsWriter s x k w
+        → ((j : ℕ) (u : Writer) → IsBehind s x n j u → FromMe u.handle) → FromMe w.handle
     after zero n k w far le is near = near k w record {
       writer = is;
       after = le;
       run = λ j u from below at. absurd (omega (arith, far, below));
       unread = λ r reads from below. omega (arith, far, from, below);
     }
-    after (suc fuel) n k w far le is near = elim (run_or_write n k (let lt = writer_below k w is in omega (arith, lt))) [
-      | inl run ↦ elim (read_or_not (suc n) (suc k)) [
-        | inl unread ↦ near k w record { writer = is; after = le; run = run; unread = unread }
-        | inr read ↦
-            let later = read.2 in
-            let below = read.3 in
-            let most = writer_below k w is in
-            let u = writer_there (read.0.version - 1) (omega (arith, later, below, most)) in
-            let leads = after fuel n (read.0.version - 1) u.0 (omega (arith, far, below)) (omega (arith, later)) u.1 near in
-            writer_from read.0 k w read.1 is (omega (arith, below)) (reader_from (read.0.version - 1) u.0 read.0 u.1 read.1 (omega (arith, later)) leads)
-      ]
-      | inr found ↦
-          let lt = found.3 in
-          old_over found.1.handle w.handle (after fuel n found.0 found.1 (omega (arith, far, lt)) found.2 found.4 near) (writers_old found.0 k found.1 w lt found.4 is (inl found.5))
-    ]
+    after (suc fuel) n k w far le is near =
+        elim (run_or_write n k (let lt = writer_below k w is in omega (arith, lt))) [
+          | inl run ↦ elim (read_or_not (suc n) (suc k)) [
+            | inl unread ↦ near k w record { writer = is; after = le; run = run; unread = unread }
+            | inr read ↦
+                let later = read.2 in
+                let below = read.3 in
+                let most = writer_below k w is in
+                let u = writer_there (read.0.version - 1) (omega (arith, later, below, most)) in
+                let leads = after fuel n (read.0.version - 1) u.0 (omega (arith, far, below)) (omega (arith, later)) u.1
+                near in
+                writer_from read.0 k w read.1 is (omega (arith, below))
+                (reader_from (read.0.version - 1) u.0 read.0 u.1 read.1 (omega (arith, later)) leads)
+          ]
+          | inr found ↦
+              let lt = found.3 in
+              old_over found.1.handle w.handle
+              (after fuel n found.0 found.1 (omega (arith, far, lt)) found.2 found.4 near)
+              (writers_old found.0 k found.1 w lt found.4 is (inl found.5))
+        ]
 
     -- an increment directly in front of a write leads over a reader of the present version
     put_near : (v k : ℕ) (w : Writer) → IsToChange s touched x (Put v) → IsInFront s x last k w → ToMe w.handle
@@ -382,39 +438,56 @@ module _ (s : SiteState) (x : Name) (site : IsSite s) where
             let le = read.2 in
             let lt = read.3 in
             let before = near.before in
-            writer_over k w read.0 near.writer read.1 (omega (arith, before, le)) (to_me read.0.handle Rw (put_read v read.0 asks read.1 (omega (arith, le, lt))))
+            writer_over k w read.0 near.writer read.1 (omega (arith, before, le))
+            (to_me read.0.handle Rw (put_read v read.0 asks read.1 (omega (arith, le, lt))))
       ]
     ]
 
     put_front : (v k : ℕ) (w : Writer) → IsToChange s touched x (Put v) → IsWriter s x k w → ToMe w.handle
-    put_front v k w asks is = front last last k w (omega arith) (omega arith) (writer_below k w is) is (λ j u near. put_near v j u asks near)
+    put_front v k w asks is = front last last k w (omega arith) (omega arith) (writer_below k w is) is
+        (λ j u near. put_near v j u asks near)
 
-    add_front : (v k : ℕ) (w : Writer) → IsToChange s touched x (Add v) → IsWriter s x k w → w.increment ≡ false → ToMe w.handle
-    add_front v k w asks is write = front_write last k w (omega arith) is write (λ j u near. to_me u.handle Ww (add_last v j u asks near))
+    add_front : (v k : ℕ) (w : Writer) → IsToChange s touched x (Add v) → IsWriter s x k w → w.increment ≡ false
+        → ToMe w.handle
+    add_front v k w asks is write =
+        front_write last k w (omega arith) is write (λ j u near. to_me u.handle Ww (add_last v j u asks near))
 
     put_reader : (v : ℕ) (r : Reader) → IsToChange s touched x (Put v) → HasReader s x r → ToMe r.handle
     put_reader v r asks reads = elim (cases_lt r.version last) [
-      | inl less ↦ let u = writer_there r.version less in reader_over r r.version u.0 reads u.1 (omega arith) (put_front v r.version u.0 asks u.1)
-      | inr more ↦ let le = reader_below r reads in to_me r.handle Rw (put_read v r asks reads (omega (arith, le, more)))
+      | inl less ↦ let u = writer_there r.version less in
+          reader_over r r.version u.0 reads u.1 (omega arith) (put_front v r.version u.0 asks u.1)
+      | inr more ↦ let le = reader_below r reads in
+          to_me r.handle Rw (put_read v r asks reads (omega (arith, le, more)))
     ]
 
     -- a reader since the last write leads over the last ones
-    reader_since : (fuel v : ℕ) (r : Reader) → last ≤ r.version + fuel → IsToChange s touched x (Add v) → HasReader s x r → AddsOnly s x r.version last → ToMe r.handle
-    reader_since zero v r far asks reads run = to_me r.handle Rw (add_read v r asks record { reader = reads; run = run; unread = λ q is from below. omega (arith, far, from, below) })
+    reader_since : (fuel v : ℕ) (r : Reader) → last ≤ r.version + fuel → IsToChange s touched x (Add v)
+        → HasReader s x r → AddsOnly s x r.version last → ToMe r.handle
+    reader_since zero v r far asks reads run =
+        to_me r.handle Rw (add_read v r asks record {
+          reader = reads;
+          run = run;
+          unread =
+              λ q is from below. omega (arith, far, from, below);
+        })
     reader_since (suc fuel) v r far asks reads run = elim (read_or_not (suc r.version) (suc last)) [
       | inl unread ↦ to_me r.handle Rw (add_read v r asks record { reader = reads; run = run; unread = unread })
       | inr read ↦
           let later = read.2 in
           let below = read.3 in
           let u = writer_there r.version (omega (arith, later, below)) in
-          let leads = reader_since fuel v read.0 (omega (arith, far, later)) asks read.1 (λ j w from less is. run j w (omega (arith, from, later)) less is) in
-          reader_over r r.version u.0 reads u.1 (omega arith) (writer_over r.version u.0 read.0 u.1 read.1 (omega (arith, later)) leads)
+          let leads =
+          reader_since fuel v read.0 (omega (arith, far, later)) asks read.1
+          (λ j w from less is. run j w (omega (arith, from, later)) less is) in
+          reader_over r r.version u.0 reads u.1 (omega arith)
+          (writer_over r.version u.0 read.0 u.1 read.1 (omega (arith, later)) leads)
     ]
 
     add_reader : (v : ℕ) (r : Reader) → IsToChange s touched x (Add v) → HasReader s x r → ToMe r.handle
     add_reader v r asks reads = elim (run_or_write r.version last (omega arith)) [
       | inl run ↦ reader_since last v r (omega arith) asks reads run
-      | inr found ↦ reader_over r found.0 found.1 reads found.4 found.2 (add_front v found.0 found.1 asks found.4 found.5)
+      | inr found ↦ reader_over r found.0 found.1 reads found.4 found.2
+          (add_front v found.0 found.1 asks found.4 found.5)
     ]
 
     not_me : (h : Handle) → h ≢ me → ToMe h → Walks s x edges h me
@@ -431,19 +504,28 @@ module _ (s : SiteState) (x : Name) (site : IsSite s) where
       | inr le ↦ le
     ]
 
-    carried : (f t : Handle) (kind : Kind) → (SeesTooNew s touched → ⊥) → f ≢ t → Precedes s touched me x f t kind → Walks s x edges f t
-    carried f t kind fine far (wrote_before n k w saw less is) = not_me w.handle far (front last n k w (saw_below n fine saw) (let le = saw_below n fine saw in omega (arith, le)) less is (λ j u near. to_me u.handle Wr (in_front n j u saw near)))
-    carried f t kind fine far (wrote_after n k w saw more is) = not_from_me w.handle far (after k n k w (omega arith) more is (λ j u near. from_me u.handle Rw (behind n j u saw near)))
+    carried : (f t : Handle) (kind : Kind) → (SeesTooNew s touched → ⊥) → f ≢ t → Precedes s touched me x f t kind
+        → Walks s x edges f t
+    carried f t kind fine far (wrote_before n k w saw less is) =
+        not_me w.handle far (front last n k w (saw_below n fine saw) (let le = saw_below n fine saw in
+        omega (arith, le)) less is (λ j u near. to_me u.handle Wr (in_front n j u saw near)))
+    carried f t kind fine far (wrote_after n k w saw more is) =
+        not_from_me w.handle far
+        (after k n k w (omega arith) more is (λ j u near. from_me u.handle Rw (behind n j u saw near)))
     carried f t kind fine far (wrote_too (Put v) k w asks is conflict) = not_me w.handle far (put_front v k w asks is)
-    carried f t kind fine far (wrote_too (Add v) k w asks is conflict) = not_me w.handle far (add_front v k w asks is conflict)
+    carried f t kind fine far (wrote_too (Add v) k w asks is conflict) =
+        not_me w.handle far (add_front v k w asks is conflict)
     carried f t kind fine far (read_it (Put v) r asks reads) = not_me r.handle far (put_reader v r asks reads)
     carried f t kind fine far (read_it (Add v) r asks reads) = not_me r.handle far (add_reader v r asks reads)
 
-pub neighbours-carry : (s : SiteState) (touched : List Touch) (me : Handle) (edges : List Edge) → IsSite s → (SeesTooNew s touched → ⊥) → HaveNeighbours s touched me edges → StandsForAll s touched me edges
-neighbours-carry s touched me edges site fine have x f t kind is = carried s x site touched me edges have f t kind fine is.0 is.1
+pub neighbours-carry : (s : SiteState) (touched : List Touch) (me : Handle) (edges : List Edge) → IsSite s
+    → (SeesTooNew s touched → ⊥) → HaveNeighbours s touched me edges → StandsForAll s touched me edges
+neighbours-carry s touched me edges site fine have x f t kind is =
+    carried s x site touched me edges have f t kind fine is.0 is.1
 
 -- and each neighbour under another handle is an edge of the rule
-pub neighbour-edge : (s : SiteState) (touched : List Touch) (me : Handle) (x : Name) (f t : Handle) (kind : Kind) → f ≢ t → IsNeighbour s touched me x f t kind → IsEdge s touched me x f t kind
+pub neighbour-edge : (s : SiteState) (touched : List Touch) (me : Handle) (x : Name) (f t : Handle) (kind : Kind)
+    → f ≢ t → IsNeighbour s touched me x f t kind → IsEdge s touched me x f t kind
 neighbour-edge s touched me x f t kind far near = (far, by_case f t kind near)
   where
     by_case : (f t : Handle) (kind : Kind) → IsNeighbour s touched me x f t kind → Precedes s touched me x f t kind

@@ -19,8 +19,10 @@ module _ (s : SiteState) (site : IsSite s) where
   pub versions : (x : Name) → length (writers_of s.installed s.entries x) ≡ version_at s.entries x
   versions x = length-writers s.installed s.entries x (all_given s site)
 
-  known : (n : ℕ) (e : Entry) (x : Name) → slice_get s.entries n ≡ Some e → item_of e ≡ Some x → Contains (names s.items) x
-  known n e x at of = All_at (λ e. ForSome (item_of e) (Contains (names s.items))) s.entries n e site.orderly.known at x of
+  known : (n : ℕ) (e : Entry) (x : Name) → slice_get s.entries n ≡ Some e → item_of e ≡ Some x
+      → Contains (names s.items) x
+  known n e x at of = All_at (λ e. ForSome (item_of e) (Contains (names s.items))) s.entries n e site.orderly.known at
+      x of
 
   module _ (x : Name) (absent : Contains (names s.items) x → ⊥) where
     pub no_writers : writers_of s.installed s.entries x ≡ []

@@ -43,7 +43,8 @@ ConflictsWith (Add v) w = w.increment ≡ false
 -- a write before my read, or my read before a later write; a write before my own; a read before my
 -- write.
 -- An increment counts as a write, but two increments are in no conflict
-pub data Precedes (s : SiteState) (touched : List Touch) (me : Handle) (x : Name) : Handle → Handle → Kind → Type 0 where
+pub data Precedes (s : SiteState) (touched : List Touch) (me : Handle) (x : Name) : Handle → Handle → Kind
+    → Type 0 where
   wrote_before : (n k : ℕ) (w : Writer) → SawAt s touched x n → k < n → IsWriter s x k w
       → Precedes s touched me x w.handle me Wr
   wrote_after : (n k : ℕ) (w : Writer) → SawAt s touched x n → n ≤ k → IsWriter s x k w

@@ -54,7 +54,8 @@ pub record IsLastReader (s : SiteState) (x : Name) (r : Reader) : Type 0 where
 -- as far as no committed read stands between; for a write the readers of the present version, and
 -- the present run as far as nobody
 -- has read it since; for an increment the last write and the last readers since then
-pub data IsNeighbour (s : SiteState) (touched : List Touch) (me : Handle) (x : Name) : Handle → Handle → Kind → Type 0 where
+pub data IsNeighbour (s : SiteState) (touched : List Touch) (me : Handle) (x : Name) : Handle → Handle → Kind
+    → Type 0 where
   in_front : (n k : ℕ) (w : Writer) → SawAt s touched x n → IsInFront s x n k w
       → IsNeighbour s touched me x w.handle me Wr
   behind : (n k : ℕ) (w : Writer) → SawAt s touched x n → IsBehind s x n k w

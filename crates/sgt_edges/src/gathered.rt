@@ -16,12 +16,12 @@ use sgt_names::{Draft, Kind, Label, Part, SiteNo, Touch};
 use sgt_site::{Reader, Site, Writer};
 use std::alloc::{AllocError, Global};
 
-/// The conflicts of a draft's reads and changes at a site with the committed transactions there, as edges to and from this
-/// node: never to itself, and to neighbours alone, over which walks lead to the others. Their order is not fixed. The source of
-/// the rule: Bernstein, Hadzilacos and Goodman 1987, ch. 2 and 4.4.
+/// The conflicts of a draft's reads and changes at a site with the committed transactions there, as edges to and from
+/// this node: never to itself, and to neighbours alone, over which walks lead to the others. Their order is not
+/// fixed. The source of the rule: Bernstein, Hadzilacos and Goodman 1987, ch. 2 and 4.4.
 ///
-/// Searches the site's items for each item that the draft touches there, and the item's readers for its versions, and then goes over the writers and
-/// readers that it gives edges of and at most one more in each direction.
+/// Searches the site's items for each item that the draft touches there, and the item's readers for its versions, and
+/// then goes over the writers and readers that it gives edges of and at most one more in each direction.
 pub fn gather(alloc: Global, site: &Site, draft: &Draft, me: Handle) -> Result<EdgeList, EdgeFault>
     ensures given { IfOk result (λ edges. All (IsGiven site.now draft.now.touched me) edges) }
     ensures stands { IfOk result (StandsForAll site.now draft.now.touched me) }
@@ -80,8 +80,8 @@ fn are_near(few: &[Touch], parts: &[Part]) -> bool
     parts.is_empty() && few.len() <= NEAR
 }
 
-// The draft's edges here to and from neighbours: all of them, and nothing else. None where a version in the draft exceeds the
-// site's.
+// The draft's edges here to and from neighbours: all of them, and nothing else. None where a version in the draft
+// exceeds the site's.
 fn to_neighbours(
     edges: &mut EdgeList,
     site: &Site,
@@ -133,7 +133,8 @@ fn exceeds(touch: &Touch, writers: &[Writer]) -> bool
     }
 }
 
-// Adds the edges of one touched item, if it is at the site. Errs also where the version in the draft exceeds the site's.
+// Adds the edges of one touched item, if it is at the site. Errs also where the version in the draft exceeds the
+// site's.
 fn add_edges(
     edges: &mut EdgeList,
     site: &Site,

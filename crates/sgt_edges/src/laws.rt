@@ -12,8 +12,8 @@ ghost use Rattle.sgt_edges.specs.declared.edge.Edge.{Edge};
 ghost use Rattle.sgt_edges.specs.Sites.{Gathering, IsGathered, IsGivenStep, IsStep, Leads};
 ghost use Rattle.sgt_edges.specs.declared.fault.EdgeFault.{EdgeFault};
 
-/// The edges of an active transaction at a site are its conflicts with the committed ones under other handles, in the site's log
-/// followed by its private changes there.
+/// The edges of an active transaction at a site are its conflicts with the committed ones under other handles, in the
+/// site's log followed by its private changes there.
 pub fn edges_are_conflicts()
     ensures { (s : SiteState) (tx : ℕ) (touched : List Touch) (me : Handle) → IsSite s
         → IsActive s tx touched
@@ -40,8 +40,8 @@ pub fn gathers_are_refused_once()
 {}
 
 /// Of one draft at several sites: a walk over edges of the draft at any of them and logged conflicts between committed
-/// transactions is one over the edges that were given and such conflicts, and the other way round. So a certifier that is handed
-/// the given edges decides as on all of them.
+/// transactions is one over the edges that were given and such conflicts, and the other way round. So a certifier
+/// that is handed the given edges decides as on all of them.
 pub fn given_edges_lead_as_all_do()
     ensures { (touched : List Touch) (me : Handle) (gs : List Gathering)
         → All (IsGathered touched me) gs
@@ -49,8 +49,8 @@ pub fn given_edges_lead_as_all_do()
         → Leads (IsStep touched me gs) from to ↔ Leads (IsGivenStep gs) from to }
 {}
 
-/// Edges to neighbours carry every conflict: where they are all given, they stand for all edges of the draft at the site.
-/// Each of them is one.
+/// Edges to neighbours carry every conflict: where they are all given, they stand for all edges of the draft at the
+/// site. Each of them is one.
 pub fn neighbours_carry_every_conflict()
     ensures carry { (s : SiteState) (touched : List Touch) (me : Handle) (edges : List Edge)
         → IsSite s → (SeesTooNew s touched → ⊥)

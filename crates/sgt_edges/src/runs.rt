@@ -1,5 +1,5 @@
-//! The neighbours of a draft's operations: of the committed transactions that wrote or read an item, those directly in front of and
-//! behind a version, and those that a change follows.
+//! The neighbours of a draft's operations: of the committed transactions that wrote or read an item, those directly
+//! in front of and behind a version, and those that a change follows.
 
 ghost use Rattle.std.specs.Prelude.{◌≡◌, ◌↔◌, ◌≤◌, ◌<◌, ◌-◌, ◌⊎◌, ℕ, suc, true, false, Some, ltb, length, slice_get, AllPairs, Contains, IsTrue};
 ghost use Rattle.std.specs.List.Sorted.{IsPartitionPoint};
@@ -76,7 +76,8 @@ fn older_readers(readers: &[Reader], version: u64) -> usize
     readers.partition_point(|r| r.version < version)
 }
 
-// The least version above this one at which a committed transaction read the item, or the present one where there is none.
+// The least version above this one at which a committed transaction read the item, or the present one where there is
+// none.
 fn read_above(site: &Site, item: Item, version: u64, present: u64) -> u64
     requires present { present ≡ version_at site.now.entries item }
     requires below { version < present }
@@ -106,8 +107,8 @@ fn is_read(site: &Site, item: Item, present: u64) -> bool
     }
 }
 
-/// Of an item's writers those directly in front of a version: the increments of the run there since the last read of an older
-/// version, or the write at its beginning where it is empty.
+/// Of an item's writers those directly in front of a version: the increments of the run there since the last read of
+/// an older version, or the write at its beginning where it is empty.
 pub(crate) fn in_front<'a>(
     site: &Site,
     item: Item,
@@ -150,7 +151,8 @@ fn last_written(writers: &[Writer]) -> usize
     }
 }
 
-/// Of an item's writers those from a version on, up to and with the next write, but none behind the next version that was read.
+/// Of an item's writers those from a version on, up to and with the next write, but none behind the next version that
+/// was read.
 pub(crate) fn behind<'a>(
     site: &Site,
     item: Item,
@@ -187,8 +189,8 @@ fn run_length(writers: &[Writer]) -> usize
     }
 }
 
-/// Of the item's writers those that a change has its edges from: for a write those directly in front of it, but no increment where
-/// the present version was read, and for an increment the last write.
+/// Of the item's writers those that a change has its edges from: for a write those directly in front of it, but no
+/// increment where the present version was read, and for an increment the last write.
 pub(crate) fn changes_before<'a>(
     site: &Site,
     item: Item,
@@ -232,8 +234,8 @@ fn last_write<'a>(site: &Site, item: Item, writers: &'a [Writer]) -> &'a [Writer
     &writers[written.saturating_sub(1)..written]
 }
 
-/// The readers that a change has its edges from: for a write those of the present version, for an increment those of the last
-/// version that was read, if it was read since the last write.
+/// The readers that a change has its edges from: for a write those of the present version, for an increment those of
+/// the last version that was read, if it was read since the last write.
 pub(crate) fn reads_before(site: &Site, item: Item, version: u64, change: Change) -> &[Reader]
     requires { version ≡ version_at site.now.entries item }
     ensures before { (r : CommittedReader)

@@ -32,8 +32,10 @@ module _ (h : List (Transaction ℕ ℕ)) (positive : ArePositive h) (faultless 
   one_transaction line t u a b = same_Some t u (sym a ∙ b)
 
   -- of two writes of an item by one transaction the later has the greater version
-  own-rise : (line : ℕ) (t : Transaction ℕ ℕ) → IsCommitted h line t → (top k j x : ℕ) (o w : Operation ℕ ℕ) → k ≤ top → j < k
-      → slice_get t.operations j ≡ Some w → IsWriteOf w x → slice_get t.operations k ≡ Some o → IsWriteOf o x → w.version < o.version
+  own-rise : (line : ℕ) (t : Transaction ℕ ℕ) → IsCommitted h line t → (top k j x : ℕ) (o w : Operation ℕ ℕ) → k ≤ top
+      → j < k
+      → slice_get t.operations j ≡ Some w → IsWriteOf w x → slice_get t.operations k ≡ Some o → IsWriteOf o x
+      → w.version < o.version
   own-rise line t c zero k j x o w le lt at writes at' writes' = absurd (omega arith)
   own-rise line t c (suc top) k j x o w le lt at writes at' writes' =
       let found = has_some t.operations k x in
@@ -57,10 +59,14 @@ module _ (h : List (Transaction ℕ ℕ)) (positive : ArePositive h) (faultless 
             ] in
             elim (cases_order j last.last) [
               | inl e ↦
-                  let same = ap (λ (u : Operation ℕ ℕ). u.version) (one_at t.operations j last.last w last.o e at last.there) in
+                  let same =
+                  ap (λ (u : Operation ℕ ℕ). u.version)
+                  (one_at t.operations j last.last w last.o e at last.there) in
                   omega (arith, same, last.version_is, below)
               | inr (inl before) ↦
-                  let rise = own-rise line t c top last.last j x last.o w (omega (arith, last.before)) before at writes last.there last.writes in
+                  let rise =
+                  own-rise line t c top last.last j x last.o w (omega (arith, last.before)) before at writes
+                  last.there last.writes in
                   omega (arith, rise, last.version_is, below)
               | inr (inr behind) ↦ absurd (last.none j w (omega arith) lt at writes)
             ]
@@ -80,7 +86,12 @@ module _ (h : List (Transaction ℕ ℕ)) (positive : ArePositive h) (faultless 
         t = b.t;
         o = b.o;
         is = b.is;
-        has = (b.writes.write, l, lt, subst (Writes h l b.o.item) (sym b.version_is) (subst (λ y. Writes h l y v) (sym b.writes.item) a));
+        has = (
+          b.writes.write,
+          l,
+          lt,
+          subst (Writes h l b.o.item) (sym b.version_is) (subst (λ y. Writes h l y v) (sym b.writes.item) a),
+        );
       })
 
   -- ---- the order
@@ -92,7 +103,8 @@ module _ (h : List (Transaction ℕ ℕ)) (positive : ArePositive h) (faultless 
     first_at : slice_get order i ≡ Some l
     second_at : slice_get order j ≡ Some m
 
-  line_of : (line place : ℕ) (t : Transaction ℕ ℕ) (o : Operation ℕ ℕ) → IsOperation h line place t o → (i : ℕ) × (slice_get order i ≡ Some line)
+  line_of : (line place : ℕ) (t : Transaction ℕ ℕ) (o : Operation ℕ ℕ) → IsOperation h line place t o
+      → (i : ℕ) × (slice_get order i ≡ Some line)
   line_of line place t o is = Contains_at order line (ordered.all line t is.committed)
 
   follow : (l m n : ℕ) → NotBehind l m → NotBehind m n → NotBehind l n
@@ -129,7 +141,8 @@ module _ (h : List (Transaction ℕ ℕ)) (positive : ArePositive h) (faultless 
         | inl e ↦ subst (NotBehind l) (one_writer next.line m x w (subst (Writes h next.line x) e next.writes) b) first
         | inr apart ↦
             follow l next.line m first
-            (chain-forward top next.line m x next.version w (omega (arith, le, next.next.above)) next.writes b (omega (arith, next.most)))
+            (chain-forward top next.line m x next.version w (omega (arith, le, next.next.above)) next.writes b
+            (omega (arith, next.most)))
       ]
 
   not-behind : (l m x v w : ℕ) → Writes h l x v → Writes h m x w → v < w → NotBehind l m
@@ -143,41 +156,56 @@ module _ (h : List (Transaction ℕ ℕ)) (positive : ArePositive h) (faultless 
       (λ apart. forward ReadWrite l next.line x v next.version (apart, r, next.writes, next.next)) in
       elim (cases_eq next.version w) [
         | inl e ↦ subst (NotBehind l) (one_writer next.line m x w (subst (Writes h next.line x) e next.writes) b) first
-        | inr apart ↦ follow l next.line m first (not-behind next.line m x next.version w next.writes b (omega (arith, next.most)))
+        | inr apart ↦ follow l next.line m first (not-behind next.line m x next.version w next.writes b
+            (omega (arith, next.most)))
       ]
 
   -- ---- what stands in the run
 
   -- a write there, by whom
-  run-writes : (p x : ℕ) (o : Operation ℕ ℕ) → (r : IsRun h order p o) → IsWriteOf o x → Writes h r.found.line x o.version
+  run-writes : (p x : ℕ) (o : Operation ℕ ℕ) → (r : IsRun h order p o) → IsWriteOf o x
+      → Writes h r.found.line x o.version
   run-writes p x o r w = record { place = r.found.j; t = r.found.t; o = o; is = r.is; writes = w; version_is = refl }
 
   -- of two operations of the run the one before is of an earlier line, or of the same one
   sides : (p q : ℕ) (o w : Operation ℕ ℕ) → (a : IsRun h order p o) → (b : IsRun h order q w) → p < q
-      → Precedes order a.found.line b.found.line ⊎ ((a.found.line ≡ b.found.line) × (a.found.t ≡ b.found.t) × (a.found.j < b.found.j))
+      → Precedes order a.found.line b.found.line ⊎ ((a.found.line ≡ b.found.line) × (a.found.t ≡ b.found.t)
+      × (a.found.j < b.found.j))
   sides p q o w a b lt =
       elim (cases_order a.found.i b.found.i) [
         | inl e ↦
-            let same = one_at order a.found.i b.found.i a.found.line b.found.line e a.found.placed.at b.found.placed.at in
+            let same =
+            one_at order a.found.i b.found.i a.found.line b.found.line e a.found.placed.at b.found.placed.at in
             inr (
               same,
               one_transaction b.found.line a.found.t b.found.t
                   (ap (slice_get h) (sym same) ∙ a.found.placed.in_line) b.found.placed.in_line,
               omega (arith, a.found.placed.is, b.found.placed.is, ap (start_of h order) e, lt),
             )
-        | inr (inl before) ↦ inl (record { i = a.found.i; j = b.found.i; before = before; first_at = a.found.placed.at; second_at = b.found.placed.at })
+        | inr (inl before) ↦ inl (record {
+          i = a.found.i;
+          j = b.found.i;
+          before = before;
+          first_at =
+              a.found.placed.at;
+          second_at = b.found.placed.at;
+        })
         | inr (inr behind) ↦
-            let no = earlier-before h order q b.found.i b.found.line b.found.t b.found.j w p a.found.i a.found.line a.found.t a.found.j o
+            let no = earlier-before h order q b.found.i b.found.line b.found.t b.found.j w p a.found.i a.found.line
+            a.found.t a.found.j o
             b.found.placed a.found.placed behind in
             absurd (omega (arith, no, lt))
       ]
 
   -- what was written last before an operation, by its own transaction
-  run-last-own : (p x v : ℕ) (o : Operation ℕ ℕ) → (a : IsRun h order p o) → (last : IsLastWritten (run_of h order) p x v)
-      → (b : IsRun h order last.last last.o) → a.found.line ≡ b.found.line → a.found.t ≡ b.found.t → b.found.j < a.found.j
+  run-last-own : (p x v : ℕ) (o : Operation ℕ ℕ) → (a : IsRun h order p o)
+      → (last : IsLastWritten (run_of h order) p x v)
+      → (b : IsRun h order last.last last.o) → a.found.line ≡ b.found.line → a.found.t ≡ b.found.t
+      → b.found.j < a.found.j
       → IsLastWritten a.found.t.operations a.found.j x v
   run-last-own p x v o a last b line same lt =
-      let same_i = ordered.once a.found.i b.found.i a.found.line a.found.placed.at (b.found.placed.at ∙ ap Some (sym line)) in
+      let same_i = ordered.once a.found.i b.found.i a.found.line a.found.placed.at (b.found.placed.at
+      ∙ ap Some (sym line)) in
       let starts = ap (start_of h order) same_i in
       record {
         last = b.found.j;
@@ -208,21 +236,29 @@ module _ (h : List (Transaction ℕ ℕ)) (positive : ArePositive h) (faultless 
           (v, inr first, omega (arith, above, first.0))
       by (v, inl last) =
           let b = in_order h order ordered last.last last.o last.there in
-          let by_it = subst (Writes h b.found.line o.item) last.version_is (run-writes last.last o.item last.o b last.writes) in
+          let by_it =
+          subst (Writes h b.found.line o.item) last.version_is (run-writes last.last o.item last.o b last.writes) in
           let by_me = run-writes p o.item o a writes in (
             v,
             inl last,
             elim (sides last.last p last.o o b a last.before) [
               | inr (line, same, lt) ↦
-                  let rise = own-rise a.found.line a.found.t a.is.committed a.found.j a.found.j b.found.j o.item o last.o (omega arith) lt
-                  (ap (λ (t : Transaction ℕ ℕ). slice_get t.operations b.found.j) (sym same) ∙ b.is.there) last.writes a.is.there writes in
+                  let rise =
+                  own-rise a.found.line a.found.t a.is.committed a.found.j a.found.j b.found.j o.item o last.o
+                  (omega arith) lt
+                  (ap (λ (t : Transaction ℕ ℕ). slice_get t.operations b.found.j) (sym same)
+                  ∙ b.is.there) last.writes a.is.there writes in
                   omega (arith, rise, last.version_is)
               | inl before ↦ elim (cases_order v o.version) [
                 | inl e ↦ absurd (not-both a.found.line b.found.line
                     (ordered-by a.found.line b.found.line o.item v by_it
-                    (λ apart. absurd (apart (one_writer a.found.line b.found.line o.item v (subst (Writes h a.found.line o.item) (sym e) by_me) by_it)))) before)
+                    (λ apart. absurd
+                    (apart (one_writer a.found.line b.found.line o.item v
+                    (subst (Writes h a.found.line o.item) (sym e) by_me) by_it)))) before)
                 | inr (inl lt) ↦ lt
-                | inr (inr gt) ↦ absurd (not-both a.found.line b.found.line (not-behind a.found.line b.found.line o.item o.version v by_me by_it gt) before)
+                | inr (inr gt) ↦ absurd
+                    (not-both a.found.line b.found.line
+                    (not-behind a.found.line b.found.line o.item o.version v by_me by_it gt) before)
               ]
             ],
           )
@@ -235,7 +271,8 @@ module _ (h : List (Transaction ℕ ℕ)) (positive : ArePositive h) (faultless 
     writes : Writes h by x v
     before : Precedes order by line
 
-  written_before : (line place : ℕ) (t : Transaction ℕ ℕ) (o : Operation ℕ ℕ) → IsOperation h line place t o → IsForeign t place o
+  written_before : (line place : ℕ) (t : Transaction ℕ ℕ) (o : Operation ℕ ℕ) → IsOperation h line place t o
+      → IsForeign t place o
       → IsWrittenBefore line o.item o.version
   written_before line place t o is f =
       elim (decidable-written h o.item o.version) [
@@ -266,7 +303,16 @@ module _ (h : List (Transaction ℕ ℕ)) (positive : ArePositive h) (faultless 
               version_is = refl;
               foreign = f.foreign;
             } in
-            record { by = by; writes = w; before = forward WriteRead by line o.item o.version o.version (apart, w, reads, refl) }
+            record {
+              by = by;
+              writes = w;
+              before = forward WriteRead by line o.item o.version o.version (
+                apart,
+                w,
+                reads,
+                refl,
+              );
+            }
         | inr none ↦
             absurd (elim (decidable-aborted h o.item o.version) [
               | inl by ↦ faultless line AbortedRead place
@@ -277,13 +323,16 @@ module _ (h : List (Transaction ℕ ℕ)) (positive : ArePositive h) (faultless 
       ]
 
   -- what stands in the run before an operation, of a line before
-  before-it : (p line x v : ℕ) (o : Operation ℕ ℕ) → (a : IsRun h order p o) → (w : Writes h line x v) → Precedes order line a.found.line
-      → (q : ℕ) × (q < p) × (slice_get (run_of h order) q ≡ Some w.o) × ((r : IsRun h order q w.o) → r.found.line ≡ line)
+  before-it : (p line x v : ℕ) (o : Operation ℕ ℕ) → (a : IsRun h order p o) → (w : Writes h line x v)
+      → Precedes order line a.found.line
+      → (q : ℕ) × (q < p) × (slice_get (run_of h order) q ≡ Some w.o) × ((r : IsRun h order q w.o)
+      → r.found.line ≡ line)
   before-it p line x v o a w before =
       let s = stands h order ordered line w.place w.t w.o w.is in
       let one = ordered.once s.i before.i line s.placed.at before.first_at in
       let two = ordered.once a.found.i before.j a.found.line a.found.placed.at before.second_at in
-      let lt = earlier-before h order s.p s.i line w.t w.place w.o p a.found.i a.found.line a.found.t a.found.j o s.placed a.found.placed
+      let lt = earlier-before h order s.p s.i line w.t w.place w.o p a.found.i a.found.line a.found.t a.found.j o
+      s.placed a.found.placed
       (omega (arith, one, two, before.before)) in (
         s.p,
         lt,
@@ -304,18 +353,35 @@ module _ (h : List (Transaction ℕ ℕ)) (positive : ArePositive h) (faultless 
       )
 
   module _ (p : ℕ) (o : Operation ℕ ℕ) (a : IsRun h order p o) (read : o.kind ≡ Read) where
-    own-follows : (v : ℕ) → IsLastWritten a.found.t.operations a.found.j o.item v → Has (run_of h order) p o.item o.version
+    own-follows : (v : ℕ) → IsLastWritten a.found.t.operations a.found.j o.item v
+        → Has (run_of h order) p o.item o.version
     own-follows v own =
         elim (cases_eq o.version v) [
           | inl e ↦ subst (Has (run_of h order) p o.item) (sym e)
               (inl (own-last h order p a.found.i a.found.line a.found.t a.found.j o a.found.placed o.item v own))
           | inr other ↦ absurd (faultless a.found.line Internal a.found.j
-              (record { t = a.found.t; o = o; is = a.is; has = inl (record { read = read; version = v; own = own; other = other }) }))
+              (record {
+                t = a.found.t;
+                o = o;
+                is = a.is;
+                has =
+                    inl (record { read = read; version = v; own = own; other = other });
+              }))
         ]
 
     module _ (none : NoneWrites a.found.t.operations 0 a.found.j o.item) where
       reads : Reads h a.found.line o.item o.version
-      reads = record { place = a.found.j; t = a.found.t; o = o; is = a.is; read = read; item_is = refl; version_is = refl; foreign = none }
+      reads = record {
+        place = a.found.j;
+        t = a.found.t;
+        o = o;
+        is = a.is;
+        read = read;
+        item_is = refl;
+        version_is =
+            refl;
+        foreign = none;
+      }
 
       -- where nothing was written before it reads version 0
       first-read : NoneWrites (run_of h order) 0 p o.item → o.version ≡ 0
@@ -323,31 +389,40 @@ module _ (h : List (Transaction ℕ ℕ)) (positive : ArePositive h) (faultless 
           elim (cases_eq o.version 0) [
             | inl e ↦ e
             | inr above ↦
-                let wb = written_before a.found.line a.found.j a.found.t o a.is (record { read = read; foreign = none; not_first = above }) in
+                let wb = written_before a.found.line a.found.j a.found.t o a.is
+                (record { read = read; foreign = none; not_first = above }) in
                 let q = before-it p wb.by o.item o.version o a wb.writes wb.before in
                 absurd (nothing q.0 wb.writes.o (omega arith) q.1 q.2 wb.writes.writes)
           ]
 
       -- no smaller version was written last before it
-      not-smaller : (v : ℕ) → (last : IsLastWritten (run_of h order) p o.item v) → (b : IsRun h order last.last last.o) → v < o.version → ⊥
+      not-smaller : (v : ℕ) → (last : IsLastWritten (run_of h order) p o.item v)
+          → (b : IsRun h order last.last last.o) → v < o.version → ⊥
       not-smaller v last b lt =
           let wb = written_before a.found.line a.found.j a.found.t o a.is
           (record { read = read; foreign = none; not_first = λ e. absurd (omega (arith, e, lt)) }) in
           let q = before-it p wb.by o.item o.version o a wb.writes wb.before in
-          let by_it = subst (Writes h b.found.line o.item) last.version_is (run-writes last.last o.item last.o b last.writes) in
+          let by_it =
+          subst (Writes h b.found.line o.item) last.version_is (run-writes last.last o.item last.o b last.writes) in
           let after = not-behind b.found.line wb.by o.item v o.version by_it wb.writes lt in
           elim (cases_order q.0 last.last) [
             | inl e ↦
-                let same = ap (λ (u : Operation ℕ ℕ). u.version) (one_at (run_of h order) q.0 last.last wb.writes.o last.o e q.2 last.there) in
+                let same =
+                ap (λ (u : Operation ℕ ℕ). u.version)
+                (one_at (run_of h order) q.0 last.last wb.writes.o last.o e q.2 last.there) in
                 absurd (omega (arith, same, wb.writes.version_is, last.version_is, lt))
             | inr (inl less) ↦
                 let r = in_order h order ordered q.0 wb.writes.o q.2 in
                 let line = q.3 r in
                 elim (sides q.0 last.last wb.writes.o last.o r b less) [
-                  | inl precedes ↦ not-both b.found.line wb.by after (subst (λ l. Precedes order l b.found.line) line precedes)
+                  | inl precedes ↦ not-both b.found.line wb.by after
+                      (subst (λ l. Precedes order l b.found.line) line precedes)
                   | inr (one, same, before) ↦
-                      let rise = own-rise b.found.line b.found.t b.is.committed b.found.j b.found.j r.found.j o.item last.o wb.writes.o (omega arith) before
-                      (ap (λ (t : Transaction ℕ ℕ). slice_get t.operations r.found.j) (sym same) ∙ r.is.there) wb.writes.writes
+                      let rise =
+                      own-rise b.found.line b.found.t b.is.committed b.found.j b.found.j r.found.j o.item last.o
+                      wb.writes.o (omega arith) before
+                      (ap (λ (t : Transaction ℕ ℕ). slice_get t.operations r.found.j) (sym same)
+                      ∙ r.is.there) wb.writes.writes
                       b.is.there last.writes in
                       absurd (omega (arith, rise, last.version_is, wb.writes.version_is, lt))
                 ]
@@ -363,14 +438,18 @@ module _ (h : List (Transaction ℕ ℕ)) (positive : ArePositive h) (faultless 
                 let b = in_order h order ordered last.last last.o last.there in
                 elim (sides last.last p last.o o b a last.before) [
                   | inr (one, same, lt) ↦ absurd (none b.found.j last.o (omega arith) lt
-                      (ap (λ (t : Transaction ℕ ℕ). slice_get t.operations b.found.j) (sym same) ∙ b.is.there) last.writes)
+                      (ap (λ (t : Transaction ℕ ℕ). slice_get t.operations b.found.j) (sym same)
+                      ∙ b.is.there) last.writes)
                   | inl before ↦
-                      let by_it = subst (Writes h b.found.line o.item) last.version_is (run-writes last.last o.item last.o b last.writes) in
+                      let by_it =
+                      subst (Writes h b.found.line o.item) last.version_is
+                      (run-writes last.last o.item last.o b last.writes) in
                       elim (cases_order found.0 o.version) [
                         | inl e ↦ subst (Has (run_of h order) p o.item) e found.1
                         | inr (inl less) ↦ absurd (not-smaller found.0 last b less)
                         | inr (inr more) ↦ absurd (not-both a.found.line b.found.line
-                            (read-not-behind a.found.line b.found.line o.item o.version found.0 reads by_it more) before)
+                            (read-not-behind a.found.line b.found.line o.item o.version found.0 reads by_it more)
+                            before)
                       ]
                 ]
           ]
@@ -425,17 +504,20 @@ module _ (h : List (Transaction ℕ ℕ)) (positive : ArePositive h) (faultless 
         | inl e ↦ e
         | inr apart ↦ absurd (elim (cases_order a.found.line b.found.line) [
           | inl line ↦
-              let same = one_transaction b.found.line a.found.t b.found.t (ap (slice_get h) (sym line) ∙ a.is.committed.0) b.is.committed.0 in
+              let same = one_transaction b.found.line a.found.t b.found.t (ap (slice_get h) (sym line)
+              ∙ a.is.committed.0) b.is.committed.0 in
               elim (cases_order a.found.j b.found.j) [
                 | inl j ↦
                     let here = ap (λ (t : Transaction ℕ ℕ). slice_get t.operations a.found.j) (sym same) ∙ a.is.there in
                     let one = one_at b.found.t.operations a.found.j b.found.j o w j here b.is.there in
                     apart (same_Some u v (sym given ∙ ap (λ (x : Operation ℕ ℕ). x.value) one ∙ given'))
                 | inr (inl lt) ↦ value-fault at.0 at'.0 o w a b (inr (line, lt)) item version u v given given' apart
-                | inr (inr gt) ↦ value-fault at'.0 at.0 w o b a (inr (sym line, gt)) (sym item) (sym version) v u given' given (λ e. apart (sym e))
+                | inr (inr gt) ↦ value-fault at'.0 at.0 w o b a (inr (sym line, gt)) (sym item)
+                    (sym version) v u given' given (λ e. apart (sym e))
               ]
           | inr (inl lt) ↦ value-fault at.0 at'.0 o w a b (inl lt) item version u v given given' apart
-          | inr (inr gt) ↦ value-fault at'.0 at.0 w o b a (inl gt) (sym item) (sym version) v u given' given (λ e. apart (sym e))
+          | inr (inr gt) ↦ value-fault at'.0 at.0 w o b a (inl gt) (sym item) (sym version) v u given' given
+              (λ e. apart (sym e))
         ])
       ]
 

@@ -33,7 +33,8 @@ pub end_of-append : (from : ℕ) (lines : List Line) (l : Line) → end_of from 
 end_of-append from [] l = refl
 end_of-append from (k ∷ ks) l = end_of-append k.end ks l
 
-pub end_of-within : (count from : ℕ) (lines : List Line) → from ≤ count → EndWithin count lines → end_of from lines ≤ count
+pub end_of-within : (count from : ℕ) (lines : List Line) → from ≤ count → EndWithin count lines
+    → end_of from lines ≤ count
 end_of-within count from [] h w = h
 end_of-within count from (l ∷ ls) h w =
     end_of-within count l.end ls (first_within count l ls w) (rest_within count l ls w)
@@ -41,7 +42,11 @@ end_of-within count from (l ∷ ls) h w =
 -- a line more
 pub cut-append_line : (from : ℕ) (lines : List Line) (l : Line) (ops : List (Operation ℕ ℕ))
     → cut from (lines ++ l ∷ []) ops
-    ≡ cut from lines ops ++ record { commits = l.commits; operations = take (l.end - end_of from lines) (drop (end_of from lines) ops) } ∷ []
+    ≡ cut from lines ops ++ record {
+      commits = l.commits;
+      operations =
+          take (l.end - end_of from lines) (drop (end_of from lines) ops);
+    } ∷ []
 cut-append_line from [] l ops = refl
 cut-append_line from (k ∷ ks) l ops =
     rw (cut-append_line k.end ks l ops) refl

@@ -21,7 +21,8 @@ pub record IsRun {I V : Type 0} (h : List (Transaction I V)) (order : List ℕ) 
   pub found : IsFound h order p o
   pub is : IsOperation h found.line found.j found.t o
 
-pub in_order : {I V : Type 0} (h : List (Transaction I V)) (order : List ℕ) → IsOrder h order → (p : ℕ) (o : Operation I V)
+pub in_order : {I V : Type 0} (h : List (Transaction I V)) (order : List ℕ) → IsOrder h order
+    → (p : ℕ) (o : Operation I V)
     → slice_get (run_of h order) p ≡ Some o → IsRun h order p o
 in_order {I} {V} h order ordered p o there =
     let found = found_in_run h order p o there in
@@ -37,7 +38,8 @@ in_order {I} {V} h order ordered p o there =
 
 module _ {I V : Type 0} (h : List (Transaction I V)) (order : List ℕ) (s : Serves h order) where
   -- what a read finds
-  finds : (line place : ℕ) (t : Transaction I V) (o : Operation I V) → o.kind ≡ Read → (a : Stands h order line t place o)
+  finds : (line place : ℕ) (t : Transaction I V) (o : Operation I V) → o.kind ≡ Read
+      → (a : Stands h order line t place o)
       → Has (run_of h order) a.p o.item o.version
   finds line place t o read a = (s.right a.p o a.there).read read
 
@@ -60,7 +62,8 @@ module _ {I V : Type 0} (h : List (Transaction I V)) (order : List ℕ) (s : Ser
 
   -- no operation of another line stands between two of a line
   both : (l m : ℕ) (t t' t'' : Transaction I V) (j k r : ℕ) (o w u : Operation I V) → l ≢ m
-      → (a : Stands h order l t j o) → (b : Stands h order m t' k w) → (c : Stands h order m t'' r u) → b.p < a.p → a.p < c.p → ⊥
+      → (a : Stands h order l t j o) → (b : Stands h order m t' k w) → (c : Stands h order m t'' r u) → b.p < a.p
+      → a.p < c.p → ⊥
   both l m t t' t'' j k r o w u apart a b c lt gt =
       let same = s.ordered.once b.i c.i m b.placed.at c.placed.at in
       elim (cases_order a.i b.i) [
@@ -69,15 +72,18 @@ module _ {I V : Type 0} (h : List (Transaction I V)) (order : List ℕ) (s : Ser
             let no = earlier-before h order a.p a.i l t j o b.p b.i m t' k w a.placed b.placed i in
             absurd (omega (arith, no, lt))
         | inr (inr i) ↦
-            let no = earlier-before h order c.p c.i m t'' r u a.p a.i l t j o c.placed a.placed (omega (arith, i, same)) in
+            let no = earlier-before h order c.p c.i m t'' r u a.p a.i l t j o c.placed a.placed
+            (omega (arith, i, same)) in
             absurd (omega (arith, no, gt))
       ]
 
   -- a write of what is read stands before the read
   not-behind : (l m : ℕ) (t t' : Transaction I V) (j k : ℕ) (o w : Operation I V) → o.kind ≡ Read
-      → (a : Stands h order l t j o) → (b : Stands h order m t' k w) → IsWriteOf w o.item → w.version ≡ o.version → a.p ≤ b.p → ⊥
+      → (a : Stands h order l t j o) → (b : Stands h order m t' k w) → IsWriteOf w o.item → w.version ≡ o.version
+      → a.p ≤ b.p → ⊥
   not-behind l m t t' j k o w read a b writes version le =
-      let above = written-behind (run_of h order) s.right a.p b.p w o.item o.version b.there writes (finds l j t o read a) le in
+      let above = written-behind (run_of h order) s.right a.p b.p w o.item o.version b.there writes
+      (finds l j t o read a) le in
       absurd (omega (arith, above, version))
 
   -- what is written where a read stands is by a committed transaction
@@ -103,42 +109,52 @@ module _ {I V : Type 0} (h : List (Transaction I V)) (order : List ℕ) (s : Ser
   one_transaction line t t' a b = same_Some t t' (sym a.0 ∙ b.0)
 
   -- a read whose item its transaction doesn't write before has its version written by another one
-  foreign-apart : (line place : ℕ) (t : Transaction I V) (o : Operation I V) → IsOperation h line place t o → o.kind ≡ Read
+  foreign-apart : (line place : ℕ) (t : Transaction I V) (o : Operation I V) → IsOperation h line place t o
+      → o.kind ≡ Read
       → NoneWrites t.operations 0 place o.item → (w : Writes h line o.item o.version) → ⊥
   foreign-apart line place t o is read none w =
       let a = stands h order s.ordered line place t o is in
       let b = stands h order s.ordered line w.place w.t w.o w.is in
       let same = one_transaction line w.t t w.is.committed is.committed in
       elim (cases_order w.place place) [
-        | inl e ↦ not-behind line line t w.t place w.place o w.o read a b w.writes w.version_is (one_line line t place w.place o w.o w.t a b (omega (arith, e)))
-        | inr (inl lt) ↦ none w.place w.o (omega arith) lt (subst (λ (u : Transaction I V). slice_get u.operations w.place ≡ Some w.o) same w.is.there) w.writes
-        | inr (inr gt) ↦ not-behind line line t w.t place w.place o w.o read a b w.writes w.version_is (one_line line t place w.place o w.o w.t a b (omega (arith, gt)))
+        | inl e ↦ not-behind line line t w.t place w.place o w.o read a b w.writes w.version_is
+            (one_line line t place w.place o w.o w.t a b (omega (arith, e)))
+        | inr (inl lt) ↦ none w.place w.o (omega arith) lt
+            (subst (λ (u : Transaction I V). slice_get u.operations w.place ≡ Some w.o) same w.is.there) w.writes
+        | inr (inr gt) ↦ not-behind line line t w.t place w.place o w.o read a b w.writes w.version_is
+            (one_line line t place w.place o w.o w.t a b (omega (arith, gt)))
       ]
 
   -- another transaction that writes what is read writes nothing greater
-  intermediate : (line place : ℕ) (t : Transaction I V) (o : Operation I V) → IsOperation h line place t o → o.kind ≡ Read
-      → (by : ℕ) → Writes h by o.item o.version → (greater : ℕ) → o.version < greater → Writes h by o.item greater → line ≢ by → ⊥
+  intermediate : (line place : ℕ) (t : Transaction I V) (o : Operation I V) → IsOperation h line place t o
+      → o.kind ≡ Read
+      → (by : ℕ) → Writes h by o.item o.version → (greater : ℕ) → o.version < greater → Writes h by o.item greater
+      → line ≢ by → ⊥
   intermediate line place t o is read by first greater above w apart =
       let a = stands h order s.ordered line place t o is in
       let b = stands h order s.ordered by first.place first.t first.o first.is in
       let c = stands h order s.ordered by w.place w.t w.o w.is in
       elim (two_lines line by t first.t place first.place o first.o apart a b) [
-        | inl lt ↦ not-behind line by t first.t place first.place o first.o read a b first.writes first.version_is (omega (arith, lt))
+        | inl lt ↦ not-behind line by t first.t place first.place o first.o read a b first.writes first.version_is
+            (omega (arith, lt))
         | inr gt ↦ elim (two_lines line by t w.t place w.place o w.o apart a c) [
           | inl lt ↦
               absurd (both line by t first.t w.t place first.place w.place o first.o w.o apart a b c gt lt)
           | inr gt ↦
-              let most = written-before (run_of h order) s.right a.p c.p w.o o.item o.version c.there w.writes (finds line place t o read a) gt in
+              let most = written-before (run_of h order) s.right a.p c.p w.o o.item o.version c.there w.writes
+              (finds line place t o read a) gt in
               absurd (omega (arith, most, w.version_is, above))
         ]
       ]
 
-  pub flaw-excludes : (line place : ℕ) (t : Transaction I V) (o : Operation I V) → IsOperation h line place t o → (flaw : Flaw)
+  pub flaw-excludes : (line place : ℕ) (t : Transaction I V) (o : Operation I V) → IsOperation h line place t o
+      → (flaw : Flaw)
       → HasFlaw h line place t o flaw → ⊥
   flaw-excludes line place t o is Internal (inl own) =
       let a = stands h order s.ordered line place t o is in
       let last = own-last h order a.p a.i line t place o a.placed o.item own.version own.own in
-      own.other (one_version (run_of h order) a.p o.item o.version own.version (finds line place t o own.read a) (inl last))
+      own.other (one_version (run_of h order) a.p o.item o.version own.version (finds line place t o own.read a)
+      (inl last))
   flaw-excludes line place t o is Internal (inr (inl again)) =
       let a = stands h order s.ordered line place t o is in
       let last = own-last h order a.p a.i line t place o a.placed o.item again.version again.own in
@@ -170,9 +186,12 @@ module _ {I V : Type 0} (h : List (Transaction I V)) (order : List ℕ) (s : Ser
   flaw-excludes line place t o is Unwritten (f, none, by) = read-written line place t o is f none
   flaw-excludes line place t o is IntermediateRead (f, by, first, greater, above, w) =
       elim (cases_order line by) [
-        | inl e ↦ foreign-apart line place t o is f.read f.foreign (subst (λ l. Writes h l o.item o.version) (sym e) first.writes)
-        | inr (inl lt) ↦ intermediate line place t o is f.read by first.writes greater above w (λ e. absurd (omega (arith, lt, e)))
-        | inr (inr gt) ↦ intermediate line place t o is f.read by first.writes greater above w (λ e. absurd (omega (arith, gt, e)))
+        | inl e ↦ foreign-apart line place t o is f.read f.foreign
+            (subst (λ l. Writes h l o.item o.version) (sym e) first.writes)
+        | inr (inl lt) ↦ intermediate line place t o is f.read by first.writes greater above w
+            (λ e. absurd (omega (arith, lt, e)))
+        | inr (inr gt) ↦ intermediate line place t o is f.read by first.writes greater above w
+            (λ e. absurd (omega (arith, gt, e)))
       ]
   flaw-excludes line place t o is Value other =
       let a = stands h order s.ordered line place t o is in
@@ -181,5 +200,6 @@ module _ {I V : Type 0} (h : List (Transaction I V)) (order : List ℕ) (s : Ser
       (Contains-from_at (run_of h order) b.p other.other b.there) (sym other.item_is) (sym other.version_is)
       other.value other.value_of other.given other.given_of)
 
-pub fault-excludes : {I V : Type 0} (h : List (Transaction I V)) (line : ℕ) (flaw : Flaw) (place : ℕ) → IsFaulty h line flaw place → IsSerializable h → ⊥
+pub fault-excludes : {I V : Type 0} (h : List (Transaction I V)) (line : ℕ) (flaw : Flaw) (place : ℕ)
+    → IsFaulty h line flaw place → IsSerializable h → ⊥
 fault-excludes h line flaw place f (order, s) = flaw-excludes h order s line place f.t f.o f.is flaw f.has

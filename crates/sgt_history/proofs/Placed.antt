@@ -14,19 +14,22 @@ abbrev pub start_of : {I V : Type 0} → List (Transaction I V) → List ℕ →
 start_of h order i = length (run_of h (take i order))
 
 -- the run's operation p is operation j of the order's i-th line
-pub record IsPlaced {I V : Type 0} (h : List (Transaction I V)) (order : List ℕ) (p i line : ℕ) (t : Transaction I V) (j : ℕ)
+pub record IsPlaced {I V : Type 0} (h : List (Transaction I V)) (order : List ℕ) (p i line : ℕ) (t : Transaction I V)
+    (j : ℕ)
     (o : Operation I V) : Type 0 where
   pub at : slice_get order i ≡ Some line
   pub in_line : slice_get h line ≡ Some t
   pub there : slice_get t.operations j ≡ Some o
   pub is : p ≡ start_of h order i + j
 
-pub in_run : {I V : Type 0} (h : List (Transaction I V)) (order : List ℕ) (p i line : ℕ) (t : Transaction I V) (j : ℕ) (o : Operation I V)
+pub in_run : {I V : Type 0} (h : List (Transaction I V)) (order : List ℕ) (p i line : ℕ) (t : Transaction I V) (j : ℕ)
+    (o : Operation I V)
     → IsPlaced h order p i line t j o → slice_get (run_of h order) p ≡ Some o
 in_run h [] p i line t j o s = absurd (cc (s.at))
 in_run h (l ∷ ls) p zero line t j o s =
     let e : l ≡ line = same_Some l line s.at in
-    let ops : operations_in (slice_get h l) ≡ t.operations = ap (λ k. operations_in (slice_get h k)) e ∙ ap operations_in s.in_line in
+    let ops : operations_in (slice_get h l) ≡ t.operations = ap (λ k. operations_in (slice_get h k)) e
+    ∙ ap operations_in s.in_line in
     let here : slice_get (operations_in (slice_get h l)) j ≡ Some o = ap (λ os. slice_get os j) ops ∙ s.there in
     let q : p ≡ j = omega (arith, s.is) in
     rw q (front_at (operations_in (slice_get h l)) (run_of h ls) j o here)
@@ -34,14 +37,21 @@ in_run h (l ∷ ls) p (suc i) line t j o s =
     let len = length-append (operations_in (slice_get h l)) (run_of h (take i ls)) in
     let q : p ≡ length (operations_in (slice_get h l)) + (start_of h ls i + j) = omega (arith, s.is, len) in
     rw q (back_at (operations_in (slice_get h l)) (run_of h ls) (start_of h ls i + j)
-    ∙ in_run h ls (start_of h ls i + j) i line t j o (record { at = s.at; in_line = s.in_line; there = s.there; is = refl }))
+    ∙ in_run h ls (start_of h ls i + j) i line t j o (record {
+      at = s.at;
+      in_line = s.in_line;
+      there = s.there;
+      is =
+          refl;
+    }))
 
-pub record IsFound {I V : Type 0} (h : List (Transaction I V)) (order : List ℕ) (p : ℕ) (o : Operation I V) : Type 0 where
-  pub i : ℕ
-  pub line : ℕ
-  pub t : Transaction I V
-  pub j : ℕ
-  pub placed : IsPlaced h order p i line t j o
+pub record IsFound {I V : Type 0} (h : List (Transaction I V)) (order : List ℕ) (p : ℕ) (o : Operation I V) : Type 0
+  where
+    pub i : ℕ
+    pub line : ℕ
+    pub t : Transaction I V
+    pub j : ℕ
+    pub placed : IsPlaced h order p i line t j o
 
 pub found_in_run : {I V : Type 0} (h : List (Transaction I V)) (order : List ℕ) (p : ℕ) (o : Operation I V)
     → slice_get (run_of h order) p ≡ Some o → IsFound h order p o
@@ -100,12 +110,14 @@ found_in_run {I} {V} h (l ∷ ls) p o e =
         }
 
 pub starts-rise : {I V : Type 0} (h : List (Transaction I V)) (order : List ℕ) (i k line : ℕ) (t : Transaction I V)
-    → slice_get order i ≡ Some line → slice_get h line ≡ Some t → i < k → start_of h order i + length t.operations ≤ start_of h order k
+    → slice_get order i ≡ Some line → slice_get h line ≡ Some t → i < k
+    → start_of h order i + length t.operations ≤ start_of h order k
 starts-rise h [] i k line t at there lt = absurd (cc (at))
 starts-rise h (l ∷ ls) zero zero line t at there lt = absurd (omega arith)
 starts-rise h (l ∷ ls) zero (suc k) line t at there lt =
     let e : l ≡ line = same_Some l line at in
-    let ops : operations_in (slice_get h l) ≡ t.operations = ap (λ k. operations_in (slice_get h k)) e ∙ ap operations_in there in
+    let ops : operations_in (slice_get h l) ≡ t.operations = ap (λ k. operations_in (slice_get h k)) e
+    ∙ ap operations_in there in
     omega (arith, length-append (operations_in (slice_get h l)) (run_of h (take k ls)), ap length ops)
 starts-rise h (l ∷ ls) (suc i) zero line t at there lt = absurd (omega arith)
 starts-rise h (l ∷ ls) (suc i) (suc k) line t at there lt =
@@ -118,7 +130,8 @@ starts-rise h (l ∷ ls) (suc i) (suc k) line t at there lt =
     )
 
 -- an operation of an earlier line stands before one of a later line
-pub earlier-before : {I V : Type 0} (h : List (Transaction I V)) (order : List ℕ) (p i line : ℕ) (t : Transaction I V) (j : ℕ) (o : Operation I V)
+pub earlier-before : {I V : Type 0} (h : List (Transaction I V)) (order : List ℕ) (p i line : ℕ) (t : Transaction I V)
+    (j : ℕ) (o : Operation I V)
     (p' i' line' : ℕ) (t' : Transaction I V) (j' : ℕ) (o' : Operation I V)
     → IsPlaced h order p i line t j o → IsPlaced h order p' i' line' t' j' o' → i < i' → p < p'
 earlier-before h order p i line t j o p' i' line' t' j' o' s s' lt =

@@ -14,12 +14,14 @@ map_append : {A B : Type 0} (f : A → B) (xs ys : List A) → map f (xs ++ ys) 
 map_append f [] ys = refl
 map_append f (x ∷ xs) ys = ap (λ zs. f x ∷ zs) (map_append f xs ys)
 
-pub value_of : {V W : Type 0} (g : V → W) (o : Option V) (w : W) → renamed_value g o ≡ Some w → (v : V) × (o ≡ Some v) × (g v ≡ w)
+pub value_of : {V W : Type 0} (g : V → W) (o : Option V) (w : W) → renamed_value g o ≡ Some w
+    → (v : V) × (o ≡ Some v) × (g v ≡ w)
 value_of g None w e = absurd (cc (e))
 value_of g (Some v) w e = (v, refl, same_Some (g v) w e)
 
 module _ {I J V W : Type 0} (f : I → J) (g : V → W) (h : List (Transaction I V)) (apart : KeepApart f g h) where
-  operations-renamed : (o : Option (Transaction I V)) → operations_in (option_map (renamed f g) o) ≡ map (renamed_operation f g) (operations_in o)
+  operations-renamed : (o : Option (Transaction I V))
+      → operations_in (option_map (renamed f g) o) ≡ map (renamed_operation f g) (operations_in o)
   operations-renamed None = refl
   operations-renamed (Some t) = refl
 
@@ -27,7 +29,8 @@ module _ {I J V W : Type 0} (f : I → J) (g : V → W) (h : List (Transaction I
   run-renamed [] = refl
   run-renamed (l ∷ ls) =
       let first = ap operations_in (slice_get-map (renamed f g) h l) ∙ operations-renamed (slice_get h l) in
-      rw (first, run-renamed ls) (sym (map_append (renamed_operation f g) (operations_in (slice_get h l)) (run_of h ls)))
+      rw (first, run-renamed ls)
+      (sym (map_append (renamed_operation f g) (operations_in (slice_get h l)) (run_of h ls)))
 
   -- what stands in a run is in the history
   in_history : (order : List ℕ) (p : ℕ) (o : Operation I V) → slice_get (run_of h order) p ≡ Some o → IsIn h o
@@ -39,14 +42,16 @@ module _ {I J V W : Type 0} (f : I → J) (g : V → W) (h : List (Transaction I
   write-on o x w = record { write = w.write; item = ap f w.item }
 
   module _ (order : List ℕ) where
-    write-back : (p q : ℕ) (o u : Operation I V) → slice_get (run_of h order) p ≡ Some o → slice_get (run_of h order) q ≡ Some u
+    write-back : (p q : ℕ) (o u : Operation I V) → slice_get (run_of h order) p ≡ Some o
+        → slice_get (run_of h order) q ≡ Some u
         → IsWriteOf (renamed_operation f g o) (f u.item) → IsWriteOf o u.item
     write-back p q o u e e' w = record {
       write = w.write;
       item = apart.items o u (in_history order p o e) (in_history order q u e') w.item;
     }
 
-    pub has-on : (p q v : ℕ) (u : Operation I V) → slice_get (run_of h order) q ≡ Some u → Has (run_of h order) p u.item v
+    pub has-on : (p q v : ℕ) (u : Operation I V) → slice_get (run_of h order) q ≡ Some u
+        → Has (run_of h order) p u.item v
         → Has (map (renamed_operation f g) (run_of h order)) p (f u.item) v
     has-on p q v u e (inl a) = inl (record {
       last = a.last;
@@ -117,7 +122,9 @@ module _ {I J V W : Type 0} (f : I → J) (g : V → W) (h : List (Transaction I
         let two = value_of g old'.0.value w (ap (λ k. k.value) old'.2 ∙ given') in
         let items = apart.items old.0 old'.0 (in_history order at.0 old.0 old.1) (in_history order at'.0 old'.0 old'.1)
         (ap (λ k. k.item) old.2 ∙ item ∙ sym (ap (λ k. k.item) old'.2)) in
-        let same = agree old.0 old'.0 (Contains-from_at (run_of h order) at.0 old.0 old.1) (Contains-from_at (run_of h order) at'.0 old'.0 old'.1)
+        let same =
+        agree old.0 old'.0 (Contains-from_at (run_of h order) at.0 old.0 old.1)
+        (Contains-from_at (run_of h order) at'.0 old'.0 old'.1)
         items (ap (λ k. k.version) old.2 ∙ version ∙ sym (ap (λ k. k.version) old'.2)) one.0 two.0 one.1 two.1 in
         sym one.2 ∙ ap g same ∙ two.2
 

@@ -26,7 +26,8 @@ pub has_some : (run : List (Operation ℕ ℕ)) (p x : ℕ) → (v : ℕ) × Has
 has_some run zero x = (0, inr (refl, λ r o a b e w. absurd (omega arith)))
 has_some run (suc p) x = more (option_cases (slice_get run p)) (has_some run p x)
   where
-    over : (v : ℕ) → ((o : Operation ℕ ℕ) → slice_get run p ≡ Some o → IsWriteOf o x → ⊥) → Has run p x v → Has run (suc p) x v
+    over : (v : ℕ) → ((o : Operation ℕ ℕ) → slice_get run p ≡ Some o → IsWriteOf o x → ⊥) → Has run p x v
+        → Has run (suc p) x v
     over v not (inl a) = inl (record {
       last = a.last;
       o = a.o;
@@ -47,7 +48,8 @@ has_some run (suc p) x = more (option_cases (slice_get run p)) (has_some run p x
       ],
     )
 
-    more : (slice_get run p ≡ None) ⊎ ((o : Operation ℕ ℕ) × (slice_get run p ≡ Some o)) → ((v : ℕ) × Has run p x v) → (v : ℕ) × Has run (suc p) x v
+    more : (slice_get run p ≡ None) ⊎ ((o : Operation ℕ ℕ) × (slice_get run p ≡ Some o)) → ((v : ℕ) × Has run p x v)
+        → (v : ℕ) × Has run (suc p) x v
     more (inl none) before = (before.0, over before.0 (λ o e w. let f = sym none ∙ e in cc) before.1)
     more (inr some) before = elim (decidable-write some.0 x) [
       | inl w ↦ (
@@ -62,7 +64,12 @@ has_some run (suc p) x = more (option_cases (slice_get run p)) (has_some run p x
           none = λ r o above below e w. absurd (omega arith);
         }),
       )
-      | inr not ↦ (before.0, over before.0 (λ o e w. not (subst (λ (u : Operation ℕ ℕ). IsWriteOf u x) (same_Some o some.0 (sym e ∙ some.1)) w)) before.1)
+      | inr not ↦ (
+        before.0,
+        over before.0
+            (λ o e w. not (subst (λ (u : Operation ℕ ℕ). IsWriteOf u x) (same_Some o some.0 (sym e ∙ some.1)) w))
+            before.1,
+      )
     ]
 
 decidable-bool : (b c : Bool) → Decidable (b ≡ c)
@@ -86,9 +93,20 @@ pub decidable-somewhere : (h : List (Transaction ℕ ℕ)) (commits : Bool) (P :
     → ((o : Operation ℕ ℕ) → Decidable (P o)) → Decidable (IsSomewhere h commits P)
 decidable-somewhere h commits P each =
     decidable-as
-    (λ f. record { line = f.0; t = f.1; in_line = f.2; ends = f.3.0; place = f.3.1.0; o = f.3.1.1; there = f.3.1.2; holds = f.3.1.3 })
+    (λ f. record {
+      line = f.0;
+      t = f.1;
+      in_line = f.2;
+      ends = f.3.0;
+      place = f.3.1.0;
+      o = f.3.1.1;
+      there =
+          f.3.1.2;
+      holds = f.3.1.3;
+    })
     (λ s. (s.line, s.t, s.in_line, (s.ends, (s.place, s.o, s.there, s.holds))))
-    (decidable-found (λ line (t : Transaction ℕ ℕ). (t.commits ≡ commits) × ((place : ℕ) × (o : Operation ℕ ℕ) × (slice_get t.operations place ≡ Some o) × P o))
+    (decidable-found (λ line (t : Transaction ℕ ℕ). (t.commits ≡ commits)
+    × ((place : ℕ) × (o : Operation ℕ ℕ) × (slice_get t.operations place ≡ Some o) × P o))
     (λ line t. decidable-both (decidable-bool t.commits commits)
     (decidable-found (λ place o. P o) (λ place o. each o) t.operations)) h)
 
@@ -96,13 +114,15 @@ decidable-somewhere h commits P each =
 abbrev pub IsWriting : ℕ → (ℕ → Type 0) → Operation ℕ ℕ → Type 0
 IsWriting x Q o = IsWriteOf o x × Q o.version
 
-pub decidable-writing : (x : ℕ) (Q : ℕ → Type 0) → ((v : ℕ) → Decidable (Q v)) → (h : List (Transaction ℕ ℕ)) (commits : Bool)
+pub decidable-writing : (x : ℕ) (Q : ℕ → Type 0) → ((v : ℕ) → Decidable (Q v))
+    → (h : List (Transaction ℕ ℕ)) (commits : Bool)
     → Decidable (IsSomewhere h commits (IsWriting x Q))
 decidable-writing x Q each h commits =
     decidable-somewhere h commits (IsWriting x Q) (λ o. decidable-both (decidable-write o x) (each o.version))
 
 -- who wrote it
-pub writes_of : (h : List (Transaction ℕ ℕ)) (x : ℕ) (Q : ℕ → Type 0) → (s : IsSomewhere h true (IsWriting x Q)) → Writes h s.line x s.o.version
+pub writes_of : (h : List (Transaction ℕ ℕ)) (x : ℕ) (Q : ℕ → Type 0) → (s : IsSomewhere h true (IsWriting x Q))
+    → Writes h s.line x s.o.version
 writes_of h x Q s = record {
   place = s.place;
   t = s.t;
@@ -112,7 +132,8 @@ writes_of h x Q s = record {
   version_is = refl;
 }
 
-pub somewhere_of : (h : List (Transaction ℕ ℕ)) (x v line : ℕ) (Q : ℕ → Type 0) → Writes h line x v → Q v → IsSomewhere h true (IsWriting x Q)
+pub somewhere_of : (h : List (Transaction ℕ ℕ)) (x v line : ℕ) (Q : ℕ → Type 0) → Writes h line x v → Q v
+    → IsSomewhere h true (IsWriting x Q)
 somewhere_of h x v line Q w q = record {
   line = line;
   t = w.t;
@@ -165,13 +186,24 @@ pub record HasNext (h : List (Transaction ℕ ℕ)) (x v w : ℕ) : Type 0 where
   pub next : IsNext h x v version
   pub most : version ≤ w
 
-pub next_of : (h : List (Transaction ℕ ℕ)) (x : ℕ) (top v w line : ℕ) → w ≤ top → Writes h line x w → v < w → HasNext h x v w
+pub next_of : (h : List (Transaction ℕ ℕ)) (x : ℕ) (top v w line : ℕ) → w ≤ top → Writes h line x w → v < w
+    → HasNext h x v w
 next_of h x zero v w line le writes lt = absurd (omega arith)
 next_of h x (suc top) v w line le writes lt =
-    elim (decidable-writing x (λ u. (v < u) × (u < w)) (λ u. decidable-both (decidable-less v u) (decidable-less u w)) h true) [
+    elim (decidable-writing x (λ u. (v < u) × (u < w)) (λ u. decidable-both (decidable-less v u) (decidable-less u w))
+    h true) [
       | inl s ↦
-          let more = next_of h x top v s.o.version s.line (omega (arith, s.holds.1.1)) (writes_of h x (λ u. (v < u) × (u < w)) s) s.holds.1.0 in
-          record { version = more.version; line = more.line; writes = more.writes; next = more.next; most = omega (arith, more.most, s.holds.1.1) }
+          let more =
+          next_of h x top v s.o.version s.line (omega (arith, s.holds.1.1))
+          (writes_of h x (λ u. (v < u) × (u < w)) s) s.holds.1.0 in
+          record {
+            version = more.version;
+            line = more.line;
+            writes = more.writes;
+            next = more.next;
+            most =
+                omega (arith, more.most, s.holds.1.1);
+          }
       | inr none ↦ record {
         version = w;
         line = line;

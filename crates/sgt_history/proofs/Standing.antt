@@ -12,14 +12,16 @@ use Rattle.sgt_history.specs.Conflicts.{IsOperation, Precedes}
 use Rattle.sgt_history.proofs.Runs.{one_at}
 use Rattle.sgt_history.proofs.Placed.{start_of, IsPlaced, in_run, earlier-before}
 
-pub record Stands {I V : Type 0} (h : List (Transaction I V)) (order : List ℕ) (line : ℕ) (t : Transaction I V) (place : ℕ)
+pub record Stands {I V : Type 0} (h : List (Transaction I V)) (order : List ℕ) (line : ℕ) (t : Transaction I V)
+    (place : ℕ)
     (o : Operation I V) : Type 0 where
   pub i : ℕ
   pub p : ℕ
   pub placed : IsPlaced h order p i line t place o
   pub there : slice_get (run_of h order) p ≡ Some o
 
-pub stands : {I V : Type 0} (h : List (Transaction I V)) (order : List ℕ) → IsOrder h order → (line place : ℕ) (t : Transaction I V) (o : Operation I V)
+pub stands : {I V : Type 0} (h : List (Transaction I V)) (order : List ℕ) → IsOrder h order
+    → (line place : ℕ) (t : Transaction I V) (o : Operation I V)
     → IsOperation h line place t o → Stands h order line t place o
 stands h order ordered line place t o is =
     let at = Contains_at order line (ordered.all line t is.committed) in
@@ -46,7 +48,8 @@ precedes h order l m t j o t' j' o' apart a b not =
 -- what stands in the run at a place of a transaction is that operation of it
 pub own_at : {I V : Type 0} (h : List (Transaction I V)) (order : List ℕ) (i line : ℕ) (t : Transaction I V)
     → slice_get order i ≡ Some line → slice_get h line ≡ Some t
-    → (r : ℕ) (w : Operation I V) → r < length t.operations → slice_get (run_of h order) (start_of h order i + r) ≡ Some w
+    → (r : ℕ) (w : Operation I V) → r < length t.operations
+    → slice_get (run_of h order) (start_of h order i + r) ≡ Some w
     → slice_get t.operations r ≡ Some w
 own_at h order i line t at in_line r w lt there =
     let own = within_at t.operations r lt in
@@ -55,8 +58,10 @@ own_at h order i line t at in_line r w lt there =
     own.1 ∙ ap Some (same_Some own.0 w (sym here ∙ there))
 
 -- what a transaction wrote last before one of its operations is what was written last before it
-pub own-last : {I V : Type 0} (h : List (Transaction I V)) (order : List ℕ) (p i line : ℕ) (t : Transaction I V) (j : ℕ) (o : Operation I V)
-    → IsPlaced h order p i line t j o → (x : I) (v : ℕ) → IsLastWritten t.operations j x v → IsLastWritten (run_of h order) p x v
+pub own-last : {I V : Type 0} (h : List (Transaction I V)) (order : List ℕ) (p i line : ℕ) (t : Transaction I V)
+    (j : ℕ) (o : Operation I V)
+    → IsPlaced h order p i line t j o → (x : I) (v : ℕ) → IsLastWritten t.operations j x v
+    → IsLastWritten (run_of h order) p x v
 own-last h order p i line t j o s x v own =
     let start = start_of h order i in
     let len = slice_get_within t.operations j o s.there in

@@ -82,15 +82,18 @@ pub record IsOtherValue {I V : Type 0} (h : List (Transaction I V)) (line place 
 -- ---- the table
 
 -- the operation at this place of the line's committed transaction has this fault
-abbrev pub HasFlaw : {I V : Type 0} → List (Transaction I V) → (line place : ℕ) → Transaction I V → Operation I V → Flaw → Type 0
+abbrev pub HasFlaw : {I V : Type 0} → List (Transaction I V) → (line place : ℕ) → Transaction I V → Operation I V
+    → Flaw → Type 0
 HasFlaw h line place t o Internal = IsOtherOwn t place o ⊎ (IsNotGreater t place o ⊎ IsFuture t place o)
-HasFlaw h line place t o Duplicate = (o.kind ≡ Write) × (earlier : ℕ) × (earlier < line) × Writes h earlier o.item o.version
+HasFlaw h line place t o Duplicate = (o.kind ≡ Write) × (earlier : ℕ) × (earlier < line)
+    × Writes h earlier o.item o.version
 HasFlaw h line place t o AbortedRead = IsForeign t place o × NoneCommitted h o.item o.version
     × (by : ℕ) × AbortedWrites h by o.item o.version
 HasFlaw h line place t o Unwritten = IsForeign t place o × NoneCommitted h o.item o.version
     × ((by : ℕ) → AbortedWrites h by o.item o.version → ⊥)
 HasFlaw h line place t o IntermediateRead = IsForeign t place o
-    × (by : ℕ) × IsFirstWriter h by o.item o.version × (greater : ℕ) × (o.version < greater) × Writes h by o.item greater
+    × (by : ℕ) × IsFirstWriter h by o.item o.version × (greater : ℕ) × (o.version < greater)
+    × Writes h by o.item greater
 HasFlaw h line place t o Value = IsOtherValue h line place o
 
 -- a fault of a line

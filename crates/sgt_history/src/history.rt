@@ -29,8 +29,8 @@ pub struct Line {
     pub commits: bool,
 }
 
-/// A history whose items and values are numbered, each with one number: all operations, one after another, and where the transaction
-/// of each line ends. There are at most 2^32-1 of either.
+/// A history whose items and values are numbered, each with one number: all operations, one after another, and where
+/// the transaction of each line ends. There are at most 2^32-1 of either.
 #[derive(Drop)]
 pub struct History {
     pub operations: Vec<Operation<u32, u32>>,

@@ -26,8 +26,8 @@ pub fn faults_exclude_every_order<I, V>()
         → IsSerializable h → ⊥ }
 {}
 
-/// An order of all committed transactions of a history without faults, whose items and values are numbered, serves exactly where all
-/// conflicts go forward in it.
+/// An order of all committed transactions of a history without faults, whose items and values are numbered, serves
+/// exactly where all conflicts go forward in it.
 pub fn orders_serve_exactly_where_conflicts_go_forward()
     ensures { (h : List (Transaction ℕ ℕ)) (order : List ℕ) → ArePositive h → IsFaultless h → IsOrder h order
         → Serves h order ↔ ((kind : Conflict) (from to x v w : ℕ) → HaveConflict h kind from to x v w

@@ -42,7 +42,8 @@ record IsNearest (touches : List Touch) (P : Touch → Type 0) (i k : ℕ) : Typ
   is : P e
   none : (m : ℕ) (u : Touch) → p < m → m < k → slice_get touches m ≡ Some u → P u → ⊥
 
-nearest : (touches : List Touch) (P : Touch → Type 0) → ((e : Touch) → Decidable (P e)) → (i k : ℕ) (a : Touch) → i < k → k ≤ length touches
+nearest : (touches : List Touch) (P : Touch → Type 0) → ((e : Touch) → Decidable (P e)) → (i k : ℕ) (a : Touch)
+    → i < k → k ≤ length touches
     → slice_get touches i ≡ Some a → P a → IsNearest touches P i k
 nearest touches P each i zero a lt le at is = absurd (omega arith)
 nearest touches P each i (suc k) a lt le at is =
@@ -87,14 +88,33 @@ record IsNearestBehind (touches : List Touch) (P : Touch → Type 0) (i k : ℕ)
   is : P e
   none : (m : ℕ) (u : Touch) → i ≤ m → m < p → slice_get touches m ≡ Some u → P u → ⊥
 
-behind : (touches : List Touch) (P : Touch → Type 0) → ((e : Touch) → Decidable (P e)) → (top i k : ℕ) (b : Touch) → k ≤ i + top → i ≤ k
+behind : (touches : List Touch) (P : Touch → Type 0) → ((e : Touch) → Decidable (P e)) → (top i k : ℕ) (b : Touch)
+    → k ≤ i + top → i ≤ k
     → slice_get touches k ≡ Some b → P b → IsNearestBehind touches P i k
 behind touches P each zero i k b most le at is =
-    record { p = k; e = b; from = le; to = omega arith; at = at; is = is; none = λ n u above below there p. absurd (omega (arith, above, below, most)) }
+    record {
+      p = k;
+      e = b;
+      from = le;
+      to = omega arith;
+      at = at;
+      is = is;
+      none =
+          λ n u above below there p. absurd (omega (arith, above, below, most));
+    }
 behind touches P each (suc top) i k b most le at is =
     let m = within_at touches i (omega (arith, le, slice_get_within touches k b at)) in
     elim (each m.0) [
-      | inl yes1 ↦ record { p = i; e = m.0; from = omega arith; to = le; at = m.1; is = yes1; none = λ n u above below there p. absurd (omega (arith, above, below)) }
+      | inl yes1 ↦ record {
+        p = i;
+        e = m.0;
+        from = omega arith;
+        to = le;
+        at = m.1;
+        is = yes1;
+        none =
+            λ n u above below there p. absurd (omega (arith, above, below));
+      }
       | inr never ↦
           let less : i < k = elim (cases_eq i k) [
             | inl e ↦ absurd (never (subst P (same_Some b m.0 (sym at ∙ ap (slice_get touches) (sym e) ∙ m.1)) is))
@@ -118,7 +138,8 @@ behind touches P each (suc top) i k b most le at is =
 -- ---- what order says
 
 -- what stands between two of one item is of it, and of a version between
-between : (a m b : Touch) → MayPrecede a m → MayPrecede m b → a.item ≡ b.item → (m.item ≡ a.item) × (a.version ≤ m.version) × (m.version ≤ b.version)
+between : (a m b : Touch) → MayPrecede a m → MayPrecede m b → a.item ≡ b.item
+    → (m.item ≡ a.item) × (a.version ≤ m.version) × (m.version ≤ b.version)
 between a m b (inl x) (inl y) i = absurd (omega (arith, x, y, i))
 between a m b (inl x) (inr (e, y)) i = absurd (omega (arith, x, e, i))
 between a m b (inr (e, x)) (inl y) i = absurd (omega (arith, e, y, i))
@@ -134,20 +155,23 @@ versions-rise a b (inr (e, inl x)) i = omega (arith, x)
 versions-rise a b (inr (e, inr (f, x))) i = omega (arith, f)
 
 -- of one version no write stands behind a read
-kinds-rise : (a b : Touch) → MayPrecede a b → a.item ≡ b.item → a.version ≡ b.version → a.kind ≡ Read → b.kind ≡ Write → ⊥
+kinds-rise : (a b : Touch) → MayPrecede a b → a.item ≡ b.item → a.version ≡ b.version → a.kind ≡ Read → b.kind ≡ Write
+    → ⊥
 kinds-rise a b (inl x) i v r w = absurd (omega (arith, x, i))
 kinds-rise a b (inr (e, inl x)) i v r w = absurd (omega (arith, x, v))
 kinds-rise a b (inr (e, inr (f, inl x))) i v r w = absurd (omega (arith, x, ap reads_of r, ap reads_of w))
 kinds-rise a b (inr (e, inr (f, inr (g, x)))) i v r w = absurd (omega (arith, g, ap reads_of r, ap reads_of w))
 
-module _ (h : List (Transaction ℕ ℕ)) (touches : List Touch) (are : AreTouches h touches) (ordered : AreInOrder touches) where
+module _ (h : List (Transaction ℕ ℕ)) (touches : List Touch) (are : AreTouches h touches)
+    (ordered : AreInOrder touches) where
   touch-at : (i : ℕ) (e : Touch) → slice_get touches i ≡ Some e → IsTouch h e
   touch-at i e at = All_in (IsTouch h) touches e are.each (Contains-from_at touches i e at)
 
   operation : (e : Touch) → (i : IsTouch h e) → e.commits ≡ true → IsOperation h e.line e.place i.t i.of.o
   operation e i commits = record { committed = (i.in_line, sym i.of.commits_is ∙ commits); there = i.of.there }
 
-  writes-at : (i : ℕ) (e : Touch) (x v : ℕ) → slice_get touches i ≡ Some e → IsWritten e → e.item ≡ x → e.version ≡ v → Writes h e.line x v
+  writes-at : (i : ℕ) (e : Touch) (x v : ℕ) → slice_get touches i ≡ Some e → IsWritten e → e.item ≡ x → e.version ≡ v
+      → Writes h e.line x v
   writes-at i e x v at w item version =
       let t = touch-at i e at in
       record {
@@ -159,7 +183,8 @@ module _ (h : List (Transaction ℕ ℕ)) (touches : List Touch) (are : AreTouch
         version_is = sym t.of.version_is ∙ version;
       }
 
-  reads-at : (i : ℕ) (e : Touch) (x v : ℕ) → slice_get touches i ≡ Some e → e.kind ≡ Read → e.item ≡ x → e.version ≡ v → Reads h e.line x v
+  reads-at : (i : ℕ) (e : Touch) (x v : ℕ) → slice_get touches i ≡ Some e → e.kind ≡ Read → e.item ≡ x → e.version ≡ v
+      → Reads h e.line x v
   reads-at i e x v at read item version =
       let t = touch-at i e at in
       let r = t.of.read (sym t.of.kind_is ∙ read) in
@@ -171,7 +196,8 @@ module _ (h : List (Transaction ℕ ℕ)) (touches : List Touch) (are : AreTouch
         read = sym t.of.kind_is ∙ read;
         item_is = sym t.of.item_is ∙ item;
         version_is = sym t.of.version_is ∙ version;
-        foreign = subst (λ y. (place : ℕ) (o : Operation ℕ ℕ) → 0 ≤ place → place < e.place → slice_get t.t.operations place ≡ Some o → IsWriteOf o y → ⊥)
+        foreign = subst (λ y. (place : ℕ) (o : Operation ℕ ℕ) → 0 ≤ place → place < e.place
+            → slice_get t.t.operations place ≡ Some o → IsWriteOf o y → ⊥)
             (sym t.of.item_is ∙ item) r.1;
       }
 
@@ -184,8 +210,10 @@ module _ (h : List (Transaction ℕ ℕ)) (touches : List Touch) (are : AreTouch
     item_is : e.item ≡ x
     version_is : e.version ≡ v
 
-  find : (line place : ℕ) (t : Transaction ℕ ℕ) (o : Operation ℕ ℕ) → slice_get h line ≡ Some t → slice_get t.operations place ≡ Some o
-      → IsTouched touches line place → (f : IsAt line o.item o.version) × (f.e.kind ≡ o.kind) × (f.e.commits ≡ t.commits)
+  find : (line place : ℕ) (t : Transaction ℕ ℕ) (o : Operation ℕ ℕ) → slice_get h line ≡ Some t
+      → slice_get t.operations place ≡ Some o
+      → IsTouched touches line place → (f : IsAt line o.item o.version) × (f.e.kind ≡ o.kind)
+      × (f.e.commits ≡ t.commits)
   find line place t o in_line there f =
       let at = Contains_at touches f.e f.in_it in
       let i = touch-at at.0 f.e at.1 in
@@ -206,7 +234,8 @@ module _ (h : List (Transaction ℕ ℕ)) (touches : List Touch) (are : AreTouch
 
   write-at : (line x v : ℕ) → Writes h line x v → (f : IsAt line x v) × IsWritten f.e
   write-at line x v w =
-      let f = find line w.place w.t w.o w.is.committed.0 w.is.there (are.all line w.place w.t w.o w.is.committed.0 w.is.there (inl w.writes.write)) in (
+      let f = find line w.place w.t w.o w.is.committed.0 w.is.there
+      (are.all line w.place w.t w.o w.is.committed.0 w.is.there (inl w.writes.write)) in (
         record {
           i = f.0.i;
           e = f.0.e;
@@ -224,7 +253,8 @@ module _ (h : List (Transaction ℕ ℕ)) (touches : List Touch) (are : AreTouch
       (are.all line r.place r.t r.o r.is.committed.0 r.is.there (inr (
         r.read,
         r.is.committed.1,
-        subst (λ y. (place : ℕ) (o : Operation ℕ ℕ) → 0 ≤ place → place < r.place → slice_get r.t.operations place ≡ Some o → IsWriteOf o y → ⊥)
+        subst (λ y. (place : ℕ) (o : Operation ℕ ℕ) → 0 ≤ place → place < r.place
+            → slice_get r.t.operations place ≡ Some o → IsWriteOf o y → ⊥)
             (sym r.item_is) r.foreign,
       ))) in (
         record {
@@ -252,13 +282,19 @@ module _ (h : List (Transaction ℕ ℕ)) (touches : List Touch) (are : AreTouch
           t = b.t;
           o = b.o;
           is = b.is;
-          has = (b.writes.write, l, lt, subst (Writes h l b.o.item) (sym b.version_is) (subst (λ y. Writes h l y v) (sym b.writes.item) a));
+          has = (
+            b.writes.write,
+            l,
+            lt,
+            subst (Writes h l b.o.item) (sym b.version_is) (subst (λ y. Writes h l y v) (sym b.writes.item) a),
+          );
         })
 
     -- ---- a pair is a conflict
 
     -- no chain version lies between a touch and the next write
-    next-version : (i k : ℕ) (a b : Touch) → slice_get touches i ≡ Some a → slice_get touches k ≡ Some b → i < k → NoneBetween touches i k
+    next-version : (i k : ℕ) (a b : Touch) → slice_get touches i ≡ Some a → slice_get touches k ≡ Some b → i < k
+        → NoneBetween touches i k
         → a.item ≡ b.item → a.version < b.version → (a.kind ≡ Read) ⊎ IsWritten a → IsNext h a.item a.version b.version
     next-version i k a b at at' lt none item above either = record {
       above = above;
@@ -270,7 +306,8 @@ module _ (h : List (Transaction ℕ ℕ)) (touches : List Touch) (are : AreTouch
                   let same = same_Some b f.0.e (sym at' ∙ ap (slice_get touches) e ∙ f.0.at) in
                   omega (arith, ap (λ (u : Touch). u.version) same, f.0.version_is)
               | inr apart ↦
-                  let rise = versions-rise b f.0.e (ordered k f.0.i b f.0.e (omega (arith, past, apart)) at' f.0.at) (sym item ∙ sym f.0.item_is) in
+                  let rise = versions-rise b f.0.e (ordered k f.0.i b f.0.e (omega (arith, past, apart)) at' f.0.at)
+                  (sym item ∙ sym f.0.item_is) in
                   omega (arith, rise, f.0.version_is)
             ]
             | inl less ↦ elim (cases_order f.0.i i) [
@@ -285,13 +322,15 @@ module _ (h : List (Transaction ℕ ℕ)) (touches : List Touch) (are : AreTouch
           ];
     }
 
-    pub pair-conflict : (kind : Conflict) (i k : ℕ) → (p : IsPair touches kind i k) → HaveConflict h kind p.a.line p.b.line p.a.item p.a.version p.b.version
+    pub pair-conflict : (kind : Conflict) (i k : ℕ) → (p : IsPair touches kind i k)
+        → HaveConflict h kind p.a.line p.b.line p.a.item p.a.version p.b.version
     pair-conflict WriteWrite i k p =
         let a = writes-at i p.a p.a.item p.a.version p.first p.meets.2 refl refl in
         let b = writes-at k p.b p.a.item p.b.version p.second p.meets.3 (sym p.meets.0) refl in
         let most = versions-rise p.a p.b (ordered i k p.a p.b p.before p.first p.second) p.meets.0 in
         let above : p.a.version < p.b.version = elim (cases_eq p.a.version p.b.version) [
-          | inl e ↦ absurd (p.meets.1 (one-writer p.a.line p.b.line p.a.item p.b.version (subst (Writes h p.a.line p.a.item) e a) b))
+          | inl e ↦ absurd
+              (p.meets.1 (one-writer p.a.line p.b.line p.a.item p.b.version (subst (Writes h p.a.line p.a.item) e a) b))
           | inr apart ↦ omega (arith, most, apart)
         ] in
         (p.meets.1, a, b, next-version i k p.a p.b p.first p.second p.before p.none p.meets.0 above (inr p.meets.2))
@@ -326,31 +365,46 @@ module _ (h : List (Transaction ℕ ℕ)) (touches : List Touch) (are : AreTouch
       pub version_is : pair.a.version ≡ v
 
     -- a touch of a smaller version of the item stands before
-    stands-before : (i k : ℕ) (a b : Touch) → slice_get touches i ≡ Some a → slice_get touches k ≡ Some b → a.item ≡ b.item → a.version < b.version → i < k
+    stands-before : (i k : ℕ) (a b : Touch) → slice_get touches i ≡ Some a → slice_get touches k ≡ Some b
+        → a.item ≡ b.item → a.version < b.version → i < k
     stands-before i k a b at at' item lt =
         elim (cases_order i k) [
-          | inl e ↦ absurd (omega (arith, lt, ap (λ (u : Touch). u.version) (same_Some a b (sym at ∙ ap (slice_get touches) e ∙ at'))))
+          | inl e ↦ absurd
+              (omega (
+                arith,
+                lt,
+                ap (λ (u : Touch). u.version) (same_Some a b (sym at ∙ ap (slice_get touches) e ∙ at')),
+              ))
           | inr (inl less) ↦ less
           | inr (inr more) ↦ absurd (omega (arith, lt, versions-rise b a (ordered k i b a more at' at) (sym item)))
         ]
 
     -- one from a on that isn't a itself stands between
-    mid : (i p k : ℕ) (a m b : Touch) → slice_get touches i ≡ Some a → slice_get touches p ≡ Some m → slice_get touches k ≡ Some b → i ≤ p → p ≤ k → a.item ≡ b.item
+    mid : (i p k : ℕ) (a m b : Touch) → slice_get touches i ≡ Some a → slice_get touches p ≡ Some m
+        → slice_get touches k ≡ Some b → i ≤ p → p ≤ k → a.item ≡ b.item
         → a.version ≤ b.version → (m.item ≡ a.item) × (a.version ≤ m.version) × (m.version ≤ b.version)
     mid i p k a m b at here at' le less item most =
         elim (cases_eq i p) [
           | inl e ↦
-              let same = same_Some m a (sym here ∙ ap (slice_get touches) (sym e) ∙ at) in
-              (ap (λ (u : Touch). u.item) same, omega (arith, ap (λ (u : Touch). u.version) same), omega (arith, ap (λ (u : Touch). u.version) same, most))
+              let same = same_Some m a (sym here ∙ ap (slice_get touches) (sym e) ∙ at) in (
+                ap (λ (u : Touch). u.item) same,
+                omega (arith, ap (λ (u : Touch). u.version) same),
+                omega (arith, ap (λ (u : Touch). u.version) same, most),
+              )
           | inr apart ↦ elim (cases_eq p k) [
             | inl e ↦
-                let same = same_Some m b (sym here ∙ ap (slice_get touches) e ∙ at') in
-                (ap (λ (u : Touch). u.item) same ∙ sym item, omega (arith, ap (λ (u : Touch). u.version) same, most), omega (arith, ap (λ (u : Touch). u.version) same))
-            | inr more ↦ between a m b (ordered i p a m (omega (arith, le, apart)) at here) (ordered p k m b (omega (arith, less, more)) here at') item
+                let same = same_Some m b (sym here ∙ ap (slice_get touches) e ∙ at') in (
+                  ap (λ (u : Touch). u.item) same ∙ sym item,
+                  omega (arith, ap (λ (u : Touch). u.version) same, most),
+                  omega (arith, ap (λ (u : Touch). u.version) same),
+                )
+            | inr more ↦ between a m b (ordered i p a m (omega (arith, le, apart)) at here)
+                (ordered p k m b (omega (arith, less, more)) here at') item
           ]
         ]
 
-    pub conflict-pair : (kind : Conflict) (from to x v w : ℕ) → HaveConflict h kind from to x v w → IsPairOf kind from to x v w
+    pub conflict-pair : (kind : Conflict) (from to x v w : ℕ) → HaveConflict h kind from to x v w
+        → IsPairOf kind from to x v w
     conflict-pair WriteWrite from to x v w (apart, first, second, next) =
         let a = write-at from x v first in
         let b = write-at to x w second in
@@ -362,8 +416,10 @@ module _ (h : List (Transaction ℕ ℕ)) (touches : List Touch) (are : AreTouch
         b.0.i a.0.i b.0.i b.0.e (omega arith) (omega (arith, lt)) b.0.at (b.1, (b.0.item_is, b.0.version_is)) in
         let less = stands-before a.0.i k.p a.0.e k.e a.0.at k.at (a.0.item_is ∙ sym k.is.1.0)
         (omega (arith, a.0.version_is, k.is.1.1, next.above)) in
-        let p = nearest touches IsWritten decidable-written a.0.i k.p a.0.e less (omega (arith, slice_get_within touches k.p k.e k.at)) a.0.at a.1 in
-        let m = mid a.0.i p.p k.p a.0.e p.e k.e a.0.at p.at k.at p.from (omega (arith, p.to)) (a.0.item_is ∙ sym k.is.1.0)
+        let p = nearest touches IsWritten decidable-written a.0.i k.p a.0.e less
+        (omega (arith, slice_get_within touches k.p k.e k.at)) a.0.at a.1 in
+        let m = mid a.0.i p.p k.p a.0.e p.e k.e a.0.at p.at k.at p.from (omega (arith, p.to)) (a.0.item_is
+        ∙ sym k.is.1.0)
         (omega (arith, a.0.version_is, k.is.1.1, next.above)) in
         let item : p.e.item ≡ x = m.0 ∙ a.0.item_is in
         let not : p.e.version ≢ w = λ e. k.none p.p p.e p.from p.to p.at (p.is, (item, e)) in
@@ -403,10 +459,13 @@ module _ (h : List (Transaction ℕ ℕ)) (touches : List Touch) (are : AreTouch
               let one = same_Some a.0.e b.0.e (sym a.0.at ∙ ap (slice_get touches) e ∙ b.0.at) in
               let f = sym a.1.write ∙ ap (λ (u : Touch). u.kind) one ∙ b.1 in cc
           | inr (inl less) ↦ less
-          | inr (inr more) ↦ absurd (kinds-rise b.0.e a.0.e (ordered b.0.i a.0.i b.0.e a.0.e more b.0.at a.0.at) (sym item) (sym version) b.1 a.1.write)
+          | inr (inr more) ↦ absurd (kinds-rise b.0.e a.0.e (ordered b.0.i a.0.i b.0.e a.0.e more b.0.at a.0.at)
+              (sym item) (sym version) b.1 a.1.write)
         ] in
-        let p = nearest touches IsWritten decidable-written a.0.i b.0.i a.0.e lt (omega (arith, slice_get_within touches b.0.i b.0.e b.0.at)) a.0.at a.1 in
-        let m = mid a.0.i p.p b.0.i a.0.e p.e b.0.e a.0.at p.at b.0.at p.from (omega (arith, p.to)) item (omega (arith, version)) in
+        let p = nearest touches IsWritten decidable-written a.0.i b.0.i a.0.e lt
+        (omega (arith, slice_get_within touches b.0.i b.0.e b.0.at)) a.0.at a.1 in
+        let m = mid a.0.i p.p b.0.i a.0.e p.e b.0.e a.0.at p.at b.0.at p.from (omega (arith, p.to)) item
+        (omega (arith, version)) in
         let v_is : p.e.version ≡ v = omega (arith, m.1, m.2, a.0.version_is, b.0.version_is, same) in
         let from_is = one-writer p.e.line from x v (writes-at p.p p.e x v p.at p.is (m.0 ∙ a.0.item_is) v_is) first in
         record {
@@ -419,7 +478,14 @@ module _ (h : List (Transaction ℕ ℕ)) (touches : List Touch) (are : AreTouch
             second = b.0.at;
             before = p.to;
             none = p.none;
-            meets = (m.0 ∙ item, (λ e. apart (sym from_is ∙ e ∙ b.0.line_is)), p.is, b.1, v_is ∙ same ∙ sym b.0.version_is);
+            meets = (
+              m.0 ∙ item,
+              (λ e. apart (sym from_is ∙ e ∙ b.0.line_is)),
+              p.is,
+              b.1,
+              v_is ∙ same
+                  ∙ sym b.0.version_is,
+            );
           };
           from_is = from_is;
           to_is = b.0.line_is;
@@ -433,7 +499,8 @@ module _ (h : List (Transaction ℕ ℕ)) (touches : List Touch) (are : AreTouch
         let above : a.0.e.version < b.0.e.version = omega (arith, a.0.version_is, b.0.version_is, next.above) in
         let lt = stands-before a.0.i b.0.i a.0.e b.0.e a.0.at b.0.at item above in
         let n = behind touches IsWritten decidable-written b.0.i (suc a.0.i) b.0.i b.0.e (omega arith) lt b.0.at b.1 in
-        let m = mid a.0.i n.p b.0.i a.0.e n.e b.0.e a.0.at n.at b.0.at (omega (arith, n.from)) n.to item (omega (arith, above)) in
+        let m = mid a.0.i n.p b.0.i a.0.e n.e b.0.e a.0.at n.at b.0.at (omega (arith, n.from)) n.to item
+        (omega (arith, above)) in
         let n_item : n.e.item ≡ x = m.0 ∙ a.0.item_is in
         let by = writes-at n.p n.e x n.e.version n.at n.is n_item refl in
         let order = ordered a.0.i n.p a.0.e n.e (omega (arith, n.from)) a.0.at n.at in

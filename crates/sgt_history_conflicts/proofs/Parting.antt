@@ -47,18 +47,22 @@ in-either xs ys e in_it =
 
 -- ---- pairs
 
-pub first-part : (touches : List Touch) (one : List Edge) → AddsAll touches WriteWrite [] one → ArePairsOf touches graph.WriteWrite one
+pub first-part : (touches : List Touch) (one : List Edge) → AddsAll touches WriteWrite [] one
+    → ArePairsOf touches graph.WriteWrite one
 first-part touches one a = record {
   sound = λ e in_it. (WriteWrite, tt, a.sound e (subst (λ xs. Contains xs e) a.is in_it));
   all = λ kind i k among pair. each kind i k among pair;
 }
   where
-    each : (kind : Conflict) (i k : ℕ) → IsAmong graph.WriteWrite kind → IsPair touches kind i k → Contains one (record { from = i; to = k })
-    each WriteWrite i k among pair = subst (λ xs. Contains xs (record { from = i; to = k })) (sym a.is) (a.all i k tt pair)
+    each : (kind : Conflict) (i k : ℕ) → IsAmong graph.WriteWrite kind → IsPair touches kind i k
+        → Contains one (record { from = i; to = k })
+    each WriteWrite i k among pair =
+        subst (λ xs. Contains xs (record { from = i; to = k })) (sym a.is) (a.all i k tt pair)
     each WriteRead i k among pair = absurd among
     each ReadWrite i k among pair = absurd among
 
-pub second-part : (touches : List Touch) (one two : List Edge) → AddsAll touches WriteWrite [] one → AddsAll touches WriteRead one two
+pub second-part : (touches : List Touch) (one two : List Edge) → AddsAll touches WriteWrite [] one
+    → AddsAll touches WriteRead one two
     → ArePairsOf touches graph.WithReads two
 second-part touches one two a b = record {
   sound = λ e in_it. elim (in-either one b.more e (subst (λ xs. Contains xs e) b.is in_it)) [
@@ -68,14 +72,17 @@ second-part touches one two a b = record {
   all = λ kind i k among pair. each kind i k among pair;
 }
   where
-    each : (kind : Conflict) (i k : ℕ) → IsAmong graph.WithReads kind → IsPair touches kind i k → Contains two (record { from = i; to = k })
+    each : (kind : Conflict) (i k : ℕ) → IsAmong graph.WithReads kind → IsPair touches kind i k
+        → Contains two (record { from = i; to = k })
     each WriteWrite i k among pair = subst (λ xs. Contains xs (record { from = i; to = k })) (sym b.is)
-        (in-left one b.more (record { from = i; to = k }) (subst (λ xs. Contains xs (record { from = i; to = k })) (sym a.is) (a.all i k tt pair)))
+        (in-left one b.more (record { from = i; to = k }) (subst (λ xs. Contains xs (record { from = i; to = k }))
+        (sym a.is) (a.all i k tt pair)))
     each WriteRead i k among pair = subst (λ xs. Contains xs (record { from = i; to = k })) (sym b.is)
         (in-right one b.more (record { from = i; to = k }) (b.all i k tt pair))
     each ReadWrite i k among pair = absurd among
 
-pub third-part : (touches : List Touch) (one two three : List Edge) → AddsAll touches WriteWrite [] one → AddsAll touches WriteRead one two
+pub third-part : (touches : List Touch) (one two three : List Edge) → AddsAll touches WriteWrite [] one
+    → AddsAll touches WriteRead one two
     → AddsAll touches ReadWrite two three → ArePairsOf touches graph.Whole three
 third-part touches one two three a b c = record {
   sound = λ e in_it. elim (in-either two c.more e (subst (λ xs. Contains xs e) c.is in_it)) [
@@ -87,24 +94,28 @@ third-part touches one two three a b c = record {
   where
     each : (kind : Conflict) (i k : ℕ) → IsPair touches kind i k → Contains three (record { from = i; to = k })
     each WriteWrite i k pair = subst (λ xs. Contains xs (record { from = i; to = k })) (sym c.is)
-        (in-left two c.more (record { from = i; to = k }) ((second-part touches one two a b).all WriteWrite i k tt pair))
+        (in-left two c.more (record { from = i; to = k })
+        ((second-part touches one two a b).all WriteWrite i k tt pair))
     each WriteRead i k pair = subst (λ xs. Contains xs (record { from = i; to = k })) (sym c.is)
         (in-left two c.more (record { from = i; to = k }) ((second-part touches one two a b).all WriteRead i k tt pair))
     each ReadWrite i k pair = subst (λ xs. Contains xs (record { from = i; to = k })) (sym c.is)
         (in-right two c.more (record { from = i; to = k }) (c.all i k tt pair))
 
 -- a part is what stands in front
-pub front-part : (touches : List Touch) (one three : List Edge) (more : List Edge) → three ≡ one ++ more → take (length one) three ≡ one
+pub front-part : (touches : List Touch) (one three : List Edge) (more : List Edge) → three ≡ one ++ more
+    → take (length one) three ≡ one
 front-part touches one three more is = rw is (take_at one more (length one) refl)
 
 -- ---- lines
 
-pub joins : (touches : List Touch) (part : List Edge) → ArePairsOf touches graph.Whole part → All (JoinsTouches touches) part
+pub joins : (touches : List Touch) (part : List Edge) → ArePairsOf touches graph.Whole part
+    → All (JoinsTouches touches) part
 joins touches part are = All-from_at (JoinsTouches touches) part (λ k e at.
     let p = (are.sound e (Contains-from_at part k e at)).2 in
     (slice_get_within touches e.from p.a p.first, slice_get_within touches e.to p.b p.second))
 
-module _ (h : List (Transaction ℕ ℕ)) (touches : List Touch) (by : IsFaultlessBy h touches) (g : Graph) (old new : List Edge) (n : ℕ)
+module _ (h : List (Transaction ℕ ℕ)) (touches : List Touch) (by : IsFaultlessBy h touches) (g : Graph)
+    (old new : List Edge) (n : ℕ)
     (lined : AreLined touches old new) (are : ArePairsOf touches g (take n old)) where
   pub edges-are : AreEdgesOf h g (take n new)
   edges-are = record {
@@ -116,7 +127,11 @@ module _ (h : List (Transaction ℕ ℕ)) (touches : List Touch) (by : IsFaultle
         let in_it = are.all c.kind p.i p.k c.among p.pair in
         let at = Contains_at (take n old) (record { from = p.i; to = p.k }) in_it in
         let t = slice_get-take old n at.0 (record { from = p.i; to = p.k }) at.1 in
-        let q = within_at new at.0 (omega (arith, slice_get_within old at.0 (record { from = p.i; to = p.k }) t.1, lined.size)) in
+        let q = within_at new at.0 (omega (
+          arith,
+          slice_get_within old at.0 (record { from = p.i; to = p.k }) t.1,
+          lined.size,
+        )) in
         let l = lined.each at.0 (record { from = p.i; to = p.k }) q.0 t.1 q.1 in
         let a_is = same_Some l.a p.pair.a (sym l.first ∙ p.pair.first) in
         let b_is = same_Some l.b p.pair.b (sym l.second ∙ p.pair.second) in
@@ -131,7 +146,8 @@ module _ (h : List (Transaction ℕ ℕ)) (touches : List Touch) (by : IsFaultle
         (slice_get_within h e.from c.0 c.1, slice_get_within h e.to c.2 c.3));
   }
     where
-      back : (e : Edge) (k : ℕ) → slice_get (take n new) k ≡ Some e → (p : Edge) × (slice_get (take n old) k ≡ Some p) × IsLined touches p e
+      back : (e : Edge) (k : ℕ) → slice_get (take n new) k ≡ Some e → (p : Edge) × (slice_get (take n old) k ≡ Some p)
+          × IsLined touches p e
       back e k at =
           let t = slice_get-take new n k e at in
           let p = within_at old k (omega (arith, slice_get_within new k e t.1, lined.size)) in
@@ -159,9 +175,16 @@ module _ (h : List (Transaction ℕ ℕ)) (touches : List Touch) (by : IsFaultle
           → (t : Transaction ℕ ℕ) × (slice_get h e.from ≡ Some t) × (u : Transaction ℕ ℕ) × (slice_get h e.to ≡ Some u)
       sounds-lines e k at =
           let b = back e k at in
-          let x = All_in (IsTouch h) touches b.2.a by.touches_are.each (Contains-from_at touches b.0.from b.2.a b.2.first) in
-          let y = All_in (IsTouch h) touches b.2.b by.touches_are.each (Contains-from_at touches b.0.to b.2.b b.2.second) in
-          (x.t, ap (λ (u : Edge). slice_get h u.from) b.2.is ∙ x.in_line, y.t, ap (λ (u : Edge). slice_get h u.to) b.2.is ∙ y.in_line)
+          let x = All_in (IsTouch h) touches b.2.a by.touches_are.each
+          (Contains-from_at touches b.0.from b.2.a b.2.first) in
+          let y = All_in (IsTouch h) touches b.2.b by.touches_are.each
+          (Contains-from_at touches b.0.to b.2.b b.2.second) in (
+            x.t,
+            ap (λ (u : Edge). slice_get h u.from) b.2.is
+                ∙ x.in_line,
+            y.t,
+            ap (λ (u : Edge). slice_get h u.to) b.2.is ∙ y.in_line,
+          )
 
 -- ---- by graph
 
@@ -175,20 +198,26 @@ pub record HasThree (touches : List Touch) (three : List Edge) (n m : ℕ) : Typ
   pub second : ArePairsOf touches graph.WithReads (take m three)
   pub third : ArePairsOf touches graph.Whole three
 
-pub three-parts : (touches : List Touch) (none one two three : List Edge) (n m : ℕ) → none ≡ [] → AddsAll touches WriteWrite none one
-    → AddsAll touches WriteRead one two → AddsAll touches ReadWrite two three → n ≡ length one → m ≡ length two → HasThree touches three n m
+pub three-parts : (touches : List Touch) (none one two three : List Edge) (n m : ℕ) → none ≡ []
+    → AddsAll touches WriteWrite none one
+    → AddsAll touches WriteRead one two → AddsAll touches ReadWrite two three → n ≡ length one → m ≡ length two
+    → HasThree touches three n m
 three-parts touches none one two three n m nil a b c n_is m_is =
     let a' = subst (λ xs. AddsAll touches WriteWrite xs one) nil a in
-    let all : three ≡ one ++ (b.more ++ c.more) = c.is ∙ ap (λ xs. xs ++ c.more) b.is ∙ append_assoc one b.more c.more in
+    let all : three ≡ one ++ (b.more ++ c.more) = c.is ∙ ap (λ xs. xs ++ c.more) b.is
+    ∙ append_assoc one b.more c.more in
     record {
-      first = subst (ArePairsOf touches graph.WriteWrite) (sym (ap (λ k. take k three) n_is ∙ front-part touches one three (b.more ++ c.more) all))
+      first = subst (ArePairsOf touches graph.WriteWrite) (sym (ap (λ k. take k three) n_is
+          ∙ front-part touches one three (b.more ++ c.more) all))
           (first-part touches one a');
-      second = subst (ArePairsOf touches graph.WithReads) (sym (ap (λ k. take k three) m_is ∙ front-part touches two three c.more c.is))
+      second = subst (ArePairsOf touches graph.WithReads) (sym (ap (λ k. take k three) m_is
+          ∙ front-part touches two three c.more c.is))
           (second-part touches one two a' b);
       third = third-part touches one two three a' b c;
     }
 
-pub whole-edges : (h : List (Transaction ℕ ℕ)) (touches : List Touch) → IsFaultlessBy h touches → (old new : List Edge) → AreLined touches old new
+pub whole-edges : (h : List (Transaction ℕ ℕ)) (touches : List Touch) → IsFaultlessBy h touches
+    → (old new : List Edge) → AreLined touches old new
     → ArePairsOf touches graph.Whole old → AreEdgesOf h graph.Whole new
 whole-edges h touches by old new lined are =
     subst (AreEdgesOf h graph.Whole) (take_all (length new) new (omega arith))

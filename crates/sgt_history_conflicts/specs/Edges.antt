@@ -20,7 +20,8 @@ part_of p Whole = p.edges.items
 -- they are the pairs of the graph's conflicts
 pub record ArePairsOf (touches : List Touch) (g : Graph) (part : List Edge) : Type 0 where
   pub sound : (e : Edge) → Contains part e → (kind : Conflict) × IsAmong g kind × IsPair touches kind e.from e.to
-  pub all : (kind : Conflict) (i k : ℕ) → IsAmong g kind → IsPair touches kind i k → Contains part (record { from = i; to = k })
+  pub all : (kind : Conflict) (i k : ℕ) → IsAmong g kind → IsPair touches kind i k
+      → Contains part (record { from = i; to = k })
 
 abbrev pub HasPairs : List Touch → Parts → Type 0
 HasPairs touches p = (g : Graph) → ArePairsOf touches g (part_of p g)

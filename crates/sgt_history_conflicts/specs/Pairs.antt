@@ -34,7 +34,8 @@ pub record IsPair (touches : List Touch) (kind : Conflict) (i k : ℕ) : Type 0 
 -- the last such write before the place, if there is one
 abbrev pub IsLast : List Touch → ℕ → Option ℕ → Type 0
 IsLast touches n None = (m : ℕ) (e : Touch) → m < n → slice_get touches m ≡ Some e → IsWritten e → ⊥
-IsLast touches n (Some p) = (p < n) × (e : Touch) × (slice_get touches p ≡ Some e) × IsWritten e × NoneBetween touches p n
+IsLast touches n (Some p) = (p < n) × (e : Touch) × (slice_get touches p ≡ Some e) × IsWritten e
+    × NoneBetween touches p n
 
 -- the first such write from the place on, if there is one
 abbrev pub IsFirst : List Touch → ℕ → Option ℕ → Type 0
@@ -43,7 +44,8 @@ IsFirst touches n (Some p) = (n ≤ p) × (e : Touch) × (slice_get touches p �
     × ((m : ℕ) (u : Touch) → n ≤ m → m < p → slice_get touches m ≡ Some u → IsWritten u → ⊥)
 
 -- behind the pairs before stand pairs of this kind alone, and all of those whose places are so
-pub record AddsPairs (touches : List Touch) (kind : Conflict) (Are : ℕ → ℕ → Type 0) (old new : List Edge) : Type 0 where
+pub record AddsPairs (touches : List Touch) (kind : Conflict) (Are : ℕ → ℕ
+    → Type 0) (old new : List Edge) : Type 0 where
   pub more : List Edge
   pub is : new ≡ old ++ more
   pub sound : (p : Edge) → Contains more p → IsPair touches kind p.from p.to

@@ -24,7 +24,8 @@ pub fn edges_in(parts: &Parts, graph: Graph) -> &[Edge]
     }
 }
 
-/// The pairs of touches that conflict: their places among the touches. Err also where there are more than 2^32-1 touches.
+/// The pairs of touches that conflict: their places among the touches. Err also where there are more than 2^32-1
+/// touches.
 pub fn pairs_of(alloc: Global, touches: &[Touch]) -> Result<Parts, AllocError>
     ensures { IfOk result (HasPairs touches.now) }
 {

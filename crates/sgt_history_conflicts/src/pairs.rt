@@ -92,7 +92,8 @@ fn push_before(
 ) -> Result<(), AllocError>
     requires at { at < length touches.now }
     requires first { IsFirst touches.now (at + 1) first }
-    ensures { OnOk result ((before : List Edge) → AddsFrom touches.now Conflict.ReadWrite (at + 1) before pairs.old.items
+    ensures { OnOk result ((before : List Edge)
+        → AddsFrom touches.now Conflict.ReadWrite (at + 1) before pairs.old.items
         → AddsFrom touches.now Conflict.ReadWrite at before pairs.new.items) }
 {
     let Some(to) = first else {

@@ -16,7 +16,8 @@ use Rattle.sgt_history_evidence.proofs.Writing.{flaw_there}
 abbrev Before : (line place line' place' : ℕ) → Type 0
 Before line place line' place' = (line < line') ⊎ ((line ≡ line') × (place < place'))
 
-gives : (h : List (Transaction ℕ ℕ)) (line place : ℕ) (o : Operation ℕ ℕ) → (a : IsOtherValue h line place o) → GivesAt h o.item o.version a.line_of a.place_of
+gives : (h : List (Transaction ℕ ℕ)) (line place : ℕ) (o : Operation ℕ ℕ) → (a : IsOtherValue h line place o)
+    → GivesAt h o.item o.version a.line_of a.place_of
 gives h line place o a = record {
   t = a.t;
   committed = a.is.committed;
@@ -33,7 +34,8 @@ module _ (h : List (Transaction ℕ ℕ)) (line place : ℕ) (o : Operation ℕ 
   most = f.first a.line_of a.place_of (gives h line place o a)
 
   most_place : by ≡ a.line_of → at ≤ a.place_of
-  most_place e = f.here.first a.place_of (subst (λ n. GivesAt h o.item o.version n a.place_of) (sym e) (gives h line place o a))
+  most_place e =
+      f.here.first a.place_of (subst (λ n. GivesAt h o.item o.version n a.place_of) (sym e) (gives h line place o a))
 
   before : (by < line) ⊎ ((by ≡ line) × (at < place))
   before = elim a.before [
@@ -61,10 +63,14 @@ module _ (h : List (Transaction ℕ ℕ)) (line place : ℕ) (o : Operation ℕ 
       same : by ≡ a.line_of → at ≡ a.place_of → f.here.gives.is.gift.value ≡ a.value_of
       same e e' =
           let g = f.here.gives in
-          let one : g.t ≡ a.t = same_Some g.t a.t (sym g.committed.0 ∙ subst (λ n. slice_get h n ≡ Some a.t) (sym e) a.is.committed.0) in
-          let two : g.is.o ≡ a.other = same_Some g.is.o a.other (sym (subst (λ (k : Transaction ℕ ℕ). slice_get k.operations at ≡ Some g.is.o) one g.is.there)
+          let one : g.t ≡ a.t =
+          same_Some g.t a.t (sym g.committed.0 ∙ subst (λ n. slice_get h n ≡ Some a.t) (sym e) a.is.committed.0) in
+          let two : g.is.o ≡ a.other =
+          same_Some g.is.o a.other
+          (sym (subst (λ (k : Transaction ℕ ℕ). slice_get k.operations at ≡ Some g.is.o) one g.is.there)
           ∙ subst (λ n. slice_get a.t.operations n ≡ Some a.other) (sym e') a.is.there) in
-          same_Some g.is.gift.value a.value_of (sym g.is.gift.given ∙ ap (λ (k : Operation ℕ ℕ). k.value) two ∙ a.given_of)
+          same_Some g.is.gift.value a.value_of (sym g.is.gift.given ∙ ap (λ (k : Operation ℕ ℕ). k.value) two
+          ∙ a.given_of)
 
   pub gives-otherwise : IsFirstFault h line Value place → IsGivenOtherwise h line place o by at
   gives-otherwise first = elim (cases_eq a.value f.here.gives.is.gift.value) [
@@ -124,12 +130,16 @@ module _ (h : List (Transaction ℕ ℕ)) (line place : ℕ) (o : Operation ℕ 
         | inr (e', less) ↦ omega (arith, le, less)
       ]
 
-pub given-otherwise : (h : List (Transaction ℕ ℕ)) (line place : ℕ) (t : Transaction ℕ ℕ) (o : Operation ℕ ℕ) → IsFirstFault h line Value place
-    → IsOperation h line place t o → (by at : ℕ) → IsFirstGiven h o.item o.version by at → IsGivenOtherwise h line place o by at
-given-otherwise h line place t o first is by at f = gives-otherwise h line place o (flaw_there h line Value place t o first.faulty is) by at f first
+pub given-otherwise : (h : List (Transaction ℕ ℕ)) (line place : ℕ) (t : Transaction ℕ ℕ) (o : Operation ℕ ℕ)
+    → IsFirstFault h line Value place
+    → IsOperation h line place t o → (by at : ℕ) → IsFirstGiven h o.item o.version by at
+    → IsGivenOtherwise h line place o by at
+given-otherwise h line place t o first is by at f =
+    gives-otherwise h line place o (flaw_there h line Value place t o first.faulty is) by at f first
 
 -- where none gives a value there is no such fault
-pub given-none : (h : List (Transaction ℕ ℕ)) (line place : ℕ) (t : Transaction ℕ ℕ) (o : Operation ℕ ℕ) → IsFirstFault h line Value place
+pub given-none : (h : List (Transaction ℕ ℕ)) (line place : ℕ) (t : Transaction ℕ ℕ) (o : Operation ℕ ℕ)
+    → IsFirstFault h line Value place
     → IsOperation h line place t o → ((line' place' : ℕ) → GivesAt h o.item o.version line' place' → ⊥) → ⊥
 given-none h line place t o first is none =
     let a = flaw_there h line Value place t o first.faulty is in

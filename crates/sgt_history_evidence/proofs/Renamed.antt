@@ -21,13 +21,16 @@ module _ {I J V W : Type 0} (f : I → J) (g : V → W) (h : List (Transaction I
 
   -- ---- operations
 
-  pub in_it : (line place : ℕ) (t : Transaction I V) (o : Operation I V) → slice_get h line ≡ Some t → slice_get t.operations place ≡ Some o → IsIn h o
+  pub in_it : (line place : ℕ) (t : Transaction I V) (o : Operation I V) → slice_get h line ≡ Some t
+      → slice_get t.operations place ≡ Some o → IsIn h o
   in_it line place t o at there = (line, t, at, Contains-from_at t.operations place o there)
 
-  pub occurs : (line place : ℕ) (t : Transaction I V) (o : Operation I V) → slice_get h line ≡ Some t → slice_get t.operations place ≡ Some o → Occurs o.item
+  pub occurs : (line place : ℕ) (t : Transaction I V) (o : Operation I V) → slice_get h line ≡ Some t
+      → slice_get t.operations place ≡ Some o → Occurs o.item
   occurs line place t o at there = (o, in_it line place t o at there, refl)
 
-  pub committed-on : (line : ℕ) (t : Transaction I V) → IsCommitted h line t → IsCommitted (map (renamed f g) h) line (renamed f g t)
+  pub committed-on : (line : ℕ) (t : Transaction I V) → IsCommitted h line t
+      → IsCommitted (map (renamed f g) h) line (renamed f g t)
   committed-on line t c = (get-mapped (renamed f g) h line t c.0, c.1)
 
   pub record Before (line : ℕ) (t' : Transaction J W) : Type 0 where
@@ -52,7 +55,8 @@ module _ {I J V W : Type 0} (f : I → J) (g : V → W) (h : List (Transaction I
     pub t_is : renamed f g t ≡ t'
     pub o_is : renamed_operation f g o ≡ o'
 
-  pub operation-back : (line place : ℕ) (t' : Transaction J W) (o' : Operation J W) → IsOperation (map (renamed f g) h) line place t' o'
+  pub operation-back : (line place : ℕ) (t' : Transaction J W) (o' : Operation J W)
+      → IsOperation (map (renamed f g) h) line place t' o'
       → Was line place t' o'
   operation-back line place t' o' is =
       let old = line-back line t' is.committed.0 in
@@ -61,7 +65,11 @@ module _ {I J V W : Type 0} (f : I → J) (g : V → W) (h : List (Transaction I
       record {
         t = old.t;
         o = one.0;
-        is = record { committed = (old.at, ap (λ (k : Transaction J W). k.commits) old.is ∙ is.committed.1); there = one.1 };
+        is = record {
+          committed = (old.at, ap (λ (k : Transaction J W). k.commits) old.is ∙ is.committed.1);
+          there =
+              one.1;
+        };
         t_is = old.is;
         o_is = one.2;
       }
@@ -71,24 +79,30 @@ module _ {I J V W : Type 0} (f : I → J) (g : V → W) (h : List (Transaction I
   pub write-on : (o : Operation I V) (x : I) → IsWriteOf o x → IsWriteOf (renamed_operation f g o) (f x)
   write-on o x w = record { write = w.write; item = ap f w.item }
 
-  pub write-back : (o : Operation I V) (x : I) → IsIn h o → Occurs x → IsWriteOf (renamed_operation f g o) (f x) → IsWriteOf o x
+  pub write-back : (o : Operation I V) (x : I) → IsIn h o → Occurs x → IsWriteOf (renamed_operation f g o) (f x)
+      → IsWriteOf o x
   write-back o x there (u, in_u, is) w = record {
     write = w.write;
     item = apart.items o u there in_u (w.item ∙ sym (ap f is)) ∙ is;
   }
 
-  pub none-on : (line : ℕ) (t : Transaction I V) (x : I) (a b : ℕ) → slice_get h line ≡ Some t → Occurs x → NoneWrites t.operations a b x
+  pub none-on : (line : ℕ) (t : Transaction I V) (x : I) (a b : ℕ) → slice_get h line ≡ Some t → Occurs x
+      → NoneWrites t.operations a b x
       → NoneWrites (renamed f g t).operations a b (f x)
   none-on line t x a b at oc none place o' low high there writes =
       let old = map_at (renamed_operation f g) t.operations place o' there in
       none place old.0 low high old.1
-      (write-back old.0 x (in_it line place t old.0 at old.1) oc (subst (λ (k : Operation J W). IsWriteOf k (f x)) (sym old.2) writes))
+      (write-back old.0 x (in_it line place t old.0 at old.1) oc
+      (subst (λ (k : Operation J W). IsWriteOf k (f x)) (sym old.2) writes))
 
-  pub none-back : (t : Transaction I V) (x : I) (a b : ℕ) → NoneWrites (renamed f g t).operations a b (f x) → NoneWrites t.operations a b x
+  pub none-back : (t : Transaction I V) (x : I) (a b : ℕ) → NoneWrites (renamed f g t).operations a b (f x)
+      → NoneWrites t.operations a b x
   none-back t x a b none place o low high there writes =
-      none place (renamed_operation f g o) low high (get-mapped (renamed_operation f g) t.operations place o there) (write-on o x writes)
+      none place (renamed_operation f g o) low high (get-mapped (renamed_operation f g) t.operations place o there)
+      (write-on o x writes)
 
-  pub last-on : (line : ℕ) (t : Transaction I V) (place : ℕ) (x : I) (v : ℕ) → slice_get h line ≡ Some t → Occurs x → IsLastWritten t.operations place x v
+  pub last-on : (line : ℕ) (t : Transaction I V) (place : ℕ) (x : I) (v : ℕ) → slice_get h line ≡ Some t → Occurs x
+      → IsLastWritten t.operations place x v
       → IsLastWritten (renamed f g t).operations place (f x) v
   last-on line t place x v at oc own = record {
     last = own.last;
@@ -109,7 +123,8 @@ module _ {I J V W : Type 0} (f : I → J) (g : V → W) (h : List (Transaction I
         o = old.0;
         before = own.before;
         there = old.1;
-        writes = write-back old.0 x (in_it line own.last t old.0 at old.1) oc (subst (λ (k : Operation J W). IsWriteOf k (f x)) (sym old.2) own.writes);
+        writes = write-back old.0 x (in_it line own.last t old.0 at old.1) oc
+            (subst (λ (k : Operation J W). IsWriteOf k (f x)) (sym old.2) own.writes);
         version_is = ap (λ (k : Operation J W). k.version) old.2 ∙ own.version_is;
         none = none-back t x (suc own.last) place own.none;
       }
@@ -124,7 +139,8 @@ module _ {I J V W : Type 0} (f : I → J) (g : V → W) (h : List (Transaction I
     version_is = w.version_is;
   }
 
-  pub writes-back : (line : ℕ) (x : I) (v : ℕ) → Occurs x → Writes (map (renamed f g) h) line (f x) v → Writes h line x v
+  pub writes-back : (line : ℕ) (x : I) (v : ℕ) → Occurs x → Writes (map (renamed f g) h) line (f x) v
+      → Writes h line x v
   writes-back line x v oc w =
       let old = operation-back line w.place w.t w.o w.is in
       record {
@@ -167,9 +183,12 @@ module _ {I J V W : Type 0} (f : I → J) (g : V → W) (h : List (Transaction I
         o = old.o;
         is = old.is;
         read = ap (λ (k : Operation J W). k.kind) old.o_is ∙ r.read;
-        item_is = apart.items old.o u here in_u (ap (λ (k : Operation J W). k.item) old.o_is ∙ r.item_is ∙ sym (ap f is)) ∙ is;
+        item_is = apart.items old.o u here in_u (ap (λ (k : Operation J W). k.item) old.o_is ∙ r.item_is
+            ∙ sym (ap f is)) ∙ is;
         version_is = ap (λ (k : Operation J W). k.version) old.o_is ∙ r.version_is;
-        foreign = none-back old.t x 0 r.place (subst (λ (k : Transaction J W). NoneWrites k.operations 0 r.place (f x)) (sym old.t_is) r.foreign);
+        foreign =
+            none-back old.t x 0 r.place (subst (λ (k : Transaction J W). NoneWrites k.operations 0 r.place (f x))
+            (sym old.t_is) r.foreign);
       }
 
   -- ---- conflicts
@@ -190,15 +209,18 @@ module _ {I J V W : Type 0} (f : I → J) (g : V → W) (h : List (Transaction I
       → HaveConflict (map (renamed f g) h) kind from to (f x) v w
   conflict-on WriteWrite from to x v w (other, one, two, next) =
       (other, writes-on from x v one, writes-on to x w two, next-on x v w (writes-occur from x v one) next)
-  conflict-on WriteRead from to x v w (other, one, two, same) = (other, writes-on from x v one, reads-on to x w two, same)
+  conflict-on WriteRead from to x v w (other, one, two, same) =
+      (other, writes-on from x v one, reads-on to x w two, same)
   conflict-on ReadWrite from to x v w (other, one, two, next) =
       (other, reads-on from x v one, writes-on to x w two, next-on x v w (reads-occur from x v one) next)
 
-  conflict-back : (kind : Conflict) (from to : ℕ) (x : I) (v w : ℕ) → Occurs x → HaveConflict (map (renamed f g) h) kind from to (f x) v w
+  conflict-back : (kind : Conflict) (from to : ℕ) (x : I) (v w : ℕ) → Occurs x
+      → HaveConflict (map (renamed f g) h) kind from to (f x) v w
       → HaveConflict h kind from to x v w
   conflict-back WriteWrite from to x v w oc (other, one, two, next) =
       (other, writes-back from x v oc one, writes-back to x w oc two, next-back x v w next)
-  conflict-back WriteRead from to x v w oc (other, one, two, same) = (other, writes-back from x v oc one, reads-back to x w oc two, same)
+  conflict-back WriteRead from to x v w oc (other, one, two, same) =
+      (other, writes-back from x v oc one, reads-back to x w oc two, same)
   conflict-back ReadWrite from to x v w oc (other, one, two, next) =
       (other, reads-back from x v oc one, writes-back to x w oc two, next-back x v w next)
 
@@ -226,13 +248,15 @@ module _ {I J V W : Type 0} (f : I → J) (g : V → W) (h : List (Transaction I
         is = ap (λ (k : Operation J W). k.item) old.o_is ∙ r.item_is;
       }
 
-  named : (kind : Conflict) (from to : ℕ) (x' : J) (v w : ℕ) → HaveConflict (map (renamed f g) h) kind from to x' v w → Named x'
+  named : (kind : Conflict) (from to : ℕ) (x' : J) (v w : ℕ) → HaveConflict (map (renamed f g) h) kind from to x' v w
+      → Named x'
   named WriteWrite from to x' v w c = writes-named from x' v c.1
   named WriteRead from to x' v w c = writes-named from x' v c.1
   named ReadWrite from to x' v w c = reads-named from x' v c.1
 
   -- a conflict of the other history is one of this
-  pub conflict-named : (kind : Conflict) (from to : ℕ) (x' : J) (v w : ℕ) → HaveConflict (map (renamed f g) h) kind from to x' v w
+  pub conflict-named : (kind : Conflict) (from to : ℕ) (x' : J) (v w : ℕ)
+      → HaveConflict (map (renamed f g) h) kind from to x' v w
       → (x : I) × HaveConflict h kind from to x v w
   conflict-named kind from to x' v w c =
       let old = named kind from to x' v w c in (
@@ -246,11 +270,13 @@ module _ {I J V W : Type 0} (f : I → J) (g : V → W) (h : List (Transaction I
       let old = conflict-named c.kind from to c.x c.v c.w c.conflict in
       record { kind = c.kind; among = c.among; x = old.0; v = c.v; w = c.w; conflict = old.1 }
 
-  chain-back : (k : Graph) (a : ℕ) (bs : List ℕ) → IsChain (ConflictIn (map (renamed f g) h) k) a bs → IsChain (ConflictIn h k) a bs
+  chain-back : (k : Graph) (a : ℕ) (bs : List ℕ) → IsChain (ConflictIn (map (renamed f g) h) k) a bs
+      → IsChain (ConflictIn h k) a bs
   chain-back k a [] c = tt
   chain-back k a (b ∷ bs) (one, rest) = (conflict_in-back k a b one, chain-back k b bs rest)
 
-  pub cycle_is-back : (k : Graph) (cycle : List ℕ) → IsCycle (ConflictIn (map (renamed f g) h) k) cycle → IsCycle (ConflictIn h k) cycle
+  pub cycle_is-back : (k : Graph) (cycle : List ℕ) → IsCycle (ConflictIn (map (renamed f g) h) k) cycle
+      → IsCycle (ConflictIn h k) cycle
   cycle_is-back k [] c = absurd c
   cycle_is-back k (a ∷ between) c = chain-back k a (between ++ a ∷ []) c
 
@@ -267,11 +293,13 @@ module _ {I J V W : Type 0} (f : I → J) (g : V → W) (h : List (Transaction I
     conflict = conflict-on c.kind from to c.x c.v c.w c.conflict;
   }
 
-  chain-on : (k : Graph) (a : ℕ) (bs : List ℕ) → IsChain (ConflictIn h k) a bs → IsChain (ConflictIn (map (renamed f g) h) k) a bs
+  chain-on : (k : Graph) (a : ℕ) (bs : List ℕ) → IsChain (ConflictIn h k) a bs
+      → IsChain (ConflictIn (map (renamed f g) h) k) a bs
   chain-on k a [] c = tt
   chain-on k a (b ∷ bs) (one, rest) = (conflict_in-on k a b one, chain-on k b bs rest)
 
-  pub cycle_is-on : (k : Graph) (cycle : List ℕ) → IsCycle (ConflictIn h k) cycle → IsCycle (ConflictIn (map (renamed f g) h) k) cycle
+  pub cycle_is-on : (k : Graph) (cycle : List ℕ) → IsCycle (ConflictIn h k) cycle
+      → IsCycle (ConflictIn (map (renamed f g) h) k) cycle
   cycle_is-on k [] c = absurd c
   cycle_is-on k (a ∷ between) c = chain-on k a (between ++ a ∷ []) c
 

@@ -21,7 +21,8 @@ use Rattle.sgt_history.proofs.Renaming.{value_of}
 module _ {I J V W : Type 0} (f : I → J) (g : V → W) (h : List (Transaction I V)) (apart : KeepApart f g h) where
   -- ---- writers
 
-  writes_in-on : (t : Transaction I V) (x : I) (v : ℕ) → WritesIn t.operations x v → WritesIn (renamed f g t).operations (f x) v
+  writes_in-on : (t : Transaction I V) (x : I) (v : ℕ) → WritesIn t.operations x v
+      → WritesIn (renamed f g t).operations (f x) v
   writes_in-on t x v w = record {
     place = w.place;
     o = renamed_operation f g w.o;
@@ -43,7 +44,8 @@ module _ {I J V W : Type 0} (f : I → J) (g : V → W) (h : List (Transaction I
         version_is = ap (λ (k : Operation J W). k.version) old.2 ∙ w.version_is;
       }
 
-  writes_as-on : (commits : Bool) (x : I) (v line : ℕ) → WritesAs commits h x v line → WritesAs commits (map (renamed f g) h) (f x) v line
+  writes_as-on : (commits : Bool) (x : I) (v line : ℕ) → WritesAs commits h x v line
+      → WritesAs commits (map (renamed f g) h) (f x) v line
   writes_as-on commits x v line w = record {
     t = renamed f g w.t;
     in_line = get-mapped (renamed f g) h line w.t w.in_line;
@@ -51,7 +53,8 @@ module _ {I J V W : Type 0} (f : I → J) (g : V → W) (h : List (Transaction I
     is = writes_in-on w.t x v w.is;
   }
 
-  writes_as-back : (commits : Bool) (x : I) (v line : ℕ) → Occurs f g h apart x → WritesAs commits (map (renamed f g) h) (f x) v line
+  writes_as-back : (commits : Bool) (x : I) (v line : ℕ) → Occurs f g h apart x
+      → WritesAs commits (map (renamed f g) h) (f x) v line
       → WritesAs commits h x v line
   writes_as-back commits x v line oc w =
       let old = line-back f g h apart line w.t w.in_line in
@@ -59,7 +62,8 @@ module _ {I J V W : Type 0} (f : I → J) (g : V → W) (h : List (Transaction I
         t = old.t;
         in_line = old.at;
         commits_is = ap (λ (k : Transaction J W). k.commits) old.is ∙ w.commits_is;
-        is = writes_in-back line old.t x v old.at oc (subst (λ (k : Transaction J W). WritesIn k.operations (f x) v) (sym old.is) w.is);
+        is = writes_in-back line old.t x v old.at oc (subst (λ (k : Transaction J W). WritesIn k.operations (f x) v)
+            (sym old.is) w.is);
       }
 
   first_as-on : (commits : Bool) (x : I) (v line : ℕ) → Occurs f g h apart x → IsFirstAs commits h x v line
@@ -100,12 +104,14 @@ module _ {I J V W : Type 0} (f : I → J) (g : V → W) (h : List (Transaction I
     };
   }
 
-  gives-back : (x : I) (v line place : ℕ) → Occurs f g h apart x → GivesAt (map (renamed f g) h) (f x) v line place → GivesAt h x v line place
+  gives-back : (x : I) (v line place : ℕ) → Occurs f g h apart x → GivesAt (map (renamed f g) h) (f x) v line place
+      → GivesAt h x v line place
   gives-back x v line place (u, in_u, is) a =
       let old = line-back f g h apart line a.t a.committed.0 in
       let one = map_at (renamed_operation f g) old.t.operations place a.is.o
       (subst (λ (k : Transaction J W). slice_get k.operations place ≡ Some a.is.o) (sym old.is) a.is.there) in
-      let value = value_of g one.0.value a.is.gift.value (ap (λ (k : Operation J W). k.value) one.2 ∙ a.is.gift.given) in
+      let value = value_of g one.0.value a.is.gift.value (ap (λ (k : Operation J W). k.value) one.2
+      ∙ a.is.gift.given) in
       record {
         t = old.t;
         committed = (old.at, ap (λ (k : Transaction J W). k.commits) old.is ∙ a.committed.1);
@@ -122,7 +128,8 @@ module _ {I J V W : Type 0} (f : I → J) (g : V → W) (h : List (Transaction I
         };
       }
 
-  first_given-on : (x : I) (v line place : ℕ) → Occurs f g h apart x → IsFirstGiven h x v line place → IsFirstGiven (map (renamed f g) h) (f x) v line place
+  first_given-on : (x : I) (v line place : ℕ) → Occurs f g h apart x → IsFirstGiven h x v line place
+      → IsFirstGiven (map (renamed f g) h) (f x) v line place
   first_given-on x v line place oc a = record {
     here = record {
       gives = gives-on x v line place a.here.gives;
@@ -131,8 +138,10 @@ module _ {I J V W : Type 0} (f : I → J) (g : V → W) (h : List (Transaction I
     first = λ line' place' gives. a.first line' place' (gives-back x v line' place' oc gives);
   }
 
-  given_otherwise-on : (line place : ℕ) (t : Transaction I V) (o : Operation I V) → IsOperation h line place t o → (by at : ℕ)
-      → IsGivenOtherwise h line place o by at → IsGivenOtherwise (map (renamed f g) h) line place (renamed_operation f g o) by at
+  given_otherwise-on : (line place : ℕ) (t : Transaction I V) (o : Operation I V) → IsOperation h line place t o
+      → (by at : ℕ)
+      → IsGivenOtherwise h line place o by at
+      → IsGivenOtherwise (map (renamed f g) h) line place (renamed_operation f g o) by at
   given_otherwise-on line place t o is by at a = record {
     first = first_given-on o.item o.version by at (occurs f g h apart line place t o is.committed.0 is.there) a.first;
     other = other_value-on f g h apart line place t o is a.other;
@@ -142,16 +151,20 @@ module _ {I J V W : Type 0} (f : I → J) (g : V → W) (h : List (Transaction I
 
   -- ---- evidence
 
-  against_own-on : (line place : ℕ) (t : Transaction I V) (o : Operation I V) → IsOperation h line place t o → (version : ℕ) → IsAgainstOwn t place o version
+  against_own-on : (line place : ℕ) (t : Transaction I V) (o : Operation I V) → IsOperation h line place t o
+      → (version : ℕ) → IsAgainstOwn t place o version
       → IsAgainstOwn (renamed f g t) place (renamed_operation f g o) version
   against_own-on line place t o is version a = record {
-    own = last-on f g h apart line t place o.item version is.committed.0 (occurs f g h apart line place t o is.committed.0 is.there) a.own;
+    own = last-on f g h apart line t place o.item version is.committed.0
+        (occurs f g h apart line place t o is.committed.0 is.there) a.own;
     read = a.read;
     write = a.write;
   }
 
-  pub evidence-on : (line place : ℕ) (t : Transaction I V) (o : Operation I V) → IsOperation h line place t o → (flaw : Flaw) (evidence : Evidence)
-      → IsEvidence h line place t o flaw evidence → IsEvidence (map (renamed f g) h) line place (renamed f g t) (renamed_operation f g o) flaw evidence
+  pub evidence-on : (line place : ℕ) (t : Transaction I V) (o : Operation I V) → IsOperation h line place t o
+      → (flaw : Flaw) (evidence : Evidence)
+      → IsEvidence h line place t o flaw evidence
+      → IsEvidence (map (renamed f g) h) line place (renamed f g t) (renamed_operation f g o) flaw evidence
   evidence-on line place t o is Internal (Wrote version) e = against_own-on line place t o is version e
   evidence-on line place t o is Internal WritesLater e = future-on f g h apart line place t o is e
   evidence-on line place t o is Duplicate (Writer by) (before, first) =

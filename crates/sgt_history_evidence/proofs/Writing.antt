@@ -43,12 +43,18 @@ aborted-as h line x v w = record {
 }
 
 -- the two first writers are one
-pub one-writer : (h : List (Transaction ℕ ℕ)) (x v by line : ℕ) → IsFirstAs true h x v by → IsFirstWriter h line x v → line ≡ by
+pub one-writer : (h : List (Transaction ℕ ℕ)) (x v by line : ℕ) → IsFirstAs true h x v by → IsFirstWriter h line x v
+    → line ≡ by
 one-writer h x v by line first writer =
-    omega (arith, first.first line (committed-as h line x v writer.writes), writer.first by (as-committed h by x v first.writes))
+    omega (
+      arith,
+      first.first line (committed-as h line x v writer.writes),
+      writer.first by (as-committed h by x v first.writes),
+    )
 
 -- what the line writes is in its operations
-pub writes-in : (h : List (Transaction ℕ ℕ)) (line x v : ℕ) (t : Transaction ℕ ℕ) → slice_get h line ≡ Some t → Writes h line x v → WritesIn t.operations x v
+pub writes-in : (h : List (Transaction ℕ ℕ)) (line x v : ℕ) (t : Transaction ℕ ℕ) → slice_get h line ≡ Some t
+    → Writes h line x v → WritesIn t.operations x v
 writes-in h line x v t at w =
     let same : w.t ≡ t = same_Some w.t t (sym w.is.committed.0 ∙ at) in
     record {
@@ -60,25 +66,33 @@ writes-in h line x v t at w =
     }
 
 -- the operation that has the fault is the one that stands there
-pub flaw_there : (h : List (Transaction ℕ ℕ)) (line : ℕ) (flaw : Flaw) (place : ℕ) (t : Transaction ℕ ℕ) (o : Operation ℕ ℕ) → IsFaulty h line flaw place
+pub flaw_there : (h : List (Transaction ℕ ℕ)) (line : ℕ) (flaw : Flaw) (place : ℕ) (t : Transaction ℕ ℕ)
+    (o : Operation ℕ ℕ) → IsFaulty h line flaw place
     → IsOperation h line place t o → HasFlaw h line place t o flaw
 flaw_there h line flaw place t o f is =
     let one : f.t ≡ t = same_Some f.t t (sym f.is.committed.0 ∙ is.committed.0) in
-    let two : f.o ≡ o = same_Some f.o o (sym (subst (λ (k : Transaction ℕ ℕ). slice_get k.operations place ≡ Some f.o) one f.is.there) ∙ is.there) in
-    subst (λ (k : Operation ℕ ℕ). HasFlaw h line place t k flaw) two (subst (λ (k : Transaction ℕ ℕ). HasFlaw h line place k f.o flaw) one f.has)
+    let two : f.o ≡ o =
+    same_Some f.o o (sym (subst (λ (k : Transaction ℕ ℕ). slice_get k.operations place ≡ Some f.o) one f.is.there)
+    ∙ is.there) in
+    subst (λ (k : Operation ℕ ℕ). HasFlaw h line place t k flaw) two
+    (subst (λ (k : Transaction ℕ ℕ). HasFlaw h line place k f.o flaw) one f.has)
 
 -- the evidence of the operation there, which is known by the fault
-pub evidence_there : (h : List (Transaction ℕ ℕ)) (line : ℕ) (flaw f : Flaw) (place : ℕ) (t : Transaction ℕ ℕ) (o p : Operation ℕ ℕ) (e : Evidence) → flaw ≡ f → o ≡ p
+pub evidence_there : (h : List (Transaction ℕ ℕ)) (line : ℕ) (flaw f : Flaw) (place : ℕ) (t : Transaction ℕ ℕ)
+    (o p : Operation ℕ ℕ) (e : Evidence) → flaw ≡ f → o ≡ p
     → IsFirstFault h line flaw place → IsOperation h line place t o
-    → (IsOperation h line place t p → HasFlaw h line place t p f → IsEvidence h line place t p f e) → IsEvidence h line place t o flaw e
+    → (IsOperation h line place t p → HasFlaw h line place t p f → IsEvidence h line place t p f e)
+    → IsEvidence h line place t o flaw e
 evidence_there h line flaw f place t o p e same one first is give =
     let has = subst (λ k. HasFlaw h line place t o k) same (flaw_there h line flaw place t o first.faulty is) in
     subst (λ k. IsEvidence h line place t o k e) (sym same)
     (subst (λ (q : Operation ℕ ℕ). IsEvidence h line place t q f e) (sym one)
-    (give (subst (λ (q : Operation ℕ ℕ). IsOperation h line place t q) one is) (subst (λ (q : Operation ℕ ℕ). HasFlaw h line place t q f) one has)))
+    (give (subst (λ (q : Operation ℕ ℕ). IsOperation h line place t q) one is)
+    (subst (λ (q : Operation ℕ ℕ). HasFlaw h line place t q f) one has)))
 
 -- what stands in the line's transaction
-pub stands_in : (h : List (Transaction ℕ ℕ)) (line place : ℕ) (t u : Transaction ℕ ℕ) (o : Operation ℕ ℕ) → IsOperation h line place t o → slice_get h line ≡ Some u
+pub stands_in : (h : List (Transaction ℕ ℕ)) (line place : ℕ) (t u : Transaction ℕ ℕ) (o : Operation ℕ ℕ)
+    → IsOperation h line place t o → slice_get h line ≡ Some u
     → slice_get u.operations place ≡ Some o
 stands_in h line place t u o is at =
     let same : t ≡ u = same_Some t u (sym is.committed.0 ∙ at) in

@@ -13,10 +13,11 @@ use Rattle.sgt_history_evidence.specs.declared.evidence.Evidence.{Evidence}
 use Rattle.sgt_history_evidence.specs.declared.evidence.Evidence.TheVariants.{Nothing, Wrote, WritesLater, Writer, Surpassed, Gives}
 
 -- its transaction wrote this version last before: an own read gives another one, a write no greater one
-pub record IsAgainstOwn {I V : Type 0} (t : Transaction I V) (place : ℕ) (o : Operation I V) (version : ℕ) : Type 0 where
-  pub own : IsLastWritten t.operations place o.item version
-  pub read : o.kind ≡ Read → o.version ≢ version
-  pub write : o.kind ≡ Write → o.version ≤ version
+pub record IsAgainstOwn {I V : Type 0} (t : Transaction I V) (place : ℕ) (o : Operation I V) (version : ℕ) : Type 0
+  where
+    pub own : IsLastWritten t.operations place o.item version
+    pub read : o.kind ≡ Read → o.version ≢ version
+    pub write : o.kind ≡ Write → o.version ≤ version
 
 -- the line is the first that commits and writes what the operation reads, and this the least greater
 -- version of the item that it writes
@@ -27,14 +28,16 @@ pub record IsSurpassed {I V : Type 0} (h : List (Transaction I V)) (o : Operatio
   pub least : IsLeastGreater t.operations o.item o.version greater
 
 -- the first operation that gives a value of the version stands there, and gives another one
-pub record IsGivenOtherwise {I V : Type 0} (h : List (Transaction I V)) (line place : ℕ) (o : Operation I V) (by at : ℕ) : Type 0 where
+pub record IsGivenOtherwise {I V : Type 0} (h : List (Transaction I V)) (line place : ℕ) (o : Operation I V)
+    (by at : ℕ) : Type 0 where
   pub first : IsFirstGiven h o.item o.version by at
   pub other : IsOtherValue h line place o
   pub line_is : other.line_of ≡ by
   pub place_is : other.place_of ≡ at
 
 -- it stands behind this fault of the operation
-abbrev pub IsEvidence : {I V : Type 0} → List (Transaction I V) → (line place : ℕ) → Transaction I V → Operation I V → Flaw → Evidence → Type 0
+abbrev pub IsEvidence : {I V : Type 0} → List (Transaction I V) → (line place : ℕ) → Transaction I V → Operation I V
+    → Flaw → Evidence → Type 0
 IsEvidence h line place t o Internal (Wrote version) = IsAgainstOwn t place o version
 IsEvidence h line place t o Internal WritesLater = IsFuture t place o
 IsEvidence h line place t o Duplicate (Writer by) = (by < line) × IsFirstAs true h o.item o.version by

@@ -33,8 +33,10 @@ pub enum Evidence {
 /// What an operation contradicts of its own transaction.
 fn own_evidence(operations: &[Operation<u32, u32>], place: u32) -> Evidence
     requires { place < length operations.now }
-    ensures { (h : List (Transaction ℕ ℕ)) (line : ℕ) (t : Transaction ℕ ℕ) (o : Operation ℕ ℕ) → IsOperation h line place t o
-        → t.operations ≡ operations.now → HasFlaw h line place t o Flaw.Internal → IsEvidence h line place t o Flaw.Internal result }
+    ensures { (h : List (Transaction ℕ ℕ)) (line : ℕ) (t : Transaction ℕ ℕ) (o : Operation ℕ ℕ)
+        → IsOperation h line place t o
+        → t.operations ≡ operations.now → HasFlaw h line place t o Flaw.Internal
+        → IsEvidence h line place t o Flaw.Internal result }
 {
     let item = operations[place as usize].item;
     match last_written(operations, place as usize, item) {
@@ -60,7 +62,8 @@ fn writer(history: &History, commits: bool, operation: Operation<u32, u32>) -> E
 
 /// The first line that commits and writes what an operation reads, and the least greater version that it writes.
 fn surpassed(history: &History, operation: Operation<u32, u32>) -> Evidence
-    ensures { (line place : ℕ) (t : Transaction ℕ ℕ) → HasFlaw (closed_of history.now) line place t operation Flaw.IntermediateRead
+    ensures { (line place : ℕ) (t : Transaction ℕ ℕ)
+        → HasFlaw (closed_of history.now) line place t operation Flaw.IntermediateRead
         → IsEvidence (closed_of history.now) line place t operation Flaw.IntermediateRead result }
 {
     let Some(line) = first_writer(history, true, operation.item, operation.version) else {

@@ -14,13 +14,15 @@ ghost use Rattle.sgt_history_evidence.specs.declared.evidence.Evidence.{Evidence
 
 /// The first fault stays.
 pub fn names_change_no_fault<I, J, V, W>()
-    ensures { (f : I → J) (g : V → W) (h : List (Transaction I V)) → KeepApart f g h → (line : ℕ) (flaw : Flaw) (place : ℕ)
+    ensures { (f : I → J) (g : V → W) (h : List (Transaction I V)) → KeepApart f g h
+        → (line : ℕ) (flaw : Flaw) (place : ℕ)
         → IsFirstFault h line flaw place → IsFirstFault (map (renamed f g) h) line flaw place }
 {}
 
 /// So does what stands behind a fault.
 pub fn names_change_no_evidence<I, J, V, W>()
-    ensures { (f : I → J) (g : V → W) (h : List (Transaction I V)) → KeepApart f g h → (line place : ℕ) (t : Transaction I V)
+    ensures { (f : I → J) (g : V → W) (h : List (Transaction I V)) → KeepApart f g h
+        → (line place : ℕ) (t : Transaction I V)
         (o : Operation I V) → IsOperation h line place t o → (flaw : Flaw) (evidence : Evidence)
         → IsEvidence h line place t o flaw evidence
         → IsEvidence (map (renamed f g) h) line place (renamed f g t) (renamed_operation f g o) flaw evidence }
@@ -28,7 +30,8 @@ pub fn names_change_no_evidence<I, J, V, W>()
 
 /// So does a conflict.
 pub fn names_change_no_conflict<I, J, V, W>()
-    ensures { (f : I → J) (g : V → W) (h : List (Transaction I V)) → KeepApart f g h → (kind : Conflict) (from to : ℕ) (x : I)
+    ensures { (f : I → J) (g : V → W) (h : List (Transaction I V)) → KeepApart f g h
+        → (kind : Conflict) (from to : ℕ) (x : I)
         (v w : ℕ) → HaveConflict h kind from to x v w → HaveConflict (map (renamed f g) h) kind from to (f x) v w }
 {}
 

@@ -47,7 +47,8 @@ pub fn transaction_of(history: &History, line: usize) -> (bool, &[Operation<u32,
 /// The operation at the place of the line's transaction, which commits.
 pub fn operation_at(history: &History, line: u32, place: u32) -> Operation<u32, u32>
     requires { (t : Transaction ℕ ℕ) × (o : Operation ℕ ℕ) × IsOperation (closed_of history.now) line place t o }
-    ensures { (t : Transaction ℕ ℕ) (o : Operation ℕ ℕ) → IsOperation (closed_of history.now) line place t o → o ≡ result }
+    ensures { (t : Transaction ℕ ℕ) (o : Operation ℕ ℕ) → IsOperation (closed_of history.now) line place t o
+        → o ≡ result }
 {
     let (_, operations) = transaction_of(history, line as usize);
     operations[place as usize]

@@ -15,7 +15,8 @@ use Rattle.sgt_history_faults.specs.Given.{IsGivenOf, IsGivenAt, TakesGiven, IsG
 use Rattle.sgt_history_faults.proofs.Sorted.{lex4}
 
 pub given-more : (line : ℕ) (done : List (Operation ℕ ℕ)) (n : ℕ) (before now : List Given) (g : Given)
-    → IsGivenOf line done g → g.place ≡ n → TakesGiven line done n before now → TakesGiven line done (n + 1) before (now ++ g ∷ [])
+    → IsGivenOf line done g → g.place ≡ n → TakesGiven line done n before now
+    → TakesGiven line done (n + 1) before (now ++ g ∷ [])
 given-more line done n before now g is place_is t = record {
   more = t.more ++ g ∷ [];
   is = ap (λ xs. xs ++ g ∷ []) t.is ∙ append_assoc before t.more (g ∷ []);
@@ -46,7 +47,8 @@ given-more line done n before now g is place_is t = record {
 
 -- ---- a line more
 
-pub given-line : (h : List (Transaction ℕ ℕ)) (n : ℕ) (t : Transaction ℕ ℕ) (old new : List Given) → slice_get h n ≡ Some t → t.commits ≡ true
+pub given-line : (h : List (Transaction ℕ ℕ)) (n : ℕ) (t : Transaction ℕ ℕ) (old new : List Given)
+    → slice_get h n ≡ Some t → t.commits ≡ true
     → AreGivenTo h n old → TakesGiven n t.operations (length t.operations) old new → AreGivenTo h (n + 1) new
 given-line h n t old new in_line commits are taken = record {
   each = subst (All (IsGiven h)) (sym taken.is) (All-append (IsGiven h) old taken.more are.each
@@ -78,14 +80,16 @@ given-line h n t old new in_line commits are taken = record {
         let at = Contains_at old f.g f.in_it in
         record {
           g = f.g;
-          in_it = Contains-from_at new at.0 f.g (ap (λ xs. slice_get xs at.0) taken.is ∙ front_at old taken.more at.0 f.g at.1);
+          in_it = Contains-from_at new at.0 f.g (ap (λ xs. slice_get xs at.0) taken.is
+              ∙ front_at old taken.more at.0 f.g at.1);
           line_is = f.line_is;
           place_is = f.place_is;
         }
   ];
 }
 
-pub given-aborted : (h : List (Transaction ℕ ℕ)) (n : ℕ) (t : Transaction ℕ ℕ) (given : List Given) → slice_get h n ≡ Some t → t.commits ≡ false
+pub given-aborted : (h : List (Transaction ℕ ℕ)) (n : ℕ) (t : Transaction ℕ ℕ) (given : List Given)
+    → slice_get h n ≡ Some t → t.commits ≡ false
     → AreGivenTo h n given → AreGivenTo h (n + 1) given
 given-aborted h n t given in_line aborts are = record {
   each = are.each;
@@ -107,19 +111,24 @@ stand-on a b c (inr (e, inl x)) (inr (f, inl y)) = inr (e ∙ f, inl (omega (ari
 stand-on a b c (inr (e, inl x)) (inr (f, inr (g, y))) = inr (e ∙ f, inl (omega (arith, x, g)))
 stand-on a b c (inr (e, inr (k, x))) (inr (f, inl y)) = inr (e ∙ f, inl (omega (arith, k, y)))
 stand-on a b c (inr (e, inr (k, inl x))) (inr (f, inr (g, inl y))) = inr (e ∙ f, inr (k ∙ g, inl (omega (arith, x, y))))
-stand-on a b c (inr (e, inr (k, inl x))) (inr (f, inr (g, inr (m, y)))) = inr (e ∙ f, inr (k ∙ g, inl (omega (arith, x, m))))
-stand-on a b c (inr (e, inr (k, inr (m, x)))) (inr (f, inr (g, inl y))) = inr (e ∙ f, inr (k ∙ g, inl (omega (arith, m, y))))
-stand-on a b c (inr (e, inr (k, inr (m, x)))) (inr (f, inr (g, inr (n, y)))) = inr (e ∙ f, inr (k ∙ g, inr (m ∙ n, omega (arith, x, y))))
+stand-on a b c (inr (e, inr (k, inl x))) (inr (f, inr (g, inr (m, y)))) =
+    inr (e ∙ f, inr (k ∙ g, inl (omega (arith, x, m))))
+stand-on a b c (inr (e, inr (k, inr (m, x)))) (inr (f, inr (g, inl y))) =
+    inr (e ∙ f, inr (k ∙ g, inl (omega (arith, m, y))))
+stand-on a b c (inr (e, inr (k, inr (m, x)))) (inr (f, inr (g, inr (n, y)))) =
+    inr (e ∙ f, inr (k ∙ g, inr (m ∙ n, omega (arith, x, y))))
 
 -- each is compared with the one before
 pub record AreGivenCompared (given : List Given) : Type 0 where
   pub each : (k : ℕ) (d : Given) → k + 1 < length given
-      → is_lt (ordering_then (ordering_then (ordering_then (nat_cmp (get_or given (k + 1) d).item (get_or given k d).item)
+      → is_lt (ordering_then
+      (ordering_then (ordering_then (nat_cmp (get_or given (k + 1) d).item (get_or given k d).item)
       (nat_cmp (get_or given (k + 1) d).version (get_or given k d).version))
       (nat_cmp (get_or given (k + 1) d).line (get_or given k d).line))
       (nat_cmp (get_or given (k + 1) d).place (get_or given k d).place)) ≡ false
 
-next-stands : (given : List Given) → AreGivenCompared given → (k : ℕ) (a b : Given) → slice_get given k ≡ Some a → slice_get given (suc k) ≡ Some b
+next-stands : (given : List Given) → AreGivenCompared given → (k : ℕ) (a b : Given) → slice_get given k ≡ Some a
+    → slice_get given (suc k) ≡ Some b
     → MayStandBefore a b
 next-stands given c k a b at at' =
     let lt = slice_get_within given (suc k) b at' in
@@ -127,7 +136,8 @@ next-stands given c k a b at at' =
     let two : get_or given (k + 1) a ≡ b = rw add-one (get_or_from_slice_get given (suc k) b a at') in
     let h = c.each k a (omega (arith, lt)) in
     subst (λ x. MayStandBefore x b) one (subst (MayStandBefore (get_or given k a)) two
-    (lex4 (get_or given (k + 1) a).item (get_or given k a).item (get_or given (k + 1) a).version (get_or given k a).version
+    (lex4 (get_or given (k + 1) a).item (get_or given k a).item (get_or given (k + 1) a).version
+    (get_or given k a).version
     (get_or given (k + 1) a).line (get_or given k a).line (get_or given (k + 1) a).place (get_or given k a).place h))
 
 pub given-in-order : (given : List Given) → AreGivenCompared given → AreGivenInOrder given

@@ -17,7 +17,8 @@ use Rattle.sgt_history_faults.specs.Noted.{Covers}
 pub covered-next : (writes touches : List Touch) (k : ℕ) (d : Touch) (first next : Option Fault) → k < length touches
     → AreCovered writes (take k touches) first
     → ((line rank place : ℕ) → Covers first line rank place → Covers next line rank place)
-    → ((flaw : Flaw) → HasGroupFlaw writes (get_or touches k d) flaw → Covers next (get_or touches k d).line (rank_of flaw) (get_or touches k d).place)
+    → ((flaw : Flaw) → HasGroupFlaw writes (get_or touches k d) flaw
+    → Covers next (get_or touches k d).line (rank_of flaw) (get_or touches k d).place)
     → AreCovered writes (take (k + 1) touches) next
 covered-next writes touches k d first next lt covered kept this e flaw in_it has =
     let at = Contains_at (take (k + 1) touches) e in_it in
@@ -25,14 +26,16 @@ covered-next writes touches k d first next lt covered kept this e flaw in_it has
     elim (cases_eq at.0 k) [
       | inl same ↦
           let e_is : get_or touches k d ≡ e =
-          same_Some (get_or touches k d) e (sym (slice_get-get_or touches k d lt) ∙ ap (slice_get touches) (sym same) ∙ there.1) in
+          same_Some (get_or touches k d) e (sym (slice_get-get_or touches k d lt) ∙ ap (slice_get touches) (sym same)
+          ∙ there.1) in
           subst (λ u. HasGroupFlaw writes u flaw → Covers next u.line (rank_of flaw) u.place) e_is (this flaw) has
       | inr apart ↦
           kept e.line (rank_of flaw) e.place (covered e flaw (Contains-from_at (take k touches) at.0 e
           (slice_get-take_at touches k at.0 e (omega (arith, there.0)) there.1)) has)
     ]
 
-pub contains_next : (touches : List Touch) (k : ℕ) (d : Touch) → k < length touches → Contains touches (get_or touches k d)
+pub contains_next : (touches : List Touch) (k : ℕ) (d : Touch) → k < length touches
+    → Contains touches (get_or touches k d)
 contains_next touches k d lt = Contains-from_at touches k (get_or touches k d) (slice_get-get_or touches k d lt)
 
 -- ---- what a read is, by who wrote its version
@@ -41,7 +44,8 @@ not-write : (e : Touch) → IsRead e → e.kind ≡ Write → ⊥
 not-write e read write = let f = sym read ∙ write in cc
 
 pub none-writes : (writes : List Touch) (e : Touch) (flaw : Flaw) (given : Option Flaw) → given ≡ None → IsRead e
-    → ((w : Touch) → IsEarliest writes w → w.surpassed ≡ true → ⊥) → ((w : Touch) × IsCommittedOf writes w) → flaw ≢ Internal
+    → ((w : Touch) → IsEarliest writes w → w.surpassed ≡ true → ⊥) → ((w : Touch) × IsCommittedOf writes w)
+    → flaw ≢ Internal
     → (given ≡ Some flaw) ↔ HasGroupFlaw writes e flaw
 none-writes writes e flaw given is read never by other = (λ g. let f = sym is ∙ g in cc, λ h. absurd (not flaw other h))
   where
@@ -53,7 +57,8 @@ none-writes writes e flaw given is read never by other = (λ g. let f = sym is �
     not IntermediateRead other h = never h.2 h.3 h.4
     not Value other h = h
 
-pub surpassed-is : (writes : List Touch) (e : Touch) (w : Touch) (flaw : Flaw) → IsEarliest writes w → w.surpassed ≡ true → IsRead e → e.version ≢ 0
+pub surpassed-is : (writes : List Touch) (e : Touch) (w : Touch) (flaw : Flaw) → IsEarliest writes w
+    → w.surpassed ≡ true → IsRead e → e.version ≢ 0
     → flaw ≢ Internal → (Some IntermediateRead ≡ Some flaw) ↔ HasGroupFlaw writes e flaw
 surpassed-is writes e w Internal first s read above other = absurd (other refl)
 surpassed-is writes e w Duplicate first s read above other = (λ g. cc, λ h. absurd (not-write e read h.0))
@@ -62,7 +67,8 @@ surpassed-is writes e w Unwritten first s read above other = (λ g. cc, λ h. ab
 surpassed-is writes e w IntermediateRead first s read above other = (λ g. (read, above, w, first, s), λ h. refl)
 surpassed-is writes e w Value first s read above other = (λ g. cc, λ h. absurd h)
 
-pub unwritten-is : (writes : List Touch) (e : Touch) (flaw : Flaw) → ((w : Touch) → Contains writes w → ⊥) → IsRead e → e.version ≢ 0
+pub unwritten-is : (writes : List Touch) (e : Touch) (flaw : Flaw) → ((w : Touch) → Contains writes w → ⊥) → IsRead e
+    → e.version ≢ 0
     → flaw ≢ Internal → (Some Unwritten ≡ Some flaw) ↔ HasGroupFlaw writes e flaw
 unwritten-is writes e Internal none read above other = absurd (other refl)
 unwritten-is writes e Duplicate none read above other = (λ g. cc, λ h. absurd (not-write e read h.0))
@@ -71,7 +77,8 @@ unwritten-is writes e Unwritten none read above other = (λ g. (read, above, non
 unwritten-is writes e IntermediateRead none read above other = (λ g. cc, λ h. absurd (none h.2 h.3.is.0))
 unwritten-is writes e Value none read above other = (λ g. cc, λ h. absurd h)
 
-pub aborted-is : (writes : List Touch) (e w : Touch) (flaw : Flaw) → Contains writes w → ((w : Touch) → IsCommittedOf writes w → ⊥) → IsRead e
+pub aborted-is : (writes : List Touch) (e w : Touch) (flaw : Flaw) → Contains writes w
+    → ((w : Touch) → IsCommittedOf writes w → ⊥) → IsRead e
     → e.version ≢ 0 → flaw ≢ Internal → (Some AbortedRead ≡ Some flaw) ↔ HasGroupFlaw writes e flaw
 aborted-is writes e w Internal by none read above other = absurd (other refl)
 aborted-is writes e w Duplicate by none read above other = (λ g. cc, λ h. absurd (not-write e read h.0))
@@ -90,7 +97,8 @@ alike-not writes w alike first told u also tells =
     let f = sym told ∙ same ∙ tells in cc
 
 -- no write has a fault where none is of a transaction that commits
-pub no-duplicate : (writes : List Touch) (e : Touch) (flaw : Flaw) → IsWrite e → ((w : Touch) → IsCommittedOf writes w → ⊥)
+pub no-duplicate : (writes : List Touch) (e : Touch) (flaw : Flaw) → IsWrite e
+    → ((w : Touch) → IsCommittedOf writes w → ⊥)
     → HasGroupFlaw writes e flaw → ⊥
 no-duplicate writes e Internal write none h = not-write e h.0 write
 no-duplicate writes e Duplicate write none h = none h.2 h.3
@@ -100,7 +108,8 @@ no-duplicate writes e IntermediateRead write none h = not-write e h.0 write
 no-duplicate writes e Value write none h = h
 
 -- a write that doesn't commit, or isn't of a later line than the earliest, has none
-pub not-duplicate : (writes : List Touch) (w e : Touch) (flaw : Flaw) → IsWrite e → IsEarliest writes w → (e.commits ≡ false) ⊎ (e.line ≤ w.line)
+pub not-duplicate : (writes : List Touch) (w e : Touch) (flaw : Flaw) → IsWrite e → IsEarliest writes w
+    → (e.commits ≡ false) ⊎ (e.line ≤ w.line)
     → HasGroupFlaw writes e flaw → ⊥
 not-duplicate writes w e Internal write first either h = not-write e h.0 write
 not-duplicate writes w e Duplicate write first either h = elim either [
@@ -122,7 +131,8 @@ decide Unwritten = inr (λ e. cc)
 decide IntermediateRead = inr (λ e. cc)
 decide Value = inr (λ e. cc)
 
-above-0 : (writes : List Touch) (e : Touch) (flaw : Flaw) → IsRead e → flaw ≢ Internal → HasGroupFlaw writes e flaw → e.version ≢ 0
+above-0 : (writes : List Touch) (e : Touch) (flaw : Flaw) → IsRead e → flaw ≢ Internal → HasGroupFlaw writes e flaw
+    → e.version ≢ 0
 above-0 writes e Internal read other h = absurd (other refl)
 above-0 writes e Duplicate read other h = absurd (not-write e read h.0)
 above-0 writes e AbortedRead read other h = h.1
@@ -150,7 +160,8 @@ read-covered writes e given mid next read exact own kept foreign flaw h =
 -- an own fault, and the given one, are faults
 pub read-faulty : (h : List (Transaction ℕ ℕ)) (writes : List Touch) (e : Touch) (given : Option Flaw) → IsRead e
     → ((flaw : Flaw) → IsRead e → e.version ≢ 0 → flaw ≢ Internal → (given ≡ Some flaw) ↔ HasGroupFlaw writes e flaw)
-    → (given ≡ Some Internal → ⊥) → IsFaultyTouch h writes e → (one : Flaw) → e.version ≢ 0 → given ≡ Some one → IsFaulty h e.line one e.place
+    → (given ≡ Some Internal → ⊥) → IsFaultyTouch h writes e → (one : Flaw) → e.version ≢ 0 → given ≡ Some one
+    → IsFaulty h e.line one e.place
 read-faulty h writes e given read exact never all one above is =
     elim (decide one) [
       | inl same ↦ absurd (never (is ∙ ap Some same))
@@ -168,5 +179,6 @@ pub some-element : (writes : List Touch) → (length writes == 0) ≡ false → 
 some-element [] is = absurd (eqb-false 0 0 is refl)
 some-element (w ∷ ws) is = (w, Contains-from_at (w ∷ ws) 0 w refl)
 
-pub earlier-on : (writes : List Touch) (at line line' : ℕ) → line ≤ line' → AreEarlier writes at line → AreEarlier writes at line'
+pub earlier-on : (writes : List Touch) (at line line' : ℕ) → line ≤ line' → AreEarlier writes at line
+    → AreEarlier writes at line'
 earlier-on writes at line line' le earlier k w lt there = omega (arith, earlier k w lt there, le)

@@ -21,7 +21,8 @@ use Rattle.sgt_history_faults.proofs.Covering.{kinds}
 
 -- ---- a part of a list
 
-pub in_part : {A : Type 0} (xs : List A) (from to k : ℕ) (x : A) → slice_get (take (to - from) (drop from xs)) k ≡ Some x
+pub in_part : {A : Type 0} (xs : List A) (from to k : ℕ) (x : A)
+    → slice_get (take (to - from) (drop from xs)) k ≡ Some x
     → (slice_get xs (from + k) ≡ Some x) × (from + k < to)
 in_part xs from to k x at =
     let t = slice_get-take (drop from xs) (to - from) k x at in
@@ -35,7 +36,8 @@ part_at xs from to k x le lt at =
 
 -- ---- other words for the writes
 
-by-other : (W V : Touch → Type 0) (e : Touch) (flaw : Flaw) → ((w : Touch) → W w → V w) → ((w : Touch) → V w → W w) → HasFlawBy W e flaw → HasFlawBy V e flaw
+by-other : (W V : Touch → Type 0) (e : Touch) (flaw : Flaw) → ((w : Touch) → W w → V w) → ((w : Touch) → V w → W w)
+    → HasFlawBy W e flaw → HasFlawBy V e flaw
 by-other W V e Internal f g h = (h.0, h.1, f h.1 h.2, h.3)
 by-other W V e Duplicate f g h = (h.0, h.1, h.2, (f h.2 h.3.0, h.3.1), h.4)
 by-other W V e AbortedRead f g h = (h.0, h.1, λ w c. h.2 w (g w c.0, c.1), h.3, f h.3 h.4)
@@ -46,17 +48,22 @@ by-other W V e Value f g h = h
 
 -- what stands between two of one version is of it, and of a kind that may stand there
 between : (a m b : Touch) → MayPrecede a m → MayPrecede m b → a.item ≡ b.item → a.version ≡ b.version
-    → (m.item ≡ a.item) × (m.version ≡ a.version) × (reads_of m.kind ≤ reads_of b.kind) × (reads_of a.kind ≤ reads_of m.kind)
+    → (m.item ≡ a.item) × (m.version ≡ a.version) × (reads_of m.kind ≤ reads_of b.kind)
+    × (reads_of a.kind ≤ reads_of m.kind)
 between a m b (inl x) (inl y) i v = absurd (omega (arith, x, y, i))
 between a m b (inl x) (inr (e, y)) i v = absurd (omega (arith, x, e, i))
 between a m b (inr (e, x)) (inl y) i v = absurd (omega (arith, e, y, i))
 between a m b (inr (e, inl x)) (inr (f, inl y)) i v = absurd (omega (arith, x, y, v))
 between a m b (inr (e, inl x)) (inr (f, inr (g, y))) i v = absurd (omega (arith, x, g, v))
 between a m b (inr (e, inr (k, x))) (inr (f, inl y)) i v = absurd (omega (arith, k, y, v))
-between a m b (inr (e, inr (k, inl x))) (inr (f, inr (g, inl y))) i v = (sym e, sym k, omega (arith, y), omega (arith, x))
-between a m b (inr (e, inr (k, inl x))) (inr (f, inr (g, inr (n, y)))) i v = (sym e, sym k, omega (arith, n), omega (arith, x))
-between a m b (inr (e, inr (k, inr (l, x)))) (inr (f, inr (g, inl y))) i v = (sym e, sym k, omega (arith, y), omega (arith, l))
-between a m b (inr (e, inr (k, inr (l, x)))) (inr (f, inr (g, inr (n, y)))) i v = (sym e, sym k, omega (arith, n), omega (arith, l))
+between a m b (inr (e, inr (k, inl x))) (inr (f, inr (g, inl y))) i v =
+    (sym e, sym k, omega (arith, y), omega (arith, x))
+between a m b (inr (e, inr (k, inl x))) (inr (f, inr (g, inr (n, y)))) i v =
+    (sym e, sym k, omega (arith, n), omega (arith, x))
+between a m b (inr (e, inr (k, inr (l, x)))) (inr (f, inr (g, inl y))) i v =
+    (sym e, sym k, omega (arith, y), omega (arith, l))
+between a m b (inr (e, inr (k, inr (l, x)))) (inr (f, inr (g, inr (n, y)))) i v =
+    (sym e, sym k, omega (arith, n), omega (arith, l))
 
 -- of one version and kind the lines rise
 rise-of : (a b : Touch) → MayPrecede a b → a.item ≡ b.item → a.version ≡ b.version → a.kind ≡ b.kind → a.line ≤ b.line
@@ -65,7 +72,8 @@ rise-of a b (inr (e, inl x)) i v k = absurd (omega (arith, x, v))
 rise-of a b (inr (e, inr (f, inl x))) i v k = absurd (omega (arith, x, ap reads_of k))
 rise-of a b (inr (e, inr (f, inr (g, x)))) i v k = x
 
-module _ (touches : List Touch) (ordered : AreInOrder touches) (like : Touch) (kind : Kind) (from to : ℕ) (are : AreLike touches like kind from to) where
+module _ (touches : List Touch) (ordered : AreInOrder touches) (like : Touch) (kind : Kind) (from to : ℕ)
+    (are : AreLike touches like kind from to) where
   pub lines-rise : LinesRise (take (to - from) (drop from touches))
   lines-rise i j a b le at at' =
       let x = in_part touches from to i a at in
@@ -73,7 +81,10 @@ module _ (touches : List Touch) (ordered : AreInOrder touches) (like : Touch) (k
       let u = are.each (from + i) a (omega arith) x.1 x.0 in
       let v = are.each (from + j) b (omega arith) y.1 y.0 in
       elim (cases_eq i j) [
-        | inl e ↦ omega (arith, ap (λ (t : Touch). t.line) (same_Some a b (sym x.0 ∙ ap (λ n. slice_get touches (from + n)) e ∙ y.0)))
+        | inl e ↦ omega (
+          arith,
+          ap (λ (t : Touch). t.line) (same_Some a b (sym x.0 ∙ ap (λ n. slice_get touches (from + n)) e ∙ y.0)),
+        )
         | inr apart ↦ rise-of a b (ordered (from + i) (from + j) a b (omega (arith, le, apart)) x.0 y.0)
             (u.item_is ∙ sym v.item_is) (u.version_is ∙ sym v.version_is) (u.kind_is ∙ sym v.kind_is)
       ]
@@ -84,7 +95,8 @@ module _ (touches : List Touch) (ordered : AreInOrder touches) (like : Touch) (k
       (are.each (from + k) e (omega arith) x.1 x.0).kind_is)
 
   -- one of the part is one of all, and like
-  pub of-part : (e : Touch) → Contains (take (to - from) (drop from touches)) e → Contains touches e × IsLike like kind e
+  pub of-part : (e : Touch) → Contains (take (to - from) (drop from touches)) e
+      → Contains touches e × IsLike like kind e
   of-part e in_it =
       let at = Contains_at (take (to - from) (drop from touches)) e in_it in
       let x = in_part touches from to at.0 e at.1 in
@@ -94,7 +106,8 @@ module _ (touches : List Touch) (ordered : AreInOrder touches) (like : Touch) (s
     (there : slice_get touches start ≡ Some like) (boundary : IsBoundary touches start)
     (writes : AreLike touches like Write start middle) (reads : AreLike touches like Read middle end) where
   -- one of the same version from the start on stands before the end
-  before-end : (j : ℕ) (b : Touch) → start ≤ j → slice_get touches j ≡ Some b → b.item ≡ like.item → b.version ≡ like.version → j < end
+  before-end : (j : ℕ) (b : Touch) → start ≤ j → slice_get touches j ≡ Some b → b.item ≡ like.item
+      → b.version ≡ like.version → j < end
   before-end j b le at item version =
       elim (cases_lt j end) [
         | inl lt ↦ lt
@@ -103,7 +116,8 @@ module _ (touches : List Touch) (ordered : AreInOrder touches) (like : Touch) (s
             absurd (not m.0 m.1 (same-version m.0 m.1 past))
       ]
     where
-      same-version : (m : Touch) → slice_get touches end ≡ Some m → end ≤ j → (m.item ≡ like.item) × (m.version ≡ like.version)
+      same-version : (m : Touch) → slice_get touches end ≡ Some m → end ≤ j
+          → (m.item ≡ like.item) × (m.version ≡ like.version)
       same-version m here past =
           elim (cases_eq end j) [
             | inl e ↦
@@ -114,7 +128,8 @@ module _ (touches : List Touch) (ordered : AreInOrder touches) (like : Touch) (s
                   let same = same_Some m like (sym here ∙ ap (slice_get touches) (sym e) ∙ there) in
                   (ap (λ (t : Touch). t.item) same, ap (λ (t : Touch). t.version) same)
               | inr more ↦
-                  let one = ordered start end like m (omega (arith, more, writes.from_most, reads.from_most)) there here in
+                  let one =
+                  ordered start end like m (omega (arith, more, writes.from_most, reads.from_most)) there here in
                   let two = ordered end j m b (omega (arith, past, apart)) here at in
                   let mid = between like m b one two (sym item) (sym version) in
                   (mid.0, mid.1)
@@ -126,12 +141,14 @@ module _ (touches : List Touch) (ordered : AreInOrder touches) (like : Touch) (s
           elim (kinds m.kind) [
             | inl read ↦ reads.ends m here (record { item_is = same.0; version_is = same.1; kind_is = read })
             | inr write ↦ elim (cases_eq middle end) [
-              | inl e ↦ writes.ends m (ap (slice_get touches) e ∙ here) (record { item_is = same.0; version_is = same.1; kind_is = write })
+              | inl e ↦ writes.ends m (ap (slice_get touches) e
+                  ∙ here) (record { item_is = same.0; version_is = same.1; kind_is = write })
               | inr more ↦
                   let r = within_at touches middle (omega (arith, more, reads.from_most, reads.within)) in
                   let is = reads.each middle r.0 (omega arith) (omega (arith, more, reads.from_most)) r.1 in
                   let order = ordered middle end r.0 m (omega (arith, more, reads.from_most)) r.1 here in
-                  let mid = between r.0 r.0 m (inr (refl, inr (refl, inr (refl, omega arith)))) order (is.item_is ∙ sym same.0) (is.version_is ∙ sym same.1) in
+                  let mid = between r.0 r.0 m (inr (refl, inr (refl, inr (refl, omega arith)))) order (is.item_is
+                  ∙ sym same.0) (is.version_is ∙ sym same.1) in
                   absurd (omega (arith, mid.2, ap reads_of is.kind_is, ap reads_of write))
             ]
           ]
@@ -139,7 +156,8 @@ module _ (touches : List Touch) (ordered : AreInOrder touches) (like : Touch) (s
   pub boundary-next : IsBoundary touches end
   boundary-next i j a b lt le at at' item version =
       elim (cases_lt i start) [
-        | inl before ↦ boundary i j a b before (omega (arith, le, writes.from_most, reads.from_most)) at at' item version
+        | inl before ↦ boundary i j a b before (omega (arith, le, writes.from_most, reads.from_most)) at at' item
+            version
         | inr behind ↦
             let a_is : (a.item ≡ like.item) × (a.version ≡ like.version) = elim (cases_lt i middle) [
               | inl w ↦ let x = writes.each i a behind w at in (x.item_is, x.version_is)
@@ -176,11 +194,18 @@ module _ (touches : List Touch) (ordered : AreInOrder touches) (like : Touch) (s
         ]
       ]
 
-  pub part-in_write : (e w : Touch) → e.item ≡ like.item → e.version ≡ like.version → Contains (take (middle - start) (drop start touches)) w
+  pub part-in_write : (e w : Touch) → e.item ≡ like.item → e.version ≡ like.version
+      → Contains (take (middle - start) (drop start touches)) w
       → IsWriteAlso touches e w
   part-in_write e w item version in_it =
       let x = of-part touches ordered like Write start middle writes w in_it in
-      record { in_it = x.0; write = x.1.kind_is; item_is = x.1.item_is ∙ sym item; version_is = x.1.version_is ∙ sym version }
+      record {
+        in_it = x.0;
+        write = x.1.kind_is;
+        item_is = x.1.item_is ∙ sym item;
+        version_is = x.1.version_is
+            ∙ sym version;
+      }
 
   -- a fault by all touches is one by the part, and the other way round
   pub to-part : (e : Touch) (flaw : Flaw) → e.item ≡ like.item → e.version ≡ like.version → HasTouchFlaw touches e flaw
@@ -199,7 +224,8 @@ module _ (touches : List Touch) (ordered : AreInOrder touches) (like : Touch) (s
   alike-part alike a b in_a in_b line =
       let x = of-part touches ordered like Write start middle writes a in_a in
       let y = of-part touches ordered like Write start middle writes b in_b in
-      alike a b x.0 y.0 x.1.kind_is y.1.kind_is (x.1.item_is ∙ sym y.1.item_is) (x.1.version_is ∙ sym y.1.version_is) line
+      alike a b x.0 y.0 x.1.kind_is y.1.kind_is (x.1.item_is ∙ sym y.1.item_is) (x.1.version_is
+      ∙ sym y.1.version_is) line
 
   pub faulty-writes : (h : List (Transaction ℕ ℕ)) → AreAllFaulty h touches
       → AreFaulty h (take (middle - start) (drop start touches)) (take (middle - start) (drop start touches))
@@ -224,11 +250,13 @@ module _ (touches : List Touch) (ordered : AreInOrder touches) (like : Touch) (s
         | inr behind ↦ elim (cases_lt k middle) [
           | inl w ↦
               let x = writes.each k e behind w at in
-              one e flaw (Contains-from_at (take (middle - start) (drop start touches)) (k - start) e (part_at touches start middle k e behind w at))
+              one e flaw (Contains-from_at (take (middle - start) (drop start touches)) (k - start) e
+              (part_at touches start middle k e behind w at))
               (to-part e flaw x.item_is x.version_is has)
           | inr r ↦
               let x = reads.each k e r lt at in
-              two e flaw (Contains-from_at (take (end - middle) (drop middle touches)) (k - middle) e (part_at touches middle end k e r lt at))
+              two e flaw (Contains-from_at (take (end - middle) (drop middle touches)) (k - middle) e
+              (part_at touches middle end k e r lt at))
               (to-part e flaw x.item_is x.version_is has)
         ]
       ]

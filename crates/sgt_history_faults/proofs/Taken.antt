@@ -25,7 +25,8 @@ one_last : (done : List (Operation ℕ ℕ)) (n x v w : ℕ) → IsLastWritten d
 one_last done n x v w a b = one_version done n x v w (inl a) (inl b)
 
 -- what follows doesn't contradict
-pub follows-not : (done : List (Operation ℕ ℕ)) (n : ℕ) (o : Operation ℕ ℕ) → FollowsOwn done n o → ContradictsOwn done n o → ⊥
+pub follows-not : (done : List (Operation ℕ ℕ)) (n : ℕ) (o : Operation ℕ ℕ) → FollowsOwn done n o
+    → ContradictsOwn done n o → ⊥
 follows-not done n o f c =
     let same = one_last done n o.item f.version c.version f.own c.own in
     elim (kinds o.kind) [
@@ -33,34 +34,41 @@ follows-not done n o f c =
       | inr write ↦ absurd (omega (arith, f.write write, c.write write, same))
     ]
 
-pub not-contradicts : (done : List (Operation ℕ ℕ)) (n : ℕ) (o : Operation ℕ ℕ) → NoneWrites done 0 n o.item → ContradictsOwn done n o → ⊥
+pub not-contradicts : (done : List (Operation ℕ ℕ)) (n : ℕ) (o : Operation ℕ ℕ) → NoneWrites done 0 n o.item
+    → ContradictsOwn done n o → ⊥
 not-contradicts done n o none c = none c.own.last c.own.o (omega arith) c.own.before c.own.there c.own.writes
 
-owned-contradicts : (done : List (Operation ℕ ℕ)) (n : ℕ) (o : Operation ℕ ℕ) (w : Owned) → w ≢ Contradicts → IsOwned done n o w → ContradictsOwn done n o → ⊥
+owned-contradicts : (done : List (Operation ℕ ℕ)) (n : ℕ) (o : Operation ℕ ℕ) (w : Owned) → w ≢ Contradicts
+    → IsOwned done n o w → ContradictsOwn done n o → ⊥
 owned-contradicts done n o Not e is c = not-contradicts done n o is c
 owned-contradicts done n o Follows e is c = follows-not done n o is c
 owned-contradicts done n o Contradicts e is c = e refl
 
 -- none before, and not this one
-pub still-none : (done : List (Operation ℕ ℕ)) (n : ℕ) (o : Operation ℕ ℕ) (w : Owned) → w ≢ Contradicts → slice_get done n ≡ Some o → IsOwned done n o w
+pub still-none : (done : List (Operation ℕ ℕ)) (n : ℕ) (o : Operation ℕ ℕ) (w : Owned) → w ≢ Contradicts
+    → slice_get done n ≡ Some o → IsOwned done n o w
     → TellsContradiction done n None → TellsContradiction done (n + 1) None
 still-none done n o w e at is none place lt (u, there, c) =
     elim (cases_eq place n) [
       | inl same ↦
           let o_is : u ≡ o = same_Some u o (sym there ∙ ap (slice_get done) same ∙ at) in
-          owned-contradicts done n o w e is (subst (λ k. ContradictsOwn done k o) same (subst (ContradictsOwn done place) o_is c))
+          owned-contradicts done n o w e is
+          (subst (λ k. ContradictsOwn done k o) same (subst (ContradictsOwn done place) o_is c))
       | inr apart ↦ none place (omega arith) (u, there, c)
     ]
 
 -- ---- touches
 
-pub to-touch-read : (commits : Bool) (done : List (Operation ℕ ℕ)) (n : ℕ) (o : Operation ℕ ℕ) → o.kind ≡ Read → IsToTouch commits done n o
+pub to-touch-read : (commits : Bool) (done : List (Operation ℕ ℕ)) (n : ℕ) (o : Operation ℕ ℕ) → o.kind ≡ Read
+    → IsToTouch commits done n o
     → (commits ≡ true) × NoneWrites done 0 n o.item
 to-touch-read commits done n o read (inl write) = let e = sym read ∙ write in cc
 to-touch-read commits done n o read (inr (is, ends, none)) = (ends, none)
 
-pub taken-skip : (whose : Whose) (done : List (Operation ℕ ℕ)) (n : ℕ) (before now : List Touch) (o : Operation ℕ ℕ) → slice_get done n ≡ Some o
-    → (IsToTouch whose.commits done n o → ⊥) → TakesLine whose done n before now → TakesLine whose done (n + 1) before now
+pub taken-skip : (whose : Whose) (done : List (Operation ℕ ℕ)) (n : ℕ) (before now : List Touch) (o : Operation ℕ ℕ)
+    → slice_get done n ≡ Some o
+    → (IsToTouch whose.commits done n o → ⊥) → TakesLine whose done n before now
+    → TakesLine whose done (n + 1) before now
 taken-skip whose done n before now o at not t = record {
   more = t.more;
   is = t.is;
@@ -68,13 +76,15 @@ taken-skip whose done n before now o at not t = record {
   all = λ place u lt there to. elim (cases_eq place n) [
     | inl same ↦
         let o_is : u ≡ o = same_Some u o (sym there ∙ ap (slice_get done) same ∙ at) in
-        absurd (not (subst (λ k. IsToTouch whose.commits done k o) same (subst (IsToTouch whose.commits done place) o_is to)))
+        absurd (not
+        (subst (λ k. IsToTouch whose.commits done k o) same (subst (IsToTouch whose.commits done place) o_is to)))
     | inr apart ↦ t.all place u (omega arith) there to
   ];
 }
 
 pub taken-more : (whose : Whose) (done : List (Operation ℕ ℕ)) (n : ℕ) (before now : List Touch) (e : Touch)
-    → IsTouchOf whose.line whose.commits done e → e.place ≡ n → TakesLine whose done n before now → TakesLine whose done (n + 1) before (now ++ e ∷ [])
+    → IsTouchOf whose.line whose.commits done e → e.place ≡ n → TakesLine whose done n before now
+    → TakesLine whose done (n + 1) before (now ++ e ∷ [])
 taken-more whose done n before now e is place_is t = record {
   more = t.more ++ e ∷ [];
   is = ap (λ xs. xs ++ e ∷ []) t.is ∙ append_assoc before t.more (e ∷ []);
@@ -108,11 +118,13 @@ taken-more whose done n before now e is place_is t = record {
 none-on : (done : List (Operation ℕ ℕ)) (n x : ℕ) (o : Operation ℕ ℕ) → slice_get done n ≡ Some o → (IsWriteOf o x → ⊥)
     → (from : ℕ) → NoneWrites done from n x → NoneWrites done from (n + 1) x
 none-on done n x o at not from none = λ place u above below there w. elim (cases_eq place n) [
-  | inl same ↦ not (subst (λ (k : Operation ℕ ℕ). IsWriteOf k x) (same_Some u o (sym there ∙ ap (slice_get done) same ∙ at)) w)
+  | inl same ↦ not (subst (λ (k : Operation ℕ ℕ). IsWriteOf k x) (same_Some u o (sym there ∙ ap (slice_get done) same
+      ∙ at)) w)
   | inr apart ↦ none place u above (omega arith) there w
 ]
 
-mine-on : (stamp : ℕ) (done : List (Operation ℕ ℕ)) (n x : ℕ) (m : Mine) (o : Operation ℕ ℕ) → slice_get done n ≡ Some o → (IsWriteOf o x → ⊥)
+mine-on : (stamp : ℕ) (done : List (Operation ℕ ℕ)) (n x : ℕ) (m : Mine) (o : Operation ℕ ℕ)
+    → slice_get done n ≡ Some o → (IsWriteOf o x → ⊥)
     → IsMine stamp done n x m → IsMine stamp done (n + 1) x m
 mine-on stamp done n x m o at not is = record {
   last = λ e. let l = is.last e in record {
@@ -126,7 +138,9 @@ mine-on stamp done n x m o at not is = record {
   };
   greatest = λ e. let g = is.greatest e in record {
     most = λ place u lt there w. elim (cases_eq place n) [
-      | inl same ↦ absurd (not (subst (λ (k : Operation ℕ ℕ). IsWriteOf k x) (same_Some u o (sym there ∙ ap (slice_get done) same ∙ at)) w))
+      | inl same ↦ absurd
+          (not (subst (λ (k : Operation ℕ ℕ). IsWriteOf k x) (same_Some u o (sym there ∙ ap (slice_get done) same
+          ∙ at)) w))
       | inr apart ↦ g.most place u (omega arith) there w
     ];
     place = g.place;
@@ -151,17 +165,22 @@ set_elsewhere (y ∷ ys) zero (suc x) m apart = refl
 set_elsewhere (y ∷ ys) (suc i) zero m apart = refl
 set_elsewhere (y ∷ ys) (suc i) (suc x) m apart = set_elsewhere ys i x m (λ e. apart (ap suc e))
 
-pub mine-taken : (stamp : ℕ) (done : List (Operation ℕ ℕ)) (n : ℕ) (mine : List Mine) (o : Operation ℕ ℕ) (m : Mine) → slice_get done n ≡ Some o
-    → o.item < length mine → AreMine stamp done n mine → IsMine stamp done (n + 1) o.item m → AreMine stamp done (n + 1) (slice_set mine o.item m)
+pub mine-taken : (stamp : ℕ) (done : List (Operation ℕ ℕ)) (n : ℕ) (mine : List Mine) (o : Operation ℕ ℕ) (m : Mine)
+    → slice_get done n ≡ Some o
+    → o.item < length mine → AreMine stamp done n mine → IsMine stamp done (n + 1) o.item m
+    → AreMine stamp done (n + 1) (slice_set mine o.item m)
 mine-taken stamp done n mine o m at lt all is = λ x k there. elim (cases_eq x o.item) [
   | inl same ↦
-      let k_is : k ≡ m = same_Some k m (sym there ∙ ap (slice_get (slice_set mine o.item m)) same ∙ set_here mine o.item m lt) in
+      let k_is : k ≡ m = same_Some k m (sym there ∙ ap (slice_get (slice_set mine o.item m)) same
+      ∙ set_here mine o.item m lt) in
       subst (λ i. IsMine stamp done (n + 1) i k) (sym same) (subst (IsMine stamp done (n + 1) o.item) (sym k_is) is)
   | inr apart ↦
-      mine-on stamp done n x k o at (λ w. apart (sym w.item)) (all x k (sym (set_elsewhere mine o.item x m (λ e. apart (sym e))) ∙ there))
+      mine-on stamp done n x k o at (λ w. apart (sym w.item))
+      (all x k (sym (set_elsewhere mine o.item x m (λ e. apart (sym e))) ∙ there))
 ]
 
-pub none-yet : (line : ℕ) (done : List (Operation ℕ ℕ)) (mine : List Mine) → StampedTo line mine → AreMine (line + 1) done 0 mine
+pub none-yet : (line : ℕ) (done : List (Operation ℕ ℕ)) (mine : List Mine) → StampedTo line mine
+    → AreMine (line + 1) done 0 mine
 none-yet line done mine to x m there =
     let low = All_at (λ (m : Mine). m.stamp ≤ line) mine x m to there in
     record {
@@ -170,20 +189,31 @@ none-yet line done mine to x m there =
       none = λ e place o above below at w. absurd (omega arith);
     }
 
-pub stamped-set : (stamp : ℕ) (mine : List Mine) (i : ℕ) (m : Mine) → StampedTo stamp mine → m.stamp ≤ stamp → StampedTo stamp (slice_set mine i m)
-stamped-set stamp mine i m to low = All-from_at (λ (m : Mine). m.stamp ≤ stamp) (slice_set mine i m) (λ x k there. elim (cases_eq x i) [
-  | inl same ↦ elim (cases_lt i (length mine)) [
-    | inl lt ↦ subst (λ (u : Mine). u.stamp ≤ stamp) (sym (same_Some k m (sym there ∙ ap (slice_get (slice_set mine i m)) same ∙ set_here mine i m lt))) low
-    | inr past ↦ absurd (omega (arith, slice_get_within (slice_set mine i m) x k there, length-set mine i m, past, same))
-  ]
-  | inr apart ↦ All_at (λ (m : Mine). m.stamp ≤ stamp) mine x k to (sym (set_elsewhere mine i x m (λ e. apart (sym e))) ∙ there)
-])
+pub stamped-set : (stamp : ℕ) (mine : List Mine) (i : ℕ) (m : Mine) → StampedTo stamp mine → m.stamp ≤ stamp
+    → StampedTo stamp (slice_set mine i m)
+stamped-set stamp mine i m to low =
+    All-from_at (λ (m : Mine). m.stamp ≤ stamp) (slice_set mine i m) (λ x k there. elim (cases_eq x i) [
+      | inl same ↦ elim (cases_lt i (length mine)) [
+        | inl lt ↦ subst (λ (u : Mine). u.stamp ≤ stamp)
+            (sym (same_Some k m (sym there ∙ ap (slice_get (slice_set mine i m)) same ∙ set_here mine i m lt))) low
+        | inr past ↦ absurd (omega (
+          arith,
+          slice_get_within (slice_set mine i m) x k there,
+          length-set mine i m,
+          past,
+          same,
+        ))
+      ]
+      | inr apart ↦ All_at (λ (m : Mine). m.stamp ≤ stamp) mine x k to
+          (sym (set_elsewhere mine i x m (λ e. apart (sym e))) ∙ there)
+    ])
 
 pub stamped-more : (line : ℕ) (mine : List Mine) → StampedTo line mine → StampedTo (line + 1) mine
 stamped-more line mine to = All-from_at (λ (m : Mine). m.stamp ≤ line + 1) mine (λ x k there.
     let low = All_at (λ (m : Mine). m.stamp ≤ line) mine x k to there in omega (arith, low))
 
-pub no_touches : (whose : Whose) (done : List (Operation ℕ ℕ)) (before : List Touch) → TakesLine whose done 0 before before
+pub no_touches : (whose : Whose) (done : List (Operation ℕ ℕ)) (before : List Touch)
+    → TakesLine whose done 0 before before
 no_touches whose done before = record {
   more = [];
   is = sym (append-nil before);
@@ -197,15 +227,18 @@ stamped-step stamp mine i m d to lt (inl same) = stamped-set stamp mine i m to (
 stamped-step stamp mine i m d to lt (inr new) = stamped-set stamp mine i m to (omega (arith, new))
 
 -- what a loop over a line's operations keeps of the items
-pub record IsStep (stamp : ℕ) (done : List (Operation ℕ ℕ)) (n size : ℕ) (o : Operation ℕ ℕ) (owned : Owned) (mine : List Mine) : Type 0 where
+pub record IsStep (stamp : ℕ) (done : List (Operation ℕ ℕ)) (n size : ℕ) (o : Operation ℕ ℕ) (owned : Owned)
+    (mine : List Mine) : Type 0 where
   pub at : slice_get done n ≡ Some o
   pub size_is : length mine ≡ size
   pub mine_is : AreMine stamp done (n + 1) mine
   pub stamped : StampedTo stamp mine
   pub owned_is : IsOwned done n o owned
 
-pub step : (stamp : ℕ) (done : List (Operation ℕ ℕ)) (n size : ℕ) (mine : List Mine) (d : Operation ℕ ℕ) (e m : Mine) (owned : Owned)
-    → n < length done → length mine ≡ size → All (IsItemBelow size) done → AreMine stamp done n mine → StampedTo stamp mine
+pub step : (stamp : ℕ) (done : List (Operation ℕ ℕ)) (n size : ℕ) (mine : List Mine) (d : Operation ℕ ℕ) (e m : Mine)
+    (owned : Owned)
+    → n < length done → length mine ≡ size → All (IsItemBelow size) done → AreMine stamp done n mine
+    → StampedTo stamp mine
     → (m.stamp ≡ (get_or mine (get_or done n d).item e).stamp) ⊎ (m.stamp ≡ stamp)
     → ((these : List (Operation ℕ ℕ)) (k : ℕ) → slice_get these k ≡ Some (get_or done n d)
     → IsMine stamp these k (get_or done n d).item (get_or mine (get_or done n d).item e)

@@ -31,7 +31,8 @@ module _ (h : List (Transaction ℕ ℕ)) (touches : List Touch) (are : AreTouch
   operation e i commits = record { committed = (i.in_line, sym i.of.commits_is ∙ commits); there = i.of.there }
 
   -- a committed write by a touch
-  writes-of : (w : Touch) (x v : ℕ) → Contains touches w → w.kind ≡ Write → w.commits ≡ true → w.item ≡ x → w.version ≡ v → Writes h w.line x v
+  writes-of : (w : Touch) (x v : ℕ) → Contains touches w → w.kind ≡ Write → w.commits ≡ true → w.item ≡ x
+      → w.version ≡ v → Writes h w.line x v
   writes-of w x v in_it write commits item version =
       let i = touch-is w in_it in
       record {
@@ -56,7 +57,8 @@ module _ (h : List (Transaction ℕ ℕ)) (touches : List Touch) (are : AreTouch
     commits_is : e.commits ≡ t.commits
     surpassed : TellsSurpassed t.operations e
 
-  touch-for : (line place : ℕ) (t : Transaction ℕ ℕ) (o : Operation ℕ ℕ) → slice_get h line ≡ Some t → slice_get t.operations place ≡ Some o
+  touch-for : (line place : ℕ) (t : Transaction ℕ ℕ) (o : Operation ℕ ℕ) → slice_get h line ≡ Some t
+      → slice_get t.operations place ≡ Some o
       → IsToTouch t.commits t.operations place o → IsTouchFor line place t o
   touch-for line place t o in_line there to =
       let f = are.all line place t o in_line there to in
@@ -83,7 +85,8 @@ module _ (h : List (Transaction ℕ ℕ)) (touches : List Touch) (are : AreTouch
   aborted-for line x v w = touch-for line w.place w.t w.o w.in_line w.there (inl w.writes.write)
 
   -- who writes a version is among the writes of it
-  also-of : (e : Touch) (line x v : ℕ) → e.item ≡ x → e.version ≡ v → (w : Writes h line x v) → IsCommittedBy (IsWriteAlso touches e) (write-for line x v w).e
+  also-of : (e : Touch) (line x v : ℕ) → e.item ≡ x → e.version ≡ v → (w : Writes h line x v)
+      → IsCommittedBy (IsWriteAlso touches e) (write-for line x v w).e
   also-of e line x v item version w =
       let f = write-for line x v w in (
         record {
@@ -95,7 +98,8 @@ module _ (h : List (Transaction ℕ ℕ)) (touches : List Touch) (are : AreTouch
         f.commits_is ∙ w.is.committed.1,
       )
 
-  aborted-also : (e : Touch) (line x v : ℕ) → e.item ≡ x → e.version ≡ v → (w : AbortedWrites h line x v) → IsWriteAlso touches e (aborted-for line x v w).e
+  aborted-also : (e : Touch) (line x v : ℕ) → e.item ≡ x → e.version ≡ v → (w : AbortedWrites h line x v)
+      → IsWriteAlso touches e (aborted-for line x v w).e
   aborted-also e line x v item version w =
       let f = aborted-for line x v w in
       record {
@@ -111,7 +115,8 @@ module _ (h : List (Transaction ℕ ℕ)) (touches : List Touch) (are : AreTouch
     i : IsTouch h e
     i = touch-is e in_it
 
-    faulty : (flaw : Flaw) → e.commits ≡ true → HasFlaw h e.line e.place (touch-is e in_it).t (touch-is e in_it).of.o flaw → IsFaulty h e.line flaw e.place
+    faulty : (flaw : Flaw) → e.commits ≡ true
+        → HasFlaw h e.line e.place (touch-is e in_it).t (touch-is e in_it).of.o flaw → IsFaulty h e.line flaw e.place
     faulty flaw commits has = record {
       t = (touch-is e in_it).t;
       o = (touch-is e in_it).of.o;
@@ -120,7 +125,8 @@ module _ (h : List (Transaction ℕ ℕ)) (touches : List Touch) (are : AreTouch
     }
 
     reads-committed : e.kind ≡ Read → e.commits ≡ true
-    reads-committed read = (touch-is e in_it).of.commits_is ∙ ((touch-is e in_it).of.read (sym (touch-is e in_it).of.kind_is ∙ read)).0
+    reads-committed read = (touch-is e in_it).of.commits_is
+        ∙ ((touch-is e in_it).of.read (sym (touch-is e in_it).of.kind_is ∙ read)).0
 
     foreign : e.kind ≡ Read → e.version ≢ 0 → IsForeign (touch-is e in_it).t e.place (touch-is e in_it).of.o
     foreign read above = record {
@@ -132,19 +138,25 @@ module _ (h : List (Transaction ℕ ℕ)) (touches : List Touch) (are : AreTouch
     none-committed : ((w : Touch) → IsCommittedBy (IsWriteAlso touches e) w → ⊥)
         → NoneCommitted h (touch-is e in_it).of.o.item (touch-is e in_it).of.o.version
     none-committed none line w = none (write-for line (touch-is e in_it).of.o.item (touch-is e in_it).of.o.version w).e
-        (also-of e line (touch-is e in_it).of.o.item (touch-is e in_it).of.o.version (touch-is e in_it).of.item_is (touch-is e in_it).of.version_is w)
+        (also-of e line (touch-is e in_it).of.o.item (touch-is e in_it).of.o.version (touch-is e in_it).of.item_is
+        (touch-is e in_it).of.version_is w)
 
     pub flaw-real : (flaw : Flaw) → HasTouchFlaw touches e flaw → IsFaulty h e.line flaw e.place
     flaw-real Internal (read, w, also, line) =
         let u = touch-is w also.in_it in
-        let t_is : u.t ≡ (touch-is e in_it).t = same_Some u.t (touch-is e in_it).t (sym u.in_line ∙ ap (slice_get h) line ∙ (touch-is e in_it).in_line) in
+        let t_is : u.t ≡ (touch-is e in_it).t = same_Some u.t (touch-is e in_it).t (sym u.in_line
+        ∙ ap (slice_get h) line ∙ (touch-is e in_it).in_line) in
         faulty Internal (reads-committed read) (inr (inr (record {
           read = sym (touch-is e in_it).of.kind_is ∙ read;
           foreign = ((touch-is e in_it).of.read (sym (touch-is e in_it).of.kind_is ∙ read)).1;
           later = w.place;
           by = u.of.o;
           there = ap (λ (k : Transaction ℕ ℕ). slice_get k.operations w.place) (sym t_is) ∙ u.of.there;
-          writes = record { write = sym u.of.kind_is ∙ also.write; item = sym u.of.item_is ∙ also.item_is ∙ (touch-is e in_it).of.item_is };
+          writes = record {
+            write = sym u.of.kind_is ∙ also.write;
+            item = sym u.of.item_is ∙ also.item_is
+                ∙ (touch-is e in_it).of.item_is;
+          };
           version_is = sym u.of.version_is ∙ also.version_is ∙ (touch-is e in_it).of.version_is;
         })))
     flaw-real Duplicate (write, commits, w, also, before) =
@@ -168,7 +180,11 @@ module _ (h : List (Transaction ℕ ℕ)) (touches : List Touch) (are : AreTouch
             place = w.place;
             o = u.of.o;
             there = u.of.there;
-            writes = record { write = sym u.of.kind_is ∙ also.write; item = sym u.of.item_is ∙ also.item_is ∙ (touch-is e in_it).of.item_is };
+            writes = record {
+              write = sym u.of.kind_is ∙ also.write;
+              item = sym u.of.item_is ∙ also.item_is
+                  ∙ (touch-is e in_it).of.item_is;
+            };
             version_is = sym u.of.version_is ∙ also.version_is ∙ (touch-is e in_it).of.version_is;
           },
         )
@@ -177,7 +193,8 @@ module _ (h : List (Transaction ℕ ℕ)) (touches : List Touch) (are : AreTouch
           foreign read above,
           none-committed (λ w c. none w c.0),
           λ line w. none (aborted-for line (touch-is e in_it).of.o.item (touch-is e in_it).of.o.version w).e
-              (aborted-also e line (touch-is e in_it).of.o.item (touch-is e in_it).of.o.version (touch-is e in_it).of.item_is (touch-is e in_it).of.version_is w),
+              (aborted-also e line (touch-is e in_it).of.o.item (touch-is e in_it).of.o.version
+              (touch-is e in_it).of.item_is (touch-is e in_it).of.version_is w),
         )
     flaw-real IntermediateRead (read, above, w, first, surpassed) =
         let u = touch-is w first.is.0.in_it in
@@ -186,8 +203,10 @@ module _ (h : List (Transaction ℕ ℕ)) (touches : List Touch) (are : AreTouch
           foreign read above,
           w.line,
           record {
-            writes = writes-of w (touch-is e in_it).of.o.item (touch-is e in_it).of.o.version first.is.0.in_it first.is.0.write first.is.1
-                (first.is.0.item_is ∙ (touch-is e in_it).of.item_is) (first.is.0.version_is ∙ (touch-is e in_it).of.version_is);
+            writes = writes-of w (touch-is e in_it).of.o.item (touch-is e in_it).of.o.version first.is.0.in_it
+                first.is.0.write first.is.1
+                (first.is.0.item_is ∙ (touch-is e in_it).of.item_is) (first.is.0.version_is
+                ∙ (touch-is e in_it).of.version_is);
             first = λ line by.
                 let f = write-for line (touch-is e in_it).of.o.item (touch-is e in_it).of.o.version by in
                 let least = first.least f.e (also-of e line (touch-is e in_it).of.o.item (touch-is e in_it).of.o.version
@@ -201,7 +220,11 @@ module _ (h : List (Transaction ℕ ℕ)) (touches : List Touch) (are : AreTouch
             t = u.t;
             o = g.o;
             is = record { committed = (u.in_line, sym u.of.commits_is ∙ first.is.1); there = g.there };
-            writes = record { write = g.writes.write; item = g.writes.item ∙ first.is.0.item_is ∙ (touch-is e in_it).of.item_is };
+            writes = record {
+              write = g.writes.write;
+              item = g.writes.item ∙ first.is.0.item_is
+                  ∙ (touch-is e in_it).of.item_is;
+            };
             version_is = refl;
           },
         )
@@ -217,8 +240,10 @@ module _ (h : List (Transaction ℕ ℕ)) (touches : List Touch) (are : AreTouch
       let t_is : i.t ≡ j.t = same_Some i.t j.t (sym i.in_line ∙ ap (slice_get h) line ∙ j.in_line) in
       same a.surpassed b.surpassed
       (λ yes. (j.surpassed write').1 (subst (λ (u : Transaction ℕ ℕ). WritesGreater u.operations b.item b.version) t_is
-      (subst (λ x. WritesGreater i.t.operations x b.version) item (subst (WritesGreater i.t.operations a.item) version ((i.surpassed write).0 yes)))))
-      (λ yes. (i.surpassed write).1 (subst (λ (u : Transaction ℕ ℕ). WritesGreater u.operations a.item a.version) (sym t_is)
+      (subst (λ x. WritesGreater i.t.operations x b.version) item
+      (subst (WritesGreater i.t.operations a.item) version ((i.surpassed write).0 yes)))))
+      (λ yes. (i.surpassed write).1 (subst (λ (u : Transaction ℕ ℕ). WritesGreater u.operations a.item a.version)
+      (sym t_is)
       (subst (λ x. WritesGreater j.t.operations x a.version) (sym item)
       (subst (WritesGreater j.t.operations b.item) (sym version) ((j.surpassed write').0 yes)))))
     where
@@ -230,9 +255,11 @@ module _ (h : List (Transaction ℕ ℕ)) (touches : List Touch) (are : AreTouch
 
   -- ---- a fault is a fault by touches
 
-  module _ (first : Option Fault) (covered : AreAllCovered touches first) (line place : ℕ) (t : Transaction ℕ ℕ) (o : Operation ℕ ℕ)
+  module _ (first : Option Fault) (covered : AreAllCovered touches first) (line place : ℕ) (t : Transaction ℕ ℕ)
+      (o : Operation ℕ ℕ)
       (is : IsOperation h line place t o) where
-    covered-by : (flaw : Flaw) → (f : IsTouchFor line place t o) → HasTouchFlaw touches f.e flaw → Covers first line (rank_of flaw) place
+    covered-by : (flaw : Flaw) → (f : IsTouchFor line place t o) → HasTouchFlaw touches f.e flaw
+        → Covers first line (rank_of flaw) place
     covered-by flaw f has = subst (λ l. Covers first l (rank_of flaw) place) f.line_is
         (subst (λ p. Covers first f.e.line (rank_of flaw) p) f.place_is (covered f.e flaw f.in_it has))
 
@@ -243,10 +270,12 @@ module _ (h : List (Transaction ℕ ℕ)) (touches : List Touch) (are : AreTouch
     none-by : (e : Touch) → e.item ≡ o.item → e.version ≡ o.version → NoneCommitted h o.item o.version → (w : Touch)
         → IsCommittedBy (IsWriteAlso touches e) w → ⊥
     none-by e item version none w c =
-        none w.line (writes-of w o.item o.version c.0.in_it c.0.write c.1 (c.0.item_is ∙ item) (c.0.version_is ∙ version))
+        none w.line (writes-of w o.item o.version c.0.in_it c.0.write c.1 (c.0.item_is ∙ item) (c.0.version_is
+        ∙ version))
 
     pub future-covered : o.kind ≡ Read → NoneWrites t.operations 0 place o.item → (later : ℕ) (by : Operation ℕ ℕ)
-        → slice_get t.operations later ≡ Some by → IsWriteOf by o.item → by.version ≡ o.version → Covers first line 0 place
+        → slice_get t.operations later ≡ Some by → IsWriteOf by o.item → by.version ≡ o.version
+        → Covers first line 0 place
     future-covered read none later by there writes version =
         let f = read-for read none in
         let w = touch-for line later t by is.committed.0 there (inl writes.write) in
@@ -262,7 +291,8 @@ module _ (h : List (Transaction ℕ ℕ)) (touches : List Touch) (are : AreTouch
           w.line_is ∙ sym f.line_is,
         )
 
-    pub flaw-covered : (flaw : Flaw) → (flaw ≢ Internal) → (flaw ≢ Value) → HasFlaw h line place t o flaw → Covers first line (rank_of flaw) place
+    pub flaw-covered : (flaw : Flaw) → (flaw ≢ Internal) → (flaw ≢ Value) → HasFlaw h line place t o flaw
+        → Covers first line (rank_of flaw) place
     flaw-covered Internal a b has = absurd (a refl)
     flaw-covered Duplicate a b (write, earlier, before, w) =
         let f = touch-for line place t o is.committed.0 is.there (inl write) in
@@ -293,18 +323,24 @@ module _ (h : List (Transaction ℕ ℕ)) (touches : List Touch) (are : AreTouch
               never w.line (record {
                 t = i.t;
                 in_line = i.in_line;
-                aborts = sym i.of.commits_is ∙ false-unless_true w.commits (λ yes. none-by f.e f.item_is f.version_is none w (also, yes));
+                aborts = sym i.of.commits_is
+                    ∙ false-unless_true w.commits (λ yes. none-by f.e f.item_is f.version_is none w (also, yes));
                 place = w.place;
                 o = i.of.o;
                 there = i.of.there;
-                writes = record { write = sym i.of.kind_is ∙ also.write; item = sym i.of.item_is ∙ also.item_is ∙ f.item_is };
+                writes = record {
+                  write = sym i.of.kind_is ∙ also.write;
+                  item = sym i.of.item_is ∙ also.item_is
+                      ∙ f.item_is;
+                };
                 version_is = sym i.of.version_is ∙ also.version_is ∙ f.version_is;
               }),
         )
     flaw-covered IntermediateRead a b (foreign, by, writer, greater, above, w) =
         let f = read-for foreign.read foreign.foreign in
         let u = write-for by o.item o.version writer.writes in
-        let t_is : w.t ≡ writer.writes.t = same_Some w.t writer.writes.t (sym w.is.committed.0 ∙ writer.writes.is.committed.0) in
+        let t_is : w.t ≡ writer.writes.t = same_Some w.t writer.writes.t (sym w.is.committed.0
+        ∙ writer.writes.is.committed.0) in
         covered-by IntermediateRead f (
           f.kind_is ∙ foreign.read,
           (λ z. foreign.not_first (sym f.version_is ∙ z)),
@@ -312,14 +348,19 @@ module _ (h : List (Transaction ℕ ℕ)) (touches : List Touch) (are : AreTouch
           record {
             is = also-of f.e by o.item o.version f.item_is f.version_is writer.writes;
             least = λ other c.
-                let x = writer.first other.line (writes-of other o.item o.version c.0.in_it c.0.write c.1 (c.0.item_is ∙ f.item_is) (c.0.version_is ∙ f.version_is)) in
+                let x = writer.first other.line (writes-of other o.item o.version c.0.in_it c.0.write c.1 (c.0.item_is
+                ∙ f.item_is) (c.0.version_is ∙ f.version_is)) in
                 omega (arith, x, u.line_is);
           },
           (u.surpassed (u.kind_is ∙ writer.writes.writes.write)).1 (record {
             place = w.place;
             o = w.o;
             there = ap (λ (k : Transaction ℕ ℕ). slice_get k.operations w.place) (sym t_is) ∙ w.is.there;
-            writes = record { write = w.writes.write; item = w.writes.item ∙ sym writer.writes.writes.item ∙ sym u.item_is };
+            writes = record {
+              write = w.writes.write;
+              item = w.writes.item ∙ sym writer.writes.writes.item
+                  ∙ sym u.item_is;
+            };
             above = omega (arith, above, w.version_is, u.version_is, writer.writes.version_is);
           }),
         )

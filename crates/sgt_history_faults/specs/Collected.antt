@@ -9,7 +9,8 @@ use Rattle.sgt_history_faults.specs.Mine.{ContradictsOwn}
 use Rattle.sgt_history_faults.specs.Noted.{Covers, IsReal}
 use Rattle.sgt_history_faults.specs.Touch.{IsTouch, IsToTouch, IsTouched, IsTouchBelow}
 
-pub record IsCollected (h : List (Transaction ℕ ℕ)) (n items : ℕ) (touches : List Touch) (first : Option Fault) : Type 0 where
+pub record IsCollected (h : List (Transaction ℕ ℕ)) (n items : ℕ) (touches : List Touch) (first : Option Fault) : Type
+    0 where
   pub each : All (IsTouch h) touches
   pub below : All (IsTouchBelow items) touches
   pub all : (line place : ℕ) (t : Transaction ℕ ℕ) (o : Operation ℕ ℕ) → line < n → slice_get h line ≡ Some t

@@ -30,7 +30,8 @@ pub record TakesGiven (line : ℕ) (done : List (Operation ℕ ℕ)) (n : ℕ) (
   pub more : List Given
   pub is : new ≡ old ++ more
   pub each : All (IsGivenOf line done) more
-  pub all : (place : ℕ) (o : Operation ℕ ℕ) (v : ℕ) → place < n → slice_get done place ≡ Some o → o.value ≡ Some v → IsGivenAt more line place
+  pub all : (place : ℕ) (o : Operation ℕ ℕ) (v : ℕ) → place < n → slice_get done place ≡ Some o → o.value ≡ Some v
+      → IsGivenAt more line place
 
 -- it is what an operation of a committed transaction gives
 pub record IsGiven (h : List (Transaction ℕ ℕ)) (g : Given) : Type 0 where
@@ -44,7 +45,8 @@ pub record IsGiven (h : List (Transaction ℕ ℕ)) (g : Given) : Type 0 where
 -- the first n lines are taken
 pub record AreGivenTo (h : List (Transaction ℕ ℕ)) (n : ℕ) (given : List Given) : Type 0 where
   pub each : All (IsGiven h) given
-  pub all : (line place : ℕ) (t : Transaction ℕ ℕ) (o : Operation ℕ ℕ) (v : ℕ) → line < n → IsOperation h line place t o → o.value ≡ Some v
+  pub all : (line place : ℕ) (t : Transaction ℕ ℕ) (o : Operation ℕ ℕ) (v : ℕ) → line < n
+      → IsOperation h line place t o → o.value ≡ Some v
       → IsGivenAt given line place
 
 -- ---- in order
@@ -55,7 +57,8 @@ MayStandBefore a b = (a.item < b.item) ⊎ ((a.item ≡ b.item) × ((a.version <
     × ((a.line < b.line) ⊎ ((a.line ≡ b.line) × (a.place ≤ b.place))))))
 
 abbrev pub AreGivenInOrder : List Given → Type 0
-AreGivenInOrder given = (i j : ℕ) (a b : Given) → i < j → slice_get given i ≡ Some a → slice_get given j ≡ Some b → MayStandBefore a b
+AreGivenInOrder given = (i j : ℕ) (a b : Given) → i < j → slice_get given i ≡ Some a → slice_get given j ≡ Some b
+    → MayStandBefore a b
 
 -- of the same version the second is another value
 pub record IsOtherThan (a b : Given) : Type 0 where
@@ -65,10 +68,12 @@ pub record IsOtherThan (a b : Given) : Type 0 where
 
 -- each that is another value than the one before it, up to the n-th, is covered
 abbrev pub AreOthersCovered : List Given → ℕ → Option Fault → Type 0
-AreOthersCovered given n first = (k : ℕ) (a b : Given) → suc k < n → slice_get given k ≡ Some a → slice_get given (suc k) ≡ Some b → IsOtherThan a b
+AreOthersCovered given n first = (k : ℕ) (a b : Given) → suc k < n → slice_get given k ≡ Some a
+    → slice_get given (suc k) ≡ Some b → IsOtherThan a b
     → Covers first b.line 5 b.place
 
 -- each is a fault of the history
 abbrev pub AreOthersFaulty : List (Transaction ℕ ℕ) → List Given → Type 0
-AreOthersFaulty h given = (k : ℕ) (a b : Given) → slice_get given k ≡ Some a → slice_get given (suc k) ≡ Some b → IsOtherThan a b
+AreOthersFaulty h given = (k : ℕ) (a b : Given) → slice_get given k ≡ Some a → slice_get given (suc k) ≡ Some b
+    → IsOtherThan a b
     → IsFaulty h b.line Value b.place

@@ -26,7 +26,8 @@ HasFlawBy W e Duplicate = (e.kind ≡ Write) × (e.commits ≡ true) × (w : Tou
 HasFlawBy W e AbortedRead = (e.kind ≡ Read) × (e.version ≢ 0) × ((w : Touch) → IsCommittedBy W w → ⊥)
     × (w : Touch) × W w
 HasFlawBy W e Unwritten = (e.kind ≡ Read) × (e.version ≢ 0) × ((w : Touch) → W w → ⊥)
-HasFlawBy W e IntermediateRead = (e.kind ≡ Read) × (e.version ≢ 0) × (w : Touch) × IsEarliestBy W w × (w.surpassed ≡ true)
+HasFlawBy W e IntermediateRead = (e.kind ≡ Read) × (e.version ≢ 0) × (w : Touch) × IsEarliestBy W w
+    × (w.surpassed ≡ true)
 HasFlawBy W e Value = ⊥
 
 -- the same where the writes are all in one list
@@ -64,7 +65,8 @@ AreFaulty h writes touches = (e : Touch) → Contains touches e → IsFaultyTouc
 
 -- the lines rise
 abbrev pub LinesRise : List Touch → Type 0
-LinesRise touches = (i j : ℕ) (a b : Touch) → i ≤ j → slice_get touches i ≡ Some a → slice_get touches j ≡ Some b → a.line ≤ b.line
+LinesRise touches = (i j : ℕ) (a b : Touch) → i ≤ j → slice_get touches i ≡ Some a → slice_get touches j ≡ Some b
+    → a.line ≤ b.line
 
 -- whether the first of the writes by transactions that commit, which is of the earliest line, is this
 abbrev pub IsWriter : List Touch → Option Touch → Type 0
@@ -89,7 +91,8 @@ AreEarlier writes place line = (k : ℕ) (w : Touch) → k < place → slice_get
 
 -- writes of one version by one line tell alike whether they are surpassed
 abbrev pub AreAllAlike : List Touch → Type 0
-AreAllAlike touches = (a b : Touch) → Contains touches a → Contains touches b → a.kind ≡ Write → b.kind ≡ Write → a.item ≡ b.item
+AreAllAlike touches = (a b : Touch) → Contains touches a → Contains touches b → a.kind ≡ Write → b.kind ≡ Write
+    → a.item ≡ b.item
     → a.version ≡ b.version → a.line ≡ b.line → a.surpassed ≡ b.surpassed
 
 -- each fault of a touch is covered
@@ -99,7 +102,8 @@ AreAllCovered touches first = (e : Touch) (flaw : Flaw) → Contains touches e �
 
 -- each fault of a touch is one of the history
 abbrev pub AreAllFaulty : List (Transaction ℕ ℕ) → List Touch → Type 0
-AreAllFaulty h touches = (e : Touch) (flaw : Flaw) → Contains touches e → HasTouchFlaw touches e flaw → IsFaulty h e.line flaw e.place
+AreAllFaulty h touches = (e : Touch) (flaw : Flaw) → Contains touches e → HasTouchFlaw touches e flaw
+    → IsFaulty h e.line flaw e.place
 
 -- the touch is of the same version of the same item, and of this kind
 pub record IsLike (like : Touch) (kind : Kind) (e : Touch) : Type 0 where
@@ -116,7 +120,8 @@ pub record AreLike (touches : List Touch) (like : Touch) (kind : Kind) (from to 
 
 -- no touch before the place is of the same version as one from there on
 abbrev pub IsBoundary : List Touch → ℕ → Type 0
-IsBoundary touches place = (i j : ℕ) (a b : Touch) → i < place → place ≤ j → slice_get touches i ≡ Some a → slice_get touches j ≡ Some b
+IsBoundary touches place = (i j : ℕ) (a b : Touch) → i < place → place ≤ j → slice_get touches i ≡ Some a
+    → slice_get touches j ≡ Some b
     → a.item ≡ b.item → a.version ≡ b.version → ⊥
 
 -- each fault of the touches before the place is covered

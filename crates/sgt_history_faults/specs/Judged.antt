@@ -15,7 +15,8 @@ use Rattle.sgt_history_faults.specs.Touch.{AreTouches}
 
 -- each fault of a value is covered
 abbrev pub CoversValues : List (Transaction ℕ ℕ) → Option Fault → Type 0
-CoversValues h first = (line place : ℕ) (t : Transaction ℕ ℕ) (o : Operation ℕ ℕ) → IsOperation h line place t o → IsOtherValue h line place o
+CoversValues h first = (line place : ℕ) (t : Transaction ℕ ℕ) (o : Operation ℕ ℕ) → IsOperation h line place t o
+    → IsOtherValue h line place o
     → Covers first line 5 place
 
 -- no line has a fault, and the touches are those of the history, in order
@@ -34,5 +35,6 @@ pub record IsReadyFor (h : List (Transaction ℕ ℕ)) (touches : List Touch) (b
   pub touches_are : AreTouches h touches
   pub real : IsReal h before
   pub values : CoversValues h before
-  pub own : (line place : ℕ) (t : Transaction ℕ ℕ) (o : Operation ℕ ℕ) → IsOperation h line place t o → ContradictsOwn t.operations place o
+  pub own : (line place : ℕ) (t : Transaction ℕ ℕ) (o : Operation ℕ ℕ) → IsOperation h line place t o
+      → ContradictsOwn t.operations place o
       → Covers before line 0 place

@@ -9,7 +9,8 @@ use Rattle.sgt_history_faults.specs.declared.mine.Owned.TheVariants.{Not, Follow
 
 -- the greatest version of the item that is written before the place
 pub record IsGreatest (done : List (Operation ℕ ℕ)) (n x version : ℕ) : Type 0 where
-  pub most : (place : ℕ) (o : Operation ℕ ℕ) → place < n → slice_get done place ≡ Some o → IsWriteOf o x → o.version ≤ version
+  pub most : (place : ℕ) (o : Operation ℕ ℕ) → place < n → slice_get done place ≡ Some o → IsWriteOf o x
+      → o.version ≤ version
   pub place : ℕ
   pub o : Operation ℕ ℕ
   pub before : place < n

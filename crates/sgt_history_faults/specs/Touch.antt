@@ -35,7 +35,8 @@ TellsSurpassed done e = e.kind ≡ Write → (IsTrue e.surpassed ↔ WritesGreat
 
 -- an operation is to be touched
 abbrev pub IsToTouch : Bool → List (Operation ℕ ℕ) → ℕ → Operation ℕ ℕ → Type 0
-IsToTouch commits done place o = (o.kind ≡ Write) ⊎ ((o.kind ≡ Read) × (commits ≡ true) × NoneWrites done 0 place o.item)
+IsToTouch commits done place o =
+    (o.kind ≡ Write) ⊎ ((o.kind ≡ Read) × (commits ≡ true) × NoneWrites done 0 place o.item)
 
 -- one of the touches is that operation
 pub record IsTouched (touches : List Touch) (line place : ℕ) : Type 0 where
@@ -75,7 +76,8 @@ pub record TakesLine (whose : Whose) (done : List (Operation ℕ ℕ)) (n : ℕ)
   pub more : List Touch
   pub is : new ≡ old ++ more
   pub each : All (IsTouchOf whose.line whose.commits done) more
-  pub all : (place : ℕ) (o : Operation ℕ ℕ) → place < n → slice_get done place ≡ Some o → IsToTouch whose.commits done place o
+  pub all : (place : ℕ) (o : Operation ℕ ℕ) → place < n → slice_get done place ≡ Some o
+      → IsToTouch whose.commits done place o
       → IsTouched more whose.line place
 
 -- there is room for the touch's item
@@ -93,4 +95,5 @@ pub record IsMarkOf (mine : List Mine) (old new : Touch) : Type 0 where
 pub record AreMarked (from : ℕ) (mine : List Mine) (old new : List Touch) : Type 0 where
   pub size : length new ≡ length old
   pub before : (k : ℕ) → k < from → slice_get new k ≡ slice_get old k
-  pub behind : (k : ℕ) (a b : Touch) → from ≤ k → slice_get old k ≡ Some a → slice_get new k ≡ Some b → IsMarkOf mine a b
+  pub behind : (k : ℕ) (a b : Touch) → from ≤ k → slice_get old k ≡ Some a → slice_get new k ≡ Some b
+      → IsMarkOf mine a b

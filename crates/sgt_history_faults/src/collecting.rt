@@ -50,7 +50,8 @@ fn with_contradiction(
     contradicted: Option<u32>,
 ) -> Option<Fault>
     ensures kept { (line rank place : ℕ) → Covers first line rank place → Covers result line rank place }
-    ensures real { (h : List (Transaction ℕ ℕ)) (t : Transaction ℕ ℕ) → slice_get h whose.line ≡ Some t → t.commits ≡ whose.commits
+    ensures real { (h : List (Transaction ℕ ℕ)) (t : Transaction ℕ ℕ) → slice_get h whose.line ≡ Some t
+        → t.commits ≡ whose.commits
         → TellsContradiction t.operations (length t.operations) contradicted → IsReal h first → IsReal h result }
     ensures noted { IsTrue whose.commits → (done : List (Operation ℕ ℕ)) (place : ℕ)
         → TellsContradiction done (length done) contradicted → place < length done → IsContradicted done place
@@ -114,10 +115,12 @@ fn collect_line(
     Ok(())
 }
 
-/// All touches of a history, and the first operation of a committed transaction that contradicts what this wrote before.
+/// All touches of a history, and the first operation of a committed transaction that contradicts what this wrote
+/// before.
 pub fn collect(alloc: Global, history: &History) -> Result<Collected, AllocError>
     ensures { IfOk result
-        (λ c. (items : ℕ) × IsCollected (closed_of history.now) (length history.now.lines.items) items c.touches.items c.first) }
+        (λ c. (items : ℕ) × IsCollected (closed_of history.now) (length history.now.lines.items) items c.touches.items
+        c.first) }
 {
     let nothing = Mine {
         last: 0,

@@ -48,7 +48,8 @@ fn is_told_first(one: Fault, other: Fault) -> bool
 pub fn with_fault(first: Option<Fault>, fault: Fault) -> Option<Fault>
     ensures kept { (line rank place : ℕ) → Covers first line rank place → Covers result line rank place }
     ensures noted { Covers result fault.line (rank_of fault.flaw) fault.place }
-    ensures real { (h : List (Transaction ℕ ℕ)) → IsReal h first → IsFaulty h fault.line fault.flaw fault.place → IsReal h result }
+    ensures real { (h : List (Transaction ℕ ℕ)) → IsReal h first → IsFaulty h fault.line fault.flaw fault.place
+        → IsReal h result }
 {
     match first {
         None => Some(fault),

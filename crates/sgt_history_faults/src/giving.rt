@@ -32,7 +32,8 @@ fn put_given(
     place: u32,
     given: &mut Vec<Given>,
 ) -> Result<(), AllocError>
-    ensures { OnOk result ((done : List (Operation ℕ ℕ)) (before : List Given) → slice_get done place ≡ Some operation.now
+    ensures { OnOk result ((done : List (Operation ℕ ℕ)) (before : List Given)
+        → slice_get done place ≡ Some operation.now
         → TakesGiven line done place before given.old.items → TakesGiven line done (place + 1) before given.new.items) }
 {
     let Some(value) = operation.value else {

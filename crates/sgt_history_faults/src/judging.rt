@@ -53,7 +53,8 @@ fn judge_writes(writes: &[Touch], writer: &Touch, before: Option<Fault>) -> Opti
     requires writes { All IsWrite writes.now }
     ensures kept { (line rank place : ℕ) → Covers before line rank place → Covers result line rank place }
     ensures covered { AreCovered writes.now writes.now result }
-    ensures real { (h : List (Transaction ℕ ℕ)) → AreFaulty h writes.now writes.now → IsReal h before → IsReal h result }
+    ensures real { (h : List (Transaction ℕ ℕ)) → AreFaulty h writes.now writes.now → IsReal h before
+        → IsReal h result }
 {
     let mut first = before;
     for write in writes {
@@ -72,7 +73,8 @@ fn judge_any_writes(
     requires writes { All IsWrite writes.now }
     ensures kept { (line rank place : ℕ) → Covers before line rank place → Covers result line rank place }
     ensures covered { AreCovered writes.now writes.now result }
-    ensures real { (h : List (Transaction ℕ ℕ)) → AreFaulty h writes.now writes.now → IsReal h before → IsReal h result }
+    ensures real { (h : List (Transaction ℕ ℕ)) → AreFaulty h writes.now writes.now → IsReal h before
+        → IsReal h result }
 {
     match writer {
         None => before,
@@ -84,7 +86,8 @@ fn judge_any_writes(
 fn judge_own(read: &Touch, own: bool, before: Option<Fault>) -> Option<Fault>
     ensures kept { (line rank place : ℕ) → Covers before line rank place → Covers result line rank place }
     ensures covered { IsTrue own → Covers result read.now.line 0 read.now.place }
-    ensures real { (h : List (Transaction ℕ ℕ)) (writes : List Touch) → (IsTrue own → HasGroupFlaw writes read.now Flaw.Internal)
+    ensures real { (h : List (Transaction ℕ ℕ)) (writes : List Touch)
+        → (IsTrue own → HasGroupFlaw writes read.now Flaw.Internal)
         → IsFaultyTouch h writes read.now → IsReal h before → IsReal h result }
 {
     if !own {

@@ -20,7 +20,8 @@ pub struct Whose {
 
 /// The first operation that contradicts what was written before it, where this is the next one.
 fn first_contradicted(before: Option<u32>, owned: Owned, place: u32) -> Option<u32>
-    ensures { (done : List (Operation ℕ ℕ)) (o : Operation ℕ ℕ) → slice_get done place ≡ Some o → IsOwned done place o owned
+    ensures { (done : List (Operation ℕ ℕ)) (o : Operation ℕ ℕ) → slice_get done place ≡ Some o
+        → IsOwned done place o owned
         → TellsContradiction done place before → TellsContradiction done (place + 1) result }
 {
     match before {
@@ -57,7 +58,8 @@ fn put_touch(
     whose: Whose,
     touches: &mut Vec<Touch>,
 ) -> Result<(), AllocError>
-    ensures { OnOk result ((done : List (Operation ℕ ℕ)) (before : List Touch) → slice_get done place ≡ Some operation.now
+    ensures { OnOk result ((done : List (Operation ℕ ℕ)) (before : List Touch)
+        → slice_get done place ≡ Some operation.now
         → IsOwned done place operation.now owned
         → TakesLine whose done place before touches.old.items
         → TakesLine whose done (place + 1) before touches.new.items) }
@@ -77,8 +79,8 @@ fn put_touch(
     Ok(())
 }
 
-/// Puts the touches of a line behind those before, whether one surpasses another still to be told. Gives the first operation that
-/// contradicts what its transaction wrote before, if there is one.
+/// Puts the touches of a line behind those before, whether one surpasses another still to be told. Gives the first
+/// operation that contradicts what its transaction wrote before, if there is one.
 pub fn take_line(
     operations: &[Operation<u32, u32>],
     whose: Whose,

@@ -14,7 +14,8 @@ use sgt_history::Flaw;
 fn judge_value(last: &Given, next: &Given, before: Option<Fault>) -> Option<Fault>
     ensures kept { (line rank place : ℕ) → Covers before line rank place → Covers result line rank place }
     ensures covered { IsOtherThan last.now next.now → Covers result next.now.line 5 next.now.place }
-    ensures real { (h : List (Transaction ℕ ℕ)) → (IsOtherThan last.now next.now → IsFaulty h next.now.line Flaw.Value next.now.place)
+    ensures real { (h : List (Transaction ℕ ℕ))
+        → (IsOtherThan last.now next.now → IsFaulty h next.now.line Flaw.Value next.now.place)
         → IsReal h before → IsReal h result }
 {
     if last.item != next.item || last.version != next.version || last.value == next.value {

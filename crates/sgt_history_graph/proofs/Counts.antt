@@ -52,22 +52,28 @@ absent-none v xs absent = elim (cases_eq (count_of v xs) 0) [
 abbrev pub is_waiting : List ℕ → ℕ → Edge → ℕ
 is_waiting placed v e = cond (eqb e.to v && eqb (count_of e.from placed) 0) 1 0
 
-pub waiting-cons : (placed : List ℕ) (v : ℕ) (e : Edge) (es : List Edge) → waiting placed (e ∷ es) v ≡ is_waiting placed v e + waiting placed es v
+pub waiting-cons : (placed : List ℕ) (v : ℕ) (e : Edge) (es : List Edge)
+    → waiting placed (e ∷ es) v ≡ is_waiting placed v e + waiting placed es v
 waiting-cons placed v e es = sum_by-cons (is_waiting placed v) e es
 
 -- none waits: all edges to the node lead from those that are placed
-pub waits-none : (placed : List ℕ) (edges : List Edge) (v : ℕ) → waiting placed edges v ≡ 0 → (a : ℕ) → Goes edges a v → Contains placed a
+pub waits-none : (placed : List ℕ) (edges : List Edge) (v : ℕ) → waiting placed edges v ≡ 0 → (a : ℕ) → Goes edges a v
+    → Contains placed a
 waits-none placed edges v none a goes =
     let e : Edge = record { from = a; to = v } in
     let le = get_or-le-sum_by (is_waiting placed v) edges goes.0 e goes.1 in
-    let at : is_waiting placed v e ≡ 0 = subst (λ (x : Edge). is_waiting placed v x ≡ 0) goes.2 (omega (arith, le, none)) in
+    let at : is_waiting placed v e ≡ 0 =
+    subst (λ (x : Edge). is_waiting placed v x ≡ 0) goes.2 (omega (arith, le, none)) in
     elim (cases_eq (count_of a placed) 0) [
-      | inl absent ↦ let one : is_waiting placed v e ≡ 1 = ap₂ (λ b c. cond (b && c) 1 0) (eq-eqb v v refl) (eq-eqb (count_of a placed) 0 absent) in absurd (omega (arith, one, at))
+      | inl absent ↦ let one : is_waiting placed v e ≡ 1 =
+          ap₂ (λ b c. cond (b && c) 1 0) (eq-eqb v v refl) (eq-eqb (count_of a placed) 0 absent) in
+          absurd (omega (arith, one, at))
       | inr some ↦ counted-contains a placed (omega (arith, some))
     ]
 
 -- and the other way round
-pub none-waits : (placed : List ℕ) (edges : List Edge) (v : ℕ) → ((a : ℕ) → Goes edges a v → Contains placed a) → waiting placed edges v ≡ 0
+pub none-waits : (placed : List ℕ) (edges : List Edge) (v : ℕ) → ((a : ℕ) → Goes edges a v → Contains placed a)
+    → waiting placed edges v ≡ 0
 none-waits placed [] v all = refl
 none-waits placed (e ∷ es) v all =
     let rest = none-waits placed es v (λ a goes. all a (suc goes.0, omega (arith, goes.1), goes.2)) in
@@ -82,7 +88,8 @@ none-waits placed (e ∷ es) v all =
     omega (arith, waiting-cons placed v e es, here, rest)
 
 -- one waits: an edge leads to the node from one that isn't placed
-pub waits-some : (placed : List ℕ) (edges : List Edge) (v : ℕ) → 0 < waiting placed edges v → (a : ℕ) × Goes edges a v × (count_of a placed ≡ 0)
+pub waits-some : (placed : List ℕ) (edges : List Edge) (v : ℕ) → 0 < waiting placed edges v
+    → (a : ℕ) × Goes edges a v × (count_of a placed ≡ 0)
 waits-some placed [] v some = absurd (omega arith)
 waits-some placed (e ∷ es) v some =
     let later : is_waiting placed v e ≡ 0 → (a : ℕ) × Goes (e ∷ es) a v × (count_of a placed ≡ 0) = λ none.
@@ -91,7 +98,8 @@ waits-some placed (e ∷ es) v some =
     elim (cases_eq e.to v) [
       | inl same ↦ elim (cases_eq (count_of e.from placed) 0) [
         | inl absent ↦ (e.from, (0, omega arith, ap (λ (t : ℕ). record { from = e.from; to = t }) same), absent)
-        | inr present ↦ later (ap₂ (λ b c. cond (b && c) 1 0) (eq-eqb e.to v same) (ne_eqb (count_of e.from placed) 0 present))
+        | inr present ↦ later
+            (ap₂ (λ b c. cond (b && c) 1 0) (eq-eqb e.to v same) (ne_eqb (count_of e.from placed) 0 present))
       ]
       | inr other ↦ later (ap (λ b. cond (b && eqb (count_of e.from placed) 0) 1 0) (ne_eqb e.to v other))
     ]
@@ -119,7 +127,8 @@ one-placed placed a v e new = elim (cases_eq e.from a) [
       rw (is, from) (omega arith)
 ]
 
-targets-cons : (a v : ℕ) (e : Edge) (es : List Edge) → count_of v (targets_from (e ∷ es) a) ≡ cond (eqb e.from a) (is_at v e.to) 0 + count_of v (targets_from es a)
+targets-cons : (a v : ℕ) (e : Edge) (es : List Edge)
+    → count_of v (targets_from (e ∷ es) a) ≡ cond (eqb e.from a) (is_at v e.to) 0 + count_of v (targets_from es a)
 targets-cons a v e es = elim (cases_Bool (eqb e.from a)) [
   | inl hit ↦ rw hit (count-cons v e.to (targets_from es a))
   | inr miss ↦ rw miss (omega arith)
@@ -129,11 +138,20 @@ pub waiting-placed : (placed : List ℕ) (edges : List Edge) (a v : ℕ) → cou
     → waiting (placed ++ a ∷ []) edges v + count_of v (targets_from edges a) ≡ waiting placed edges v
 waiting-placed placed [] a v new = refl
 waiting-placed placed (e ∷ es) a v new =
-    omega (arith, waiting-cons (placed ++ a ∷ []) v e es, waiting-cons placed v e es, targets-cons a v e es, one-placed placed a v e new, waiting-placed placed es a v new)
+    omega (
+      arith,
+      waiting-cons (placed ++ a ∷ []) v e es,
+      waiting-cons placed v e es,
+      targets-cons a v e es,
+      one-placed placed a v e new,
+      waiting-placed placed es a v new,
+    )
 
 -- ---- counted at the beginning
 
-pub waiting-more : (edges : List Edge) (k v : ℕ) (d : Edge) → k < length edges → waiting [] (take (k + 1) edges) v ≡ waiting [] (take k edges) v + is_at v (get_or edges k d).to
+pub waiting-more : (edges : List Edge) (k v : ℕ) (d : Edge) → k < length edges
+    → waiting [] (take (k + 1) edges) v ≡ waiting [] (take k edges) v + is_at v (get_or edges k d).to
 waiting-more edges k v d lt =
     sum_by_more (is_waiting [] v) edges k d lt
-    ∙ ap (λ n. waiting [] (take k edges) v + n) (elim (cases_Bool (eqb (get_or edges k d).to v)) [ inl hit ↦ rw hit refl | inr miss ↦ rw miss refl ])
+    ∙ ap (λ n. waiting [] (take k edges) v + n)
+    (elim (cases_Bool (eqb (get_or edges k d).to v)) [ inl hit ↦ rw hit refl | inr miss ↦ rw miss refl ])

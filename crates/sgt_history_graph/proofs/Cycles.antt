@@ -11,27 +11,34 @@ use Rattle.sgt_history_graph.specs.Nearest.{AreClosed, AreFalling, FallBelow, Is
 
 -- ---- ranks
 
-chain-falls : (edges : List Edge) (ranks : List ℕ) → AreFalling edges ranks → (a : ℕ) (bs : List ℕ) (v : ℕ) → IsChain (Goes edges) a (bs ++ v ∷ [])
+chain-falls : (edges : List Edge) (ranks : List ℕ) → AreFalling edges ranks → (a : ℕ) (bs : List ℕ) (v : ℕ)
+    → IsChain (Goes edges) a (bs ++ v ∷ [])
     → slice_index ranks v ≤ slice_index ranks a
 chain-falls edges ranks falls a [] v chain = falls a v chain.0
-chain-falls edges ranks falls a (b ∷ bs) v chain = omega (arith, falls a b chain.0, chain-falls edges ranks falls b bs v chain.1)
+chain-falls edges ranks falls a (b ∷ bs) v chain =
+    omega (arith, falls a b chain.0, chain-falls edges ranks falls b bs v chain.1)
 
-pub none-below : (edges : List Edge) (ranks : List ℕ) (v : ℕ) → AreFalling edges ranks → FallBelow edges ranks v → NoneBelow edges v
+pub none-below : (edges : List Edge) (ranks : List ℕ) (v : ℕ) → AreFalling edges ranks → FallBelow edges ranks v
+    → NoneBelow edges v
 none-below edges ranks v falls below u lt [] chain = omega (arith, below u u chain.0 lt)
-none-below edges ranks v falls below u lt (b ∷ bs) chain = omega (arith, below u b chain.0 lt, chain-falls edges ranks falls b bs u chain.1)
+none-below edges ranks v falls below u lt (b ∷ bs) chain =
+    omega (arith, below u b chain.0 lt, chain-falls edges ranks falls b bs u chain.1)
 
 -- ---- distances
 
-pub nearer-le : (distances : List ℕ) (a b : ℕ) → IsNearer distances a b → slice_index distances a ≤ slice_index distances b
+pub nearer-le : (distances : List ℕ) (a b : ℕ) → IsNearer distances a b
+    → slice_index distances a ≤ slice_index distances b
 nearer-le distances a b near = elim near [ inl lt ↦ omega (arith, lt) | inr same ↦ omega (arith, same.0) ]
 
-module _ (edges : List Edge) (distances : List ℕ) (closed : AreClosed edges distances) (v : ℕ) (home : slice_index distances v ≡ 0) where
+module _ (edges : List Edge) (distances : List ℕ) (closed : AreClosed edges distances) (v : ℕ)
+    (home : slice_index distances v ≡ 0) where
   chain-far : (a : ℕ) (bs : List ℕ) → IsChain (Goes edges) a (bs ++ v ∷ []) → slice_index distances a ≤ length bs + 1
   chain-far a [] chain = omega (arith, closed a v chain.0, home)
   chain-far a (b ∷ bs) chain = omega (arith, closed a b chain.0, chain-far b bs chain.1)
 
   -- the first node behind a is ns near ns there are nodes on the chain
-  first-far : (a : ℕ) (bs : List ℕ) → IsChain (Goes edges) a (bs ++ v ∷ []) → (b : ℕ) × Goes edges a b × (slice_index distances b ≤ length bs)
+  first-far : (a : ℕ) (bs : List ℕ) → IsChain (Goes edges) a (bs ++ v ∷ [])
+      → (b : ℕ) × Goes edges a b × (slice_index distances b ≤ length bs)
   first-far a [] chain = (v, chain.0, omega (arith, home))
   first-far a (b ∷ bs) chain = (b, chain.0, omega (arith, chain-far b bs chain.1))
 
@@ -40,14 +47,16 @@ module _ (edges : List Edge) (distances : List ℕ) (closed : AreClosed edges di
   first-home a [] way = (v, way.1, way.2)
   first-home a (n ∷ ns) way = (n, omega (arith, way.1, length-append ns (v ∷ [])), way.2)
 
-  shorter : (a : ℕ) (ns bs : List ℕ) → IsHomeward edges distances a (ns ++ v ∷ []) → IsChain (Goes edges) a (bs ++ v ∷ []) → length ns ≤ length bs
+  shorter : (a : ℕ) (ns bs : List ℕ) → IsHomeward edges distances a (ns ++ v ∷ [])
+      → IsChain (Goes edges) a (bs ++ v ∷ []) → length ns ≤ length bs
   shorter a ns bs way chain =
       let n = first-home a ns way in
       let b = first-far a bs chain in
       let near = nearer-le distances n.0 b.0 (n.2 b.0 b.1) in
       omega (arith, n.1, b.2, near)
 
-  word-first : (a : ℕ) (ns bs : List ℕ) → IsHomeward edges distances a (ns ++ v ∷ []) → IsChain (Goes edges) a (bs ++ v ∷ []) → length ns ≡ length bs
+  word-first : (a : ℕ) (ns bs : List ℕ) → IsHomeward edges distances a (ns ++ v ∷ [])
+      → IsChain (Goes edges) a (bs ++ v ∷ []) → length ns ≡ length bs
       → IsWordFirst ns bs
   word-first a [] bs way chain size = tt
   word-first a (n ∷ ns) [] way chain size = absurd (omega (arith, size))
@@ -57,24 +66,32 @@ module _ (edges : List Edge) (distances : List ℕ) (closed : AreClosed edges di
       | inl lt ↦ inl lt
       | inr ge ↦
           let same : b ≡ n = omega (arith, ge, near.1) in
-          inr (sym same, word-first n ns bs way.3 (subst (λ (x : ℕ). IsChain (Goes edges) x (bs ++ v ∷ [])) same chain.1) (omega (arith, size)))
+          inr (
+            sym same,
+            word-first n ns bs way.3 (subst (λ (x : ℕ). IsChain (Goes edges) x (bs ++ v ∷ [])) same chain.1)
+                (omega (arith, size)),
+          )
     ]
   ]
 
-homeward-chain : (edges : List Edge) (distances : List ℕ) (a : ℕ) (bs : List ℕ) → IsHomeward edges distances a bs → IsChain (Goes edges) a bs
+homeward-chain : (edges : List Edge) (distances : List ℕ) (a : ℕ) (bs : List ℕ) → IsHomeward edges distances a bs
+    → IsChain (Goes edges) a bs
 homeward-chain edges distances a [] way = tt
 homeward-chain edges distances a (b ∷ bs) way = (way.0, homeward-chain edges distances b bs way.3)
 
-homeward-end : (edges : List Edge) (distances : List ℕ) (a : ℕ) (bs : List ℕ) (v : ℕ) → IsHomeward edges distances a (bs ++ v ∷ []) → slice_index distances v ≡ 0
+homeward-end : (edges : List Edge) (distances : List ℕ) (a : ℕ) (bs : List ℕ) (v : ℕ)
+    → IsHomeward edges distances a (bs ++ v ∷ []) → slice_index distances v ≡ 0
 homeward-end edges distances a [] v way = way.1
 homeward-end edges distances a (b ∷ bs) v way = homeward-end edges distances b bs v way.3
 
 -- ---- the first cycle
 
-pub first-of : (edges : List Edge) (distances : List ℕ) (node : ℕ) (cycle : List ℕ) → NoneBelow edges node → AreClosed edges distances
+pub first-of : (edges : List Edge) (distances : List ℕ) (node : ℕ) (cycle : List ℕ) → NoneBelow edges node
+    → AreClosed edges distances
     → IsWayHome edges distances node cycle → IsFirstCycle edges cycle
 first-of edges distances node cycle none closed way = record {
-  is = subst (IsCycle (Goes edges)) (sym way.is) (homeward-chain edges distances node (way.between ++ node ∷ []) way.homeward);
+  is = subst (IsCycle (Goes edges)) (sym way.is)
+      (homeward-chain edges distances node (way.between ++ node ∷ []) way.homeward);
   first = λ other o. subst (λ (c : List ℕ). IsShownFirst c other) (sym way.is) (shown other o);
 }
   where
@@ -95,28 +112,39 @@ first-of edges distances node cycle none closed way = record {
               elim (cases_lt (length way.between) (length bs)) [
                 | inl short ↦ inl short
                 | inr long ↦
-                    let size : length way.between ≡ length bs = omega (arith, long, shorter edges distances closed node home node way.between bs way.homeward chain) in
+                    let size : length way.between ≡ length bs =
+                    omega (
+                      arith,
+                      long,
+                      shorter edges distances closed node home node way.between bs way.homeward chain,
+                    ) in
                     inr (size, word-first edges distances closed node home node way.between bs way.homeward chain size)
               ],
             )
       ]
     ]
 
-pub told-first : (edges : List Edge) (distances : List ℕ) (node : ℕ) (found : Option (Vec ℕ Global)) → NoneBelow edges node → AreClosed edges distances
+pub told-first : (edges : List Edge) (distances : List ℕ) (node : ℕ) (found : Option (Vec ℕ Global))
+    → NoneBelow edges node → AreClosed edges distances
     → IfSome found (λ cycle. IsWayHome edges distances node cycle.items) → is_some found ≡ true → TellsFirst edges found
 told-first edges distances node None none closed way some = absurd cc
-told-first edges distances node (Some cycle) none closed way some = first-of edges distances node cycle.items none closed way
+told-first edges distances node (Some cycle) none closed way some =
+    first-of edges distances node cycle.items none closed way
 
-pub told-some : (edges : List Edge) (distances : List ℕ) (node : ℕ) (found : Option (Vec ℕ Global)) → NoneBelow edges node → AreClosed edges distances
-    → IfSome found (λ cycle. IsWayHome edges distances node cycle.items) → IfSome found (λ cycle. IsFirstCycle edges cycle.items)
+pub told-some : (edges : List Edge) (distances : List ℕ) (node : ℕ) (found : Option (Vec ℕ Global))
+    → NoneBelow edges node → AreClosed edges distances
+    → IfSome found (λ cycle. IsWayHome edges distances node cycle.items)
+    → IfSome found (λ cycle. IsFirstCycle edges cycle.items)
 told-some edges distances node None none closed way = tt
 told-some edges distances node (Some cycle) none closed way = first-of edges distances node cycle.items none closed way
 
-pub tells-some : (edges : List Edge) (found : Option (Vec ℕ Global)) → IfSome found (λ cycle. IsFirstCycle edges cycle.items) → is_some found ≡ true → TellsFirst edges found
+pub tells-some : (edges : List Edge) (found : Option (Vec ℕ Global))
+    → IfSome found (λ cycle. IsFirstCycle edges cycle.items) → is_some found ≡ true → TellsFirst edges found
 tells-some edges None first some = absurd cc
 tells-some edges (Some cycle) first some = first
 
-pub none-next : (edges : List Edge) (node : ℕ) (found : Option (Vec ℕ Global)) → NoneBelow edges node → IfNone found (NoneFrom edges node) → is_some found ≡ false
+pub none-next : (edges : List Edge) (node : ℕ) (found : Option (Vec ℕ Global)) → NoneBelow edges node
+    → IfNone found (NoneFrom edges node) → is_some found ≡ false
     → NoneBelow edges (node + 1)
 none-next edges node None none here empty u lt = elim (cases_lt u node) [
   | inl less ↦ none u less
@@ -124,9 +152,11 @@ none-next edges node None none here empty u lt = elim (cases_lt u node) [
 ]
 none-next edges node (Some cycle) none here empty u lt = absurd cc
 
-pub none-all : (nodes : ℕ) (edges : List Edge) (n : ℕ) → All (JoinsNodes nodes) edges → NoneBelow edges n → nodes ≤ n → (other : List ℕ) → IsCycle (Goes edges) other → ⊥
+pub none-all : (nodes : ℕ) (edges : List Edge) (n : ℕ) → All (JoinsNodes nodes) edges → NoneBelow edges n → nodes ≤ n
+    → (other : List ℕ) → IsCycle (Goes edges) other → ⊥
 none-all nodes edges n joins none all [] o = o
-none-all nodes edges n joins none all (a ∷ []) o = none a (omega (arith, all, (All_in (JoinsNodes nodes) edges (record { from = a; to = a }) joins o.0).0)) [] o
+none-all nodes edges n joins none all (a ∷ []) o =
+    none a (omega (arith, all, (All_in (JoinsNodes nodes) edges (record { from = a; to = a }) joins o.0).0)) [] o
 none-all nodes edges n joins none all (a ∷ b ∷ bs) o =
     none a (omega (arith, all, (All_in (JoinsNodes nodes) edges (record { from = a; to = b }) joins o.0).0)) (b ∷ bs) o
 

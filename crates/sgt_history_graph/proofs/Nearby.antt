@@ -12,7 +12,8 @@ near-on distances a b c (inr (one, le)) (inl two) = inl (omega (arith, one, two)
 near-on distances a b c (inr (one, le)) (inr (two, le')) = inr (one ∙ two, omega (arith, le, le'))
 
 -- one more node
-nearest-push : (distances before : List ℕ) (x : ℕ) (best : Option ℕ) (r : ℕ) → IsNearest distances before best → (r ≡ x) ⊎ (best ≡ Some r) → IsNearer distances r x
+nearest-push : (distances before : List ℕ) (x : ℕ) (best : Option ℕ) (r : ℕ) → IsNearest distances before best
+    → (r ≡ x) ⊎ (best ≡ Some r) → IsNearer distances r x
     → ((other : ℕ) → best ≡ Some other → IsNearer distances r other) → IsNearest distances (before ++ x ∷ []) (Some r)
 nearest-push distances before x None r none either near old =
     let same : r ≡ x = elim either [ inl e ↦ e | inr e ↦ absurd cc ] in (
@@ -33,8 +34,11 @@ nearest-push distances before x (Some s) r best either near old = (
   ],
 )
 
-pub nearest-more : (distances targets : List ℕ) (i : ℕ) (best : Option ℕ) (r d : ℕ) → IsNearest distances (take i targets) best → i < length targets
-    → (r ≡ get_or targets i d) ⊎ (best ≡ Some r) → IsNearer distances r (get_or targets i d) → ((other : ℕ) → best ≡ Some other → IsNearer distances r other)
+pub nearest-more : (distances targets : List ℕ) (i : ℕ) (best : Option ℕ) (r d : ℕ)
+    → IsNearest distances (take i targets) best → i < length targets
+    → (r ≡ get_or targets i d) ⊎ (best ≡ Some r) → IsNearer distances r (get_or targets i d)
+    → ((other : ℕ) → best ≡ Some other → IsNearer distances r other)
     → IsNearest distances (take (i + 1) targets) (Some r)
 nearest-more distances targets i best r d so lt either near old =
-    subst (λ (ts : List ℕ). IsNearest distances ts (Some r)) (sym (take_more targets i d lt)) (nearest-push distances (take i targets) (get_or targets i d) best r so either near old)
+    subst (λ (ts : List ℕ). IsNearest distances ts (Some r)) (sym (take_more targets i d lt))
+    (nearest-push distances (take i targets) (get_or targets i d) best r so either near old)

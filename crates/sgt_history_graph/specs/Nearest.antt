@@ -48,7 +48,8 @@ pub record AreSpread (edges : List Edge) (far : ℕ) (v round k most : ℕ) (dis
   pub home : slice_index distances v ≡ 0
   pub small : (a : ℕ) → slice_index distances a ≤ far
   pub near : (a : ℕ) → slice_index distances a < far → slice_index distances a ≤ most
-  pub closed : (a b : ℕ) → Goes edges a b → slice_index distances b < round → slice_index distances a ≤ slice_index distances b + 1
+  pub closed : (a b : ℕ) → Goes edges a b → slice_index distances b < round
+      → slice_index distances a ≤ slice_index distances b + 1
   pub done : (i : ℕ) (e : Edge) → i < k → slice_get edges i ≡ Some e → slice_index distances e.to ≡ round
       → slice_index distances e.from ≤ round + 1
   pub walked : AreWalked edges far distances v

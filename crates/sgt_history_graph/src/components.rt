@@ -16,7 +16,8 @@ struct Stop {
     followed: usize,
 }
 
-/// A walk through the graph, deep first. Components: Gabow, Path-based depth-first search for strong and biconnected components (2000).
+/// A walk through the graph, deep first. Components: Gabow, Path-based depth-first search for strong and biconnected
+/// components (2000).
 #[derive(Drop)]
 struct Walk {
     path: Vec<Stop>,
@@ -57,7 +58,8 @@ impl Walk {
         Ok(())
     }
 
-    /// An edge leads back to a node that was come to then, whose component isn't closed: all nodes come to behind it are of that one.
+    /// An edge leads back to a node that was come to then, whose component isn't closed: all nodes come to behind it
+    /// are of that one.
     fn join(&mut self, since: u32) {
         let kept = self
             .firsts

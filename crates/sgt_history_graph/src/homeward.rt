@@ -11,8 +11,9 @@ use std::alloc::{AllocError, Global};
 /// How far it is from a node from which no walk leads.
 pub(crate) const FAR: usize = usize::MAX;
 
-/// The cycle from the node on always to the nearest next one, of several to the least, if that leads back, and each is as far as it is
-/// told to be. It is and does where the distances are those of the shortest walks and the node lies on a cycle.
+/// The cycle from the node on always to the nearest next one, of several to the least, if that leads back, and each
+/// is as far as it is told to be. It is and does where the distances are those of the shortest walks and the node
+/// lies on a cycle.
 pub(crate) fn way_home(
     alloc: Global,
     rows: &Rows,
@@ -20,9 +21,11 @@ pub(crate) fn way_home(
     node: u32,
 ) -> Result<Option<Vec<u32>>, AllocError>
     ensures some { IfOk result (λ found. IfSome found (λ cycle. (nodes : ℕ) (edges : List Edge)
-        → AreRowsOf nodes edges rows.now.starts.items rows.now.targets.items → IsWayHome edges distances.now node cycle.items)) }
+        → AreRowsOf nodes edges rows.now.starts.items rows.now.targets.items
+        → IsWayHome edges distances.now node cycle.items)) }
     ensures none { IfOk result (λ found. IfNone found ((nodes : ℕ) (edges : List Edge)
-        → AreRowsOf nodes edges rows.now.starts.items rows.now.targets.items → AreMeasured edges FAR distances.now node → NoneFrom edges node)) }
+        → AreRowsOf nodes edges rows.now.starts.items rows.now.targets.items
+        → AreMeasured edges FAR distances.now node → NoneFrom edges node)) }
 {
     let mut cycle = vec![in alloc; node]?;
     let Some(first) = nearest(distances, rows.targets_of(node)) else {

@@ -14,7 +14,8 @@ fn spread(edges: &[Edge], distances: &mut [usize], round: usize) -> bool
     requires ends { All (JoinsNodes (length distances.old)) edges.now }
     requires round { round + 1 < FAR }
     ensures spread { (v : ℕ) → AreSpread edges.now FAR v round 0 round distances.old
-        → MatchBool result (AreSpread edges.now FAR v (round + 1) 0 (round + 1) distances.new) (AreMeasured edges.now FAR distances.new v) }
+        → MatchBool result (AreSpread edges.now FAR v (round + 1) 0 (round + 1) distances.new)
+        (AreMeasured edges.now FAR distances.new v) }
     ensures fewer { IsTrue result → far_of FAR distances.new < far_of FAR distances.old }
 {
     let mut found = false;
@@ -27,7 +28,8 @@ fn spread(edges: &[Edge], distances: &mut [usize], round: usize) -> bool
     found
 }
 
-/// The lengths of the shortest walks from each of so many nodes to this one. Takes time in proportion to edges times the greatest of them.
+/// The lengths of the shortest walks from each of so many nodes to this one. Takes time in proportion to edges times
+/// the greatest of them.
 pub(crate) fn measured(
     alloc: Global,
     nodes: usize,

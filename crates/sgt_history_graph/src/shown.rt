@@ -35,8 +35,8 @@ fn set_distance(distances: &mut [usize], node: u32, distance: usize) {
     }
 }
 
-/// How many edges it is from each node to this one, on the shortest walk; `back` are the edges turned round. What is found is not proved:
-/// who asks for it checks it.
+/// How many edges it is from each node to this one, on the shortest walk; `back` are the edges turned round. What is
+/// found is not proved: who asks for it checks it.
 fn distances(
     alloc: Global,
     back: &Rows,
@@ -112,8 +112,8 @@ fn plain_cycle(
     Ok(None)
 }
 
-/// The first cycle: of the least node that lies on one the shortest, of several the one whose nodes are, from it on, the least. Takes time
-/// in proportion to nodes and edges where there is one. Err: memory ran out.
+/// The first cycle: of the least node that lies on one the shortest, of several the one whose nodes are, from it on,
+/// the least. Takes time in proportion to nodes and edges where there is one. Err: memory ran out.
 pub fn shown_cycle(
     alloc: Global,
     nodes: usize,

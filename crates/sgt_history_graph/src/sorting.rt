@@ -51,7 +51,8 @@ impl Sorting {
     /// One that these wait for is placed: those up to the last one that now wait for none are free.
     fn release(&mut self, targets: &[u32], last: u32) -> Result<(), AllocError>
         requires waiting { (v : ℕ) → count_of v targets.now ≤ slice_index self.old.waits.items v }
-        requires tally { IsTallied (last + 1) self.old.waits.items (numbers (heap_items self.old.free)) self.old.order.items }
+        requires tally { IsTallied (last + 1) self.old.waits.items (numbers (heap_items self.old.free))
+            self.old.order.items }
         requires heap { IsHeap (λ x y. nat_cmp y.0 x.0) (heap_items self.old.free) }
         ensures order { self.new.order ≡ self.old.order }
         ensures len { vec_len self.new.waits ≡ vec_len self.old.waits }
@@ -102,8 +103,9 @@ fn sorted(alloc: Global, nodes: usize, edges: &[Edge]) -> Result<Sorting, AllocE
     Ok(sorting)
 }
 
-/// The order of so many nodes in which each comes as soon as all are there from which an edge leads to it, of several always the least;
-/// or a cycle of edges. Takes time in proportion to nodes and edges, times a logarithm where edges lead to lesser nodes. Err: memory ran out.
+/// The order of so many nodes in which each comes as soon as all are there from which an edge leads to it, of several
+/// always the least; or a cycle of edges. Takes time in proportion to nodes and edges, times a logarithm where edges
+/// lead to lesser nodes. Err: memory ran out.
 pub fn order(alloc: Global, nodes: usize, edges: &[Edge]) -> Result<Ordered, AllocError>
     requires few { nodes ≤ 2 ^ 32 }
     requires ends { All (JoinsNodes nodes) edges.now }

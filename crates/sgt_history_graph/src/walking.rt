@@ -94,7 +94,8 @@ pub(crate) fn waiting_cycle(
 ) -> Result<Option<Vec<u32>>, AllocError>
     requires few { length waits.now ≤ 2 ^ 32 }
     requires ends { All (JoinsNodes (length waits.now)) edges.now }
-    requires led { (v : ℕ) → 0 < slice_index waits.now v → (a : ℕ) × Goes edges.now a v × (0 < slice_index waits.now a) }
+    requires led { (v : ℕ) → 0 < slice_index waits.now v
+        → (a : ℕ) × Goes edges.now a v × (0 < slice_index waits.now a) }
     ensures some { IfOk result (λ found. IfSome found (λ cycle. IsCycle (Goes edges.now) cycle.items)) }
     ensures none { IfOk result (λ found. IfNone found ((v : ℕ) → slice_index waits.now v ≡ 0)) }
 {

@@ -21,21 +21,26 @@ use Rattle.sgt_names.proofs.Elements.{get-set_here, get_set_elsewhere}
 pub joined-nil : (edges : List Edge) → AreJoined edges []
 joined-nil edges from to at = absurd cc
 
-pushed-none : (joined : List (Option ℕ)) (from to : ℕ) → slice_get (joined ++ None ∷ []) from ≡ Some (Some to) → slice_get joined from ≡ Some (Some to)
+pushed-none : (joined : List (Option ℕ)) (from to : ℕ) → slice_get (joined ++ None ∷ []) from ≡ Some (Some to)
+    → slice_get joined from ≡ Some (Some to)
 pushed-none [] zero to at = let no : None ≡ Some to = same_Some None (Some to) at in absurd cc
 pushed-none [] (suc from) to at = absurd cc
 pushed-none (x ∷ xs) zero to at = at
 pushed-none (x ∷ xs) (suc from) to at = pushed-none xs from to at
 
-pub joined-push : (edges : List Edge) (joined : List (Option ℕ)) → AreJoined edges joined → AreJoined edges (joined ++ None ∷ [])
+pub joined-push : (edges : List Edge) (joined : List (Option ℕ)) → AreJoined edges joined
+    → AreJoined edges (joined ++ None ∷ [])
 joined-push edges joined are from to at = are from to (pushed-none joined from to at)
 
-pub joined-note : (edges : List Edge) (joined : List (Option ℕ)) (from to : ℕ) → from < length joined → Contains edges (record { from = from; to = to }) → AreJoined edges joined
+pub joined-note : (edges : List Edge) (joined : List (Option ℕ)) (from to : ℕ) → from < length joined
+    → Contains edges (record { from = from; to = to }) → AreJoined edges joined
     → AreJoined edges (set joined from (Some to))
 joined-note edges joined from to within in_it so x y at = elim (cases_eq x from) [
   | inl same ↦
-      let f : slice_get (set joined from (Some to)) from ≡ Some (Some y) = ap (slice_get (set joined from (Some to))) (sym same) ∙ at in
-      let is : to ≡ y = same_Some to y (same_Some (Some to) (Some y) (sym (get-set_here joined from (Some to) within) ∙ f)) in
+      let f : slice_get (set joined from (Some to)) from ≡ Some (Some y) =
+      ap (slice_get (set joined from (Some to))) (sym same) ∙ at in
+      let is : to ≡ y =
+      same_Some to y (same_Some (Some to) (Some y) (sym (get-set_here joined from (Some to) within) ∙ f)) in
       subst (λ (z : ℕ). Goes edges x z) is (subst (λ (z : ℕ). Goes edges z to) (sym same) in_it)
   | inr apart ↦ so x y (sym (get_set_elsewhere joined from x (Some to) apart) ∙ at)
 ]
@@ -44,7 +49,8 @@ joined-note edges joined from to within in_it so x y at = elim (cases_eq x from)
 
 -- of each of the first n places the line there stands in the relation to the next one
 abbrev pub LeadsTo : (ℕ → ℕ → Type 0) → List ℕ → ℕ → Type 0
-LeadsTo R cycle n = (place a b : ℕ) → place < n → slice_get cycle place ≡ Some a → slice_get cycle (place_behind place (length cycle)) ≡ Some b → R a b
+LeadsTo R cycle n = (place a b : ℕ) → place < n → slice_get cycle place ≡ Some a
+    → slice_get cycle (place_behind place (length cycle)) ≡ Some b → R a b
 
 pub leads-next : (R : ℕ → ℕ → Type 0) (cycle : List ℕ) (n a b : ℕ) → LeadsTo R cycle n → slice_get cycle n ≡ Some a
     → slice_get cycle (place_behind n (length cycle)) ≡ Some b → R a b → LeadsTo R cycle (n + 1)
@@ -53,11 +59,13 @@ leads-next R cycle n a b so at at' r place x y lt here there = elim (cases_lt pl
   | inr ge ↦
       let same : n ≡ place = omega (arith, lt, ge) in
       let x_is : a ≡ x = same_Some a x (sym at ∙ ap (slice_get cycle) same ∙ here) in
-      let y_is : b ≡ y = same_Some b y (sym at' ∙ ap (λ (k : ℕ). slice_get cycle (place_behind k (length cycle))) same ∙ there) in
+      let y_is : b ≡ y = same_Some b y (sym at' ∙ ap (λ (k : ℕ). slice_get cycle (place_behind k (length cycle))) same
+      ∙ there) in
       subst (λ (z : ℕ). R x z) y_is (subst (λ (z : ℕ). R z b) x_is r)
 ]
 
-module _ (R : ℕ → ℕ → Type 0) (a : ℕ) (between : List ℕ) (n : ℕ) (all : length (a ∷ between) ≤ n) (so : LeadsTo R (a ∷ between) n) where
+module _ (R : ℕ → ℕ → Type 0) (a : ℕ) (between : List ℕ) (n : ℕ) (all : length (a ∷ between) ≤ n)
+    (so : LeadsTo R (a ∷ between) n) where
   abbrev cycle : List ℕ
   cycle = a ∷ between
 
@@ -84,17 +92,22 @@ module _ (R : ℕ → ℕ → Type 0) (a : ℕ) (between : List ℕ) (n : ℕ) (
   round-of : IsCycle R (a ∷ between)
   round-of = chain-of R a (between ++ a ∷ []) step
 
-pub leads-round : (R : ℕ → ℕ → Type 0) (cycle : List ℕ) (n : ℕ) → 0 < length cycle → length cycle ≤ n → LeadsTo R cycle n → IsCycle R cycle
+pub leads-round : (R : ℕ → ℕ → Type 0) (cycle : List ℕ) (n : ℕ) → 0 < length cycle → length cycle ≤ n
+    → LeadsTo R cycle n → IsCycle R cycle
 leads-round R [] n some all so = absurd (omega (arith, some))
 leads-round R (a ∷ between) n some all so = round-of R a between n all so
 
 -- a step of the edges or of what is asked
-pub round-steps : (h : List (Transaction ℕ ℕ)) (lines : ℕ) (edges : List Edge) (a : Asked) → IsKeptFrom h lines edges a → (first second : ℕ)
-    → Goes edges first second ⊎ IsAskedBefore a first second → StandsBefore h a.times.items a.sessions.items first second
-round-steps h lines edges a from first second (inl goes) = inl (from.conflicts.sound (record { from = first; to = second }) goes)
+pub round-steps : (h : List (Transaction ℕ ℕ)) (lines : ℕ) (edges : List Edge) (a : Asked)
+    → IsKeptFrom h lines edges a → (first second : ℕ)
+    → Goes edges first second ⊎ IsAskedBefore a first second
+    → StandsBefore h a.times.items a.sessions.items first second
+round-steps h lines edges a from first second (inl goes) =
+    inl (from.conflicts.sound (record { from = first; to = second }) goes)
 round-steps h lines edges a from first second (inr asked) = inr asked
 
-pub steps-cycle : (R S : ℕ → ℕ → Type 0) → ((x y : ℕ) → R x y → S x y) → (cycle : List ℕ) → IsCycle R cycle → IsCycle S cycle
+pub steps-cycle : (R S : ℕ → ℕ → Type 0) → ((x y : ℕ) → R x y → S x y) → (cycle : List ℕ) → IsCycle R cycle
+    → IsCycle S cycle
 steps-cycle R S f [] is = is
 steps-cycle R S f (x ∷ between) is = go x (between ++ x ∷ []) is
   where

@@ -33,7 +33,8 @@ pub record IsKeptFrom (h : List (Transaction ℕ ℕ)) (lines : ℕ) (edges : Li
 pub record GoesForward (h : List (Transaction ℕ ℕ)) (a : Asked) (order : List ℕ) : Type 0 where
   pub all : (line : ℕ) → line < length h → Contains order line
   pub once : StandOnce order
-  pub forward : (first second : ℕ) → StandsBefore h a.times.items a.sessions.items first second → Precedes order first second
+  pub forward : (first second : ℕ) → StandsBefore h a.times.items a.sessions.items first second
+      → Precedes order first second
 
 abbrev pub IsKept : List (Transaction ℕ ℕ) → Asked → Kept → Type 0
 IsKept h a (Serial order) = ServesKeeping h a.times.items a.sessions.items (committed_in h order.items)

@@ -4,8 +4,10 @@ use Rattle.sgt_history_graph.specs.declared.edge.Edge.{Edge}
 
 -- of the first n of the order the places are kept, each line's one
 pub record ArePlacesTo (order : List ℕ) (n : ℕ) (places : List (Option ℕ)) : Type 0 where
-  pub there : (line place : ℕ) → slice_get places line ≡ Some (Some place) → (place < n) × (slice_get order place ≡ Some line)
-  pub back : (line place : ℕ) → place < n → slice_get order place ≡ Some line → slice_get places line ≡ Some (Some place)
+  pub there : (line place : ℕ) → slice_get places line ≡ Some (Some place)
+      → (place < n) × (slice_get order place ≡ Some line)
+  pub back : (line place : ℕ) → place < n → slice_get order place ≡ Some line
+      → slice_get places line ≡ Some (Some place)
 
 -- each line has a place
 abbrev pub AllPlaced : List (Option ℕ) → Type 0

@@ -10,7 +10,8 @@ use Rattle.sgt_history_kept.specs.Unkept.{IsNoLater}
 
 -- of the line's session an earlier line or none came last
 abbrev pub ComesBehind : (sessions last : List (Option ℕ)) (line : ℕ) → Type 0
-ComesBehind sessions last line = (session before : ℕ) → slice_get sessions line ≡ Some (Some session) → slice_get last session ≡ Some (Some before)
+ComesBehind sessions last line = (session before : ℕ) → slice_get sessions line ≡ Some (Some session)
+    → slice_get last session ≡ Some (Some before)
     → before ≤ line
 
 -- a later one did
@@ -36,15 +37,19 @@ pub record IsLatest (line begin : ℕ) (latest : Option Began) (next : Began) : 
   pub one : (latest ≡ Some next) ⊎ ((next.line ≡ line) × (next.begin ≡ begin))
 
 -- the latest, with the line if it ran
-pub record IsLatestWith (times : List (Option Times)) (latest : Option Began) (line : ℕ) (next : Option Began) : Type 0 where
-  pub own : (x : Times) → slice_get times line ≡ Some (Some x) → (n : Began) × (next ≡ Some n) × IsNoLater line x.begin n.line n.begin
+pub record IsLatestWith (times : List (Option Times)) (latest : Option Began) (line : ℕ) (next : Option Began) : Type
+    0 where
+  pub own : (x : Times) → slice_get times line ≡ Some (Some x)
+      → (n : Began) × (next ≡ Some n) × IsNoLater line x.begin n.line n.begin
   pub old : (l : Began) → latest ≡ Some l → (n : Began) × (next ≡ Some n) × IsNoLater l.line l.begin n.line n.begin
   pub one : (n : Began) → next ≡ Some n
-      → (latest ≡ Some n) ⊎ ((x : Times) × (slice_get times line ≡ Some (Some x)) × (n.line ≡ line) × (n.begin ≡ x.begin))
+      → (latest ≡ Some n) ⊎ ((x : Times) × (slice_get times line ≡ Some (Some x)) × (n.line ≡ line)
+      × (n.begin ≡ x.begin))
 
 -- the line wasn't done before the latest began
 abbrev pub EndsBehind : (times : List (Option Times)) (latest : Option Began) (line : ℕ) → Type 0
-EndsBehind times latest line = (x : Times) (l : Began) → slice_get times line ≡ Some (Some x) → latest ≡ Some l → l.begin ≤ x.done
+EndsBehind times latest line = (x : Times) (l : Began) → slice_get times line ≡ Some (Some x) → latest ≡ Some l
+    → l.begin ≤ x.done
 
 -- it was
 pub record EndsBefore (times : List (Option Times)) (latest : Option Began) (line : ℕ) (p : Passed) : Type 0 where

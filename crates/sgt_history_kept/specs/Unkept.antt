@@ -12,7 +12,8 @@ StandsAmong order n line = (place : ℕ) × (place < n) × (slice_get order plac
 
 -- none of the first n is asked to stand before one up to it
 abbrev pub KeepsTo : (ℕ → ℕ → Type 0) → List ℕ → ℕ → Type 0
-KeepsTo R order n = (place line other : ℕ) → place < n → slice_get order place ≡ Some line → StandsAmong order (place + 1) other
+KeepsTo R order n = (place line other : ℕ) → place < n → slice_get order place ≡ Some line
+    → StandsAmong order (place + 1) other
     → R line other → ⊥
 
 -- the other is of its session, on the greatest line of those up to it that are
@@ -47,7 +48,8 @@ pub record IsFirstUnkept (order : List ℕ) (a : Asked) (u : Unkept) : Type 0 wh
   pub in_time : KeepsTo (IsBefore a.times.items) order u.place
   pub in_sessions : KeepsTo (IsEarlier a.sessions.items) order u.place
   pub passes : PassesInSession a.sessions.items order u
-      ⊎ (((x : ℕ) → StandsAmong order (u.place + 1) x → IsEarlier a.sessions.items u.line x → ⊥) × PassesInTime a.times.items order u)
+      ⊎ (((x : ℕ) → StandsAmong order (u.place + 1) x → IsEarlier a.sessions.items u.line x → ⊥)
+      × PassesInTime a.times.items order u)
 
 abbrev pub IsUnkept : List ℕ → Asked → Option Unkept → Type 0
 IsUnkept order a None = KeepsRealTime order a.times.items × KeepsSessions order a.sessions.items

@@ -34,7 +34,8 @@ fn checked_order(
     asked: &Asked,
 ) -> Result<Option<Vec<u32>>, AllocError>
     requires { lines ≤ 2 ^ 32 }
-    ensures { IfOk result (λ found. IfSome found (λ order. (h : List (Transaction ℕ ℕ)) → IsKeptFrom h lines edges.now asked.now
+    ensures { IfOk result (λ found. IfSome found (λ order. (h : List (Transaction ℕ ℕ))
+        → IsKeptFrom h lines edges.now asked.now
         → GoesForward h asked.now order.items)) }
 {
     let Some(order) = quick_order(alloc, lines, edges, asked)? else {
@@ -54,7 +55,8 @@ fn checked_cycle(
     edges: &[Edge],
     asked: &Asked,
 ) -> Result<Option<Vec<u32>>, AllocError>
-    ensures { IfOk result (λ found. IfSome found (λ cycle. (h : List (Transaction ℕ ℕ)) → IsKeptFrom h lines edges.now asked.now
+    ensures { IfOk result (λ found. IfSome found (λ cycle. (h : List (Transaction ℕ ℕ))
+        → IsKeptFrom h lines edges.now asked.now
         → IsCycle (StandsBefore h asked.now.times.items asked.now.sessions.items) cycle.items)) }
 {
     let Some(cycle) = shown_lines(alloc, lines, edges, asked)? else {
@@ -71,7 +73,8 @@ fn checked_cycle(
 fn decided(alloc: Global, lines: usize, edges: &[Edge], asked: &Asked) -> Result<Kept, AllocError>
     requires few { lines ≤ 2 ^ 32 }
     requires ends { All (JoinsNodes lines) edges.now }
-    ensures { IfOk result (λ kept. (h : List (Transaction ℕ ℕ)) → IsKeptFrom h lines edges.now asked.now → IsKept h asked.now kept) }
+    ensures { IfOk result (λ kept. (h : List (Transaction ℕ ℕ)) → IsKeptFrom h lines edges.now asked.now
+        → IsKept h asked.now kept) }
 {
     if let Some(order) = checked_order(alloc, lines, edges, asked)? {
         return Ok(Kept::Serial(order));
@@ -82,7 +85,8 @@ fn decided(alloc: Global, lines: usize, edges: &[Edge], asked: &Asked) -> Result
     plainly(alloc, lines, edges, asked)
 }
 
-/// Decides whether an order serves and keeps what is asked, of so many lines without faults whose conflicts are these edges.
+/// Decides whether an order serves and keeps what is asked, of so many lines without faults whose conflicts are these
+/// edges.
 pub fn decide_kept(
     alloc: Global,
     lines: usize,
@@ -91,7 +95,8 @@ pub fn decide_kept(
 ) -> Result<Kept, AllocError>
     requires few { lines ≤ 2 ^ 32 }
     requires ends { All (JoinsNodes lines) edges.now }
-    ensures kept { IfOk result (λ kept. (h : List (Transaction ℕ ℕ)) → IsKeptFrom h lines edges.now asked.now → IsKept h asked.now kept) }
+    ensures kept { IfOk result (λ kept. (h : List (Transaction ℕ ℕ)) → IsKeptFrom h lines edges.now asked.now
+        → IsKept h asked.now kept) }
     // So want of memory aside it is an order exactly where the history is serializable with what is asked.
     ensures exact { IfOk result (λ kept. (h : List (Transaction ℕ ℕ)) → IsKeptFrom h lines edges.now asked.now
         → IsSerial kept ↔ IsSerializableKeeping h asked.now.times.items asked.now.sessions.items) }

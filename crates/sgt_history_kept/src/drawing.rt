@@ -1,4 +1,5 @@
-//! A graph whose edges are the steps, those of time through a chain of moments: as many edges as transactions, not all pairs.
+//! A graph whose edges are the steps, those of time through a chain of moments: as many edges as transactions, not
+//! all pairs.
 
 ghost use Rattle.std.specs.Prelude.{◌≤◌, ◌^◌, All, IfOk};
 ghost use Rattle.sgt_history_graph.specs.Graph.{JoinsNodes};

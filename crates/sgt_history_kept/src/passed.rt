@@ -116,7 +116,8 @@ fn passed_in_session(sessions: &[Option<u32>], last: &[Option<u32>], line: u32) 
 /// Makes room for so many sessions.
 fn widen(last: &mut Vec<Option<u32>>, count: usize) -> Result<(), AllocError>
     ensures room { OnOk result (count ≤ length last.new.items) }
-    ensures same { (session before : ℕ) → slice_get last.new.items session ≡ Some (Some before) ↔ slice_get last.old.items session ≡ Some (Some before) }
+    ensures same { (session before : ℕ) → slice_get last.new.items session ≡ Some (Some before)
+        ↔ slice_get last.old.items session ≡ Some (Some before) }
 {
     if last.len() >= count {
         return Ok(());
@@ -148,7 +149,8 @@ fn passed_at(
 ) -> Option<Passed>
     ensures some { IfSome result (λ p. ComesAhead asked.now.sessions.items last.now line p
         ⊎ (ComesBehind asked.now.sessions.items last.now line × EndsBefore asked.now.times.items latest line p)) }
-    ensures none { IfNone result (ComesBehind asked.now.sessions.items last.now line × EndsBehind asked.now.times.items latest line) }
+    ensures none { IfNone result (ComesBehind asked.now.sessions.items last.now line
+        × EndsBehind asked.now.times.items latest line) }
 {
     let passed = passed_in_session(asked.sessions.as_slice(), last, line);
     match passed {
@@ -157,8 +159,9 @@ fn passed_at(
     }
 }
 
-/// The first line of the order that is asked to stand before another, which doesn't stand behind it: that one, the greatest line of
-/// the first's session; where there is none, that which began last, of several the least. One pass over the order.
+/// The first line of the order that is asked to stand before another, which doesn't stand behind it: that one, the
+/// greatest line of the first's session; where there is none, that which began last, of several the least. One pass
+/// over the order.
 pub fn first_unkept(
     alloc: Global,
     order: &[u32],

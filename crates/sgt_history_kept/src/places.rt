@@ -20,7 +20,8 @@ pub(crate) fn place_at(places: &[Option<u32>], line: u32) -> Option<u32>
 /// Keeps the line's place, if it is one of the lines and none is kept of it.
 fn keep(places: &mut Vec<Option<u32>>, line: u32, at: u32) -> bool
     ensures size { length places.new.items ≡ length places.old.items }
-    ensures kept { (order : List ℕ) → IsTrue result → slice_get order at ≡ Some line → ArePlacesTo order at places.old.items
+    ensures kept { (order : List ℕ) → IsTrue result → slice_get order at ≡ Some line
+        → ArePlacesTo order at places.old.items
         → ArePlacesTo order (at + 1) places.new.items }
 {
     if line as usize >= places.len() {

@@ -55,7 +55,8 @@ pub(crate) fn plainly(
 ) -> Result<Kept, AllocError>
     requires few { lines ≤ 2 ^ 32 }
     requires ends { All (JoinsNodes lines) edges.now }
-    ensures { IfOk result (λ kept. (h : List (Transaction ℕ ℕ)) → IsKeptFrom h lines edges.now asked.now → IsKept h asked.now kept) }
+    ensures { IfOk result (λ kept. (h : List (Transaction ℕ ℕ)) → IsKeptFrom h lines edges.now asked.now
+        → IsKept h asked.now kept) }
 {
     let mut all = Vec::from_slice(alloc, edges)?;
     push_rows(asked, lines, &mut all)?;

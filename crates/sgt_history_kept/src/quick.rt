@@ -29,7 +29,8 @@ pub(crate) fn nodes_of(lines: usize, moments: usize) -> Option<usize>
     Some(nodes)
 }
 
-/// An order of all lines, of those whose steps' sources are all there the least first, if there is one. Moments come as soon as they can.
+/// An order of all lines, of those whose steps' sources are all there the least first, if there is one. Moments come
+/// as soon as they can.
 pub(crate) fn quick_order<'x>(
     alloc: Global,
     lines: usize,

@@ -46,7 +46,8 @@ fn lines_behind(alloc: Global, lines: &[u32]) -> Result<Vec<Option<u32>>, AllocE
 
 /// Notes the edge, if there is room for its line.
 fn put(joined: &mut Vec<Option<u32>>, edge: Edge)
-    ensures { (edges : List Edge) → Contains edges edge → AreJoined edges joined.old.items → AreJoined edges joined.new.items }
+    ensures { (edges : List Edge) → Contains edges edge → AreJoined edges joined.old.items
+        → AreJoined edges joined.new.items }
 {
     if edge.from as usize >= joined.len() {
         return;
@@ -56,7 +57,8 @@ fn put(joined: &mut Vec<Option<u32>>, edge: Edge)
 
 /// Notes the edge, if it leads from a line to that behind it.
 fn note(behind: &[Option<u32>], joined: &mut Vec<Option<u32>>, edge: Edge)
-    ensures { (edges : List Edge) → Contains edges edge → AreJoined edges joined.old.items → AreJoined edges joined.new.items }
+    ensures { (edges : List Edge) → Contains edges edge → AreJoined edges joined.old.items
+        → AreJoined edges joined.new.items }
 {
     match session_at(behind, edge.from) {
         Some(line) if line == edge.to => put(joined, edge),
@@ -110,7 +112,8 @@ pub fn is_round(
     asked: &Asked,
     cycle: &[u32],
 ) -> Result<bool, AllocError>
-    ensures { IfOk result (λ yes. IsTrue yes → (h : List (Transaction ℕ ℕ)) (lines : ℕ) → IsKeptFrom h lines edges.now asked.now
+    ensures { IfOk result (λ yes. IsTrue yes → (h : List (Transaction ℕ ℕ)) (lines : ℕ)
+        → IsKeptFrom h lines edges.now asked.now
         → IsCycle (StandsBefore h asked.now.times.items asked.now.sessions.items) cycle.now) }
 {
     if cycle.is_empty() {

@@ -298,8 +298,9 @@ fn shown_of(alloc: Global, lines: usize, steps: Steps<'_>) -> Result<Option<Vec<
     least_round(alloc, &way, node)
 }
 
-/// The cycle to show: with sessions alone, if there is one, else with real time too. Of the least line that lies on one the shortest, of
-/// several the one whose lines are, from it on, the least. Takes time in proportion to the steps, times a logarithm.
+/// The cycle to show: with sessions alone, if there is one, else with real time too. Of the least line that lies on
+/// one the shortest, of several the one whose lines are, from it on, the least. Takes time in proportion to the
+/// steps, times a logarithm.
 pub(crate) fn shown_lines<'x>(
     alloc: Global,
     lines: usize,

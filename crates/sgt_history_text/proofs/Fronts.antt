@@ -19,7 +19,8 @@ use Rattle.sgt_history_text.specs.Shallow.{AfterValue, Closes, Enters, IsFront, 
 pub same_front : (i j : Json) (r s : List Token) → json_tokens i ++ r ≡ json_tokens j ++ s → (i ≡ j) × (r ≡ s)
 same_front i j r s e =
     let d = depth i + depth j in
-    let both : Some (i, r) ≡ Some (j, s) = sym (value-json_tokens i d r (omega arith)) ∙ ap (value d) e ∙ value-json_tokens j d s (omega arith) in
+    let both : Some (i, r) ≡ Some (j, s) = sym (value-json_tokens i d r (omega arith)) ∙ ap (value d) e
+    ∙ value-json_tokens j d s (omega arith) in
     let pair = same_Some (i, r) (j, s) both in (ap (λ p. p.0) pair, ap (λ p. p.1) pair)
 
 -- ---- where no value begins
@@ -130,13 +131,17 @@ object_goes_on k new rest = (on, back)
   where
     on : Closes true (key k ∷ new) rest → AfterValue true new rest
     on (no_members, e) = absurd (key_no_end k new rest e)
-    on (member l j ms, e) =
-        (members_tokens ms ++ rest, (j, tails (key k) (key l) new _ e ∙ append_assoc (json_tokens j) (members_tokens ms) rest), (ms, refl))
+    on (member l j ms, e) = (
+      members_tokens ms ++ rest,
+      (j, tails (key k) (key l) new _ e ∙ append_assoc (json_tokens j) (members_tokens ms) rest),
+      (ms, refl),
+    )
 
     back : AfterValue true new rest → Closes true (key k ∷ new) rest
     back (mid, (j, e), (ms, f)) = (
       member k j ms,
-      ap (λ l. key k ∷ l) (e ∙ ap (λ l. json_tokens j ++ l) f ∙ sym (append_assoc (json_tokens j) (members_tokens ms) rest)),
+      ap (λ l. key k ∷ l) (e ∙ ap (λ l. json_tokens j ++ l) f
+          ∙ sym (append_assoc (json_tokens j) (members_tokens ms) rest)),
     )
 
 pub object_fails : (ts rest : List Token) → read_key ts ≡ None → Closes true ts rest → ⊥
@@ -148,14 +153,23 @@ array_closes new rest = (on, λ e. (no_items, ap (λ l. end_array ∷ l) e))
   where
     on : Closes false (end_array ∷ new) rest → new ≡ rest
     on (no_items, e) = tails end_array end_array new rest e
-    on (item j js, e) = absurd (no_value end_array new tt (items_tokens js ++ rest) (j, e ∙ append_assoc (json_tokens j) (items_tokens js) rest))
+    on (item j js, e) =
+        absurd (no_value end_array new tt (items_tokens js ++ rest) (
+          j,
+          e
+              ∙ append_assoc (json_tokens j) (items_tokens js) rest,
+        ))
 
 pub array_goes_on : (ts rest : List Token) → after_end_array ts ≡ None → Closes false ts rest ↔ AfterValue false ts rest
 array_goes_on ts rest none = (on, back)
   where
     on : Closes false ts rest → AfterValue false ts rest
     on (no_items, e) = absurd (none_some (after_end_array ts) _ none (ap after_end_array e))
-    on (item j js, e) = (items_tokens js ++ rest, (j, e ∙ append_assoc (json_tokens j) (items_tokens js) rest), (js, refl))
+    on (item j js, e) = (
+      items_tokens js ++ rest,
+      (j, e ∙ append_assoc (json_tokens j) (items_tokens js) rest),
+      (js, refl),
+    )
 
     back : AfterValue false ts rest → Closes false ts rest
     back (mid, (j, e), (js, f)) = (
@@ -169,25 +183,32 @@ pub enters_closed : (old new : List Token) → old ≡ end_object ∷ new → En
 enters_closed old new e rest = subst (λ l. Closes true l rest ↔ (new ≡ rest)) (sym e) (object_closes new rest)
 
 pub enters_key : (old new : List Token) (k : List ℕ) → old ≡ key k ∷ new → Enters true old new (Some false)
-enters_key old new k e rest = subst (λ l. Closes true l rest ↔ AfterValue true new rest) (sym e) (object_goes_on k new rest)
+enters_key old new k e rest =
+    subst (λ l. Closes true l rest ↔ AfterValue true new rest) (sym e) (object_goes_on k new rest)
 
 pub enters_end : (old new : List Token) → old ≡ end_array ∷ new → Enters false old new (Some true)
 enters_end old new e rest = subst (λ l. Closes false l rest ↔ (new ≡ rest)) (sym e) (array_closes new rest)
 
 pub enters_item : (old new : List Token) → after_end_array old ≡ None → new ≡ old → Enters false old new (Some false)
-enters_item old new none same rest = subst (λ l. Closes false old rest ↔ AfterValue false l rest) (sym same) (array_goes_on old rest none)
+enters_item old new none same rest =
+    subst (λ l. Closes false old rest ↔ AfterValue false l rest) (sym same) (array_goes_on old rest none)
 
 pub enters_array : (b : Bool) (old new : List Token) (r : Bool) → b ≡ false
-    → MatchBool r (after_end_array old ≡ Some new) ((after_end_array old ≡ None) × (new ≡ old)) → Enters b old new (Some r)
-enters_array b old new true is m = subst (λ k. Enters k old new (Some true)) (sym is) (enters_end old new (array_end old new m))
+    → MatchBool r (after_end_array old ≡ Some new) ((after_end_array old ≡ None) × (new ≡ old))
+    → Enters b old new (Some r)
+enters_array b old new true is m =
+    subst (λ k. Enters k old new (Some true)) (sym is) (enters_end old new (array_end old new m))
 enters_array b old new false is m = subst (λ k. Enters k old new (Some false)) (sym is) (enters_item old new m.0 m.1)
 
-pub enters_object : (b : Bool) (old new : List Token) (k : Option (Bor (List ℕ))) (r : Bool) → b ≡ true → read_key old ≡ Some (option_map (λ s. s.now) k, new)
+pub enters_object : (b : Bool) (old new : List Token) (k : Option (Bor (List ℕ))) (r : Bool) → b ≡ true
+    → read_key old ≡ Some (option_map (λ s. s.now) k, new)
     → is_some k ≡ not r → Enters b old new (Some r)
-enters_object b old new None true is e none = subst (λ k. Enters k old new (Some true)) (sym is) (enters_closed old new (key_none old new e))
+enters_object b old new None true is e none =
+    subst (λ k. Enters k old new (Some true)) (sym is) (enters_closed old new (key_none old new e))
 enters_object b old new None false is e none = absurd (false≢true none)
 enters_object b old new (Some k) true is e none = absurd (false≢true (sym none))
-enters_object b old new (Some k) false is e none = subst (λ k. Enters k old new (Some false)) (sym is) (enters_key old new k.now (key_some old new k.now e))
+enters_object b old new (Some k) false is e none =
+    subst (λ k. Enters k old new (Some false)) (sym is) (enters_key old new k.now (key_some old new k.now e))
 
 pub enters_bad : (b : Bool) (old new : List Token) → b ≡ true → read_key old ≡ None → Enters b old new None
 enters_bad b old new is e = subst (λ k. Enters k old new None) (sym is) (λ rest c. object_fails old rest e c)
@@ -231,20 +252,27 @@ front_scalar i old new mid e = (
 -- ---- a value that was read
 
 module _ {A : Type 0} (old mid new : List Token) where
-  pub found_object : (f : Json → Json) → ((ms : Members) → f (object ms) ≡ empty true) → old ≡ begin_object ∷ mid → (found : Option (Value A))
-      → MatchOption found ((rest : List Token) → Closes true mid rest → ⊥) (λ v. Closes true mid new × (value_view v ≡ empty true))
+  pub found_object : (f : Json → Json) → ((ms : Members) → f (object ms) ≡ empty true) → old ≡ begin_object ∷ mid
+      → (found : Option (Value A))
+      → MatchOption found ((rest : List Token) → Closes true mid rest
+      → ⊥) (λ v. Closes true mid new × (value_view v ≡ empty true))
       → MatchOption found (NoValue old) (λ v. ReadsAs f old (value_view v) new)
-  found_object f leaves e None none = λ rest front. none rest ((front_object mid rest).0 (subst (λ l. IsFront l rest) e front))
+  found_object f leaves e None none =
+      λ rest front. none rest ((front_object mid rest).0 (subst (λ l. IsFront l rest) e front))
   found_object f leaves e (Some v) (c, is) = (object c.0, e ∙ ap (λ l. begin_object ∷ l) c.1, is ∙ sym (leaves c.0))
 
-  pub found_array : (f : Json → Json) → ((js : Items) → f (array js) ≡ empty false) → old ≡ begin_array ∷ mid → (found : Option (Value A))
-      → MatchOption found ((rest : List Token) → Closes false mid rest → ⊥) (λ v. Closes false mid new × (value_view v ≡ empty false))
+  pub found_array : (f : Json → Json) → ((js : Items) → f (array js) ≡ empty false) → old ≡ begin_array ∷ mid
+      → (found : Option (Value A))
+      → MatchOption found ((rest : List Token) → Closes false mid rest
+      → ⊥) (λ v. Closes false mid new × (value_view v ≡ empty false))
       → MatchOption found (NoValue old) (λ v. ReadsAs f old (value_view v) new)
-  found_array f leaves e None none = λ rest front. none rest ((front_array mid rest).0 (subst (λ l. IsFront l rest) e front))
+  found_array f leaves e None none =
+      λ rest front. none rest ((front_array mid rest).0 (subst (λ l. IsFront l rest) e front))
   found_array f leaves e (Some v) (c, is) = (array c.0, e ∙ ap (λ l. begin_array ∷ l) c.1, is ∙ sym (leaves c.0))
 
   pub found_items : (f : Json → Json) → old ≡ begin_array ∷ mid → (found : Option (Value A))
-      → MatchOption found ((rest : List Token) → Closes false mid rest → ⊥) (λ v. (js : Items) × (mid ≡ items_tokens js ++ new) × (value_view v ≡ array (map_items f js)))
+      → MatchOption found ((rest : List Token) → Closes false mid rest
+      → ⊥) (λ v. (js : Items) × (mid ≡ items_tokens js ++ new) × (value_view v ≡ array (map_items f js)))
       → MatchOption found (NoValue old) (λ v. ReadsAs (arrays f) old (value_view v) new)
   found_items f e None none = λ rest front. none rest ((front_array mid rest).0 (subst (λ l. IsFront l rest) e front))
   found_items f e (Some v) (js, text, is) = (array js, e ∙ ap (λ l. begin_array ∷ l) text, is)

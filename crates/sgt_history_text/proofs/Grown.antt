@@ -19,15 +19,22 @@ pub record ValueNamed (old : List Json) (v : Option Json) (texts : List (List �
   pub kept : AreKept texts (old ++ more)
   pub named : NamesValue (old ++ more) n v
 
-pub value_named : (old : List Json) (v : Option Json) (texts : List (List ℕ)) (n : Option ℕ) → IsNumberedValue old v texts n → ValueNamed old v texts n
-value_named old None texts None h = record { more = []; kept = subst (λ l. AreKept texts l) (sym (append-nil old)) h; named = tt }
+pub value_named : (old : List Json) (v : Option Json) (texts : List (List ℕ)) (n : Option ℕ)
+    → IsNumberedValue old v texts n → ValueNamed old v texts n
+value_named old None texts None h = record {
+  more = [];
+  kept = subst (λ l. AreKept texts l) (sym (append-nil old)) h;
+  named = tt;
+}
 value_named old None texts (Some n) h = absurd h
 value_named old (Some j) texts None h = absurd h
 value_named old (Some j) texts (Some n) h = record { more = h.more; kept = h.kept; named = h.there }
 
-module _ (b b' : Builder) (ids : List Json) (h : List (Transaction Json Json)) (begun : List (Operation Json Json)) (built : IsBuilt b ids h begun) where
+module _ (b b' : Builder) (ids : List Json) (h : List (Transaction Json Json)) (begun : List (Operation Json Json))
+    (built : IsBuilt b ids h begun) where
   -- one operation more
-  pub built_operation : (o : Operation ℕ ℕ) (p : Operation Json Json) → IsNumberedOperation built.items built.values p b'.items b'.values o
+  pub built_operation : (o : Operation ℕ ℕ) (p : Operation Json Json)
+      → IsNumberedOperation built.items built.values p b'.items b'.values o
       → b'.ids ≡ b.ids → closed_of b'.history ≡ closed_of b.history → open_of b'.history ≡ open_of b.history ++ o ∷ []
       → IsBuilt b' ids h (begun ++ p ∷ [])
   built_operation o p n same_ids same_closed more_open =
@@ -35,7 +42,13 @@ module _ (b b' : Builder) (ids : List Json) (h : List (Transaction Json Json)) (
       let value = value_named built.values p.value b'.values o.value n.value_is in
       let items = built.items ++ item.more in
       let values = built.values ++ value.more in
-      let named : NamesOperation items values o p = record { version_is = n.version_is; kind_is = n.kind_is; item_is = item.there; value_is = value.named } in
+      let named : NamesOperation items values o p = record {
+        version_is = n.version_is;
+        kind_is = n.kind_is;
+        item_is =
+            item.there;
+        value_is = value.named;
+      } in
       let opened = operations_push items values (open_of b.history) begun o p
       (operations_more built.items built.values item.more value.more (open_of b.history) begun built.opened) named in
       record {
@@ -50,7 +63,8 @@ module _ (b b' : Builder) (ids : List Json) (h : List (Transaction Json Json)) (
       }
 
   -- the line's end
-  pub built_line : (id : Json) (commits : Bool) → HasNumbers id → IsNew b.ids (compact id) → b'.ids ≡ b.ids ++ compact id ∷ []
+  pub built_line : (id : Json) (commits : Bool) → HasNumbers id → IsNew b.ids (compact id)
+      → b'.ids ≡ b.ids ++ compact id ∷ []
       → b'.items ≡ b.items → b'.values ≡ b.values
       → closed_of b'.history ≡ closed_of b.history ++ record { commits = commits; operations = open_of b.history } ∷ []
       → open_of b'.history ≡ []
@@ -58,11 +72,20 @@ module _ (b b' : Builder) (ids : List Json) (h : List (Transaction Json Json)) (
   built_line id commits numbers fresh more_ids same_items same_values more_closed none_open = record {
     items = built.items;
     values = built.values;
-    ids_kept = subst (λ t. AreKept t (ids ++ id ∷ [])) (sym more_ids) (kept_push b.ids ids id built.ids_kept numbers fresh);
+    ids_kept =
+        subst (λ t. AreKept t (ids ++ id ∷ [])) (sym more_ids) (kept_push b.ids ids id built.ids_kept numbers fresh);
     items_kept = subst (λ t. AreKept t built.items) (sym same_items) built.items_kept;
     values_kept = subst (λ t. AreKept t built.values) (sym same_values) built.values_kept;
-    closed = subst (λ c. NamesHistory built.items built.values c (h ++ record { commits = commits; operations = begun } ∷ [])) (sym more_closed)
-        (history_push built.items built.values (closed_of b.history) h (record { commits = commits; operations = open_of b.history }) (record { commits = commits; operations = begun })
+    closed = subst (λ c. NamesHistory built.items built.values c (h ++ record {
+      commits = commits;
+      operations =
+          begun;
+    } ∷ [])) (sym more_closed)
+        (history_push built.items built.values (closed_of b.history) h (record {
+          commits = commits;
+          operations =
+              open_of b.history;
+        }) (record { commits = commits; operations = begun })
         built.closed refl built.opened);
     opened = subst (λ os. NamesOperations built.items built.values os []) (sym none_open) tt;
   }

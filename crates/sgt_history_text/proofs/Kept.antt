@@ -26,7 +26,8 @@ whole_number digits (n, fits, e) = subst IsNumber (sym e) (IsNumber-decimal n fi
 
 negative_number : (digits : List ℕ) → IsNegative digits → IsNumber digits
 negative_number digits (zero, above, most, e) = absurd (omega arith)
-negative_number digits (suc n, above, most, e) = subst IsNumber (sym e) (IsNumber-signed_decimal (negsuc n) (omega arith))
+negative_number digits (suc n, above, most, e) =
+    subst IsNumber (sym e) (IsNumber-signed_decimal (negsuc n) (omega arith))
 
 pub key_numbers : (least most : ℕ) (j : Json) → IsKey least most j → HasNumbers j
 key_numbers least most null k = absurd k
@@ -50,9 +51,11 @@ given_numbers (Some j) k = value_numbers j k
 
 -- ---- what was looked up
 
-pub interned_is : (texts : List (List ℕ)) (text other : List ℕ) (r s : Interned) (new : List (List ℕ)) → IsInterned texts text r new → text ≡ other → r ≡ s
+pub interned_is : (texts : List (List ℕ)) (text other : List ℕ) (r s : Interned) (new : List (List ℕ))
+    → IsInterned texts text r new → text ≡ other → r ≡ s
     → IsInterned texts other s new
-interned_is texts text other r s new i e f = subst (λ t. IsInterned texts t s new) e (subst (λ q. IsInterned texts text q new) f i)
+interned_is texts text other r s new i e f =
+    subst (λ t. IsInterned texts t s new) e (subst (λ q. IsInterned texts text q new) f i)
 
 -- ---- none
 
@@ -77,7 +80,8 @@ module _ (texts : List (List ℕ)) (js : List Json) (j : Json) (kept : AreKept t
   kept_push fresh = record {
     texts_are = ap (λ l. l ++ compact j ∷ []) kept.texts_are ∙ sym (map_push compact js j);
     once = once-push js j kept.once (kept_new fresh);
-    writable = λ n i e. ⊎_elim (λ f. kept.writable n i f) (λ f. subst HasNumbers f.1 numbers) (get-push_cases js j n i e);
+    writable = λ n i e. ⊎_elim (λ f. kept.writable n i f) (λ f. subst HasNumbers f.1 numbers)
+        (get-push_cases js j n i e);
   }
 
   pub kept_length : length texts ≡ length js

@@ -54,12 +54,15 @@ module _ (ts : List Token) (id : Json) (is : IsId id) (text : ts ≡ json_tokens
     pub none_more : new ≡ []
     none_more = let k = token-of id is in tails t k.t new [] (sym first ∙ text ∙ k.is)
 
-pub more_behind : (ts new : List Token) (t : Token) (id : Json) → IsId id → ts ≡ t ∷ new → (r : Option token.Token) (after : List Token) → true ≡ is_some r
+pub more_behind : (ts new : List Token) (t : Token) (id : Json) → IsId id → ts ≡ t ∷ new
+    → (r : Option token.Token) (after : List Token) → true ≡ is_some r
     → MatchOption r ((new ≡ []) × (after ≡ [])) (λ u. new ≡ token_of u ∷ after) → ts ≡ json_tokens id → ⊥
 more_behind ts new t id is first None after some next text = false≢true (sym some)
-more_behind ts new t id is first (Some u) after some next text = no_tokens (token_of u) after (sym next ∙ none_more ts id is text t new first)
+more_behind ts new t id is first (Some u) after some next text =
+    no_tokens (token_of u) after (sym next ∙ none_more ts id is text t new first)
 
-pub none_behind : (ts new : List Token) (t : Token) (j : Json) → ts ≡ t ∷ new → json_tokens j ≡ t ∷ [] → (r : Option token.Token) (after : List Token)
+pub none_behind : (ts new : List Token) (t : Token) (j : Json) → ts ≡ t ∷ new → json_tokens j ≡ t ∷ []
+    → (r : Option token.Token) (after : List Token)
     → false ≡ is_some r → MatchOption r ((new ≡ []) × (after ≡ [])) (λ u. new ≡ token_of u ∷ after) → ts ≡ json_tokens j
 none_behind ts new t j first is None after none next = first ∙ ap (λ l. t ∷ l) next.0 ∙ sym is
 none_behind ts new t j first is (Some u) after none next = absurd (false≢true none)
@@ -84,16 +87,19 @@ texts-once texts ids are i j x at at' =
     let numbers = key_numbers 1 256 is.0 (All_at IsId ids i is.0 are.each is.1) in
     are.once i j is.0 is.1 (kept_at texts ids is.0 (kept texts ids are) numbers j (at' ∙ ap Some (sym is.2)))
 
-module _ (texts : List (List ℕ)) (ids : List Json) (are : AreIds texts ids) (line text : List ℕ) (j : Json) (is : IsTextOf line j)
+module _ (texts : List (List ℕ)) (ids : List Json) (are : AreIds texts ids) (line text : List ℕ) (j : Json)
+    (is : IsTextOf line j)
     (numbers : HasNumbers j) (same : text ≡ compact j) where
-  pub found : (r : Option ℕ) → MatchOption r (IsNew texts text) (λ n. slice_get texts n ≡ Some text) → IsFoundAs ids line r
+  pub found : (r : Option ℕ) → MatchOption r (IsNew texts text) (λ n. slice_get texts n ≡ Some text)
+      → IsFoundAs ids line r
   found None new = λ n id at line_is.
       let one : id ≡ j = same_text id j line line_is is in
       kept_new texts ids j (kept texts ids are) numbers (subst (λ t. IsNew texts t) same new) n (at ∙ ap Some one)
   found (Some n) at = (j, kept_at texts ids j (kept texts ids are) numbers n (at ∙ ap Some same), is)
 
 -- the next text more
-pub interned-next : (names old new : List (List ℕ)) (n : ℕ) (text : List ℕ) (r : Interned) → StandOnce names → old ≡ take n names → slice_get names n ≡ Some text
+pub interned-next : (names old new : List (List ℕ)) (n : ℕ) (text : List ℕ) (r : Interned) → StandOnce names
+    → old ≡ take n names → slice_get names n ≡ Some text
     → IsInterned old text r new → new ≡ take (n + 1) names
 interned-next names old new n text (Old k) once is at (there, same) =
     let before = slice_get-take names n k text (sym (ap (λ l. slice_get l k) is) ∙ there) in
@@ -104,7 +110,8 @@ interned-next names old new n text (New k) once is at (last, more, fresh) =
 -- what the map told of a text that no slot has
 pub besides-known : (names : List (List ℕ)) (text : List ℕ) (r : Option ℕ) (more : More)
     → (((n : ℕ) → number_in more text ≡ Some n → slice_get names n ≡ Some text → ⊥) → IsNew names text)
-    → MatchOption r ((n : ℕ) → number_in more text ≡ Some n → slice_get names n ≡ Some text → ⊥) (λ n. slice_get names n ≡ Some text)
+    → MatchOption r ((n : ℕ) → number_in more text ≡ Some n → slice_get names n ≡ Some text
+    → ⊥) (λ n. slice_get names n ≡ Some text)
     → MatchOption r (IsNew names text) (λ n. slice_get names n ≡ Some text)
 besides-known names text None more new told = new told
 besides-known names text (Some n) more new told = told

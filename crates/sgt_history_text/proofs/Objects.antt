@@ -25,15 +25,18 @@ alone ts j e = e ∙ sym (append-nil (json_tokens j))
 pub none_first : (ts : List Token) (ms : Members) → NoValue ts → ts ≡ json_tokens (object ms) → ⊥
 none_first ts ms none e = none [] (object ms, alone ts (object ms) e)
 
-pub scalar_first : (ts new : List Token) (j : Json) (ms : Members) → (ts ≡ json_tokens j ++ new) × IsScalar j → ts ≡ json_tokens (object ms) → ⊥
+pub scalar_first : (ts new : List Token) (j : Json) (ms : Members) → (ts ≡ json_tokens j ++ new) × IsScalar j
+    → ts ≡ json_tokens (object ms) → ⊥
 scalar_first ts new j ms (is, s) e =
     subst IsScalar (same_front j (object ms) new [] (sym is ∙ alone ts (object ms) e)).0 s
 
 module _ (ts mid : List Token) (first : ts ≡ begin_object ∷ mid) where
   members_are : (ms : Members) → ts ≡ json_tokens (object ms) → Closes true mid []
-  members_are ms e = (ms, tails begin_object begin_object mid (members_tokens ms ++ []) (sym first ∙ alone ts (object ms) e))
+  members_are ms e =
+      (ms, tails begin_object begin_object mid (members_tokens ms ++ []) (sym first ∙ alone ts (object ms) e))
 
-  pub no_members_first : (ms : Members) → ((rest : List Token) → Closes true mid rest → ⊥) → ts ≡ json_tokens (object ms) → ⊥
+  pub no_members_first : (ms : Members) → ((rest : List Token) → Closes true mid rest → ⊥)
+      → ts ≡ json_tokens (object ms) → ⊥
   no_members_first ms none e = none [] (members_are ms e)
 
   module _ (ns : Members) (new : List Token) (read : mid ≡ members_tokens ns ++ new) where
@@ -44,11 +47,13 @@ module _ (ts mid : List Token) (first : ts ≡ begin_object ∷ mid) where
         → MatchOption r ((new ≡ []) × (after ≡ [])) (λ t. new ≡ token_of t ∷ after) → ts ≡ json_tokens (object ms) → ⊥
     more_behind ms None after some next e = false≢true (sym some)
     more_behind ms (Some t) after some next e =
-        no_tokens (token_of t) after (sym next ∙ (same_front (object ns) (object ms) new [] (sym whole ∙ alone ts (object ms) e)).1)
+        no_tokens (token_of t) after (sym next
+        ∙ (same_front (object ns) (object ms) new [] (sym whole ∙ alone ts (object ms) e)).1)
 
     pub none_behind : (r : Option token.Token) (after : List Token) → false ≡ is_some r
         → MatchOption r ((new ≡ []) × (after ≡ [])) (λ t. new ≡ token_of t ∷ after) → ts ≡ json_tokens (object ns)
-    none_behind None after none next = whole ∙ ap (λ l. json_tokens (object ns) ++ l) next.0 ∙ append-nil (json_tokens (object ns))
+    none_behind None after none next = whole ∙ ap (λ l. json_tokens (object ns) ++ l) next.0
+        ∙ append-nil (json_tokens (object ns))
     none_behind (Some t) after none next = absurd (false≢true none)
 
 -- what stands first is a bracket, and an object's

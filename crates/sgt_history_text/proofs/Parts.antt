@@ -20,7 +20,8 @@ use Rattle.sgt_history_text.specs.Parsed.{seen_operation}
 use Rattle.sgt_history_text.proofs.Telling.{number_is}
 
 -- an array of these elements and no fifth
-pub operation_is : (j i : Json) (k : Kind) (n : ℕ) (v : Option Json) → at 0 j ≡ Some (string (kind_word k)) → at 1 j ≡ Some i
+pub operation_is : (j i : Json) (k : Kind) (n : ℕ) (v : Option Json) → at 0 j ≡ Some (string (kind_word k))
+    → at 1 j ≡ Some i
     → at 2 j ≡ Some (number (decimal n)) → at 3 j ≡ v → at 4 j ≡ None
     → j ≡ operation_json (record { version = n; item = i; kind = k; value = v })
 operation_is null i k n v a b c d e = absurd cc
@@ -37,11 +38,13 @@ operation_is (array (item x (item y (item z (item w no_items))))) i k n None a b
 operation_is (array (item x (item y (item z (item w no_items))))) i k n (Some g) a b c d e = cc
 operation_is (array (item x (item y (item z (item w (item u us)))))) i k n v a b c d e = absurd cc
 
-at_given : (j i : Json) (k : Kind) (n : ℕ) (v : Option Json) → at 3 (operation_json (record { version = n; item = i; kind = k; value = v })) ≡ v
+at_given : (j i : Json) (k : Kind) (n : ℕ) (v : Option Json)
+    → at 3 (operation_json (record { version = n; item = i; kind = k; value = v })) ≡ v
 at_given j i k n None = refl
 at_given j i k n (Some g) = refl
 
-at_end : (j i : Json) (k : Kind) (n : ℕ) (v : Option Json) → at 4 (operation_json (record { version = n; item = i; kind = k; value = v })) ≡ None
+at_end : (j i : Json) (k : Kind) (n : ℕ) (v : Option Json)
+    → at 4 (operation_json (record { version = n; item = i; kind = k; value = v })) ≡ None
 at_end j i k n None = refl
 at_end j i k n (Some g) = refl
 
@@ -74,7 +77,8 @@ same_items (x ∷ xs) (y ∷ ys) e =
     rw (first, same_items xs ys rest) refl
 
 -- the operations are those of so many values
-pub record IsFront {A : Type 0} (list : List (Value A)) (n : ℕ) (os : List (Operation (Bor (Value A)) (Bor (Value A)))) : Type 0 where
+pub record IsFront {A : Type 0} (list : List (Value A)) (n : ℕ)
+    (os : List (Operation (Bor (Value A)) (Bor (Value A)))) : Type 0 where
   pub each : All IsOperation (map seen_operation os)
   pub same : map value_view (take n list) ≡ map operation_json (map seen_operation os)
 
@@ -82,18 +86,21 @@ module _ {A : Type 0} (list : List (Value A)) where
   pub front_none : IsFront list 0 []
   front_none = record { each = λ k d h. absurd (omega arith); same = refl }
 
-  pub front_next : (n : ℕ) (v : Value A) (o : Operation (Bor (Value A)) (Bor (Value A))) (os : List (Operation (Bor (Value A)) (Bor (Value A))))
+  pub front_next : (n : ℕ) (v : Value A) (o : Operation (Bor (Value A)) (Bor (Value A)))
+      (os : List (Operation (Bor (Value A)) (Bor (Value A))))
       → slice_get list n ≡ Some v → IsOperation (seen_operation o) → value_view v ≡ operation_json (seen_operation o)
       → IsFront list n os → IsFront list (n + 1) (os ++ o ∷ [])
   front_next n v o os at is e front = record {
-    each = subst (λ ps. All IsOperation ps) (sym (map_push seen_operation os o)) (All-push IsOperation (map seen_operation os) (seen_operation o) front.each is);
+    each = subst (λ ps. All IsOperation ps) (sym (map_push seen_operation os o))
+        (All-push IsOperation (map seen_operation os) (seen_operation o) front.each is);
     same = ap (map value_view) (take_next list n v at) ∙ map_push value_view (take n list) v
         ∙ ap₂ (λ xs x. xs ++ x ∷ []) front.same e
         ∙ sym (map_push operation_json (map seen_operation os) (seen_operation o))
         ∙ ap (map operation_json) (sym (map_push seen_operation os o));
   }
 
-  pub front_whole : (n : ℕ) (os : List (Operation (Bor (Value A)) (Bor (Value A)))) → length list ≤ n → IsFront list n os
+  pub front_whole : (n : ℕ) (os : List (Operation (Bor (Value A)) (Bor (Value A)))) → length list ≤ n
+      → IsFront list n os
       → All IsOperation (map seen_operation os) × (map value_view list ≡ map operation_json (map seen_operation os))
   front_whole n os all front = (front.each, ap (map value_view) (sym (take_all n list all)) ∙ front.same)
 
@@ -102,7 +109,8 @@ module _ {A : Type 0} (list : List (Value A)) where
       → ((o : Operation Json Json) → IsOperation o → value_view v ≡ operation_json o → ⊥)
       → (os : List (Operation Json Json)) → All IsOperation os → map value_view list ≡ map operation_json os → ⊥
   none_of n v at none os all e =
-      let there : slice_get (map operation_json os) n ≡ Some (value_view v) = sym (ap (λ l. slice_get l n) e) ∙ slice_get-map value_view list n ∙ ap (option_map value_view) at in
+      let there : slice_get (map operation_json os) n ≡ Some (value_view v) = sym (ap (λ l. slice_get l n) e)
+      ∙ slice_get-map value_view list n ∙ ap (option_map value_view) at in
       let o = map_at operation_json os n (value_view v) there in
       none o.0 (All_at IsOperation os n o.0 all o.1) (sym o.2)
 
@@ -121,18 +129,23 @@ string_is : (s t : List ℕ) → Some (string s) ≡ Some (string t) → s ≡ t
 string_is s t e = cc
 
 -- an operation of that kind and version is above 0, if it writes
-pub must_have : (j : Json) (k : Kind) (n : ℕ) (o : Operation Json Json) → at 0 j ≡ Some (string (kind_word k)) → at 2 j ≡ Some (number (decimal n))
+pub must_have : (j : Json) (k : Kind) (n : ℕ) (o : Operation Json Json) → at 0 j ≡ Some (string (kind_word k))
+    → at 2 j ≡ Some (number (decimal n))
     → n < 2 ^ 64 → IsOperation o → j ≡ operation_json o → k ≡ Write → 0 < n
 must_have j k n o kind version fits is e write =
     let parts = parts_of j o e in
     let same : k ≡ o.kind = same_kind k o.kind (string_is (kind_word k) (kind_word o.kind) (sym kind ∙ parts.kind)) in
-    let digits : decimal n ≡ decimal o.version = number_is (decimal n) (decimal o.version) (sym version ∙ parts.version) in
+    let digits : decimal n ≡ decimal o.version = number_is (decimal n) (decimal o.version) (sym version
+    ∙ parts.version) in
     let versions : n ≡ o.version = decimal_injective n o.version fits is.version_fits digits in
     let above = is.positive (sym same ∙ write) in omega (arith, above, versions)
 
-pub found_operation : (j i : Json) (k : Kind) (n : ℕ) (v : Option Json) → at 0 j ≡ Some (string (kind_word k)) → at 1 j ≡ Some i
-    → at 2 j ≡ Some (number (decimal n)) → at 3 j ≡ v → at 4 j ≡ None → IsItem i → n < 2 ^ 64 → (k ≡ Write → 0 < n) → IfSome v IsValue
-    → IsOperation (record { version = n; item = i; kind = k; value = v }) × (j ≡ operation_json (record { version = n; item = i; kind = k; value = v }))
+pub found_operation : (j i : Json) (k : Kind) (n : ℕ) (v : Option Json) → at 0 j ≡ Some (string (kind_word k))
+    → at 1 j ≡ Some i
+    → at 2 j ≡ Some (number (decimal n)) → at 3 j ≡ v → at 4 j ≡ None → IsItem i → n < 2 ^ 64 → (k ≡ Write → 0 < n)
+    → IfSome v IsValue
+    → IsOperation (record { version = n; item = i; kind = k; value = v })
+    × (j ≡ operation_json (record { version = n; item = i; kind = k; value = v }))
 found_operation j i k n v a b c d e is_item fits above is_given = (
   record { item_is = is_item; version_fits = fits; positive = above; value_is = is_given },
   operation_is j i k n v a b c d e,
@@ -142,9 +155,14 @@ array_is : (xs ys : Items) → Some (array xs) ≡ Some (array ys) → xs ≡ ys
 array_is xs ys e = cc
 
 -- the elements of an array are those of the other
-pub same_elements : (x : Json) (g : Option Json) (vs ps : List Json) → x ≡ array (items_of vs) → Some x ≡ g → g ≡ Some (array (items_of ps)) → vs ≡ ps
-same_elements x g vs ps e there is = same_items vs ps (array_is (items_of vs) (items_of ps) (ap Some (sym e) ∙ there ∙ is))
+pub same_elements : (x : Json) (g : Option Json) (vs ps : List Json) → x ≡ array (items_of vs) → Some x ≡ g
+    → g ≡ Some (array (items_of ps)) → vs ≡ ps
+same_elements x g vs ps e there is =
+    same_items vs ps (array_is (items_of vs) (items_of ps) (ap Some (sym e) ∙ there ∙ is))
 
-pub operation_of : {A : Type 0} (os : List (Operation (Bor (Value A)) (Bor (Value A)))) (n : ℕ) (o : Operation (Bor (Value A)) (Bor (Value A)))
+pub operation_of : {A : Type 0} (os : List (Operation (Bor (Value A)) (Bor (Value A)))) (n : ℕ)
+    (o : Operation (Bor (Value A)) (Bor (Value A)))
     → All IsOperation (map seen_operation os) → slice_get os n ≡ Some o → IsOperation (seen_operation o)
-operation_of os n o all at = All_at IsOperation (map seen_operation os) n (seen_operation o) all (slice_get-map seen_operation os n ∙ ap (option_map seen_operation) at)
+operation_of os n o all at =
+    All_at IsOperation (map seen_operation os) n (seen_operation o) all (slice_get-map seen_operation os n
+    ∙ ap (option_map seen_operation) at)

@@ -34,7 +34,8 @@ use Rattle.sgt_history_text.proofs.PlainTexts.{comma, print_key, print_value, sp
 
 -- ---- an operation, as it is printed
 
-print_front : (k : Kind) (c : Bool) (rest : List Token) → print_from c (token.begin_array ∷ token.string (kind_word k) ∷ rest)
+print_front : (k : Kind) (c : Bool) (rest : List Token)
+    → print_from c (token.begin_array ∷ token.string (kind_word k) ∷ rest)
     ≡ comma c ++ (91 ∷ 34 ∷ (kind_word k ++ 34 ∷ print_from true rest))
 unfolding print_from escape_byte
 print_front Read true rest = refl
@@ -52,41 +53,57 @@ print_given (Some v) (Some j) h k ts =
     ap (print_from true) (append_assoc (json_tokens j) (token.end_array ∷ []) ts)
     ∙ (print_value j k (token.end_array ∷ ts) ∙ ap (λ t. 44 ∷ (t ++ 93 ∷ print_from true ts)) (sym h))
 
-text_behind : (k : Kind) (name digits value rest : List ℕ) → (kind_text k ++ (name ++ 44 ∷ (digits ++ (value ++ 93 ∷ [])))) ++ rest
+text_behind : (k : Kind) (name digits value rest : List ℕ)
+    → (kind_text k ++ (name ++ 44 ∷ (digits ++ (value ++ 93 ∷ [])))) ++ rest
     ≡ 91 ∷ 34 ∷ (kind_word k ++ 34 ∷ 44 ∷ (name ++ 44 ∷ (digits ++ (value ++ 93 ∷ rest))))
 text_behind k name digits value rest =
     let inner : (name ++ 44 ∷ (digits ++ (value ++ 93 ∷ []))) ++ rest ≡ name ++ 44 ∷ (digits ++ (value ++ 93 ∷ rest)) =
-    append_assoc name _ rest ∙ ap (λ t. name ++ 44 ∷ t) (append_assoc digits _ rest ∙ ap (λ t. digits ++ t) (append_assoc value (93 ∷ []) rest)) in
-    append_assoc (kind_text k) _ rest ∙ ap (λ t. kind_text k ++ t) inner ∙ ap (λ t. 91 ∷ 34 ∷ t) (append_assoc (kind_word k) (34 ∷ 44 ∷ []) _)
+    append_assoc name _ rest ∙ ap (λ t. name ++ 44 ∷ t) (append_assoc digits _ rest
+    ∙ ap (λ t. digits ++ t) (append_assoc value (93 ∷ []) rest)) in
+    append_assoc (kind_text k) _ rest ∙ ap (λ t. kind_text k ++ t) inner
+    ∙ ap (λ t. 91 ∷ 34 ∷ t) (append_assoc (kind_word k) (34 ∷ 44 ∷ []) _)
 
 given_have : (j : Option Json) → IfSome j IsValue → ItemsHaveNumbers (given j)
 given_have None k = tt
 given_have (Some j) k = (value_numbers j k, tt)
 
 module _ (o : TextOperation) (p : Operation Json Json) (m : Means o p) where
-  text_of : operation_text o ≡ kind_text p.kind ++ (compact p.item ++ 44 ∷ (decimal p.version ++ (value_text o.value ++ 93 ∷ [])))
+  text_of : operation_text o ≡ kind_text p.kind ++
+      (compact p.item ++ 44 ∷ (decimal p.version ++ (value_text o.value ++ 93 ∷ [])))
   text_of =
       ap (λ k. kind_text k ++ (o.item.now ++ 44 ∷ (decimal o.version ++ (value_text o.value ++ 93 ∷ [])))) m.kind_is
       ∙ (ap (λ t. kind_text p.kind ++ (t ++ 44 ∷ (decimal o.version ++ (value_text o.value ++ 93 ∷ [])))) m.item_is
-      ∙ ap (λ n. kind_text p.kind ++ (compact p.item ++ 44 ∷ (decimal n ++ (value_text o.value ++ 93 ∷ [])))) m.version_is)
+      ∙ ap (λ n. kind_text p.kind ++ (compact p.item ++ 44 ∷ (decimal n ++ (value_text o.value ++ 93 ∷ []))))
+      m.version_is)
 
-  print_rest : (ts : List Token) → print_from true (json_tokens p.item ++ token.number (decimal p.version) ∷ (items_tokens (given p.value) ++ ts))
+  print_rest : (ts : List Token)
+      → print_from true (json_tokens p.item ++ token.number (decimal p.version) ∷ (items_tokens (given p.value) ++ ts))
       ≡ 44 ∷ (compact p.item ++ 44 ∷ (decimal p.version ++ (value_text o.value ++ 93 ∷ print_from true ts)))
   unfolding print_from
   print_rest ts =
-      print_key p.item 0 1024 m.is.item_is true (token.number (decimal p.version) ∷ (items_tokens (given p.value) ++ ts))
-      ∙ ap (λ t. 44 ∷ (compact p.item ++ 44 ∷ (decimal p.version ++ t))) (print_given o.value p.value m.value_is m.is.value_is ts)
+      print_key p.item 0 1024 m.is.item_is true
+      (token.number (decimal p.version) ∷ (items_tokens (given p.value) ++ ts))
+      ∙ ap (λ t. 44 ∷ (compact p.item ++ 44 ∷ (decimal p.version ++ t)))
+      (print_given o.value p.value m.value_is m.is.value_is ts)
 
-  print_operation : (c : Bool) (ts : List Token) → print_from c (json_tokens (operation_json p) ++ ts) ≡ comma c ++ (operation_text o ++ print_from true ts)
+  print_operation : (c : Bool) (ts : List Token)
+      → print_from c (json_tokens (operation_json p) ++ ts) ≡ comma c ++ (operation_text o ++ print_from true ts)
   print_operation c ts =
       ap (λ l. print_from c (token.begin_array ∷ token.string (kind_word p.kind) ∷ l))
       (append_assoc (json_tokens p.item) (token.number (decimal p.version) ∷ items_tokens (given p.value)) ts)
       ∙ (print_front p.kind c _ ∙ ap (λ t. comma c ++ (91 ∷ 34 ∷ (kind_word p.kind ++ 34 ∷ t))) (print_rest ts)
-      ∙ ap (λ t. comma c ++ t) (sym (text_behind p.kind (compact p.item) (decimal p.version) (value_text o.value) (print_from true ts))
+      ∙ ap (λ t. comma c ++ t)
+      (sym (text_behind p.kind (compact p.item) (decimal p.version) (value_text o.value) (print_from true ts))
       ∙ ap (λ t. t ++ print_from true ts) (sym text_of)))
 
   operation_numbers : HasNumbers (operation_json p)
-  operation_numbers = (tt, (key_numbers 0 1024 p.item m.is.item_is, (IsNumber-decimal p.version m.is.version_fits, given_have p.value m.is.value_is)))
+  operation_numbers = (
+    tt,
+    (
+      key_numbers 0 1024 p.item m.is.item_is,
+      (IsNumber-decimal p.version m.is.version_fits, given_have p.value m.is.value_is),
+    ),
+  )
 
 -- ---- operations
 
@@ -103,7 +120,8 @@ print_more (o ∷ os) (p ∷ ps) h ts =
     ∙ ap (λ t. 44 ∷ t) (sym (append_assoc (operation_text o) (more_texts os) (print_from true ts))))
 
 print_operations : (os : List TextOperation) (ps : List (Operation Json Json)) → MeanEach os ps → (ts : List Token)
-    → print_from false (items_tokens (items_of (map operation_json ps)) ++ ts) ≡ operation_texts os ++ print_from true ts
+    → print_from false (items_tokens (items_of (map operation_json ps)) ++ ts) ≡ operation_texts os ++ print_from true
+    ts
 unfolding print_from
 print_operations [] [] h ts = refl
 print_operations [] (p ∷ ps) h ts = absurd h
@@ -114,7 +132,8 @@ print_operations (o ∷ os) (p ∷ ps) h ts =
     ∙ (print_operation o p h.0 false (rest ++ ts) ∙ ap (λ t. operation_text o ++ t) (print_more os ps h.1 ts)
     ∙ sym (append_assoc (operation_text o) (more_texts os) (print_from true ts)))
 
-each_numbers : (os : List TextOperation) (ps : List (Operation Json Json)) → MeanEach os ps → ItemsHaveNumbers (items_of (map operation_json ps))
+each_numbers : (os : List TextOperation) (ps : List (Operation Json Json)) → MeanEach os ps
+    → ItemsHaveNumbers (items_of (map operation_json ps))
 each_numbers [] [] h = tt
 each_numbers [] (p ∷ ps) h = absurd h
 each_numbers (o ∷ os) [] h = absurd h
@@ -123,7 +142,8 @@ each_numbers (o ∷ os) (p ∷ ps) h = (operation_numbers o p h.0, each_numbers 
 all_none : {A : Type 0} (P : A → Type 0) → All P []
 all_none P i d h = absurd (omega arith)
 
-all_more : {A : Type 0} (P : A → Type 0) (x : A) (xs : List A) → P x → All P xs → (i : ℕ) (d : A) → i < length (x ∷ xs) → P (get_or (x ∷ xs) i d)
+all_more : {A : Type 0} (P : A → Type 0) (x : A) (xs : List A) → P x → All P xs → (i : ℕ) (d : A)
+    → i < length (x ∷ xs) → P (get_or (x ∷ xs) i d)
 all_more P x xs here behind zero d h = here
 all_more P x xs here behind (suc i) d h = behind i d (omega arith)
 
@@ -150,19 +170,23 @@ each_plain (o ∷ os) [] h = absurd h
 each_plain (o ∷ os) (p ∷ ps) h = all_more IsPlain o os (p, h.0) (each_plain os ps h.1)
 
 -- each with a comma behind it, and the last: as between brackets
-pub led_last : (os : List TextOperation) (o : TextOperation) → led_texts os ++ (operation_text o ++ 93 ∷ []) ≡ operation_texts (os ++ o ∷ [])
+pub led_last : (os : List TextOperation) (o : TextOperation)
+    → led_texts os ++ (operation_text o ++ 93 ∷ []) ≡ operation_texts (os ++ o ∷ [])
 led_last [] o = refl
 led_last (p ∷ []) o = append_assoc (operation_text p) (44 ∷ []) (operation_text o ++ 93 ∷ [])
 led_last (p ∷ q ∷ os) o =
     append_assoc (operation_text p) (44 ∷ led_texts (q ∷ os)) (operation_text o ++ 93 ∷ [])
     ∙ ap (λ t. operation_text p ++ 44 ∷ t) (led_last (q ∷ os) o)
 
-pub led_push : (os : List TextOperation) (o : TextOperation) → led_texts (os ++ o ∷ []) ≡ led_texts os ++ (operation_text o ++ 44 ∷ [])
+pub led_push : (os : List TextOperation) (o : TextOperation)
+    → led_texts (os ++ o ∷ []) ≡ led_texts os ++ (operation_text o ++ 44 ∷ [])
 led_push [] o = refl
-led_push (p ∷ os) o = ap (λ t. operation_text p ++ 44 ∷ t) (led_push os o) ∙ sym (append_assoc (operation_text p) (44 ∷ led_texts os) (operation_text o ++ 44 ∷ []))
+led_push (p ∷ os) o = ap (λ t. operation_text p ++ 44 ∷ t) (led_push os o)
+    ∙ sym (append_assoc (operation_text p) (44 ∷ led_texts os) (operation_text o ++ 44 ∷ []))
 
 module _ (bytes : List ℕ) (from at behind to : ℕ) (os items : List TextOperation) (o : TextOperation)
-    (led : All IsPlain os × Spans bytes from (led_texts os) at) (next : IsPlain o × Spans bytes at (operation_text o) behind) (more : items ≡ os ++ o ∷ []) where
+    (led : All IsPlain os × Spans bytes from (led_texts os) at) (next : IsPlain o
+    × Spans bytes at (operation_text o) behind) (more : items ≡ os ++ o ∷ []) where
   all_pushed : All IsPlain items
   all_pushed = subst (All IsPlain) (sym more) (All-push IsPlain os o led.0 next.0)
 
@@ -170,14 +194,16 @@ module _ (bytes : List ℕ) (from at behind to : ℕ) (os items : List TextOpera
   led_closed close = (
     all_pushed,
     subst (λ t. Spans bytes from t to) (led_last os o ∙ ap operation_texts (sym more))
-        (spans_then bytes (led_texts os) (operation_text o ++ 93 ∷ []) from at to led.1 (spans_then bytes (operation_text o) (93 ∷ []) at behind to next.1 close)),
+        (spans_then bytes (led_texts os) (operation_text o ++ 93 ∷ []) from at to led.1
+        (spans_then bytes (operation_text o) (93 ∷ []) at behind to next.1 close)),
   )
 
   pub led_more : Spans bytes behind (44 ∷ []) to → All IsPlain items × Spans bytes from (led_texts items) to
   led_more comma_is = (
     all_pushed,
     subst (λ t. Spans bytes from t to) (sym (led_push os o) ∙ ap led_texts (sym more))
-        (spans_then bytes (led_texts os) (operation_text o ++ 44 ∷ []) from at to led.1 (spans_then bytes (operation_text o) (44 ∷ []) at behind to next.1 comma_is)),
+        (spans_then bytes (led_texts os) (operation_text o ++ 44 ∷ []) from at to led.1
+        (spans_then bytes (operation_text o) (44 ∷ []) at behind to next.1 comma_is)),
   )
 
 pub led_none : (bytes : List ℕ) (from : ℕ) → from ≤ length bytes → All IsPlain [] × Spans bytes from (led_texts []) from
@@ -199,22 +225,28 @@ print_tx : (ts : List Token) → print_from false (token.begin_object ∷ token.
 unfolding print_from escape_byte
 print_tx ts = refl
 
-print_line : (id : Json) (commits : Bool) (os : List TextOperation) (ps : List (Operation Json Json)) → IsId id → MeanEach os ps
-    → compact (object (members_of id commits ps)) ≡ tx_text ++ (compact id ++ (end_text commits ++ (operation_texts os ++ 125 ∷ [])))
+print_line : (id : Json) (commits : Bool) (os : List TextOperation) (ps : List (Operation Json Json)) → IsId id
+    → MeanEach os ps
+    → compact (object (members_of id commits ps)) ≡ tx_text ++
+    (compact id ++ (end_text commits ++ (operation_texts os ++ 125 ∷ [])))
 unfolding print_from
 print_line id commits os ps k each =
     let rest = items_tokens (items_of (map operation_json ps)) ++ token.end_object ∷ [] in
     let ending = token.key (codes "end") ∷ token.string (end_word commits) ∷ token.key (codes "ops") ∷ token.begin_array ∷ rest in
     print_tx (json_tokens id ++ ending)
     ∙ ap (λ t. tx_text ++ t) (print_key id 1 256 k false ending
-    ∙ ap (λ t. compact id ++ t) (print_end commits rest ∙ ap (λ t. end_text commits ++ t) (print_operations os ps each (token.end_object ∷ []))))
+    ∙ ap (λ t. compact id ++ t) (print_end commits rest
+    ∙ ap (λ t. end_text commits ++ t) (print_operations os ps each (token.end_object ∷ []))))
 
-line_numbers : (id : Json) (commits : Bool) (os : List TextOperation) (ps : List (Operation Json Json)) → IsId id → MeanEach os ps
+line_numbers : (id : Json) (commits : Bool) (os : List TextOperation) (ps : List (Operation Json Json)) → IsId id
+    → MeanEach os ps
     → HasNumbers (object (members_of id commits ps))
 line_numbers id commits os ps k each = (key_numbers 1 256 id k, (tt, (each_numbers os ps each, tt)))
 
-plain_is : (line : List ℕ) (id : Json) (commits : Bool) (os : List TextOperation) (ps : List (Operation Json Json)) → IsUtf8 line → IsId id → MeanEach os ps
-    → line ≡ tx_text ++ (compact id ++ (end_text commits ++ (operation_texts os ++ 125 ∷ []))) → IsLine line id (record { commits = commits; operations = ps })
+plain_is : (line : List ℕ) (id : Json) (commits : Bool) (os : List TextOperation) (ps : List (Operation Json Json))
+    → IsUtf8 line → IsId id → MeanEach os ps
+    → line ≡ tx_text ++ (compact id ++ (end_text commits ++ (operation_texts os ++ 125 ∷ [])))
+    → IsLine line id (record { commits = commits; operations = ps })
 plain_is line id commits os ps utf8 k each e =
     let whole = object (members_of id commits ps) in
     record {
@@ -231,18 +263,24 @@ plain_is line id commits os ps utf8 k each e =
       each = each_is os ps each;
     }
 
-whole_line : (line a b : List ℕ) (i j : ℕ) → Spans line 0 a i → Spans line i b j → Spans line j (125 ∷ []) (length line) → line ≡ a ++ (b ++ 125 ∷ [])
+whole_line : (line a b : List ℕ) (i j : ℕ) → Spans line 0 a i → Spans line i b j
+    → Spans line j (125 ∷ []) (length line) → line ≡ a ++ (b ++ 125 ∷ [])
 whole_line line a b i j first second last =
-    first.reads ∙ ap (λ t. a ++ t) (second.reads ∙ ap (λ t. b ++ t) (last.reads ∙ ap (λ t. 125 ∷ t) (drop_all (length line) line (le_refl (length line)))))
+    first.reads
+    ∙ ap (λ t. a ++ t) (second.reads
+    ∙ ap (λ t. b ++ t) (last.reads ∙ ap (λ t. 125 ∷ t) (drop_all (length line) line (le_refl (length line)))))
 
-pub plain_found : (line : List ℕ) (l : Plain) (i j : ℕ) → IsUtf8 line → IsCompactOf (IsKey 1 256) l.id.now → All IsPlain l.operations.items
-    → Spans line 0 (tx_text ++ (l.id.now ++ end_text l.commits)) i → Spans line i (operation_texts l.operations.items) j → Spans line j (125 ∷ []) (length line)
+pub plain_found : (line : List ℕ) (l : Plain) (i j : ℕ) → IsUtf8 line → IsCompactOf (IsKey 1 256) l.id.now
+    → All IsPlain l.operations.items
+    → Spans line 0 (tx_text ++ (l.id.now ++ end_text l.commits)) i
+    → Spans line i (operation_texts l.operations.items) j → Spans line j (125 ∷ []) (length line)
     → (id : Json) × (t : Transaction Json Json) × IsLine line id t × MeansLine l id t
 plain_found line l i j utf8 id each first second last =
     let os = l.operations.items in
     let ps = each_means os each in
     let text : line ≡ tx_text ++ (l.id.now ++ (end_text l.commits ++ (operation_texts os ++ 125 ∷ []))) =
-    whole_line line _ _ i j first second last ∙ ap (λ t. tx_text ++ t) (append_assoc l.id.now (end_text l.commits) (operation_texts os ++ 125 ∷ [])) in
+    whole_line line _ _ i j first second last
+    ∙ ap (λ t. tx_text ++ t) (append_assoc l.id.now (end_text l.commits) (operation_texts os ++ 125 ∷ [])) in
     let named : line ≡ tx_text ++ (compact id.value ++ (end_text l.commits ++ (operation_texts os ++ 125 ∷ []))) =
     text ∙ ap (λ t. tx_text ++ (t ++ (end_text l.commits ++ (operation_texts os ++ 125 ∷ [])))) id.text_is in (
       id.value,
@@ -256,8 +294,10 @@ plain_found line l i j utf8 id each first second last =
 pub plain_positive : (o : TextOperation) → IsPlain o → o.kind ≡ Write → 0 < o.version
 plain_positive o (p, m) write = subst (λ k. 0 < k) (sym m.version_is) (m.is.positive (sym m.kind_is ∙ write))
 
-pub plain_numbered : (o : TextOperation) (p : Operation Json Json) → Means o p → (js vs : List Json) (items values : List (List ℕ)) (n : ℕ) (v : Option ℕ)
-    → (HasNumbers p.item → IsNumbered js p.item items n) → (IfSome p.value HasNumbers → IsNumberedValue vs p.value values v)
+pub plain_numbered : (o : TextOperation) (p : Operation Json Json) → Means o p
+    → (js vs : List Json) (items values : List (List ℕ)) (n : ℕ) (v : Option ℕ)
+    → (HasNumbers p.item → IsNumbered js p.item items n)
+    → (IfSome p.value HasNumbers → IsNumberedValue vs p.value values v)
     → IsNumberedOperation js vs p items values (record { version = o.version; item = n; kind = o.kind; value = v })
 plain_numbered o p m js vs items values n v item_is value_is = record {
   version_is = m.version_is;
@@ -267,7 +307,8 @@ plain_numbered o p m js vs items values n v item_is value_is = record {
 }
 
 -- the next operation is the one that the text means
-pub means_at : (os : List TextOperation) (ps : List (Operation Json Json)) → MeanEach os ps → (n : ℕ) (o : TextOperation) → slice_get os n ≡ Some o
+pub means_at : (os : List TextOperation) (ps : List (Operation Json Json)) → MeanEach os ps
+    → (n : ℕ) (o : TextOperation) → slice_get os n ≡ Some o
     → (p : Operation Json Json) × (take n ps ++ p ∷ [] ≡ take (n + 1) ps) × Means o p
 means_at [] [] h n o at = absurd cc
 means_at [] (p ∷ ps) h n o at = absurd h
@@ -284,17 +325,20 @@ means_length [] (p ∷ ps) h = absurd h
 means_length (o ∷ os) [] h = absurd h
 means_length (o ∷ os) (p ∷ ps) h = ap suc (means_length os ps h.1)
 
-pub means_all : (os : List TextOperation) (ps : List (Operation Json Json)) → MeanEach os ps → (n : ℕ) → length os ≤ n → take n ps ≡ ps
+pub means_all : (os : List TextOperation) (ps : List (Operation Json Json)) → MeanEach os ps → (n : ℕ) → length os ≤ n
+    → take n ps ≡ ps
 means_all os ps h n all = take_all n ps (omega (arith, means_length os ps h, all))
 
 -- ---- where nothing more is wanted
 
-told_alone : {E : Type 0} (Has : List ℕ → E → Type 0) (wanted : Bool) → wanted ≡ false → (lines more : List (List ℕ)) (h g : List (Transaction Json Json))
+told_alone : {E : Type 0} (Has : List ℕ → E → Type 0) (wanted : Bool) → wanted ≡ false
+    → (lines more : List (List ℕ)) (h g : List (Transaction Json Json))
     (es : List (Option E)) → AreTold Has wanted lines h es → AreTold Has wanted more g es
 told_alone Has true e lines more h g es told = absurd (false≢true (sym e))
 told_alone Has false e lines more h g es told = told
 
-module _ (w : Wanted) (m : Moments) (lines : List (List ℕ)) (h : List (Transaction Json Json)) (line : List ℕ) (moments : AreMoments w m lines h)
+module _ (w : Wanted) (m : Moments) (lines : List (List ℕ)) (h : List (Transaction Json Json)) (line : List ℕ)
+    (moments : AreMoments w m lines h)
     (no_times : m.wanted.real_time ≡ false) (no_sessions : m.wanted.sessions ≡ false) where
   untimed : w.real_time ≡ false
   untimed = sym (ap (λ (v : Wanted). v.real_time) moments.wanted_is) ∙ no_times
@@ -308,8 +352,10 @@ module _ (w : Wanted) (m : Moments) (lines : List (List ℕ)) (h : List (Transac
     wanted_is = moments.wanted_is;
     sessions_are = moments.sessions_are;
     tell = record {
-      timed = told_alone HasTimes w.real_time untimed lines (lines ++ line ∷ []) h (h ++ t ∷ []) m.times.items moments.tell.timed;
-      sessioned = told_alone HasSession w.sessions unsessioned lines (lines ++ line ∷ []) h (h ++ t ∷ []) moments.sessions moments.tell.sessioned;
+      timed = told_alone HasTimes w.real_time untimed lines (lines ++ line ∷ []) h (h ++ t ∷ []) m.times.items
+          moments.tell.timed;
+      sessioned = told_alone HasSession w.sessions unsessioned lines (lines ++ line ∷ []) h
+          (h ++ t ∷ []) moments.sessions moments.tell.sessioned;
     };
   }
 

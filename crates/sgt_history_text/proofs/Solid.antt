@@ -101,7 +101,8 @@ items_back f no_items no_items s e = refl
 items_back f no_items (item j js) s e = absurd cc
 items_back f (item k ks) no_items s e = absurd cc
 items_back f (item k ks) (item j js) s e =
-    ap₂ item (s.0.back j (first_item (f j) k (map_items f js) ks e)) (items_back f ks js s.1 (rest_items (f j) k (map_items f js) ks e))
+    ap₂ item (s.0.back j (first_item (f j) k (map_items f js) ks e))
+    (items_back f ks js s.1 (rest_items (f j) k (map_items f js) ks e))
 
 array_back : (f : Json → Json) (ks : Items) → AreSolid f ks → (x : Json) → arrays f x ≡ array ks → x ≡ array ks
 array_back f ks s null e = absurd cc
@@ -120,14 +121,20 @@ given_solid (Some j) k = (leaf_solid j (value_scalar j k), tt)
 
 operation_solid : (o : Operation Json Json) → IsOperation o → IsSolid (arrays leaf) (operation_json o)
 operation_solid o is =
-    array_solid leaf (item (string (kind_word o.kind)) (item o.item (item (number (decimal o.version)) (given o.value)))) (
+    array_solid leaf
+    (item (string (kind_word o.kind)) (item o.item (item (number (decimal o.version)) (given o.value)))) (
       leaf_solid (string (kind_word o.kind)) tt,
-      (leaf_solid o.item (key_scalar 0 1024 o.item is.item_is), (leaf_solid (number (decimal o.version)) tt, given_solid o.value is.value_is)),
+      (
+        leaf_solid o.item (key_scalar 0 1024 o.item is.item_is),
+        (leaf_solid (number (decimal o.version)) tt, given_solid o.value is.value_is),
+      ),
     )
 
-operations_solid : (os : List (Operation Json Json)) → All IsOperation os → AreSolid (arrays leaf) (items_of (map operation_json os))
+operations_solid : (os : List (Operation Json Json)) → All IsOperation os
+    → AreSolid (arrays leaf) (items_of (map operation_json os))
 operations_solid [] all = tt
-operations_solid (o ∷ os) all = (operation_solid o (all 0 o (omega arith)), operations_solid os (λ k d h. all (suc k) d (omega arith)))
+operations_solid (o ∷ os) all =
+    (operation_solid o (all 0 o (omega arith)), operations_solid os (λ k d h. all (suc k) d (omega arith)))
 
 -- ---- members
 
@@ -138,10 +145,12 @@ later f None false j = refl
 later f (Some i) true j = refl
 later f (Some i) false j = refl
 
-get_read : (f : Json → Json) (name : List ℕ) (ms : Members) → get_member name (map_members f ms) ≡ option_map f (get_member name ms)
+get_read : (f : Json → Json) (name : List ℕ) (ms : Members)
+    → get_member name (map_members f ms) ≡ option_map f (get_member name ms)
 get_read f name no_members = refl
 get_read f name (member k j ms) =
-    ap (λ o. later_or o (cond (bytes_eq k name) (Some (f j)) None)) (get_read f name ms) ∙ later f (get_member name ms) (bytes_eq k name) j
+    ap (λ o. later_or o (cond (bytes_eq k name) (Some (f j)) None)) (get_read f name ms)
+    ∙ later f (get_member name ms) (bytes_eq k name) j
 
 some_back : (f : Json → Json) (o : Option Json) (y : Json) → IsSolid f y → option_map f o ≡ Some y → o ≡ Some y
 some_back f None y s e = absurd cc
@@ -156,22 +165,26 @@ module _ (f : Json → Json) (ms : Members) (name : List ℕ) (y : Json) (s : Is
 
 -- ---- read so deep, it is a transaction exactly where it is one
 
-pub transaction_on : (ms : Members) (id : Json) (t : Transaction Json Json) → IsTransaction (object (read_members ms)) id t → IsTransaction (object ms) id t
+pub transaction_on : (ms : Members) (id : Json) (t : Transaction Json Json)
+    → IsTransaction (object (read_members ms)) id t → IsTransaction (object ms) id t
 transaction_on ms id t is = record {
   tx = member_on (arrays (arrays leaf)) ms (codes "tx") id (arrays_solid (arrays leaf) id (key_scalar 1 256 id is.id_is)) is.tx;
   end = member_on (arrays (arrays leaf)) ms (codes "end") (string (end_word t.commits)) (arrays_solid (arrays leaf) (string (end_word t.commits)) tt) is.end;
   ops = member_on (arrays (arrays leaf)) ms (codes "ops") (array (items_of (map operation_json t.operations)))
-      (array_solid (arrays leaf) (items_of (map operation_json t.operations)) (operations_solid t.operations is.each)) is.ops;
+      (array_solid (arrays leaf) (items_of (map operation_json t.operations)) (operations_solid t.operations is.each))
+      is.ops;
   id_is = is.id_is;
   each = is.each;
 }
 
-pub transaction_back : (ms : Members) (id : Json) (t : Transaction Json Json) → IsTransaction (object ms) id t → IsTransaction (object (read_members ms)) id t
+pub transaction_back : (ms : Members) (id : Json) (t : Transaction Json Json) → IsTransaction (object ms) id t
+    → IsTransaction (object (read_members ms)) id t
 transaction_back ms id t is = record {
   tx = member_back (arrays (arrays leaf)) ms (codes "tx") id (arrays_solid (arrays leaf) id (key_scalar 1 256 id is.id_is)) is.tx;
   end = member_back (arrays (arrays leaf)) ms (codes "end") (string (end_word t.commits)) (arrays_solid (arrays leaf) (string (end_word t.commits)) tt) is.end;
   ops = member_back (arrays (arrays leaf)) ms (codes "ops") (array (items_of (map operation_json t.operations)))
-      (array_solid (arrays leaf) (items_of (map operation_json t.operations)) (operations_solid t.operations is.each)) is.ops;
+      (array_solid (arrays leaf) (items_of (map operation_json t.operations)) (operations_solid t.operations is.each))
+      is.ops;
   id_is = is.id_is;
   each = is.each;
 }

@@ -7,7 +7,8 @@ use Rattle.sgt_history_text.specs.Line.{IsLine, IsTextOf}
 use Rattle.sgt_history_text.specs.Parsed.{IsTransaction}
 use Rattle.sgt_history_text.proofs.Trees.{same_tokens}
 
-pub line_from : (line : List ℕ) (j id : Json) (t : Transaction Json Json) → IsTextOf line j → IsTransaction j id t → IsLine line id t
+pub line_from : (line : List ℕ) (j id : Json) (t : Transaction Json Json) → IsTextOf line j → IsTransaction j id t
+    → IsLine line id t
 line_from line null id t text is = let e = is.tx in absurd cc
 line_from line (boolean b) id t text is = let e = is.tx in absurd cc
 line_from line (number s) id t text is = let e = is.tx in absurd cc
@@ -23,9 +24,11 @@ line_from line (object ms) id t text is = record {
   each = is.each;
 }
 
-pub line_back : (line : List ℕ) (j id : Json) (t : Transaction Json Json) → IsTextOf line j → IsLine line id t → IsTransaction j id t
+pub line_back : (line : List ℕ) (j id : Json) (t : Transaction Json Json) → IsTextOf line j → IsLine line id t
+    → IsTransaction j id t
 line_back line j id t text is =
-    let same : j ≡ object is.members = same_tokens j (object is.members) (sym text.tokens_are ∙ is.is_object.tokens_are) in
+    let same : j ≡ object is.members = same_tokens j (object is.members) (sym text.tokens_are
+    ∙ is.is_object.tokens_are) in
     record {
       tx = ap (get (codes "tx")) same ∙ is.tx;
       end = ap (get (codes "end")) same ∙ is.end;

@@ -20,26 +20,30 @@ use Rattle.sgt_history_text.proofs.Trees.{same_tokens}
 
 -- ---- entries
 
-pub entry_there : {E : Type 0} (Is : E → Type 0) (wanted commits : Bool) (e : Option E) → IsWantedEntry Is wanted commits e → IsTrue wanted → IsTrue commits
+pub entry_there : {E : Type 0} (Is : E → Type 0) (wanted commits : Bool) (e : Option E)
+    → IsWantedEntry Is wanted commits e → IsTrue wanted → IsTrue commits
     → (x : E) × Is x
 entry_there Is true true None is w c = absurd is
 entry_there Is true true (Some x) is w c = (x, is)
 entry_there Is true false e is w c = absurd cc
 entry_there Is false commits e is w c = absurd cc
 
-entry_on : {E : Type 0} (Is Has : E → Type 0) (commits : Bool) (e : Option E) → ((x : E) → Is x → Has x) → IsEntry Is commits e → IsEntry Has commits e
+entry_on : {E : Type 0} (Is Has : E → Type 0) (commits : Bool) (e : Option E) → ((x : E) → Is x → Has x)
+    → IsEntry Is commits e → IsEntry Has commits e
 entry_on Is Has true None on is = absurd is
 entry_on Is Has true (Some x) on is = on x is
 entry_on Is Has false None on is = tt
 entry_on Is Has false (Some x) on is = absurd is
 
-pub wanted_on : {E : Type 0} (Is Has : E → Type 0) (wanted commits : Bool) (e : Option E) → ((x : E) → Is x → Has x) → IsWantedEntry Is wanted commits e
+pub wanted_on : {E : Type 0} (Is Has : E → Type 0) (wanted commits : Bool) (e : Option E) → ((x : E) → Is x → Has x)
+    → IsWantedEntry Is wanted commits e
     → IsWantedEntry Has wanted commits e
 wanted_on Is Has true commits e on is = entry_on Is Has commits e on is
 wanted_on Is Has false commits e on is = is
 
 -- what a name is has numbers that can be written
-pub session_numbers : (j : Json) (wanted commits : Bool) (e : Option Json) → IsWantedEntry (IsSession j) wanted commits e → IfSome e HasNumbers
+pub session_numbers : (j : Json) (wanted commits : Bool) (e : Option Json)
+    → IsWantedEntry (IsSession j) wanted commits e → IfSome e HasNumbers
 session_numbers j wanted commits None is = tt
 session_numbers j true true (Some s) is = key_numbers 0 1024 s is.session_is
 session_numbers j true false (Some s) is = absurd is
@@ -54,7 +58,15 @@ module _ (line : List ℕ) (ms : Members) (text : IsTextOf line (object ms)) whe
   has_times : (x : Times) → AreTimes (object (read_members ms)) x → HasTimes line x
   has_times x read =
       let is = times_on ms x read in
-      record { members = ms; is_object = text; begin = is.begin; done = is.done; in_order = is.in_order; fits = is.fits }
+      record {
+        members = ms;
+        is_object = text;
+        begin = is.begin;
+        done = is.done;
+        in_order = is.in_order;
+        fits =
+            is.fits;
+      }
 
   are_times : (x : Times) → HasTimes line x → AreTimes (object (read_members ms)) x
   are_times x is =
@@ -75,7 +87,8 @@ module _ (line : List ℕ) (ms : Members) (text : IsTextOf line (object ms)) whe
   is_session s is =
       session_back ms s (record { there = ap (get (codes "session")) (same_object is.members is.is_object) ∙ is.there; session_is = is.session_is })
 
-  pub lacks : (w : Wanted) (id : Json) (t : Transaction Json Json) (commits : Bool) → t.commits ≡ commits → LacksMoment w commits (object (read_members ms))
+  pub lacks : (w : Wanted) (id : Json) (t : Transaction Json Json) (commits : Bool) → t.commits ≡ commits
+      → LacksMoment w commits (object (read_members ms))
       → IsLineWith w line id t → ⊥
   lacks w id t commits same (inl l) is =
       let x = is.timed l.is_wanted (same ∙ l.commits_is) in l.none x.0 (are_times x.0 x.1)
@@ -84,16 +97,20 @@ module _ (line : List ℕ) (ms : Members) (text : IsTextOf line (object ms)) whe
 
   module _ (w : Wanted) (commits : Bool) (m : LentMoment) (is : IsMoment w commits (object (read_members ms)) m) where
     pub entry_times : IsWantedEntry (HasTimes line) w.real_time commits m.times
-    entry_times = wanted_on (AreTimes (object (read_members ms))) (HasTimes line) w.real_time commits m.times has_times is.times_are
+    entry_times = wanted_on (AreTimes (object (read_members ms))) (HasTimes line) w.real_time commits m.times
+        has_times is.times_are
 
     pub entry_session : IsWantedEntry (HasSession line) w.sessions commits (renamed_value seen m.session)
-    entry_session = wanted_on (IsSession (object (read_members ms))) (HasSession line) w.sessions commits (renamed_value seen m.session) has_session is.session_is
+    entry_session = wanted_on (IsSession (object (read_members ms))) (HasSession line) w.sessions commits
+        (renamed_value seen m.session) has_session is.session_is
 
-    pub line_with : (id : Json) (t : Transaction Json Json) → commits ≡ t.commits → IsLine line id t → IsLineWith w line id t
+    pub line_with : (id : Json) (t : Transaction Json Json) → commits ≡ t.commits → IsLine line id t
+        → IsLineWith w line id t
     line_with id t same line_is = record {
       line_is = line_is;
       timed = λ wanted c. entry_there (HasTimes line) w.real_time commits m.times entry_times wanted (same ∙ c);
-      sessioned = λ wanted c. entry_there (HasSession line) w.sessions commits (renamed_value seen m.session) entry_session wanted (same ∙ c);
+      sessioned = λ wanted c. entry_there (HasSession line) w.sessions commits (renamed_value seen m.session)
+          entry_session wanted (same ∙ c);
     }
 
 -- ---- whether it commits
@@ -104,7 +121,8 @@ same_end true false e = absurd cc
 same_end false true e = absurd cc
 same_end false false e = refl
 
-pub same_commits : (j id id' : Json) (t t' : Transaction Json Json) → IsTransaction j id t → IsTransaction j id' t' → t.commits ≡ t'.commits
+pub same_commits : (j id id' : Json) (t t' : Transaction Json Json) → IsTransaction j id t → IsTransaction j id' t'
+    → t.commits ≡ t'.commits
 same_commits j id id' t t' a b = same_end t.commits t'.commits (sym a.end ∙ b.end)
 
 -- ---- when it ran
@@ -116,6 +134,7 @@ number_is s t e = cc
 pub times_are : (j : Json) (begin done : ℕ) (x : Times) → get (codes "begin") j ≡ Some (number (decimal begin))
     → get (codes "done") j ≡ Some (number (decimal done)) → begin < 2 ^ 64 → done < 2 ^ 64 → AreTimes j x → (begin ≡ x.begin) × (done ≡ x.done)
 times_are j begin done x b d small fits is = (
-  decimal_injective begin x.begin small (omega (arith, is.in_order, is.fits)) (number_is (decimal begin) (decimal x.begin) (sym b ∙ is.begin)),
+  decimal_injective begin x.begin small (omega (arith, is.in_order, is.fits))
+      (number_is (decimal begin) (decimal x.begin) (sym b ∙ is.begin)),
   decimal_injective done x.done fits is.fits (number_is (decimal done) (decimal x.done) (sym d ∙ is.done)),
 )

@@ -16,11 +16,13 @@ read_back j d h = ap (value d) (sym (append-nil (json_tokens j))) ∙ value-json
 pub same_tokens : (i j : Json) → json_tokens i ≡ json_tokens j → i ≡ j
 same_tokens i j e =
     let d = depth i + depth j in
-    let both : Some (i, []) ≡ Some (j, []) = sym (read_back i d (omega arith)) ∙ ap (value d) e ∙ read_back j d (omega arith) in
+    let both : Some (i, []) ≡ Some (j, []) = sym (read_back i d (omega arith)) ∙ ap (value d) e
+    ∙ read_back j d (omega arith) in
     ap (λ p. p.0) (same_Some (i, []) (j, []) both)
 
 -- no two values have the same compact text
 pub same_compact : (i j : Json) → HasNumbers i → HasNumbers j → compact i ≡ compact j → i ≡ j
 same_compact i j h k e =
     same_tokens i j
-    (sym (tokens-print (json_tokens i) (ArePrintable-json_tokens i h)) ∙ ap tokens e ∙ tokens-print (json_tokens j) (ArePrintable-json_tokens j k))
+    (sym (tokens-print (json_tokens i) (ArePrintable-json_tokens i h)) ∙ ap tokens e
+    ∙ tokens-print (json_tokens j) (ArePrintable-json_tokens j k))

@@ -59,7 +59,8 @@ NamesHistory items values (t ∷ ts) (u ∷ us) =
 -- ---- what is kept
 
 -- the transactions of the lines that were read, with their ids, and the operations that were read of the next
-pub record IsBuilt (b : Builder) (ids : List Json) (h : List (Transaction Json Json)) (begun : List (Operation Json Json)) : Type 0 where
+pub record IsBuilt (b : Builder) (ids : List Json) (h : List (Transaction Json Json))
+    (begun : List (Operation Json Json)) : Type 0 where
   pub items : List Json
   pub values : List Json
   pub ids_kept : AreKept b.ids ids
@@ -76,17 +77,19 @@ NamesEach names (n ∷ ns) [] = ⊥
 NamesEach names (n ∷ ns) (e ∷ es) = NamesValue names n e × NamesEach names ns es
 
 -- the texts are those of the sessions that the numbers stand for
-pub record AreSessions (texts : List (List ℕ)) (numbers : List (Option ℕ)) (sessions : List (Option Json)) : Type 0 where
-  pub names : List Json
-  pub kept : AreKept texts names
-  pub each : NamesEach names numbers sessions
+pub record AreSessions (texts : List (List ℕ)) (numbers : List (Option ℕ)) (sessions : List (Option Json)) : Type 0
+  where
+    pub names : List Json
+    pub kept : AreKept texts names
+    pub each : NamesEach names numbers sessions
 
 -- what these lines, which spell these transactions, tell of what is wanted
-pub record AreMoments (w : Wanted) (m : Moments) (lines : List (List ℕ)) (h : List (Transaction Json Json)) : Type 0 where
-  pub sessions : List (Option Json)
-  pub wanted_is : m.wanted ≡ w
-  pub sessions_are : AreSessions m.names m.sessions.items sessions
-  pub tell : Tell w lines h m.times.items sessions
+pub record AreMoments (w : Wanted) (m : Moments) (lines : List (List ℕ)) (h : List (Transaction Json Json)) : Type 0
+  where
+    pub sessions : List (Option Json)
+    pub wanted_is : m.wanted ≡ w
+    pub sessions_are : AreSessions m.names m.sessions.items sessions
+    pub tell : Tell w lines h m.times.items sessions
 
 -- ---- one more
 
@@ -98,7 +101,8 @@ IsNumberedValue old (Some j) texts None = ⊥
 IsNumberedValue old (Some j) texts (Some n) = IsNumbered old j texts n
 
 -- and of an operation's item and value
-pub record IsNumberedOperation (items values : List Json) (p : Operation Json Json) (item_texts value_texts : List (List ℕ))
+pub record IsNumberedOperation (items values : List Json) (p : Operation Json Json)
+    (item_texts value_texts : List (List ℕ))
     (o : Operation ℕ ℕ) : Type 0 where
   pub version_is : o.version ≡ p.version
   pub kind_is : o.kind ≡ p.kind
@@ -106,14 +110,18 @@ pub record IsNumberedOperation (items values : List Json) (p : Operation Json Js
   pub value_is : IsNumberedValue values p.value value_texts o.value
 
 -- the line's transaction was added, or an earlier one has its id
-abbrev pub IsAdded : List Json → List (Transaction Json Json) → (id : Json) → Transaction Json Json → Builder → Bool → Type 0
+abbrev pub IsAdded : List Json → List (Transaction Json Json) → (id : Json) → Transaction Json Json → Builder → Bool
+    → Type 0
 IsAdded ids h id t b true = (Contains ids id → ⊥) × IsBuilt b (ids ++ id ∷ []) (h ++ t ∷ []) []
 IsAdded ids h id t b false = Contains ids id
 
 -- what was told of a line, behind lines that were read
-abbrev pub IsTaken : Wanted → List (List ℕ) → List Json → List (Transaction Json Json) → List ℕ → Builder → Moments → Option LineFault → Type 0
-IsTaken w lines ids h line b m None = (id : Json) × (t : Transaction Json Json) × IsLine line id t × (Contains ids id → ⊥)
+abbrev pub IsTaken : Wanted → List (List ℕ) → List Json → List (Transaction Json Json) → List ℕ → Builder → Moments
+    → Option LineFault → Type 0
+IsTaken w lines ids h line b m None = (id : Json) × (t : Transaction Json Json) × IsLine line id t × (Contains ids id
+    → ⊥)
     × IsBuilt b (ids ++ id ∷ []) (h ++ t ∷ []) [] × AreMoments w m (lines ++ line ∷ []) (h ++ t ∷ [])
 IsTaken w lines ids h line b m (Some NotALine) = (id : Json) (t : Transaction Json Json) → IsLineWith w line id t → ⊥
 IsTaken w lines ids h line b m (Some TooLong) = ⊥
-IsTaken w lines ids h line b m (Some IdAgain) = (id : Json) × (t : Transaction Json Json) × IsLineWith w line id t × Contains ids id
+IsTaken w lines ids h line b m (Some IdAgain) = (id : Json) × (t : Transaction Json Json) × IsLineWith w line id t
+    × Contains ids id

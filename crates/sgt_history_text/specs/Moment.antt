@@ -39,7 +39,8 @@ IsEntry Is true None = ⊥
 IsEntry Is false (Some e) = ⊥
 IsEntry Is false None = Unit {0}
 
-abbrev pub AreEntries : {E : Type 0} → (List ℕ → E → Type 0) → List (List ℕ) → List (Transaction Json Json) → List (Option E) → Type 0
+abbrev pub AreEntries : {E : Type 0} → (List ℕ → E → Type 0) → List (List ℕ) → List (Transaction Json Json)
+    → List (Option E) → Type 0
 AreEntries Has [] [] [] = Unit {0}
 AreEntries Has [] [] (e ∷ es) = ⊥
 AreEntries Has [] (t ∷ ts) es = ⊥
@@ -48,7 +49,8 @@ AreEntries Has (line ∷ lines) (t ∷ ts) [] = ⊥
 AreEntries Has (line ∷ lines) (t ∷ ts) (e ∷ es) = IsEntry (Has line) t.commits e × AreEntries Has lines ts es
 
 -- the lines' entries, where they are wanted; else there are none
-abbrev pub AreTold : {E : Type 0} → (List ℕ → E → Type 0) → (wanted : Bool) → List (List ℕ) → List (Transaction Json Json) → List (Option E) → Type 0
+abbrev pub AreTold : {E : Type 0} → (List ℕ → E → Type 0) → (wanted : Bool) → List (List ℕ)
+    → List (Transaction Json Json) → List (Option E) → Type 0
 AreTold Has true lines h es = AreEntries Has lines h es
 AreTold Has false lines h es = es ≡ []
 

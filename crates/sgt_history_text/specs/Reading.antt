@@ -28,7 +28,8 @@ pub record IsWithin (items values : ℕ) (o : Operation ℕ ℕ) : Type 0 where
   pub item : o.item < items
   pub value : IfSome o.value (λ v. v < values)
 
--- The bytes spell the numbered history, with each number of an item or a value named, and tell what is wanted. No two names are equal.
+-- The bytes spell the numbered history, with each number of an item or a value named, and tell what is wanted. No two
+-- names are equal.
 pub record IsReading (w : Wanted) (bytes : List ℕ) (r : Reading) : Type 0 where
   pub ids : List Json
   pub items : List Json

@@ -1,5 +1,5 @@
--- Where the number of a text is looked for: in slots, from a place on that its hash gives, a limited number of tries; texts that found
--- no free slot there have theirs in a map besides.
+-- Where the number of a text is looked for: in slots, from a place on that its hash gives, a limited number of tries;
+-- texts that found no free slot there have theirs in a map besides.
 use Rattle.std.specs.Prelude.{◌≡◌, ◌⊎◌, ℕ, suc, ◌+◌, ◌-◌, ◌*◌, ◌%◌, ◌^◌, ◌/◌, ◌<◌, List, [], ◌∷◌, ◌++◌, length, fold, Option, Some, slice_get}
 use Rattle.std.specs.Global.{Vec}
 use Rattle.std.specs.Int.Bits.{bit_and, bit_xor}

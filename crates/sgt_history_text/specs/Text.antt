@@ -46,7 +46,8 @@ pub record Spells (bytes : List ℕ) (ids : List Json) (h : List (Transaction Js
   pub apart : StandOnce ids
 
 -- and its lines tell what is wanted: when these ran, and their sessions
-pub record SpellsWith (w : Wanted) (bytes : List ℕ) (ids : List Json) (h : List (Transaction Json Json)) (times : List (Option Times))
+pub record SpellsWith (w : Wanted) (bytes : List ℕ) (ids : List Json) (h : List (Transaction Json Json))
+    (times : List (Option Times))
     (sessions : List (Option Json)) : Type 0 where
   pub spells : Spells bytes ids h
   pub tell : Tell w spells.lines h times sessions

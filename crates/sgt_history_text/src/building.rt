@@ -111,7 +111,8 @@ fn push_operation(
 ) -> Result<(), AllocError>
     requires { IsOperation (seen_operation lent.now) }
     ensures { (ids : List Json) (h : List (Transaction Json Json)) (begun : List (Operation Json Json))
-        → IsBuilt builder.old ids h begun → OnOk result (IsBuilt builder.new ids h (begun ++ seen_operation lent.now ∷ [])) }
+        → IsBuilt builder.old ids h begun
+        → OnOk result (IsBuilt builder.new ids h (begun ++ seen_operation lent.now ∷ [])) }
 {
     let operation = numbered(alloc, &mut builder.items, &mut builder.values, lent)?;
     builder.history.push(operation)?;
@@ -180,7 +181,8 @@ fn numbered_plain(
 ) -> Result<Operation<u32, u32>, AllocError>
     requires { IsPlain plain.now }
     ensures positive { IfOk result WritesPositive }
-    ensures numbered { (js vs : List Json) (p : Operation Json Json) → Means plain.now p → AreKept items.old js → AreKept values.old vs
+    ensures numbered { (js vs : List Json) (p : Operation Json Json) → Means plain.now p → AreKept items.old js
+        → AreKept values.old vs
         → IfOk result (λ o. IsNumberedOperation js vs p items.new values.new o) }
 {
     Ok(Operation {
@@ -198,8 +200,10 @@ fn push_plain(
     plain: &Operation<&[u8], &[u8]>,
 ) -> Result<(), AllocError>
     requires { IsPlain plain.now }
-    ensures { (ids : List Json) (h : List (Transaction Json Json)) (begun : List (Operation Json Json)) (p : Operation Json Json)
-        → IsBuilt builder.old ids h begun → Means plain.now p → OnOk result (IsBuilt builder.new ids h (begun ++ p ∷ [])) }
+    ensures { (ids : List Json) (h : List (Transaction Json Json)) (begun : List (Operation Json Json))
+        (p : Operation Json Json)
+        → IsBuilt builder.old ids h begun → Means plain.now p
+        → OnOk result (IsBuilt builder.new ids h (begun ++ p ∷ [])) }
 {
     let operation = numbered_plain(alloc, &mut builder.items, &mut builder.values, plain)?;
     builder.history.push(operation)?;
@@ -213,7 +217,8 @@ fn push_all_plain(
     operations: &[Operation<&[u8], &[u8]>],
 ) -> Result<(), AllocError>
     requires { All IsPlain operations.now }
-    ensures { (ids : List Json) (h : List (Transaction Json Json)) (ps : List (Operation Json Json)) → IsBuilt builder.old ids h []
+    ensures { (ids : List Json) (h : List (Transaction Json Json)) (ps : List (Operation Json Json))
+        → IsBuilt builder.old ids h []
         → MeanEach operations.now ps → OnOk result (IsBuilt builder.new ids h ps) }
 {
     for operation in operations {
@@ -229,7 +234,8 @@ pub(crate) fn add_plain(
     plain: &Plain<'_>,
 ) -> Result<bool, AllocError>
     requires { (id : Json) × (t : Transaction Json Json) × MeansLine plain.now id t }
-    ensures { (ids : List Json) (h : List (Transaction Json Json)) (id : Json) (t : Transaction Json Json) → IsBuilt builder.old ids h []
+    ensures { (ids : List Json) (h : List (Transaction Json Json)) (id : Json) (t : Transaction Json Json)
+        → IsBuilt builder.old ids h []
         → MeansLine plain.now id t → IfOk result (λ new. IsAdded ids h id t builder.new new) }
 {
     push_all_plain(alloc, builder, plain.operations.as_slice())?;

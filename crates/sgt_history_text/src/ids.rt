@@ -19,7 +19,8 @@ use std::marker::Model;
 
 /// The string or number that a token is.
 fn key_of(token: Token<'_>) -> Option<Value<'_>>
-    ensures is { MatchOption result (IsNoKey (token_of token.entry)) (λ v. json_tokens (value_view v) ≡ token_of token.entry ∷ []) }
+    ensures is { MatchOption result (IsNoKey (token_of token.entry))
+        (λ v. json_tokens (value_view v) ≡ token_of token.entry ∷ []) }
     ensures numbers { IsPrintableOrBad (token_of token.entry) → IfSome result (λ v. HasNumbers (value_view v)) }
 {
     match token {
@@ -96,7 +97,8 @@ impl Ids {
         Ok(Ids { table })
     }
 
-    /// The number of the id that the line is a text of, in whatever layout. `scratch` is room that is kept from line to line.
+    /// The number of the id that the line is a text of, in whatever layout. `scratch` is room that is kept from line
+    /// to line.
     pub fn find(
         &self,
         alloc: Global,

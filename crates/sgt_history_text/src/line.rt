@@ -26,7 +26,8 @@ fn parsed_text<'a>(
 ) -> Result<Option<Value<'a>>, AllocError>
     ensures { IfOk result (λ found. MatchOption found
         ((ms : Members) → tokens text.now ≡ json_tokens (object ms) → ⊥)
-        (λ v. (ms : Members) × (tokens text.now ≡ json_tokens (object ms)) × (value_view v ≡ object (read_members ms)))) }
+        (λ v. (ms : Members) × (tokens text.now ≡ json_tokens (object ms))
+        × (value_view v ≡ object (read_members ms)))) }
 {
     let mut reader = Reader::new(text, scratch)?;
     let Some(bracket) = opened(&mut reader) else {

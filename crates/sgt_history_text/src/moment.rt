@@ -23,7 +23,8 @@ pub(crate) struct LentMoment<'v, 'a> {
 
 /// When the transaction ran.
 fn times_of(value: &Value<'_>) -> Option<Times>
-    ensures { MatchOption result ((x : Times) → AreTimes (value_view value.now) x → ⊥) (AreTimes (value_view value.now)) }
+    ensures { MatchOption result ((x : Times) → AreTimes (value_view value.now) x
+        → ⊥) (AreTimes (value_view value.now)) }
 {
     let begin = version(value.get("begin")?)?;
     let done = version(value.get("done")?)?;
@@ -86,7 +87,8 @@ pub(crate) fn moment<'v, 'a>(
     commits: bool,
     value: &'v Value<'a>,
 ) -> Option<LentMoment<'v, 'a>>
-    ensures { MatchOption result (LacksMoment wanted commits (value_view value.now)) (IsMoment wanted commits (value_view value.now)) }
+    ensures { MatchOption result (LacksMoment wanted commits (value_view value.now))
+        (IsMoment wanted commits (value_view value.now)) }
 {
     let times = wanted_times(wanted.real_time, commits, value)?;
     let session = wanted_session(wanted.sessions, commits, value)?;

@@ -65,7 +65,8 @@ fn add_session(
 ) -> Result<(), AllocError>
     requires { IfSome (renamed_value seen entry) HasNumbers }
     ensures { (entries : List (Option Json)) → AreSessions names.old sessions.old.items entries
-        → OnOk result (AreSessions names.new sessions.new.items (with_entry wanted entries (renamed_value seen entry.entry))) }
+        → OnOk result
+        (AreSessions names.new sessions.new.items (with_entry wanted entries (renamed_value seen entry.entry))) }
 {
     if !wanted {
         return Ok(());
@@ -82,7 +83,8 @@ pub(crate) fn add_moment(
     lent: &LentMoment<'_, '_>,
 ) -> Result<(), AllocError>
     requires { IfSome (renamed_value seen lent.now.session) HasNumbers }
-    ensures { (w : Wanted) (lines : List (List ℕ)) (h : List (Transaction Json Json)) (line : List ℕ) (t : Transaction Json Json)
+    ensures { (w : Wanted) (lines : List (List ℕ)) (h : List (Transaction Json Json)) (line : List ℕ)
+        (t : Transaction Json Json)
         → AreMoments w moments.old lines h
         → IsWantedEntry (HasTimes line) w.real_time t.commits lent.now.times
         → IsWantedEntry (HasSession line) w.sessions t.commits (renamed_value seen lent.now.session)

@@ -1,5 +1,6 @@
-//! Lines in the plain layout: `{"tx":ID,"end":END,"ops":[OPERATION,..]}`, with no space, no escape and no other member. They are read at once,
-//! with no tokens and no copies. That a line isn't found to be one says nothing of it: who asks has another way.
+//! Lines in the plain layout: `{"tx":ID,"end":END,"ops":[OPERATION,..]}`, with no space, no escape and no other
+//! member. They are read at once, with no tokens and no copies. That a line isn't found to be one says nothing of it:
+//! who asks has another way.
 
 ghost use Rattle.std.specs.Prelude.{ℕ, ◌≡◌, ◌≢◌, ◌≤◌, ◌<◌, ◌-◌, ◌++◌, ◌∷◌, [], List, All, IfOk, IfSome, MatchOption, codes, decimal, drop, get_or, length, take, IsTrue, ◌^◌};
 ghost use Rattle.json.specs.Json.{Json, string};
@@ -164,7 +165,8 @@ fn value_at(bytes: &[u8], from: usize) -> Option<(&[u8], usize)>
 #[inline(always)]
 fn given_at(bytes: &[u8], from: usize) -> Option<(Option<&[u8]>, usize)>
     requires { from ≤ length bytes.now }
-    ensures { IfSome result (λ r. IfSome r.0 (λ v. IsCompactOf IsValue v.now) × Spans bytes.entry.now from (value_text r.0) r.1) }
+    ensures { IfSome result (λ r. IfSome r.0 (λ v. IsCompactOf IsValue v.now)
+        × Spans bytes.entry.now from (value_text r.0) r.1) }
 {
     let Some(at) = byte_at(bytes, from, b',') else {
         return Some((None, from));

@@ -53,15 +53,16 @@ pub enum HistoryText {
     Unreadable { line: u64, fault: LineFault },
 }
 
-/// One line more, given without its LF, where it is in the plain layout and nothing is wanted of it besides, or why it can't be read. None
-/// says nothing of the line, and nothing was added then.
+/// One line more, given without its LF, where it is in the plain layout and nothing is wanted of it besides, or why
+/// it can't be read. None says nothing of the line, and nothing was added then.
 fn take_plain(
     alloc: Global,
     builder: &mut Builder,
     moments: &Moments,
     line: &[u8],
 ) -> Result<Option<Option<LineFault>>, AllocError>
-    ensures { (w : Wanted) (lines : List (List ℕ)) (ids : List Json) (h : List (Transaction Json Json)) → IsBuilt builder.old ids h []
+    ensures { (w : Wanted) (lines : List (List ℕ)) (ids : List Json) (h : List (Transaction Json Json))
+        → IsBuilt builder.old ids h []
         → AreMoments w moments.now lines h → IfOk result (λ found. MatchOption found (IsBuilt builder.new ids h [])
         (IsTaken w lines ids h line.now builder.new moments.now)) }
 {
@@ -89,7 +90,8 @@ fn take_tokens(
     scratch: &mut Scratch,
     line: &[u8],
 ) -> Result<Option<LineFault>, AllocError>
-    ensures { (w : Wanted) (lines : List (List ℕ)) (ids : List Json) (h : List (Transaction Json Json)) → IsBuilt builder.old ids h []
+    ensures { (w : Wanted) (lines : List (List ℕ)) (ids : List Json) (h : List (Transaction Json Json))
+        → IsBuilt builder.old ids h []
         → AreMoments w moments.old lines h → IfOk result (IsTaken w lines ids h line.now builder.new moments.new) }
 {
     let Some(value) = parsed(alloc, line, scratch)? else {
@@ -117,7 +119,8 @@ fn take_line(
     scratch: &mut Scratch,
     line: &[u8],
 ) -> Result<Option<LineFault>, AllocError>
-    ensures { (w : Wanted) (lines : List (List ℕ)) (ids : List Json) (h : List (Transaction Json Json)) → IsBuilt builder.old ids h []
+    ensures { (w : Wanted) (lines : List (List ℕ)) (ids : List Json) (h : List (Transaction Json Json))
+        → IsBuilt builder.old ids h []
         → AreMoments w moments.old lines h → IfOk result (IsTaken w lines ids h line.now builder.new moments.new) }
 {
     if let Some(taken) = take_plain(alloc, builder, moments, line)? {
@@ -137,7 +140,8 @@ pub(crate) enum Stop {
 
 /// The number of the next line.
 fn next_line(builder: &Builder) -> u64
-    ensures { (ids : List Json) (h : List (Transaction Json Json)) → IsBuilt builder.now ids h [] → result ≡ length ids + 1 }
+    ensures { (ids : List Json) (h : List (Transaction Json Json)) → IsBuilt builder.now ids h []
+        → result ≡ length ids + 1 }
 {
     builder.ids.len() as u64 + 1
 }
@@ -207,7 +211,8 @@ fn read_lines<R: Source>(
 
 /// The history that was read, with its names.
 fn finished(builder: Builder, moments: Moments) -> Reading
-    ensures { (w : Wanted) (bytes : List ℕ) (ids : List Json) (h : List (Transaction Json Json)) → IsBuilt builder ids h []
+    ensures { (w : Wanted) (bytes : List ℕ) (ids : List Json) (h : List (Transaction Json Json))
+        → IsBuilt builder ids h []
         → (spells : Spells bytes ids h) → AreMoments w moments spells.lines h → IsReading w bytes result }
 {
     let Builder {
@@ -233,8 +238,8 @@ fn finished(builder: Builder, moments: Moments) -> Reading
     }
 }
 
-/// Reads a history, a transaction a line, and what is wanted besides of those that commit. Each line is read whole before the next, and
-/// no line behind the first that can't be read.
+/// Reads a history, a transaction a line, and what is wanted besides of those that commit. Each line is read whole
+/// before the next, and no line behind the first that can't be read.
 ///
 /// An Err is ReadFault, where a read failed or too many were needed, or Memory, where a growth was refused.
 pub fn read_history<R: Source>(

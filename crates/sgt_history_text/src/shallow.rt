@@ -1,4 +1,5 @@
-//! Values of JSON, read as far as a transaction's members go: what nests deeper is passed over, and stands as an empty array or object.
+//! Values of JSON, read as far as a transaction's members go: what nests deeper is passed over, and stands as an
+//! empty array or object.
 
 ghost use Rattle.std.specs.Prelude.{true, false, ◌≡◌, ◌++◌, ◌∷◌, ◌+◌, ◌≤◌, ◌<◌, List, IfOk, IfSome, MatchOption, length, if◌then◌else◌};
 ghost use Rattle.std.specs.Bool.{MatchBool};
@@ -142,7 +143,8 @@ fn leaves<'a>(alloc: Global, reader: &mut Reader<'a>) -> Result<Option<Value<'a>
     ensures fewer { length reader.new ≤ length reader.old }
     ensures read { IfOk result (λ found. MatchOption found
         ((rest : List SpecToken) → Closes false reader.old rest → ⊥)
-        (λ v. (js : Items) × (reader.old ≡ items_tokens js ++ reader.new) × (value_view v ≡ array (map_items leaf js)))) }
+        (λ v. (js : Items) × (reader.old ≡ items_tokens js ++ reader.new)
+        × (value_view v ≡ array (map_items leaf js)))) }
 {
     let mut found = Vec::new(alloc);
     'items: while !reader.take_end_array() {
@@ -174,7 +176,8 @@ fn lists<'a>(alloc: Global, reader: &mut Reader<'a>) -> Result<Option<Value<'a>>
     ensures fewer { length reader.new ≤ length reader.old }
     ensures read { IfOk result (λ found. MatchOption found
         ((rest : List SpecToken) → Closes false reader.old rest → ⊥)
-        (λ v. (js : Items) × (reader.old ≡ items_tokens js ++ reader.new) × (value_view v ≡ array (map_items (arrays leaf) js)))) }
+        (λ v. (js : Items) × (reader.old ≡ items_tokens js ++ reader.new)
+        × (value_view v ≡ array (map_items (arrays leaf) js)))) }
 {
     let mut found = Vec::new(alloc);
     'items: while !reader.take_end_array() {

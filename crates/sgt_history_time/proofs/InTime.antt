@@ -28,7 +28,8 @@ pub record InTime (order : List ℕ) (times : List (Option Times)) (n latest : �
   pub none : (i j first second : ℕ) → i < n → j ≤ i → slice_get order i ≡ Some first → slice_get order j ≡ Some second
       → IsBefore times first second → ⊥
 
-pub in_time-next : (order : List ℕ) (times : List (Option Times)) (n latest line next : ℕ) → InTime order times n latest → slice_get order n ≡ Some line
+pub in_time-next : (order : List ℕ) (times : List (Option Times)) (n latest line next : ℕ)
+    → InTime order times n latest → slice_get order n ≡ Some line
     → Passes times latest line next → InTime order times (n + 1) next
 in_time-next order times n latest line next so there p = record {
   most = most;
@@ -53,8 +54,24 @@ in_time-next order times n latest line next so there p = record {
     met some = elim p.met [
       | inl same ↦
           let b = so.met (omega (arith, some, same)) in
-          record { place = b.place; line = b.line; x = b.x; first = omega (arith, b.first); ran = b.ran; is = b.is ∙ sym same }
-      | inr (x, at, is) ↦ record { place = n; line = line; x = x; first = omega arith; ran = record { there = there; at = at }; is = sym is }
+          record {
+            place = b.place;
+            line = b.line;
+            x = b.x;
+            first = omega (arith, b.first);
+            ran = b.ran;
+            is = b.is
+                ∙ sym same;
+          }
+      | inr (x, at, is) ↦ record {
+        place = n;
+        line = line;
+        x = x;
+        first = omega arith;
+        ran =
+            record { there = there; at = at };
+        is = sym is;
+      }
     ]
 
     none : (i j first second : ℕ) → i < n + 1 → j ≤ i → slice_get order i ≡ Some first → slice_get order j ≡ Some second
@@ -68,19 +85,35 @@ in_time-next order times n latest line next so there p = record {
           absurd (omega (arith, own.1, early, before.before))
     ]
 
-pub in_time-lags : (order : List ℕ) (times : List (Option Times)) (n latest line : ℕ) → InTime order times n latest → slice_get order n ≡ Some line
+pub in_time-lags : (order : List ℕ) (times : List (Option Times)) (n latest line : ℕ) → InTime order times n latest
+    → slice_get order n ≡ Some line
     → Lags times latest line → KeepsRealTime order times → ⊥
 in_time-lags order times n latest line so there lags keeps = elim lags.late [
   | inl late ↦
       let b = so.met (omega (arith, late)) in
-      let before : IsBefore times line b.line = record { a = lags.x; b = b.x; first_at = lags.at; second_at = b.ran.at; before = omega (arith, late, b.is) } in
+      let before : IsBefore times line b.line = record {
+        a = lags.x;
+        b = b.x;
+        first_at = lags.at;
+        second_at =
+            b.ran.at;
+        before = omega (arith, late, b.is);
+      } in
       absurd (omega (arith, keeps n b.place line b.line there b.ran.there before, b.first))
   | inr late ↦
-      let before : IsBefore times line line = record { a = lags.x; b = lags.x; first_at = lags.at; second_at = lags.at; before = late } in
+      let before : IsBefore times line line = record {
+        a = lags.x;
+        b = lags.x;
+        first_at = lags.at;
+        second_at =
+            lags.at;
+        before = late;
+      } in
       absurd (omega (arith, keeps n n line line there there before))
 ]
 
-pub in_time-whole : (order : List ℕ) (times : List (Option Times)) (n latest : ℕ) → length order ≤ n → InTime order times n latest → KeepsRealTime order times
+pub in_time-whole : (order : List ℕ) (times : List (Option Times)) (n latest : ℕ) → length order ≤ n
+    → InTime order times n latest → KeepsRealTime order times
 in_time-whole order times n latest all so = λ i j first second at at' before. elim (cases_lt i j) [
   | inl lt ↦ lt
   | inr ge ↦ absurd (so.none i j first second (omega (arith, slice_get_within order i first at, all)) ge at at' before)

@@ -24,7 +24,8 @@ AreBelow count sessions = (line session : ℕ) → slice_get sessions line ≡ S
 
 -- of the line's session an earlier line or none came last
 pub record IsBehind (sessions last : List (Option ℕ)) (line : ℕ) : Type 0 where
-  pub behind : (session before : ℕ) → slice_get sessions line ≡ Some (Some session) → slice_get last session ≡ Some (Some before)
+  pub behind : (session before : ℕ) → slice_get sessions line ≡ Some (Some session)
+      → slice_get last session ≡ Some (Some before)
       → before ≤ line
 
 pub record IsAhead (sessions last : List (Option ℕ)) (line : ℕ) : Type 0 where
@@ -38,4 +39,5 @@ pub record IsAhead (sessions last : List (Option ℕ)) (line : ℕ) : Type 0 whe
 pub record IsNoted (sessions old : List (Option ℕ)) (line : ℕ) (new : List (Option ℕ)) : Type 0 where
   pub size : length new ≡ length old
   pub own : (session : ℕ) → slice_get sessions line ≡ Some (Some session) → slice_get new session ≡ Some (Some line)
-  pub others : (session : ℕ) → (slice_get sessions line ≡ Some (Some session) → ⊥) → slice_get new session ≡ slice_get old session
+  pub others : (session : ℕ) → (slice_get sessions line ≡ Some (Some session) → ⊥)
+      → slice_get new session ≡ slice_get old session

@@ -13,7 +13,8 @@ pub record ServesKeeping {I V S : Type 0} (h : List (Transaction I V)) (times : 
   pub in_sessions : KeepsSessions order sessions
 
 -- strict serializability where times are given, session serializability where sessions are
-abbrev pub IsSerializableKeeping : {I V S : Type 0} → List (Transaction I V) → List (Option Times) → List (Option S) → Type 0
+abbrev pub IsSerializableKeeping : {I V S : Type 0} → List (Transaction I V) → List (Option Times) → List (Option S)
+    → Type 0
 IsSerializableKeeping h times sessions = (order : List ℕ) × ServesKeeping h times sessions order
 
 -- only lines of committed transactions have entries

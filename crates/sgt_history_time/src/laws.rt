@@ -9,23 +9,29 @@ ghost use Rattle.sgt_history_time.specs.Serializable.{AreOfCommitted, IsSerializ
 ghost use Rattle.sgt_history_time.specs.Steps.{StandsBefore};
 ghost use Rattle.sgt_history_time.specs.declared.times.Times.{Times};
 
-/// Each of ww, wr, rw, po and rt makes its first transaction stand before its second in every order that serves and keeps.
+/// Each of ww, wr, rw, po and rt makes its first transaction stand before its second in every order that serves and
+/// keeps.
 pub fn steps_go_forward<I, V, S>()
-    ensures { (h : List (Transaction I V)) (times : List (Option Times)) (sessions : List (Option S)) → AreOfCommitted h times
+    ensures { (h : List (Transaction I V)) (times : List (Option Times)) (sessions : List (Option S))
+        → AreOfCommitted h times
         → AreOfCommitted h sessions → (order : List ℕ) → ServesKeeping h times sessions order → (from to : ℕ)
         → StandsBefore h times sessions from to → Precedes order from to }
 {}
 
 /// So where they form a cycle, no order serves and keeps.
 pub fn cycles_exclude_orders_that_keep<I, V, S>()
-    ensures { (h : List (Transaction I V)) (times : List (Option Times)) (sessions : List (Option S)) → AreOfCommitted h times
+    ensures { (h : List (Transaction I V)) (times : List (Option Times)) (sessions : List (Option S))
+        → AreOfCommitted h times
         → AreOfCommitted h sessions → (cycle : List ℕ) → IsCycle (StandsBefore h times sessions) cycle
         → IsSerializableKeeping h times sessions → ⊥ }
 {}
 
-/// An order of all committed transactions of a history without faults serves and keeps exactly where they all go forward in it.
+/// An order of all committed transactions of a history without faults serves and keeps exactly where they all go
+/// forward in it.
 pub fn orders_keep_exactly_where_steps_go_forward<S>()
-    ensures { (h : List (Transaction ℕ ℕ)) (times : List (Option Times)) (sessions : List (Option S)) (order : List ℕ) → ArePositive h
+    ensures { (h : List (Transaction ℕ ℕ)) (times : List (Option Times)) (sessions : List (Option S)) (order : List ℕ)
+        → ArePositive h
         → IsFaultless h → IsOrder h order → AreOfCommitted h times → AreOfCommitted h sessions
-        → ServesKeeping h times sessions order ↔ ((from to : ℕ) → StandsBefore h times sessions from to → Precedes order from to) }
+        → ServesKeeping h times sessions order ↔ ((from to : ℕ) → StandsBefore h times sessions from to
+        → Precedes order from to) }
 {}

@@ -123,7 +123,8 @@ fn above(count: usize, session: u32) -> usize
 /// Notes the line as the last of its session, unless a later one came before it: false then.
 fn note(sessions: &[Option<u32>], last: &mut Vec<Option<u32>>, line: u32) -> bool
     requires { AreBelow (length last.old.items) sessions.now }
-    ensures yes { IsTrue result → IsBehind sessions.now last.old.items line × IsNoted sessions.now last.old.items line last.new.items }
+    ensures yes { IsTrue result → IsBehind sessions.now last.old.items line
+        × IsNoted sessions.now last.old.items line last.new.items }
     ensures no { (IsTrue result → ⊥) → IsAhead sessions.now last.old.items line }
 {
     let Some(session) = session_at(sessions, line) else {

@@ -24,48 +24,60 @@ use Rattle.sgt_history_verdict.specs.Verdict.{IsBelow, IsFirstOf, IsLeastGraph, 
 use Rattle.sgt_history_verdict.proofs.Served.{cycle-of, order-excludes, order-least, order-serves}
 
 -- the edges of a graph join nodes
-pub edges-join : (h : List (Transaction ℕ ℕ)) (count : ℕ) (p : Parts) (g : Graph) (edges : List Edge) → HasEdges h p → length h ≡ count
+pub edges-join : (h : List (Transaction ℕ ℕ)) (count : ℕ) (p : Parts) (g : Graph) (edges : List Edge) → HasEdges h p
+    → length h ≡ count
     → edges ≡ part_of p g → All (nodes.JoinsNodes count) edges
 edges-join h count p g edges has size is =
-    subst (λ es. All (nodes.JoinsNodes count) es) (sym is) (subst (λ n. All (nodes.JoinsNodes n) (part_of p g)) size (has g).nodes)
+    subst (λ es. All (nodes.JoinsNodes count) es) (sym is) (subst (λ n. All (nodes.JoinsNodes n) (part_of p g)) size
+    (has g).nodes)
 
-pub found-cycle : (h : List (Transaction ℕ ℕ)) (p : Parts) (g : Graph) (edges : List Edge) → HasEdges h p → edges ≡ part_of p g → (cycle : List ℕ)
+pub found-cycle : (h : List (Transaction ℕ ℕ)) (p : Parts) (g : Graph) (edges : List Edge) → HasEdges h p
+    → edges ≡ part_of p g → (cycle : List ℕ)
     → nodes.IsCycle (nodes.Goes edges) cycle → IsCycle (ConflictIn h g) cycle
 found-cycle h p g edges has is cycle c = cycle-of h g edges (subst (AreEdgesOf h g) (sym is) (has g)) cycle c
 
-pub none-found : (h : List (Transaction ℕ ℕ)) (p : Parts) (g : Graph) (edges : List Edge) → HasEdges h p → edges ≡ part_of p g → (count : ℕ) (order : List ℕ)
+pub none-found : (h : List (Transaction ℕ ℕ)) (p : Parts) (g : Graph) (edges : List Edge) → HasEdges h p
+    → edges ≡ part_of p g → (count : ℕ) (order : List ℕ)
     → nodes.IsOrder count edges order → HasCycle h g → ⊥
-none-found h p g edges has is count order o = order-excludes h g edges (subst (AreEdgesOf h g) (sym is) (has g)) count order o
+none-found h p g edges has is count order o =
+    order-excludes h g edges (subst (AreEdgesOf h g) (sym is) (has g)) count order o
 
 -- a cycle of the graph is one of its edges
-chain-edges : (R S : ℕ → ℕ → Type 0) → ((a b : ℕ) → R a b → S a b) → (a : ℕ) (bs : List ℕ) → IsChain R a bs → nodes.IsChain S a bs
+chain-edges : (R S : ℕ → ℕ → Type 0) → ((a b : ℕ) → R a b → S a b) → (a : ℕ) (bs : List ℕ) → IsChain R a bs
+    → nodes.IsChain S a bs
 chain-edges R S f a [] chain = tt
 chain-edges R S f a (b ∷ bs) chain = (f a b chain.0, chain-edges R S f b bs chain.1)
 
-cycle-edges : (R S : ℕ → ℕ → Type 0) → ((a b : ℕ) → R a b → S a b) → (cycle : List ℕ) → IsCycle R cycle → nodes.IsCycle S cycle
+cycle-edges : (R S : ℕ → ℕ → Type 0) → ((a b : ℕ) → R a b → S a b) → (cycle : List ℕ) → IsCycle R cycle
+    → nodes.IsCycle S cycle
 cycle-edges R S f [] is = is
 cycle-edges R S f (a ∷ between) is = chain-edges R S f a (between ++ a ∷ []) is
 
-pub edge-cycle : (h : List (Transaction ℕ ℕ)) (p : Parts) (g : Graph) (edges : List Edge) → HasEdges h p → edges ≡ part_of p g → (cycle : List ℕ)
+pub edge-cycle : (h : List (Transaction ℕ ℕ)) (p : Parts) (g : Graph) (edges : List Edge) → HasEdges h p
+    → edges ≡ part_of p g → (cycle : List ℕ)
     → IsCycle (ConflictIn h g) cycle → nodes.IsCycle (nodes.Goes edges) cycle
 edge-cycle h p g edges has is cycle c =
     cycle-edges (ConflictIn h g) (nodes.Goes edges) (λ a b. (subst (AreEdgesOf h g) (sym is) (has g)).all a b) cycle c
 
-pub first-cycle : (h : List (Transaction ℕ ℕ)) (p : Parts) (g : Graph) (edges : List Edge) → HasEdges h p → edges ≡ part_of p g → (cycle : List ℕ)
+pub first-cycle : (h : List (Transaction ℕ ℕ)) (p : Parts) (g : Graph) (edges : List Edge) → HasEdges h p
+    → edges ≡ part_of p g → (cycle : List ℕ)
     → IsFirstCycle edges cycle → IsFirstOf h g cycle
 first-cycle h p g edges has is cycle f = record {
   is = found-cycle h p g edges has is cycle f.is;
   first = λ other c. f.first other (edge-cycle h p g edges has is other c);
 }
 
-pub no-cycle-told : (h : List (Transaction ℕ ℕ)) (p : Parts) (g : Graph) (edges : List Edge) → HasEdges h p → edges ≡ part_of p g → (found : Option (Vec ℕ Global))
+pub no-cycle-told : (h : List (Transaction ℕ ℕ)) (p : Parts) (g : Graph) (edges : List Edge) → HasEdges h p
+    → edges ≡ part_of p g → (found : Option (Vec ℕ Global))
     → TellsFirst edges found → found ≡ None → HasCycle h g → ⊥
 no-cycle-told h p g edges has is None none same (cycle, c) = none cycle (edge-cycle h p g edges has is cycle c)
 no-cycle-told h p g edges has is (Some x) first same c = absurd cc
 
-pub told-cycle-first : (h : List (Transaction ℕ ℕ)) (p : Parts) (g : Graph) (edges : List Edge) → HasEdges h p → edges ≡ part_of p g → (found : Option (Vec ℕ Global))
+pub told-cycle-first : (h : List (Transaction ℕ ℕ)) (p : Parts) (g : Graph) (edges : List Edge) → HasEdges h p
+    → edges ≡ part_of p g → (found : Option (Vec ℕ Global))
     (cycle : Vec ℕ Global) → TellsFirst edges found → found ≡ Some cycle → IsFirstOf h g cycle.items
-told-cycle-first h p g edges has is found cycle first same = first-cycle h p g edges has is cycle.items (subst (TellsFirst edges) same first)
+told-cycle-first h p g edges has is found cycle first same =
+    first-cycle h p g edges has is cycle.items (subst (TellsFirst edges) same first)
 
 -- ---- by graph
 
@@ -77,7 +89,8 @@ least-first h c = record { has = c; least = least }
     least WithReads b has = absurd b
     least Whole b has = absurd b
 
-pub least-second : (h : List (Transaction ℕ ℕ)) → (HasCycle h WriteWrite → ⊥) → HasCycle h WithReads → IsLeastGraph h WithReads
+pub least-second : (h : List (Transaction ℕ ℕ)) → (HasCycle h WriteWrite → ⊥) → HasCycle h WithReads
+    → IsLeastGraph h WithReads
 least-second h one c = record { has = c; least = least }
   where
     least : (less : Graph) → IsBelow less WithReads → HasCycle h less → ⊥
@@ -85,7 +98,8 @@ least-second h one c = record { has = c; least = least }
     least WithReads b has = absurd b
     least Whole b has = absurd b
 
-pub least-third : (h : List (Transaction ℕ ℕ)) → (HasCycle h WriteWrite → ⊥) → (HasCycle h WithReads → ⊥) → HasCycle h Whole → IsLeastGraph h Whole
+pub least-third : (h : List (Transaction ℕ ℕ)) → (HasCycle h WriteWrite → ⊥) → (HasCycle h WithReads → ⊥)
+    → HasCycle h Whole → IsLeastGraph h Whole
 least-third h one two c = record { has = c; least = least }
   where
     least : (less : Graph) → IsBelow less Whole → HasCycle h less → ⊥
@@ -95,7 +109,8 @@ least-third h one two c = record { has = c; least = least }
 
 -- ---- an order
 
-pub serial-by : (h : List (Transaction ℕ ℕ)) (count : ℕ) (touches : List Touch) (p : Parts) (edges : List Edge) (order : List ℕ) → IsDecidedFrom h count touches
+pub serial-by : (h : List (Transaction ℕ ℕ)) (count : ℕ) (touches : List Touch) (p : Parts) (edges : List Edge)
+    (order : List ℕ) → IsDecidedFrom h count touches
     → HasEdges h p → edges ≡ part_of p Whole → nodes.IsOrder count edges order → IsSerialBy h order
 serial-by h count touches p edges order from has is o =
     let are = subst (AreEdgesOf h Whole) (sym is) (has Whole) in
@@ -107,7 +122,8 @@ serial-by h count touches p edges order from has is o =
 
 -- ---- a history that is kept
 
-cut-positive : (begin : ℕ) (lines : List Line) (ops : List (Operation ℕ ℕ)) → All (λ (u : Operation ℕ ℕ). WritesPositive u) ops → ArePositive (cut begin lines ops)
+cut-positive : (begin : ℕ) (lines : List Line) (ops : List (Operation ℕ ℕ))
+    → All (λ (u : Operation ℕ ℕ). WritesPositive u) ops → ArePositive (cut begin lines ops)
 cut-positive begin [] ops all line place t o at there = absurd (omega (arith, slice_get_within [] line t at))
 cut-positive begin (l ∷ ls) ops all zero place t o at there =
     let P : Operation ℕ ℕ → Type 0 = λ u. WritesPositive u in
@@ -115,8 +131,11 @@ cut-positive begin (l ∷ ls) ops all zero place t o at there =
     let same = same_Some (record { commits = l.commits; operations = part }) t at in
     All_at P part place o (All-take P (l.end - begin) (drop begin ops) (All-drop P begin ops all))
     (ap (λ (u : Transaction ℕ ℕ). slice_get u.operations place) same ∙ there)
-cut-positive begin (l ∷ ls) ops all (suc line) place t o at there = cut-positive l.end ls ops all line place t o at there
+cut-positive begin (l ∷ ls) ops all (suc line) place t o at there =
+    cut-positive l.end ls ops all line place t o at there
 
-pub decided-from : (lines : List Line) (ops : List (Operation ℕ ℕ)) (touches : List Touch) → All (λ (u : Operation ℕ ℕ). WritesPositive u) ops
+pub decided-from : (lines : List Line) (ops : List (Operation ℕ ℕ)) (touches : List Touch)
+    → All (λ (u : Operation ℕ ℕ). WritesPositive u) ops
     → IsFaultlessBy (cut 0 lines ops) touches → IsDecidedFrom (cut 0 lines ops) (length lines) touches
-decided-from lines ops touches all by = record { size = length-cut 0 lines ops; positive = cut-positive 0 lines ops all; faultless = by }
+decided-from lines ops touches all by =
+    record { size = length-cut 0 lines ops; positive = cut-positive 0 lines ops all; faultless = by }

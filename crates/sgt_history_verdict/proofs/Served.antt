@@ -21,22 +21,27 @@ use Rattle.sgt_history_verdict.proofs.Kept.{kept-among, kept-back, kept-from, ke
 
 -- ---- cycles
 
-chain-on : (R S : ℕ → ℕ → Type 0) → ((a b : ℕ) → R a b → S a b) → (a : ℕ) (bs : List ℕ) → nodes.IsChain R a bs → IsChain S a bs
+chain-on : (R S : ℕ → ℕ → Type 0) → ((a b : ℕ) → R a b → S a b) → (a : ℕ) (bs : List ℕ) → nodes.IsChain R a bs
+    → IsChain S a bs
 chain-on R S f a [] h = tt
 chain-on R S f a (b ∷ bs) h = (f a b h.0, chain-on R S f b bs h.1)
 
-cycle-on : (R S : ℕ → ℕ → Type 0) → ((a b : ℕ) → R a b → S a b) → (cycle : List ℕ) → nodes.IsCycle R cycle → IsCycle S cycle
+cycle-on : (R S : ℕ → ℕ → Type 0) → ((a b : ℕ) → R a b → S a b) → (cycle : List ℕ) → nodes.IsCycle R cycle
+    → IsCycle S cycle
 cycle-on R S f [] h = h
 cycle-on R S f (a ∷ between) h = chain-on R S f a (between ++ a ∷ []) h
 
-pub cycle-of : (h : List (Transaction ℕ ℕ)) (g : Graph) (edges : List Edge) → AreEdgesOf h g edges → (cycle : List ℕ) → nodes.IsCycle (nodes.Goes edges) cycle
+pub cycle-of : (h : List (Transaction ℕ ℕ)) (g : Graph) (edges : List Edge) → AreEdgesOf h g edges → (cycle : List ℕ)
+    → nodes.IsCycle (nodes.Goes edges) cycle
     → IsCycle (ConflictIn h g) cycle
-cycle-of h g edges are = cycle-on (nodes.Goes edges) (ConflictIn h g) (λ a b goes. are.sound (record { from = a; to = b }) goes)
+cycle-of h g edges are =
+    cycle-on (nodes.Goes edges) (ConflictIn h g) (λ a b goes. are.sound (record { from = a; to = b }) goes)
 
 precedes-of : (order : List ℕ) (a b : ℕ) → nodes.Precedes order a b → Precedes order a b
 precedes-of order a b p = record { i = p.i; j = p.j; before = p.before; first_at = p.first_at; second_at = p.second_at }
 
-pub order-excludes : (h : List (Transaction ℕ ℕ)) (g : Graph) (edges : List Edge) → AreEdgesOf h g edges → (count : ℕ) (order : List ℕ)
+pub order-excludes : (h : List (Transaction ℕ ℕ)) (g : Graph) (edges : List Edge) → AreEdgesOf h g edges
+    → (count : ℕ) (order : List ℕ)
     → nodes.IsOrder count edges order → HasCycle h g → ⊥
 order-excludes h g edges are count order o (cycle, is) =
     no-cycle order o.once (ConflictIn h g) (λ a b c. precedes-of order a b (o.onward a b (are.all a b c))) cycle is
@@ -45,11 +50,15 @@ order-excludes h g edges are count order o (cycle, is) =
 
 pub committed-both : (h : List (Transaction ℕ ℕ)) (kind : Conflict) (a b x v w : ℕ) → HaveConflict h kind a b x v w
     → ((t : Transaction ℕ ℕ) × IsCommitted h a t) × ((u : Transaction ℕ ℕ) × IsCommitted h b u)
-committed-both h WriteWrite a b x v w (apart, first, second, next) = ((first.t, first.is.committed), (second.t, second.is.committed))
-committed-both h WriteRead a b x v w (apart, first, second, same) = ((first.t, first.is.committed), (second.t, second.is.committed))
-committed-both h ReadWrite a b x v w (apart, first, second, next) = ((first.t, first.is.committed), (second.t, second.is.committed))
+committed-both h WriteWrite a b x v w (apart, first, second, next) =
+    ((first.t, first.is.committed), (second.t, second.is.committed))
+committed-both h WriteRead a b x v w (apart, first, second, same) =
+    ((first.t, first.is.committed), (second.t, second.is.committed))
+committed-both h ReadWrite a b x v w (apart, first, second, next) =
+    ((first.t, first.is.committed), (second.t, second.is.committed))
 
-pub order-serves : (h : List (Transaction ℕ ℕ)) → ArePositive h → IsFaultless h → (edges : List Edge) → AreEdgesOf h graph.Whole edges → (order : List ℕ)
+pub order-serves : (h : List (Transaction ℕ ℕ)) → ArePositive h → IsFaultless h → (edges : List Edge)
+    → AreEdgesOf h graph.Whole edges → (order : List ℕ)
     → nodes.IsOrder (length h) edges order → Serves h (committed_in h order)
 order-serves h positive faultless edges are order o =
     serves h positive faultless (committed_in h order) (record {

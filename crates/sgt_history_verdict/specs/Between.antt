@@ -11,7 +11,8 @@ use Rattle.sgt_history_verdict.specs.Steps.{IsBest, IsStep, IsToldBefore, Leads,
 -- no conflict leads from the one line to the other; or this one does, and is told before all others
 abbrev pub IsLeastBetween : List (Transaction ℕ ℕ) → (ranks : List ℕ) → (a b : ℕ) → Option Step → Type 0
 IsLeastBetween h ranks a b None = ConflictIn h Whole a b → ⊥
-IsLeastBetween h ranks a b (Some s) = IsStep h Whole s × Leads s a b × ((t : Step) → IsStep h Whole t → Leads t a b → IsToldBefore ranks s t)
+IsLeastBetween h ranks a b (Some s) = IsStep h Whole s × Leads s a b × ((t : Step) → IsStep h Whole t → Leads t a b
+    → IsToldBefore ranks s t)
 
 -- so it is from each of the lines to the next, and from the last to the first
 pub record AreLeastAlong (h : List (Transaction ℕ ℕ)) (ranks lines : List ℕ) (found : List (Option Step)) : Type 0 where
@@ -21,7 +22,9 @@ pub record AreLeastAlong (h : List (Transaction ℕ ℕ)) (ranks lines : List �
 
 -- ---- of touches
 
-pub record AreBestAlong (touches : List Touch) (pairs : List Edge) (ranks lines : List ℕ) (found : List (Option Step)) : Type 0 where
+pub record AreBestAlong (touches : List Touch) (pairs : List Edge) (ranks lines : List ℕ)
+    (found : List (Option Step)) : Type 0 where
   pub size : length found ≡ length lines
   pub each : (place a b : ℕ) (o : Option Step) → slice_get found place ≡ Some o → slice_get lines place ≡ Some a
-      → slice_get lines (place_behind place (length lines)) ≡ Some b → IsBest touches pairs ranks (λ s. Leads s a b) (length pairs) o
+      → slice_get lines (place_behind place (length lines)) ≡ Some b
+      → IsBest touches pairs ranks (λ s. Leads s a b) (length pairs) o

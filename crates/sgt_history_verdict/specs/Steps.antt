@@ -91,7 +91,8 @@ IsOfPairs touches pairs s = (pair : Edge) × Contains pairs pair × IsOf touches
 
 -- of the steps of the first n pairs that are so it is the one that is told first, if there is one
 abbrev pub IsBest : List Touch → List Edge → (ranks : List ℕ) → (Step → Type 0) → ℕ → Option Step → Type 0
-IsBest touches pairs ranks Is n None = (k : ℕ) (pair : Edge) (t : Step) → k < n → slice_get pairs k ≡ Some pair → IsOf touches pair t → Is t → ⊥
+IsBest touches pairs ranks Is n None = (k : ℕ) (pair : Edge) (t : Step) → k < n → slice_get pairs k ≡ Some pair
+    → IsOf touches pair t → Is t → ⊥
 IsBest touches pairs ranks Is n (Some s) = IsOfPairs touches pairs s × Is s × ((k : ℕ) (pair : Edge) (t : Step) → k < n
     → slice_get pairs k ≡ Some pair → IsOf touches pair t → Is t → IsToldBefore ranks s t)
 
@@ -100,21 +101,25 @@ abbrev pub IsAlong : (behind : List (Option ℕ)) → ℕ → Step → Type 0
 IsAlong behind line s = (s.from ≡ line) × (slice_get behind line ≡ Some (Some s.to))
 
 -- so each line has the best of those from it
-abbrev pub AreBest : List Touch → List Edge → (ranks : List ℕ) → (behind : List (Option ℕ)) → ℕ → List (Option Step) → Type 0
+abbrev pub AreBest : List Touch → List Edge → (ranks : List ℕ) → (behind : List (Option ℕ)) → ℕ → List (Option Step)
+    → Type 0
 AreBest touches pairs ranks behind n best = (line : ℕ) (o : Option Step) → slice_get best line ≡ Some o
     → IsBest touches pairs ranks (IsAlong behind line) n o
 
--- they are steps of pairs, from each of the lines to the next, and from the last to the first, each the one that is told first
+-- they are steps of pairs, from each of the lines to the next, and from the last to the first, each the one that is
+-- told first
 pub record AreAlong (touches : List Touch) (pairs : List Edge) (ranks lines : List ℕ) (steps : List Step) : Type 0 where
   pub size : length steps ≡ length lines
   pub each : (place : ℕ) (s : Step) → slice_get steps place ≡ Some s → IsOfPairs touches pairs s
   pub starts : (place : ℕ) (s : Step) → slice_get steps place ≡ Some s → slice_get lines place ≡ Some s.from
   pub ends : (place : ℕ) (s : Step) → slice_get steps place ≡ Some s
       → slice_get lines (place_behind place (length lines)) ≡ Some s.to
-  pub first : (place : ℕ) (s t : Step) → slice_get steps place ≡ Some s → IsOfPairs touches pairs t → Leads t s.from s.to
+  pub first : (place : ℕ) (s t : Step) → slice_get steps place ≡ Some s → IsOfPairs touches pairs t
+      → Leads t s.from s.to
       → IsToldBefore ranks s t
 
 -- from each of the lines a step of a pair leads to the next, and from the last to the first
 abbrev pub LeadAlong : List Touch → List Edge → List ℕ → Type 0
 LeadAlong touches pairs lines = (place a b : ℕ) → slice_get lines place ≡ Some a
-    → slice_get lines (place_behind place (length lines)) ≡ Some b → (s : Step) × IsOfPairs touches pairs s × Leads s a b
+    → slice_get lines (place_behind place (length lines)) ≡ Some b → (s : Step) × IsOfPairs touches pairs s
+    × Leads s a b

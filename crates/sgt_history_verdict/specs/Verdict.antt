@@ -35,7 +35,8 @@ pub record MayFollow {I V : Type 0} (h : List (Transaction I V)) (written : List
 
 -- each is the least that may stand behind those before it
 abbrev pub IsLeastFirst : {I V : Type 0} → List (Transaction I V) → List ℕ → Type 0
-IsLeastFirst h order = (place line other : ℕ) → slice_get order place ≡ Some line → MayFollow h (take place order) other → line ≤ other
+IsLeastFirst h order = (place line other : ℕ) → slice_get order place ≡ Some line
+    → MayFollow h (take place order) other → line ≤ other
 
 -- the order serves, and has the least line first of those that may stand behind those before
 pub record IsSerialBy (h : List (Transaction ℕ ℕ)) (order : List ℕ) : Type 0 where

@@ -41,7 +41,8 @@ fn quickly(
     lines: &[u32],
 ) -> Result<Option<Vec<Option<Step>>>, AllocError>
     ensures { IfOk result (λ found. IfSome found (λ steps. (touches : List Touch) (pairs : List Edge) (ranks : List ℕ)
-        → AreBest touches pairs ranks behind.now (length pairs) best.now → AreBestAlong touches pairs ranks lines.now steps.items)) }
+        → AreBest touches pairs ranks behind.now (length pairs) best.now
+        → AreBestAlong touches pairs ranks lines.now steps.items)) }
 {
     let mut steps = Vec::new(alloc);
     for place in 0..lines.len() {
@@ -91,9 +92,10 @@ fn best_between(
     slowly(alloc, touches, pairs, ranks, lines)
 }
 
-/// Of the conflicts from each of the lines to the next, and from the last to the first, the least, or None where there is none: by kind
-/// (ww, wr, rw), by `ranks`, which say where the name of each item stands among the names, by version. Of a history without faults that
-/// has these touches, of which these pairs conflict. Takes time in proportion to lines and pairs, if no line stands twice. Err: memory ran out.
+/// Of the conflicts from each of the lines to the next, and from the last to the first, the least, or None where
+/// there is none: by kind (ww, wr, rw), by `ranks`, which say where the name of each item stands among the names, by
+/// version. Of a history without faults that has these touches, of which these pairs conflict. Takes time in
+/// proportion to lines and pairs, if no line stands twice. Err: memory ran out.
 pub fn conflicts_along(
     alloc: Global,
     touches: &[Touch],
@@ -103,7 +105,8 @@ pub fn conflicts_along(
 ) -> Result<Vec<Option<Step>>, AllocError>
     requires { HasPairs touches.now pairs.now }
     ensures size { IfOk result (λ found. length found.items ≡ length lines.now) }
-    ensures least { IfOk result (λ found. (h : List (Transaction ℕ ℕ)) → IsFaultlessBy h touches.now → AreLeastAlong h ranks.now lines.now found.items) }
+    ensures least { IfOk result (λ found. (h : List (Transaction ℕ ℕ)) → IsFaultlessBy h touches.now
+        → AreLeastAlong h ranks.now lines.now found.items) }
 {
     best_between(alloc, touches, edges_in(pairs, Graph::Whole), ranks, lines)
 }

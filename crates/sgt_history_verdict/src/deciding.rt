@@ -82,7 +82,8 @@ pub fn decide_faultless(
 ) -> Result<Verdict, AllocError>
     requires few { nodes ≤ 2 ^ 32 }
     requires from { (h : List (Transaction ℕ ℕ)) × IsDecidedFrom h nodes touches.items }
-    ensures { IfOk result (λ verdict. (h : List (Transaction ℕ ℕ)) → IsDecidedFrom h nodes touches.items → IsVerdict h verdict) }
+    ensures { IfOk result (λ verdict. (h : List (Transaction ℕ ℕ)) → IsDecidedFrom h nodes touches.items
+        → IsVerdict h verdict) }
 {
     let pairs = pairs_of(alloc, touches.as_slice())?;
     let edges = edges_of(touches.as_slice(), pairs);

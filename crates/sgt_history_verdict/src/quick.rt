@@ -41,8 +41,10 @@ fn is_along(behind: &[Option<u32>], step: &Step) -> bool
 
 /// Keeps the step with the best ones by line, if it is less than that of its line.
 fn keep(best: &mut [Option<Step>], ranks: &[u32], step: Step)
-    ensures { (touches : List Touch) (pairs : List Edge) (behind : List (Option ℕ)) (n : ℕ) (pair : Edge) → slice_get pairs n ≡ Some pair
-        → IsOf touches pair step → slice_get behind step.from ≡ Some (Some step.to) → AreBest touches pairs ranks.now behind n best.old
+    ensures { (touches : List Touch) (pairs : List Edge) (behind : List (Option ℕ)) (n : ℕ) (pair : Edge)
+        → slice_get pairs n ≡ Some pair
+        → IsOf touches pair step → slice_get behind step.from ≡ Some (Some step.to)
+        → AreBest touches pairs ranks.now behind n best.old
         → AreBest touches pairs ranks.now behind (n + 1) best.new }
 {
     let at = step.from as usize;
@@ -88,8 +90,11 @@ fn kept_along(
     best: &[Option<Step>],
     lines: &[u32],
 ) -> Result<Option<Vec<Step>>, AllocError>
-    ensures { IfOk result (λ found. IfSome found (λ steps. (touches : List Touch) (pairs : List Edge) (ranks : List ℕ) (behind : List (Option ℕ))
-        → AreBest touches pairs ranks behind (length pairs) best.now → AreAlong touches pairs ranks lines.now steps.items)) }
+    ensures { IfOk result
+        (λ found. IfSome found (λ steps. (touches : List Touch) (pairs : List Edge) (ranks : List ℕ)
+        (behind : List (Option ℕ))
+        → AreBest touches pairs ranks behind (length pairs) best.now
+        → AreAlong touches pairs ranks lines.now steps.items)) }
 {
     let mut steps = Vec::new(alloc);
     for place in 0..lines.len() {
@@ -101,8 +106,9 @@ fn kept_along(
     Ok(Some(steps))
 }
 
-/// The steps along these lines, if some are found, which they are where no line stands twice and each leads to the next. Of several from one line
-/// to another the least. Takes time in proportion to lines and pairs. That they are found isn't proved: who asks for them has another way.
+/// The steps along these lines, if some are found, which they are where no line stands twice and each leads to the
+/// next. Of several from one line to another the least. Takes time in proportion to lines and pairs. That they are
+/// found isn't proved: who asks for them has another way.
 pub(crate) fn quick_steps(
     alloc: Global,
     touches: &[Touch],
@@ -111,7 +117,8 @@ pub(crate) fn quick_steps(
     lines: &[u32],
 ) -> Result<Option<Vec<Step>>, AllocError>
     requires { All (JoinsTouches touches.now) pairs.now }
-    ensures { IfOk result (λ found. IfSome found (λ steps. AreAlong touches.now pairs.now ranks.now lines.now steps.items)) }
+    ensures { IfOk result
+        (λ found. IfSome found (λ steps. AreAlong touches.now pairs.now ranks.now lines.now steps.items)) }
 {
     let behind = lines_behind(alloc, lines)?;
     let best = best_steps(alloc, touches, pairs, ranks, behind.as_slice())?;

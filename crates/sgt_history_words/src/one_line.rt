@@ -104,7 +104,8 @@ impl OneLine {
         Ok(())
     }
 
-    /// What stands there: its first 40 characters, with control characters escaped; so are bytes from 128 of what is no UTF-8.
+    /// What stands there: its first 40 characters, with control characters escaped; so are bytes from 128 of what is
+    /// no UTF-8.
     pub(crate) fn show(&mut self, bytes: &[u8]) -> Result<(), AllocError> {
         if let Ok(text) = std::str::from_utf8(bytes) {
             return self.push_front(text);

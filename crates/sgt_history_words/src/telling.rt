@@ -100,7 +100,8 @@ fn push_id(alloc: Global, words: &mut OneLine, line: &[u8]) -> Result<(), AllocE
     }
 }
 
-/// Says what is wrong with the line of this number, which can't be read so: `sgt: line 4: no member "end"`, and an LF. None: nothing is.
+/// Says what is wrong with the line of this number, which can't be read so: `sgt: line 4: no member "end"`, and an
+/// LF. None: nothing is.
 pub fn unreadable(
     alloc: Global,
     number: u64,

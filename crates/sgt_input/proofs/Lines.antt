@@ -15,5 +15,5 @@ texts-one [] (y ∷ ys) h g e = absurd (no_line y (text_of_lines ys) (sym (first
 texts-one (x ∷ xs) [] h g e = absurd (no_line x (text_of_lines xs) (sym (first_line x xs) ∙ e))
 texts-one (x ∷ xs) (y ∷ ys) h g e =
     let cut = cut_at_byte 10 x y (text_of_lines xs) (text_of_lines ys) h.0 g.0 (sym (first_line x xs) ∙ e
-        ∙ first_line y ys) in
+    ∙ first_line y ys) in
     ap₂ (λ z zs. z ∷ zs) cut.0 (texts-one xs ys h.1 g.1 cut.1)

@@ -34,8 +34,13 @@ cut (b ∷ bytes) =
       | inr other ↦
           elim (cut bytes) [
             | inl none ↦ inl (other, none)
-            | inr c ↦ inr (record { line = b ∷ c.line; more = c.more; none = (other, c.none); text =
-                ap (λ cs. b ∷ cs) c.text })
+            | inr c ↦ inr (record {
+              line = b ∷ c.line;
+              more = c.more;
+              none = (other, c.none);
+              text =
+                  ap (λ cs. b ∷ cs) c.text;
+            })
           ]
     ]
 
@@ -63,13 +68,29 @@ module _ (begins : List (List ℕ) → Type 0) (known : (lines : List (List ℕ)
       (begun : begins before) where
     blocked : (f : NotationFault) → Blocks begins before rest f → Told
     blocked f blocks =
-        inr (length before + 1, f, record { before = before; rest = rest; text = text; begun = begun; number =
-        refl; blocks = blocks })
+        inr (
+          length before + 1,
+          f,
+          record {
+            before = before;
+            rest = rest;
+            text = text;
+            begun = begun;
+            number =
+                refl;
+            blocks = blocks;
+          },
+        )
 
     whole : rest ≡ [] → before ≢ [] → Told
     whole none some =
-        inl (before, begun, some, text ∙ ap (λ (t : List ℕ). text_of_lines before ++ t) none
-            ∙ append-nil (text_of_lines before))
+        inl (
+          before,
+          begun,
+          some,
+          text ∙ ap (λ (t : List ℕ). text_of_lines before ++ t) none
+              ∙ append-nil (text_of_lines before),
+        )
 
     -- no LF comes any more
     ending : HasNot 10 rest → Told
@@ -86,8 +107,12 @@ module _ (begins : List (List ℕ) → Type 0) (known : (lines : List (List ℕ)
                     ]
                 | inr more ↦
                     blocked NotALine
-                        (inr (record { none = no_lf rest none; short = short; empty =
-                        λ empty. let same : more.0 ∷ more.1 ≡ [] = sym more.2 ∙ empty in cc }))
+                    (inr (record {
+                      none = no_lf rest none;
+                      short = short;
+                      empty =
+                          λ empty. let same : more.0 ∷ more.1 ≡ [] = sym more.2 ∙ empty in cc;
+                    }))
               ]
         ]
 
@@ -100,16 +125,25 @@ module _ (begins : List (List ℕ) → Type 0) (known : (lines : List (List ℕ)
               let sum = length-append c.line (10 ∷ c.more) in
               let front : take (suc max_line) rest ≡ take (suc max_line) c.line =
               ap (take (suc max_line)) c.text
-                  ∙ take-append-le (suc max_line) c.line (10 ∷ c.more) (omega (arith, long)) in
-              blocked TooLong (omega (arith, long, all, sum),
-                  subst HasNoLf (sym front)
-                  (no_lf (take (suc max_line) c.line) (front-none (suc max_line) c.line c.none)))
+              ∙ take-append-le (suc max_line) c.line (10 ∷ c.more) (omega (arith, long)) in
+              blocked TooLong (
+                omega (arith, long, all, sum),
+                subst HasNoLf (sym front)
+                    (no_lf (take (suc max_line) c.line) (front-none (suc max_line) c.line c.none)),
+              )
           | inr short ↦
               elim (known (before ++ c.line ∷ [])) [
                 | inl goes ↦ on goes
                 | inr never ↦ blocked NotALine
-                    (inl (record { line = c.line; more = c.more; text = c.text; none = no_lf c.line c.none; short =
-                    short; not = never }))
+                    (inl (record {
+                      line = c.line;
+                      more = c.more;
+                      text = c.text;
+                      none = no_lf c.line c.none;
+                      short =
+                          short;
+                      not = never;
+                    }))
               ]
         ]
 
@@ -132,7 +166,7 @@ module _ (begins : List (List ℕ) → Type 0) (known : (lines : List (List ℕ)
             going before rest text begun c (λ goes.
             told-from k (before ++ c.line ∷ []) c.more (omega (arith, size, all, sum))
             (text ∙ ap (λ (t : List ℕ). text_of_lines before ++ t) c.text
-                ∙ sym (text-one_line before c.line c.more)) goes)
+            ∙ sym (text-one_line before c.line c.more)) goes)
       ]
 
   -- there is always one of the two

@@ -55,7 +55,7 @@ rest-line xs limit (Some bytes) (Some os) (Some ns) l rest gives =
 pub after-line : (begins took took' : List (List ℕ) → Type 0) (told : Option (List ℕ)) (limit n : ℕ)
     (old new : Option (List ℕ)) (l : List ℕ)
     (goes : Goes begins took told old n) → Gives limit old Line l new
-        → begins (goes.lines ++ l ∷ []) × took' (goes.lines ++ l ∷ [])
+    → begins (goes.lines ++ l ∷ []) × took' (goes.lines ++ l ∷ [])
     → Goes begins took' told new (n + 1)
 after-line begins took took' told limit n old new l goes gives takes =
     record {
@@ -70,17 +70,22 @@ after-line begins took took' told limit n old new l goes gives takes =
 pub still-goes : (begins took took' : List (List ℕ) → Type 0) (told coming : Option (List ℕ)) (n : ℕ) (held : List ℕ)
     (front : Option ℕ)
     → ((k : ℕ) → front ≡ Some k → ⊥) → ((lines : List (List ℕ)) → begins lines → took lines
-        → TakesFront begins took' lines held front)
+    → TakesFront begins took' lines held front)
     → Goes begins took told coming n → Goes begins took' told coming n
 still-goes begins took took' told coming n held None none takes goes =
-    record { lines = goes.lines; begun = goes.begun; taken = takes goes.lines goes.begun goes.taken; rest = goes.rest;
-        number = goes.number }
+    record {
+      lines = goes.lines;
+      begun = goes.begun;
+      taken = takes goes.lines goes.begun goes.taken;
+      rest = goes.rest;
+      number = goes.number;
+    }
 still-goes begins took took' told coming n held (Some k) none takes goes = absurd (none k refl)
 
 -- a line that is held whole, and is passed over with its LF
 gives-held : (ahead : Ahead) (told : Option (List ℕ)) (line : List ℕ) (m : ℕ) → HasNoLf line → length line ≤ max_line
     → ahead.held ≡ line ++ 10 ∷ drop m ahead.held
-        → Gives max_line (coming ahead told) Line line (coming (passed m ahead) told)
+    → Gives max_line (coming ahead told) Line line (coming (passed m ahead) told)
 gives-held ahead None line m none short text = tt
 gives-held ahead (Some bytes) line m none short text =
     (none, short, ap (λ (t : List ℕ). t ++ bytes) text ∙ append_assoc line (10 ∷ drop m ahead.held) bytes)
@@ -94,15 +99,15 @@ goes-passed : (begins took took' : List (List ℕ) → Type 0) (told rest : Opti
     (line : List ℕ) (m n failures failed asks asked : ℕ)
     → new ≡ passed m ahead → ahead.held ≡ line ++ 10 ∷ drop m ahead.held → HasNoLf line → length line ≤ max_line
     → (goes : Goes begins took told (coming ahead rest) n)
-        → begins (goes.lines ++ line ∷ []) × took' (goes.lines ++ line ∷ [])
+    → begins (goes.lines ++ line ∷ []) × took' (goes.lines ++ line ∷ [])
     → Counts told rest ahead n failures failed asks asked → Goes begins took' told (coming new rest) (n + 1)
-        × Counts told rest new (n + 1) failures failed asks asked
+    × Counts told rest new (n + 1) failures failed asks asked
 goes-passed begins took took' told rest ahead new line m n failures failed asks asked is text none short goes takes
     (quiet, spends, few, counted) =
     let P : Ahead → Type 0 = λ a. Goes begins took' told (coming a rest) (n + 1)
-        × Counts told rest a (n + 1) failures failed asks asked in
+    × Counts told rest a (n + 1) failures failed asks asked in
     let less : length (drop m ahead.held) + 1 ≤ length ahead.held =
-        omega (arith, ap length text, length-append line (10 ∷ drop m ahead.held)) in
+    omega (arith, ap length text, length-append line (10 ∷ drop m ahead.held)) in
     subst P (sym is) (
       after-line begins took took' told max_line n (coming ahead rest) (coming (passed m ahead) rest) line goes
           (gives-held ahead rest line m none short text) takes,
@@ -113,22 +118,22 @@ goes-passed begins took took' told rest ahead new line m n failures failed asks 
 pub front-passed : (begins took took' : List (List ℕ) → Type 0) (told rest : Option (List ℕ)) (ahead new : Ahead)
     (held : List ℕ) (front : Option ℕ) (m n failures failed asks asked : ℕ)
     → held ≡ ahead.held → front ≡ Some m → new ≡ passed m ahead → ((lines : List (List ℕ)) → begins lines → took lines
-        → TakesFront begins took' lines held front)
+    → TakesFront begins took' lines held front)
     → Goes begins took told (coming ahead rest) n → Counts told rest ahead n failures failed asks asked
     → Goes begins took' told (coming new rest) (n + 1) × Counts told rest new (n + 1) failures failed asks asked
 front-passed begins took took' told rest ahead new held front m n failures failed asks asked same is on takes goes
     counts =
     let at : TakesFront begins took' goes.lines held (Some m) =
-        subst (λ r. TakesFront begins took' goes.lines held r) is (takes goes.lines goes.begun goes.taken) in
+    subst (λ r. TakesFront begins took' goes.lines held r) is (takes goes.lines goes.begun goes.taken) in
     by (subst (λ (t : List ℕ). TakesFront begins took' goes.lines t (Some m)) same at)
   where
     by : TakesFront begins took' goes.lines ahead.held (Some m) → Goes begins took' told (coming new rest) (n + 1)
         × Counts told rest new (n + 1) failures failed asks asked
     by (line, within, at, none, short, begun, taken) =
         let text = sym (take-append-drop m ahead.held) ∙ ap (λ (t : List ℕ). t ++ drop m ahead.held) at
-            ∙ append_assoc line (10 ∷ []) (drop m ahead.held) in
+        ∙ append_assoc line (10 ∷ []) (drop m ahead.held) in
         goes-passed begins took took' told rest ahead new line m n failures failed asks asked on text none short goes
-            (begun, taken) counts
+        (begun, taken) counts
 
 -- the first LF of what is held stands there
 abbrev pub StandsAt : List ℕ → ℕ → Type 0
@@ -147,18 +152,18 @@ line-passed begins took took' told rest ahead new held lent taken k n failures f
     let take-at = subst (λ (t : List ℕ). TakesLine begins took' goes.lines (take k t) true) also
     (subst (λ b. TakesLine begins took' goes.lines (take k lent) b) is (takes goes.lines goes.begun goes.taken)) in
     goes-passed begins took took' told rest ahead new (take k ahead.held) (k + 1) n failures failed asks asked on at.2
-        at.1 (omega (arith, short, length-take k ahead.held)) goes take-at counts
+    at.1 (omega (arith, short, length-take k ahead.held)) goes take-at counts
 
 -- the line that was read was taken
 pub next-passed : (begins took took' : List (List ℕ) → Type 0) (told : Option (List ℕ)) (old new : Stream)
     (line lent : List ℕ) (taken : Bool) (n failed asks asks' asked : ℕ)
     → GaveNext max_line old Line line new → lent ≡ line → taken ≡ true
-        → asks' + new.ahead.reads ≡ asks + old.ahead.reads
+    → asks' + new.ahead.reads ≡ asks + old.ahead.reads
     → ((lines : List (List ℕ)) → begins lines → took lines → TakesLine begins took' lines lent taken)
     → Goes begins took told (coming old.ahead old.told) n
-        → Counts told old.told old.ahead n old.failures failed asks asked
+    → Counts told old.told old.ahead n old.failures failed asks asked
     → Goes begins took' told (coming new.ahead new.told) (n + 1)
-        × Counts told new.told new.ahead (n + 1) new.failures failed asks' asked
+    × Counts told new.told new.ahead (n + 1) new.failures failed asks' asked
 next-passed begins took took' told old new line lent taken n failed asks asks' asked gave same is read takes goes
     (quiet, spends, few, counted) =
     let at = subst (λ (t : List ℕ). TakesLine begins took' goes.lines t true) same
@@ -178,12 +183,19 @@ next-passed begins took took' told old new line lent taken n failed asks asks' a
 module _ (begins took : List (List ℕ) → Type 0) where
   stops-at : (told coming : Option (List ℕ)) (n : ℕ) (f : NotationFault) (goes : Goes begins took told coming n)
       → IfSome coming (λ rest. Blocks begins goes.lines rest f)
-          → IfSome told (λ bytes. IsFirstUnreadable begins bytes n f)
+      → IfSome told (λ bytes. IsFirstUnreadable begins bytes n f)
   stops-at None coming n f goes blocks = tt
   stops-at (Some bytes) None n f goes blocks = absurd goes.rest
   stops-at (Some bytes) (Some rest) n f goes blocks =
-      record { before = goes.lines; rest = rest; text = goes.rest; begun = goes.begun; number = goes.number; blocks =
-          blocks }
+      record {
+        before = goes.lines;
+        rest = rest;
+        text = goes.rest;
+        begun = goes.begun;
+        number = goes.number;
+        blocks =
+            blocks;
+      }
 
   line-blocks : (old new : Option (List ℕ)) (lines : List (List ℕ)) (l : List ℕ) → Gives max_line old Line l new
       → (begins (lines ++ l ∷ []) → ⊥)
@@ -220,7 +232,7 @@ module _ (begins took : List (List ℕ) → Type 0) where
   cut-blocks (Some xs) (Some ys) lines l gives =
       let P : List ℕ → Type 0 = λ t. Blocks begins lines t NotALine in
       subst P (sym gives.3)
-          (inr (record { none = gives.0; short = gives.2; empty = λ e. absurd (omega (arith, gives.1, ap length e)) }))
+      (inr (record { none = gives.0; short = gives.2; empty = λ e. absurd (omega (arith, gives.1, ap length e)) }))
 
   pub stops-cut : (told : Option (List ℕ)) (n : ℕ) (old new : Option (List ℕ)) (l : List ℕ)
       → Goes begins took told old n
@@ -254,8 +266,12 @@ module _ (begins took : List (List ℕ) → Type 0) where
   end-blocks (Some xs) (Some ys) lines l none gives =
       let P : List ℕ → Type 0 = λ t. Blocks begins lines t NotALine in
       subst P (sym gives.0)
-          (inr (record { none = λ k d less. absurd (omega arith); short = omega arith; empty =
-          λ e. no-lines lines none }))
+      (inr (record {
+        none = λ k d less. absurd (omega arith);
+        short = omega arith;
+        empty =
+            λ e. no-lines lines none;
+      }))
 
   pub stops-empty : (told : Option (List ℕ)) (n : ℕ) (old new : Option (List ℕ)) (l : List ℕ)
       → Goes begins took told old n → n ≤ 1

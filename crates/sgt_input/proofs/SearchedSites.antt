@@ -61,7 +61,7 @@ searched-lists {A} Is zero search Q each = decidable-as (λ q. ([], tt, q)) (λ 
     back (x ∷ xs) is q = absurd is
 searched-lists {A} Is (suc most) search Q each =
     one_of (each []) (searched-both Is (IsUpTo Is most) search (searched-lists Is most search) (λ p. Q (p.0 ∷ p.1))
-        (λ p. each (p.0 ∷ p.1)))
+    (λ p. each (p.0 ∷ p.1)))
   where
     one_of : Decidable (Q []) → Decidable ((p : A × List A) × (Is p.0 × IsUpTo Is most p.1) × Q (p.0 ∷ p.1))
         → Decidable ((xs : List A) × IsUpTo Is (suc most) xs × Q xs)
@@ -81,7 +81,7 @@ AreRising hs = IsRisingBy (λ (h : Holding). h.item) (slice_cmp nat_cmp) hs
 decidable-rising : (hs : List Holding) → Decidable (AreRising hs)
 decidable-rising hs =
     decidable-AllPairs (λ (a b : Holding). slice_cmp nat_cmp a.item b.item ≡ Less)
-        (λ a b. decidable-Less (slice_cmp nat_cmp a.item b.item)) hs
+    (λ a b. decidable-Less (slice_cmp nat_cmp a.item b.item)) hs
 
 pub searched-site_lines : IsSearched SiteLine IsSiteLine
 searched-site_lines Q each =
@@ -94,10 +94,12 @@ searched-site_lines Q each =
         rising = r.2.0;
       },
       r.2.1,
-    )) (λ r. ((r.0.site, r.0.items),
-        (r.1.site, up_to IsHolding max_items r.0.items (recursion_from_All IsHolding r.0.items r.1.each) r.1.room),
-        (r.1.rising, r.2)))
+    )) (λ r. (
+      (r.0.site, r.0.items),
+      (r.1.site, up_to IsHolding max_items r.0.items (recursion_from_All IsHolding r.0.items r.1.each) r.1.room),
+      (r.1.rising, r.2),
+    ))
     (searched-both IsSite (IsUpTo IsHolding max_items) searched-sites
-        (searched-lists IsHolding max_items searched-holdings)
+    (searched-lists IsHolding max_items searched-holdings)
     (λ (p : ℕ × List Holding). AreRising p.1 × Q (record { site = p.0; items = p.1 }))
     (λ p. decidable-both (decidable-rising p.1) (each (record { site = p.0; items = p.1 }))))

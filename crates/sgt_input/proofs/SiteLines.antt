@@ -61,7 +61,7 @@ site-short l is =
     let items = map (λ h. assignment h.item h.value) l.items in
     let site = is.site in
     let number : length (decimal l.site) ≤ 2 =
-        length-decimal-le 2 l.site (lit< tt) (omega (arith, site)) (omega (arith, site)) in
+    length-decimal-le 2 l.site (lit< tt) (omega (arith, site)) (omega (arith, site)) in
     let whole = join-short (codes "site") (decimal l.site ∷ items) (lit≤ tt) (omega (arith, number), items-short l.items (recursion_from_All IsHolding l.items is.each)) in
     let count : length items ≡ length l.items = length-map l.items (λ h. assignment h.item h.value) in
     omega (arith, whole, count, is.room)

@@ -59,7 +59,7 @@ two-ways [] ys r s h g e = inl (ys, refl, e)
 two-ways (x ∷ xs) [] r s h g e = inr (x ∷ xs, refl, sym e)
 two-ways (x ∷ xs) (y ∷ ys) r s h g e =
     let cut = cut_at_byte 10 x y (text_of_lines xs ++ r) (text_of_lines ys ++ s) h.0 g.0 (sym (line_front x xs r) ∙ e
-        ∙ line_front y ys s) in
+    ∙ line_front y ys s) in
     longer cut.0 (two-ways xs ys r s h.1 g.1 cut.1)
   where
     longer : x ≡ y → IsBehind xs ys r s ⊎ IsBehind ys xs s r
@@ -94,19 +94,37 @@ comes zero (b ∷ bs) = by (b == 10) refl
   where
     by : (t : Bool) → (b == 10) ≡ t → Comes zero (b ∷ bs)
     by true is =
-        inr (inl (record { line = []; more = bs; none = tt; short = omega arith; text =
-        ap (λ c. c ∷ bs) (eqb-true b 10 is) }))
+        inr (inl (record {
+          line = [];
+          more = bs;
+          none = tt;
+          short = omega arith;
+          text =
+              ap (λ c. c ∷ bs) (eqb-true b 10 is);
+        }))
     by false is = inr (inr (omega arith, (eqb-false b 10 is, tt)))
 comes (suc k) (b ∷ bs) = by (b == 10) refl (comes k bs)
   where
     by : (t : Bool) → (b == 10) ≡ t → Comes k bs → Comes (suc k) (b ∷ bs)
     by true is rest =
-        inr (inl (record { line = []; more = bs; none = tt; short = omega arith; text =
-        ap (λ c. c ∷ bs) (eqb-true b 10 is) }))
+        inr (inl (record {
+          line = [];
+          more = bs;
+          none = tt;
+          short = omega arith;
+          text =
+              ap (λ c. c ∷ bs) (eqb-true b 10 is);
+        }))
     by false is (inl h) = inl ((eqb-false b 10 is, h.0), omega (arith, h.1))
     by false is (inr (inl l)) =
-        inr (inl (record { line = b ∷ l.line; more = l.more; none = (eqb-false b 10 is, l.none); short =
-        omega (arith, l.short); text = ap (λ cs. b ∷ cs) l.text }))
+        inr (inl (record {
+          line = b ∷ l.line;
+          more = l.more;
+          none = (eqb-false b 10 is, l.none);
+          short =
+              omega (arith, l.short);
+          text = ap (λ cs. b ∷ cs) l.text;
+        }))
     by false is (inr (inr h)) = inr (inr (omega (arith, h.0), (eqb-false b 10 is, h.1)))
 
 shorter : (limit k : ℕ) (rest : List ℕ) (l : HasLine limit rest) → length rest ≤ suc k → length l.more ≤ k
@@ -118,12 +136,12 @@ module _ (begins : List (List ℕ) → Type 0) (are : AreInputs begins) where
       → Blocks begins before (z ++ 10 ∷ more) f → ⊥
   goes-on before z more NotALine begun plain (inl m) =
       let same = cut_at_byte 10 m.line z m.more more (recursion_from_All (λ b. b ≢ 10) m.line m.none) plain.0
-          (sym m.text) in
+      (sym m.text) in
       m.not (subst (λ (t : List ℕ). begins (before ++ t ∷ [])) (sym same.0) begun)
   goes-on before z more NotALine begun plain (inr k) = never 10 (z ++ 10 ∷ more) z more k.none refl
   goes-on before z more TooLong begun plain long =
       let same = next-one max_line (z ++ 10 ∷ more) next.Line next.TooLong z [] more (z ++ 10 ∷ more)
-          (no_lf z plain.0, plain.1, refl) (long, refl) in
+      (no_lf z plain.0, plain.1, refl) (long, refl) in
       line-not_long same.0
   goes-on before z more Memory begun plain blocks = blocks
 
@@ -139,8 +157,10 @@ module _ (begins : List (List ℕ) → Type 0) (are : AreInputs begins) where
   not-long : (before : List (List ℕ)) (rest : List ℕ) → Blocks begins before rest NotALine
       → IsLongerThan max_line rest → ⊥
   not-long before rest (inl m) long =
-      let same = next-one max_line rest next.Line next.TooLong m.line [] m.more rest (m.none, m.short, m.text) (long,
-          refl) in
+      let same = next-one max_line rest next.Line next.TooLong m.line [] m.more rest (m.none, m.short, m.text) (
+        long,
+        refl,
+      ) in
       line-not_long same.0
   not-long before rest (inr k) long = absurd (omega (arith, k.short, long.0))
 
@@ -167,7 +187,7 @@ module _ (begins : List (List ℕ) → Type 0) (are : AreInputs begins) where
   same-place xs ys r s f begun blocks ([], more, text) = (more ∙ append-nil xs, text)
   same-place xs ys r s f begun blocks (z ∷ zs, more, text) =
       absurd (not-further xs z zs s f (subst begins more begun)
-          (subst (λ (t : List ℕ). Blocks begins xs t f) text blocks))
+      (subst (λ (t : List ℕ). Blocks begins xs t f) text blocks))
 
   begins-no_lf : (xs : List (List ℕ)) → begins xs → AllByRecursion (HasNot 10) xs
   begins-no_lf xs begun = plain-no_lf xs (are.plain xs begun)
@@ -180,9 +200,11 @@ module _ (begins : List (List ℕ) → Type 0) (are : AreInputs begins) where
     where
       same : v.before ≡ u.before → u.rest ≡ v.rest → (n ≡ m) × (f ≡ g)
       same lines rest =
-          let number : n ≡ m = omega (arith, u.number, v.number, ap length lines) in
-          (number, one-fault u.before v.before u.rest f g u.blocks
-              (subst (λ (t : List ℕ). Blocks begins v.before t g) (sym rest) v.blocks))
+          let number : n ≡ m = omega (arith, u.number, v.number, ap length lines) in (
+            number,
+            one-fault u.before v.before u.rest f g u.blocks
+                (subst (λ (t : List ℕ). Blocks begins v.before t g) (sym rest) v.blocks),
+          )
 
       by : IsBehind u.before v.before u.rest v.rest ⊎ IsBehind v.before u.before v.rest u.rest → (n ≡ m) × (f ≡ g)
       by (inl b) = let p = same-place u.before v.before u.rest v.rest f v.begun u.blocks b in same p.0 p.1
@@ -210,19 +232,26 @@ module _ (begins : List (List ℕ) → Type 0) (are : AreInputs begins) where
   told : (bytes rest : List ℕ) (before : List (List ℕ)) (f : NotationFault) → bytes ≡ text_of_lines before ++ rest
       → begins before → Neither bytes → Blocks begins before rest f → ⊥
   told bytes rest before f text begun neither blocks =
-      neither.1 (length before + 1) f (record { before = before; rest = rest; text = text; begun = begun; number =
-          refl; blocks = blocks })
+      neither.1 (length before + 1) f (record {
+        before = before;
+        rest = rest;
+        text = text;
+        begun = begun;
+        number =
+            refl;
+        blocks = blocks;
+      })
 
   over : (bytes rest : List ℕ) (before : List (List ℕ)) → bytes ≡ text_of_lines before ++ rest → begins before
       → Neither bytes
       → (before ≡ []) ⊎ ((x : List ℕ) × (xs : List (List ℕ)) × (before ≡ x ∷ xs)) → HasNot 10 rest
-          → length rest ≤ max_line → ⊥
+      → length rest ≤ max_line → ⊥
   over bytes rest before text begun neither (inl none) h short =
       told bytes rest before NotALine text begun neither
-          (inr (record { none = no_lf rest h; short = short; empty = λ e. none }))
+      (inr (record { none = no_lf rest h; short = short; empty = λ e. none }))
   over bytes rest before text begun neither (inr (x, xs, same)) h short =
       told bytes rest before NotALine text begun neither
-          (inr (record { none = no_lf rest h; short = short; empty = λ e. absurd (ends e) }))
+      (inr (record { none = no_lf rest h; short = short; empty = λ e. absurd (ends e) }))
     where
       ends : rest ≡ [] → ⊥
       ends e = neither.0 before begun (λ none. nonempty x xs (sym same ∙ none))
@@ -240,13 +269,20 @@ module _ (begins : List (List ℕ) → Type 0) (are : AreInputs begins) where
       by (comes max_line rest) (λ (l : HasLine max_line rest) (goes : begins (before ++ l.line ∷ [])).
       input-or_fault k bytes l.more (before ++ l.line ∷ []) (shorter max_line k rest l size)
       (text ∙ ap (λ (t : List ℕ). text_of_lines before ++ t) l.text ∙ sym (text-one_line before l.line l.more)) goes
-          neither)
+      neither)
     where
       by : Comes max_line rest → ((l : HasLine max_line rest) → begins (before ++ l.line ∷ []) → ⊥) → ⊥
       by (inl h) then = over bytes rest before text begun neither (list_cases before) h.0 h.1
       by (inr (inl l)) then =
           told bytes rest before NotALine text begun neither
-          (inl (record { line = l.line; more = l.more; text = l.text; none = no_lf l.line l.none; short =
-              l.short; not = then l }))
+          (inl (record {
+            line = l.line;
+            more = l.more;
+            text = l.text;
+            none = no_lf l.line l.none;
+            short =
+                l.short;
+            not = then l;
+          }))
       by (inr (inr h)) then =
           told bytes rest before TooLong text begun neither (h.0, no_lf (take (max_line + 1) rest) h.1)

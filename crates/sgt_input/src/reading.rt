@@ -27,9 +27,9 @@ fn not_a_line(line: u64) -> Stop
     }
 }
 
-/// Hands line after line to what takes them, up to the first that can't be read or to the end of the input. That line is L2
-/// where it is longer than `MAX_LINE`, whatever it holds, with its LF or without; it is L1 where it isn't taken, where it has
-/// no LF, and where there is no line at all. No further read is made once it was read.
+/// Hands line after line to what takes them, up to the first that can't be read or to the end of the input. That line
+/// is L2 where it is longer than `MAX_LINE`, whatever it holds, with its LF or without; it is L1 where it isn't
+/// taken, where it has no LF, and where there is no line at all. No further read is made once it was read.
 ///
 /// An Err is ReadFault, where a read failed or too many were needed (`MOST_READS` of sgt_names), or Memory. How far was
 /// read then is not promised.

@@ -19,8 +19,8 @@ pub trait Taker {
         ensures { (lines : List (List ℕ)) → begins lines → took self.old lines
             → IfOk result (TakesLine begins (took self.new) lines line.now) };
 
-    /// Takes the line at the front of these bytes, if it has its LF there and an input may go on with it, and tells how many
-    /// bytes both have. None says nothing of the bytes, and leaves the line to `take`. Err: memory ran out.
+    /// Takes the line at the front of these bytes, if it has its LF there and an input may go on with it, and tells
+    /// how many bytes both have. None says nothing of the bytes, and leaves the line to `take`. Err: memory ran out.
     fn take_front(&mut self, _held: &[u8]) -> Result<Option<usize>, AllocError>
         requires { (lines : List (List ℕ)) × begins lines × took self.old lines }
         ensures { (lines : List (List ℕ)) → begins lines → took self.old lines

@@ -19,8 +19,8 @@ pub fn any_increment(entries: &[Entry]) -> bool
     entries.iter().any(|entry| entry.is_increment())
 }
 
-/// Writes lines 1 and 2: of the second format, if it is to be that, and of the certificate. Err: memory ran out, and some of
-/// them may be written.
+/// Writes lines 1 and 2: of the second format, if it is to be that, and of the certificate. Err: memory ran out, and
+/// some of them may be written.
 pub fn push_head(
     alloc: Global,
     out: &mut Vec<u8>,
@@ -39,8 +39,8 @@ pub fn push_head(
     out.extend_from_slice(b"\n")
 }
 
-/// Writes the section of a site: its items with their first values, its entries, and its items with their last values. Err:
-/// memory ran out, and some of it may be written.
+/// Writes the section of a site: its items with their first values, its entries, and its items with their last
+/// values. Err: memory ran out, and some of it may be written.
 pub fn push_section(
     out: &mut Vec<u8>,
     site: SiteNo,

@@ -5,7 +5,8 @@ use Rattle.std.specs.Io.KnownBytes.{Appends}
 use Rattle.sgt_names.specs.Device.{AppendsOrForgets}
 
 -- known bytes that grew by a, and then by b
-pub appends_on : (told mid new : Option (List ℕ)) (a b : List ℕ) → Appends told mid a → Appends mid new b → Appends told new (a ++ b)
+pub appends_on : (told mid new : Option (List ℕ)) (a b : List ℕ) → Appends told mid a → Appends mid new b
+    → Appends told new (a ++ b)
 appends_on None mid new a b first later = tt
 appends_on (Some xs) None new a b first later = absurd first
 appends_on (Some xs) (Some ys) None a b first later = absurd later

@@ -1,5 +1,5 @@
--- The definitions of a draft, shown on a small one: at site 0 x was read and written and w read and incremented, at site 1
--- y was read, z written and w incremented alone.
+-- The definitions of a draft, shown on a small one: at site 0 x was read and written and w read and incremented, at
+-- site 1 y was read, z written and w incremented alone.
 use Rattle.std.proofs.Common.{◌≡◌, ℕ, List, [], ◌∷◌, ◌++◌, Option, Some, None, refl, ap, subst, get_or, inl, inr}
 use Rattle.std.specs.Prelude.{codes, option_and_then, IfSome}
 use Rattle.std.proofs.lemmas.Bool.{eqb-false}
@@ -62,7 +62,13 @@ look-at_an_increment = refl
 pub look-at_an_increment_alone : look (1, w) ≡ None
 look-at_an_increment_alone = refl
 
-pub look-wraps : look_of (record { site = 0; item = w; seen = Some (record { value = 18446744073709551615; version = 1 }); change = Some (Add 3) }) ≡ Some 2
+pub look-wraps : look_of (record {
+  site = 0;
+  item = w;
+  seen =
+      Some (record { value = 18446744073709551615; version = 1 });
+  change = Some (Add 3);
+}) ≡ Some 2
 look-wraps = refl
 
 -- an increment behind a write is a write of the sum, behind an increment an increment by the sum, each modulo 2^64
@@ -75,7 +81,8 @@ add-to_a_write = refl
 pub add-to_an_increment : added_to (Some (Add 6)) 3 ≡ Add 9
 add-to_an_increment = refl
 
-pub add-wraps : (added_to (Some (Put 18446744073709551615)) 3 ≡ Put 2) × (added_to (Some (Add 18446744073709551615)) 3 ≡ Add 2)
+pub add-wraps : (added_to (Some (Put 18446744073709551615)) 3 ≡ Put 2)
+    × (added_to (Some (Add 18446744073709551615)) 3 ≡ Add 2)
 add-wraps = (refl, refl)
 
 -- the kept reads and the private changes of each site
@@ -103,11 +110,13 @@ unused-not_used (inr some) = absurd cc
 pub dropping-not_only : ChangesOnly (on_y ∷ on_z ∷ []) (on_y ∷ []) on_y → ⊥
 dropping-not_only changes = by_front changes.front changes.there changes.rest changes.was changes.is
   where
-    by_there : (there : Option Touch) (rest : List Touch) → on_y ∷ on_z ∷ [] ≡ option_to_list there ++ rest → on_y ∷ [] ≡ on_y ∷ rest → ⊥
+    by_there : (there : Option Touch) (rest : List Touch) → on_y ∷ on_z ∷ [] ≡ option_to_list there ++ rest
+        → on_y ∷ [] ≡ on_y ∷ rest → ⊥
     by_there None rest was is = absurd cc
     by_there (Some t) rest was is = absurd cc
 
-    by_front : (front : List Touch) (there : Option Touch) (rest : List Touch) → on_y ∷ on_z ∷ [] ≡ front ++ (option_to_list there ++ rest) → on_y ∷ [] ≡ front ++ on_y ∷ rest → ⊥
+    by_front : (front : List Touch) (there : Option Touch) (rest : List Touch)
+        → on_y ∷ on_z ∷ [] ≡ front ++ (option_to_list there ++ rest) → on_y ∷ [] ≡ front ++ on_y ∷ rest → ⊥
     by_front [] there rest was is = by_there there rest was is
     by_front (f ∷ []) there rest was is = absurd cc
     by_front (f ∷ g ∷ fs) there rest was is = absurd cc
@@ -119,11 +128,15 @@ replacing-not_only changes = by_front changes.front changes.there changes.rest c
     apart : place_of on_y ≡ place_of on_z → ⊥
     apart same = eqb-false 121 122 refl (ap (λ (p : Place). get_or p.1 0 0) same)
 
-    by_there : (there : Option Touch) (rest : List Touch) → on_y ∷ [] ≡ option_to_list there ++ rest → on_z ∷ [] ≡ on_z ∷ rest → IfSome there (λ t. place_of t ≡ place_of on_z) → ⊥
+    by_there : (there : Option Touch) (rest : List Touch) → on_y ∷ [] ≡ option_to_list there ++ rest
+        → on_z ∷ [] ≡ on_z ∷ rest → IfSome there (λ t. place_of t ≡ place_of on_z) → ⊥
     by_there None rest was is place = absurd cc
-    by_there (Some t) rest was is place = apart (subst (λ (u : Touch). place_of u ≡ place_of on_z) (let same : t ≡ on_y = cc in same) place)
+    by_there (Some t) rest was is place =
+        apart (subst (λ (u : Touch). place_of u ≡ place_of on_z) (let same : t ≡ on_y = cc in same) place)
 
-    by_front : (front : List Touch) (there : Option Touch) (rest : List Touch) → on_y ∷ [] ≡ front ++ (option_to_list there ++ rest) → on_z ∷ [] ≡ front ++ on_z ∷ rest → IfSome there (λ t. place_of t ≡ place_of on_z) → ⊥
+    by_front : (front : List Touch) (there : Option Touch) (rest : List Touch)
+        → on_y ∷ [] ≡ front ++ (option_to_list there ++ rest) → on_z ∷ [] ≡ front ++ on_z ∷ rest
+        → IfSome there (λ t. place_of t ≡ place_of on_z) → ⊥
     by_front [] there rest was is place = by_there there rest was is place
     by_front (f ∷ []) there rest was is place = absurd cc
     by_front (f ∷ g ∷ fs) there rest was is place = absurd cc

@@ -40,7 +40,8 @@ only_one (suc (suc (suc n))) e at = absurd cc
 
 -- an own read before an own write is no conflict
 pub own_read-no_conflict : (kind : Kind) (z : Name) (a b : ℕ) → Conflicts own_read kind z a b → ⊥
-own_read-no_conflict kind z a b c = c.apart (sym c.from ∙ only_one c.p c.e c.first ∙ sym (only_one c.q c.f c.second) ∙ c.to)
+own_read-no_conflict kind z a b c = c.apart (sym c.from ∙ only_one c.p c.e c.first ∙ sym (only_one c.q c.f c.second)
+    ∙ c.to)
 
 -- a read of 4 where the item is 5 is not legal
 pub wrong_read-not_legal : ReadsAreLegal items (Read 1 x 4 ∷ Write 1 x 6 ∷ Commit 1 ∷ []) → ⊥
@@ -109,10 +110,19 @@ ends Ww u clash apart = absurd clash.0
 
 pairs : PairsByRecursion Allowed only_cycle
 pairs = (
-  (reads, (own (Read 1 x 5) (Write 1 y 7) refl, (own (Read 1 x 5) (Commit 1) refl, (first_arc, (read_end 1 2 x 5, tt))))),
+  (
+    reads,
+    (
+      own (Read 1 x 5) (Write 1 y 7) refl,
+      (own (Read 1 x 5) (Commit 1) refl, (first_arc, (read_end 1 2 x 5, tt))),
+    ),
+  ),
   (
     (second_arc, (read_commit 2 1 y 2, (own (Read 2 y 2) (Want 2 x 8) refl, (own (Read 2 y 2) (Refuse 2) refl, tt)))),
-    ((own (Write 1 y 7) (Commit 1) refl, (other_items, (write_end, tt))), ((end_want, (ends, tt)), ((own (Want 2 x 8) (Refuse 2) refl, tt), (tt, tt)))),
+    (
+      (own (Write 1 y 7) (Commit 1) refl, (other_items, (write_end, tt))),
+      ((end_want, (ends, tt)), ((own (Want 2 x 8) (Refuse 2) refl, tt), (tt, tt))),
+    ),
   ),
 )
 
@@ -150,9 +160,11 @@ only_cycle-over_x = record {
 -- and no others
 pub only_cycle-no_others : (kind : Kind) (z : Name) (a b : ℕ) → Conflicts only_cycle kind z a b → IsOfCycle kind z a b
 only_cycle-no_others kind z a b c =
-    let here = AllPairs_at Allowed only_cycle c.p c.q c.e c.f (AllPairs-from_recursion Allowed only_cycle pairs) c.before c.first c.second in
+    let here = AllPairs_at Allowed only_cycle c.p c.q c.e c.f (AllPairs-from_recursion Allowed only_cycle pairs)
+    c.before c.first c.second in
     let apart = λ (same : tx_of c.e ≡ tx_of c.f). c.apart (sym c.from ∙ same ∙ c.to) in
-    subst (λ n. IsOfCycle kind z n b) c.from (subst (λ n. IsOfCycle kind z (tx_of c.e) n) c.to (here kind z c.clash apart))
+    subst (λ n. IsOfCycle kind z n b) c.from
+    (subst (λ n. IsOfCycle kind z (tx_of c.e) n) c.to (here kind z c.clash apart))
 
 -- a want leaves the value; a write changes that of its own item alone
 pub want-keeps : value_at items (Want 1 x 6 ∷ []) x ≡ Some 5
@@ -230,7 +242,10 @@ not_ended all =
 
 -- the log of the cycle is formed
 pub only_cycle-ended : AllEnded only_cycle
-only_cycle-ended = All-from_recursion (λ e. Any (λ f. IsEnd f × (tx_of f ≡ tx_of e)) only_cycle) only_cycle (by_1, (by_2, (by_1, (by_1, (by_2, (by_2, tt))))))
+only_cycle-ended = All-from_recursion (λ e. Any (λ f. IsEnd f × (tx_of f ≡ tx_of e)) only_cycle) only_cycle (
+  by_1,
+  (by_2, (by_1, (by_1, (by_2, (by_2, tt))))),
+)
   where
     by_1 : Any (λ f. IsEnd f × (tx_of f ≡ 1)) only_cycle
     by_1 = (3, Commit 1, lit< tt, refl, (tt, refl))
@@ -246,7 +261,8 @@ write_then_want-not_orderly o =
 
 -- a withdrawal is an end
 pub withdrawn-ended : AllEnded (Read 1 x 5 ∷ Withdraw 1 ∷ [])
-withdrawn-ended = All-from_recursion (λ e. Any (λ f. IsEnd f × (tx_of f ≡ tx_of e)) (Read 1 x 5 ∷ Withdraw 1 ∷ [])) (Read 1 x 5 ∷ Withdraw 1 ∷ []) (by_1, (by_1, tt))
+withdrawn-ended = All-from_recursion (λ e. Any (λ f. IsEnd f × (tx_of f ≡ tx_of e)) (Read 1 x 5 ∷ Withdraw 1 ∷ []))
+    (Read 1 x 5 ∷ Withdraw 1 ∷ []) (by_1, (by_1, tt))
   where
     by_1 : Any (λ f. IsEnd f × (tx_of f ≡ 1)) (Read 1 x 5 ∷ Withdraw 1 ∷ [])
     by_1 = (1, Withdraw 1, lit< tt, refl, (tt, refl))
@@ -267,9 +283,11 @@ write_commit : Once (Write 1 x 6) (Commit 1)
 write_commit z (same, inl both) = both.1
 write_commit z (same, inr both) = both.1
 
-own_blocks : (n : ℕ) (e : Entry) → slice_get own_read n ≡ Some e → IsOpen e → (f : Entry) × (slice_get own_read (suc n) ≡ Some f) × Continues e f
+own_blocks : (n : ℕ) (e : Entry) → slice_get own_read n ≡ Some e → IsOpen e
+    → (f : Entry) × (slice_get own_read (suc n) ≡ Some f) × Continues e f
 own_blocks zero e at open_ = absurd (subst IsOpen (sym (same_Some (Read 1 x 5) e at)) open_)
-own_blocks (suc zero) e at open_ = (Commit 1, refl, subst (λ f. Continues f (Commit 1)) (same_Some (Write 1 x 6) e at) refl)
+own_blocks (suc zero) e at open_ =
+    (Commit 1, refl, subst (λ f. Continues f (Commit 1)) (same_Some (Write 1 x 6) e at) refl)
 own_blocks (suc (suc zero)) e at open_ = absurd (subst IsOpen (sym (same_Some (Commit 1) e at)) open_)
 own_blocks (suc (suc (suc n))) e at open_ = absurd cc
 
@@ -282,10 +300,16 @@ Closes e f = IsEnd e → tx_of e ≢ tx_of f
 pub own_read-formed : IsFormed items own_read
 own_read-formed = (
   record {
-    known = All-from_recursion (λ e. ForSome (item_of e) (Contains (names items))) own_read (own_known, (own_known, (λ z h. absurd cc, tt)));
+    known = All-from_recursion (λ e. ForSome (item_of e) (Contains (names items))) own_read (
+      own_known,
+      (own_known, (λ z h. absurd cc, tt)),
+    );
     once = AllPairs-from_recursion Once own_read ((read_write, (read_commit_once, tt)), ((write_commit, tt), (tt, tt)));
     blocks = own_blocks;
-    closed = AllPairs-from_recursion Closes own_read ((λ is same. is, (λ is same. is, tt)), ((λ is same. is, tt), (tt, tt)));
+    closed = AllPairs-from_recursion Closes own_read (
+      (λ is same. is, (λ is same. is, tt)),
+      ((λ is same. is, tt), (tt, tt)),
+    );
   },
   All-from_recursion (λ e. Any (λ f. IsEnd f × (tx_of f ≡ tx_of e)) own_read) own_read (by_1, (by_1, (by_1, tt))),
 )
@@ -299,7 +323,8 @@ own_read-formed = (
 pub adds-add : value_at items (Add 2 x 4 ∷ Commit 2 ∷ Add 1 x 3 ∷ Commit 1 ∷ []) x ≡ Some 12
 adds-add = refl
 
-pub write-forgets_adds : value_at items (Add 1 x 4 ∷ Commit 1 ∷ Write 2 x 7 ∷ Commit 2 ∷ Add 3 x 2 ∷ Commit 3 ∷ []) x ≡ Some 9
+pub write-forgets_adds : value_at items (Add 1 x 4 ∷ Commit 1 ∷ Write 2 x 7 ∷ Commit 2 ∷ Add 3 x 2 ∷ Commit 3 ∷ []) x
+    ≡ Some 9
 write-forgets_adds = refl
 
 pub add-keeps_others : value_at items (Add 1 x 4 ∷ []) y ≡ Some 2
@@ -309,7 +334,8 @@ pub asked_add-keeps : value_at items (WantAdd 1 x 4 ∷ []) x ≡ Some 5
 asked_add-keeps = refl
 
 -- an increment overwrites nothing, nor does what was only asked for
-pub add-overwrites_nothing : (Overwrites x (Add 1 x 3) → ⊥) × (Overwrites x (WantAdd 1 x 3) → ⊥) × (Overwrites x (Want 1 x 3) → ⊥)
+pub add-overwrites_nothing : (Overwrites x (Add 1 x 3) → ⊥) × (Overwrites x (WantAdd 1 x 3) → ⊥)
+    × (Overwrites x (Want 1 x 3) → ⊥)
 add-overwrites_nothing = ((λ h. h), (λ h. h), (λ h. h))
 
 -- the sum is taken modulo 2^64
@@ -321,10 +347,12 @@ pub add-of_no_item : value_at [] (Add 1 x 1 ∷ []) x ≡ None
 add-of_no_item = refl
 
 -- an increment is in conflict with a read before it and a read behind it, and with a write; asked for, too
-pub add-clashes : Clash Wr x (Add 1 x 3) (Read 2 x 8) × Clash Rw x (Read 2 x 5) (Add 1 x 3) × Clash Ww x (Add 1 x 3) (Write 2 x 7) × Clash Ww x (Write 2 x 7) (Add 1 x 3)
+pub add-clashes : Clash Wr x (Add 1 x 3) (Read 2 x 8) × Clash Rw x (Read 2 x 5) (Add 1 x 3)
+    × Clash Ww x (Add 1 x 3) (Write 2 x 7) × Clash Ww x (Write 2 x 7) (Add 1 x 3)
 add-clashes = ((refl, refl), (refl, refl), (refl, refl, λ h g. absurd cc), (refl, refl, λ h g. absurd cc))
 
-pub asked_add-clashes : Clash Wr x (WantAdd 1 x 3) (Read 2 x 8) × Clash Rw x (Read 2 x 5) (WantAdd 1 x 3) × Clash Ww x (WantAdd 1 x 3) (Want 2 x 7) × Clash Ww x (Write 2 x 7) (WantAdd 1 x 3)
+pub asked_add-clashes : Clash Wr x (WantAdd 1 x 3) (Read 2 x 8) × Clash Rw x (Read 2 x 5) (WantAdd 1 x 3)
+    × Clash Ww x (WantAdd 1 x 3) (Want 2 x 7) × Clash Ww x (Write 2 x 7) (WantAdd 1 x 3)
 asked_add-clashes = ((refl, refl), (refl, refl), (refl, refl, λ h g. absurd cc), (refl, refl, λ h g. absurd cc))
 
 -- two writes stay in conflict
@@ -357,10 +385,12 @@ read_and_add-once z (same, inl both) = both.1
 read_and_add-once z (same, inr both) = both.0
 
 -- writes and increments share a block, and so do wants of both kinds
-pub changes-continue : Continues (Write 1 x 3) (Add 1 y 4) × Continues (Add 1 x 3) (Write 1 y 4) × Continues (Add 1 x 3) (Add 1 y 4) × Continues (Add 1 x 3) (Commit 1)
+pub changes-continue : Continues (Write 1 x 3) (Add 1 y 4) × Continues (Add 1 x 3) (Write 1 y 4)
+    × Continues (Add 1 x 3) (Add 1 y 4) × Continues (Add 1 x 3) (Commit 1)
 changes-continue = (refl, refl, refl, refl)
 
-pub wants-continue : Continues (Want 1 x 3) (WantAdd 1 y 4) × Continues (WantAdd 1 x 3) (Want 1 y 4) × Continues (WantAdd 1 x 3) (WantAdd 1 y 4) × Continues (WantAdd 1 x 3) (Refuse 1)
+pub wants-continue : Continues (Want 1 x 3) (WantAdd 1 y 4) × Continues (WantAdd 1 x 3) (Want 1 y 4)
+    × Continues (WantAdd 1 x 3) (WantAdd 1 y 4) × Continues (WantAdd 1 x 3) (Refuse 1)
 wants-continue = (refl, refl, refl, refl)
 
 pub add-not_refused : (Continues (Add 1 x 3) (Refuse 1) → ⊥) × (Continues (WantAdd 1 x 3) (Commit 1) → ⊥)

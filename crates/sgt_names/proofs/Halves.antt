@@ -13,21 +13,25 @@ abbrev AreBytes : List ℕ → Type 0
 AreBytes xs = (i : ℕ) → get_or xs i 0 < 256
 
 -- eight bytes with the number of eight others are those
-same_eight : (xs ys : List ℕ) → length xs ≡ 8 → length ys ≡ 8 → AreBytes xs → AreBytes ys → from_le_bytes w64 xs ≡ from_le_bytes w64 ys → xs ≡ ys
-same_eight xs ys long other fits fits' e = sym (le_bytes_8 xs (from_le_bytes w64 xs) long fits refl) ∙ le_bytes_8 ys (from_le_bytes w64 xs) other fits' e
+same_eight : (xs ys : List ℕ) → length xs ≡ 8 → length ys ≡ 8 → AreBytes xs → AreBytes ys
+    → from_le_bytes w64 xs ≡ from_le_bytes w64 ys → xs ≡ ys
+same_eight xs ys long other fits fits' e = sym (le_bytes_8 xs (from_le_bytes w64 xs) long fits refl)
+    ∙ le_bytes_8 ys (from_le_bytes w64 xs) other fits' e
 
 front-bytes : (xs : List ℕ) (n : ℕ) → n ≤ length xs → AreBytes xs → AreBytes (take n xs)
 front-bytes xs n le fits i =
     elim (cases_lt i n) [
       | inl less ↦ subst (λ b. b < 256) (sym (get_or-take n xs i 0 less)) (fits i)
-      | inr more ↦ subst (λ b. b < 256) (sym (get_or_past (take n xs) i 0 (omega (arith, length-take-le n xs le)))) (omega arith)
+      | inr more ↦ subst (λ b. b < 256) (sym (get_or_past (take n xs) i 0 (omega (arith, length-take-le n xs le))))
+          (omega arith)
     ]
 
 back-bytes : (xs : List ℕ) (n : ℕ) → AreBytes xs → AreBytes (drop n xs)
 back-bytes xs n fits i = subst (λ b. b < 256) (sym (get_or-drop n xs i 0)) (fits (n + i))
 
 halves-Decides : (xs ys : List ℕ) → length xs ≡ 16 → length ys ≡ 16 → AreBytes xs → AreBytes ys
-    → Decides (eqb (from_le_bytes w64 (take 8 xs)) (from_le_bytes w64 (take 8 ys)) && eqb (from_le_bytes w64 (drop 8 xs)) (from_le_bytes w64 (drop 8 ys))) (xs ≡ ys)
+    → Decides (eqb (from_le_bytes w64 (take 8 xs)) (from_le_bytes w64 (take 8 ys)) && eqb
+    (from_le_bytes w64 (drop 8 xs)) (from_le_bytes w64 (drop 8 ys))) (xs ≡ ys)
 halves-Decides xs ys long other fits fits' = (
   λ e. let both = passes _ e in
       let front = eqb→eq _ _ (and_l _ _ both) in
@@ -46,7 +50,8 @@ halves-Decides xs ys long other fits fits' = (
 
 -- both halves are compared at once
 pub same_halves : (xs ys : List ℕ) (f b g d : ℕ) → length xs ≡ 16 → length ys ≡ 16 → AreBytes xs → AreBytes ys
-    → f ≡ from_le_bytes w64 (take 8 xs) → b ≡ from_le_bytes w64 (drop 8 xs) → g ≡ from_le_bytes w64 (take 8 ys) → d ≡ from_le_bytes w64 (drop 8 ys)
+    → f ≡ from_le_bytes w64 (take 8 xs) → b ≡ from_le_bytes w64 (drop 8 xs) → g ≡ from_le_bytes w64 (take 8 ys)
+    → d ≡ from_le_bytes w64 (drop 8 ys)
     → (eqb f g && eqb b d) ≡ bytes_eq xs ys
 same_halves xs ys f b g d long other fits fits' ef eb eg ed =
     ap₂ (λ p q. p && q) (ap₂ eqb ef eg) (ap₂ eqb eb ed)

@@ -1,4 +1,5 @@
--- Increments: in which order changes of one item may be made, and what the last write and the increments behind it leave.
+-- Increments: in which order changes of one item may be made, and what the last write and the increments behind it
+-- leave.
 use Rattle.std.proofs.Common.{◌≡◌, ℕ, suc, ◌+◌, ◌%◌, ◌^◌, ◌<◌, Bool, true, List, [], ◌∷◌, ◌++◌, Option, Some, None, refl, sym, ap, ap₂, ◌∙◌, subst, arith, inl, inr, ◌⊎◌}
 use Rattle.std.specs.Prelude.{slice_get, fold}
 use Rattle.std.specs.List.{filter_map, cons_option, AllByRecursion}
@@ -33,19 +34,22 @@ abbrev pub after_changes : Option ℕ → List Change → Option ℕ
 after_changes o cs = fold value_with o cs
 
 -- two increments may change places
-adds-swap : (o : Option ℕ) (u v : ℕ) → value_with (value_with o (change.Add u)) (change.Add v) ≡ value_with (value_with o (change.Add v)) (change.Add u)
+adds-swap : (o : Option ℕ) (u v : ℕ)
+    → value_with (value_with o (change.Add u)) (change.Add v) ≡ value_with (value_with o (change.Add v)) (change.Add u)
 adds-swap None u v = refl
 adds-swap (Some w) u v = ap Some (omega arith)
 
 -- a change and an increment behind it are one change
-pub added-as_one : (o : Option ℕ) (c : Option Change) (v : ℕ) → value_with_any o (Some (added_to c v)) ≡ value_with (value_with_any o c) (change.Add v)
+pub added-as_one : (o : Option ℕ) (c : Option Change) (v : ℕ)
+    → value_with_any o (Some (added_to c v)) ≡ value_with (value_with_any o c) (change.Add v)
 added-as_one o None v = refl
 added-as_one o (Some (change.Put u)) v = refl
 added-as_one None (Some (change.Add u)) v = refl
 added-as_one (Some w) (Some (change.Add u)) v = ap Some (omega arith)
 
 -- an increment may go behind other increments
-add-behind : (o : Option ℕ) (u : ℕ) (cs rest : List Change) → AllByRecursion IsAdd cs → after_changes o (change.Add u ∷ (cs ++ rest)) ≡ after_changes o (cs ++ change.Add u ∷ rest)
+add-behind : (o : Option ℕ) (u : ℕ) (cs rest : List Change) → AllByRecursion IsAdd cs
+    → after_changes o (change.Add u ∷ (cs ++ rest)) ≡ after_changes o (cs ++ change.Add u ∷ rest)
 add-behind o u [] rest h = refl
 add-behind o u (change.Put v ∷ cs) rest h = absurd h.0
 add-behind o u (change.Add v ∷ cs) rest h =
@@ -66,11 +70,14 @@ joined p q = ap₂ (λ (a b : List Change). a ++ b) p q
 module _ {A : Type 0} (key : A → Option ℕ) (val : A → Option Change) where
   -- changes stand in rising key, but for two increments
   abbrev pub RisesButAdds : List A → Type 0
-  RisesButAdds xs = (m n : ℕ) (a b : A) (r s : ℕ) (v w : Change) → m < n → slice_get xs m ≡ Some a → slice_get xs n ≡ Some b → key a ≡ Some r → key b ≡ Some s → val a ≡ Some v → val b ≡ Some w
+  RisesButAdds xs = (m n : ℕ) (a b : A) (r s : ℕ) (v w : Change) → m < n → slice_get xs m ≡ Some a
+      → slice_get xs n ≡ Some b → key a ≡ Some r → key b ≡ Some s → val a ≡ Some v → val b ≡ Some w
       → (IsAdd v → IsAdd w → ⊥) → r < s
 
   -- what all changes with a key below k are
-  all-chosen : (P : Change → Type 0) (k : ℕ) (xs : List A) → ((n : ℕ) (a : A) (r : ℕ) (v : Change) → slice_get xs n ≡ Some a → key a ≡ Some r → val a ≡ Some v → r < k → P v) → AllByRecursion P (chosen key val (under k) xs)
+  all-chosen : (P : Change → Type 0) (k : ℕ) (xs : List A)
+      → ((n : ℕ) (a : A) (r : ℕ) (v : Change) → slice_get xs n ≡ Some a → key a ≡ Some r → val a ≡ Some v → r < k
+      → P v) → AllByRecursion P (chosen key val (under k) xs)
   all-chosen P k [] h = tt
   all-chosen P k (x ∷ xs) h =
       let rest = all-chosen P k xs (λ n a r v at ranked gives less. h (suc n) a r v at ranked gives less) in
@@ -79,47 +86,71 @@ module _ {A : Type 0} (key : A → Option ℕ) (val : A → Option Change) where
         | inr some ↦ elim (option_cases (key x)) [
           | inl none ↦ subst (AllByRecursion P) (sym (chosen-no key val (under k) x xs (ap (under k) none))) rest
           | inr ranked ↦ elim (cases_lt ranked.0 k) [
-            | inl less ↦ subst (AllByRecursion P) (sym (chosen-yes key val (under k) x xs (ap (under k) ranked.1 ∙ lt-ltb ranked.0 k less) ∙ ap (λ o. cons_option o (chosen key val (under k) xs)) some.1)) (h 0 x ranked.0 some.0 refl ranked.1 some.1 less, rest)
-            | inr more ↦ subst (AllByRecursion P) (sym (chosen-no key val (under k) x xs (ap (under k) ranked.1 ∙ le-ltb ranked.0 k more))) rest
+            | inl less ↦ subst (AllByRecursion P)
+                (sym (chosen-yes key val (under k) x xs (ap (under k) ranked.1 ∙ lt-ltb ranked.0 k less)
+                ∙ ap (λ o. cons_option o (chosen key val (under k) xs)) some.1))
+                (h 0 x ranked.0 some.0 refl ranked.1 some.1 less, rest)
+            | inr more ↦ subst (AllByRecursion P)
+                (sym (chosen-no key val (under k) x xs (ap (under k) ranked.1 ∙ le-ltb ranked.0 k more))) rest
           ]
         ]
       ]
 
   -- the change of key k may be made last: a put has nothing of smaller key behind it, an increment only increments
-  last-of-key : (c : Change) (cs es : List Change) (o : Option ℕ) → AllByRecursion (λ d. IsAdd c × IsAdd d) cs → after_changes o (c ∷ (cs ++ es)) ≡ after_changes o (cs ++ c ∷ es)
+  last-of-key : (c : Change) (cs es : List Change) (o : Option ℕ) → AllByRecursion (λ d. IsAdd c × IsAdd d) cs
+      → after_changes o (c ∷ (cs ++ es)) ≡ after_changes o (cs ++ c ∷ es)
   last-of-key c [] es o h = refl
   last-of-key (change.Put v) (d ∷ cs) es o h = absurd h.0.0
   last-of-key (change.Add v) (d ∷ cs) es o h = add-behind o v (d ∷ cs) es (both (change.Add v) (d ∷ cs) h)
 
   -- the value after the changes of key up to k: first those below it, and then those of k
-  pub changes-next : (k : ℕ) (xs : List A) → RisesButAdds xs → (o : Option ℕ) → after_changes o (chosen key val (under (k + 1)) xs) ≡ after_changes o (chosen key val (under k) xs ++ chosen key val (exactly k) xs)
+  pub changes-next : (k : ℕ) (xs : List A) → RisesButAdds xs → (o : Option ℕ)
+      → after_changes o (chosen key val (under (k + 1)) xs) ≡ after_changes o
+      (chosen key val (under k) xs ++ chosen key val (exactly k) xs)
   changes-next k [] h o = refl
   changes-next k (x ∷ xs) h o =
       let rest = changes-next k xs (λ m n a b r s v w lt. h (suc m) (suc n) a b r s v w (omega arith)) in
       elim (option_cases (val x)) [
-        | inl none ↦ ap (after_changes o) (chosen-silent key val (under (k + 1)) x xs none) ∙ rest o ∙ sym (ap (after_changes o) (joined (chosen-silent key val (under k) x xs none) (chosen-silent key val (exactly k) x xs none)))
+        | inl none ↦ ap (after_changes o) (chosen-silent key val (under (k + 1)) x xs none) ∙ rest o
+            ∙ sym (ap (after_changes o)
+            (joined (chosen-silent key val (under k) x xs none) (chosen-silent key val (exactly k) x xs none)))
         | inr some ↦ elim (option_cases (key x)) [
           | inl none ↦ ap (after_changes o) (chosen-no key val (under (k + 1)) x xs (ap (under (k + 1)) none)) ∙ rest o
-              ∙ sym (ap (after_changes o) (joined (chosen-no key val (under k) x xs (ap (under k) none)) (chosen-no key val (exactly k) x xs (ap (exactly k) none))))
+              ∙ sym (ap (after_changes o) (joined (chosen-no key val (under k) x xs (ap (under k) none))
+              (chosen-no key val (exactly k) x xs (ap (exactly k) none))))
           | inr ranked ↦
               let c = some.0 in
               let r = ranked.0 in
-              let with_c = λ (p : Option ℕ → Bool) (hit : p (key x) ≡ true). chosen-yes key val p x xs hit ∙ ap (λ q. cons_option q (chosen key val p xs)) some.1 in
+              let with_c = λ (p : Option ℕ → Bool) (hit : p (key x) ≡ true). chosen-yes key val p x xs hit
+              ∙ ap (λ q. cons_option q (chosen key val p xs)) some.1 in
               elim (cases_order r k) [
                 | inl same ↦
-                    let adds = all-chosen (λ d. IsAdd c × IsAdd d) k xs (λ n a s v at key_a val_a less. elim (adds_or c v) [
+                    let adds =
+                    all-chosen (λ d. IsAdd c × IsAdd d) k xs (λ n a s v at key_a val_a less. elim (adds_or c v) [
                       | inl two ↦ two
-                      | inr other ↦ let rises : r < s = h 0 (suc n) x a r s c v (omega arith) refl at ranked.1 key_a some.1 val_a other in absurd (omega arith)
+                      | inr other ↦ let rises : r < s =
+                          h 0 (suc n) x a r s c v (omega arith) refl at ranked.1 key_a some.1 val_a other in
+                          absurd (omega arith)
                     ]) in
-                    ap (after_changes o) (with_c (under (k + 1)) (ap (under (k + 1)) ranked.1 ∙ lt-ltb r (k + 1) (omega arith))) ∙ rest (value_with o c)
+                    ap (after_changes o) (with_c (under (k + 1)) (ap (under (k + 1)) ranked.1
+                    ∙ lt-ltb r (k + 1) (omega arith))) ∙ rest (value_with o c)
                     ∙ last-of-key c (chosen key val (under k) xs) (chosen key val (exactly k) xs) o adds
-                    ∙ sym (ap (after_changes o) (joined (chosen-no key val (under k) x xs (ap (under k) ranked.1 ∙ le-ltb r k (omega arith))) (with_c (exactly k) (ap (exactly k) ranked.1 ∙ eq-eqb r k same))))
+                    ∙ sym (ap (after_changes o)
+                    (joined (chosen-no key val (under k) x xs (ap (under k) ranked.1 ∙ le-ltb r k (omega arith)))
+                    (with_c (exactly k) (ap (exactly k) ranked.1 ∙ eq-eqb r k same))))
                 | inr (inl less) ↦
-                    ap (after_changes o) (with_c (under (k + 1)) (ap (under (k + 1)) ranked.1 ∙ lt-ltb r (k + 1) (omega arith))) ∙ rest (value_with o c)
-                    ∙ sym (ap (after_changes o) (joined (with_c (under k) (ap (under k) ranked.1 ∙ lt-ltb r k less)) (chosen-no key val (exactly k) x xs (ap (exactly k) ranked.1 ∙ ne_eqb r k (λ e. absurd (omega arith))))))
+                    ap (after_changes o) (with_c (under (k + 1)) (ap (under (k + 1)) ranked.1
+                    ∙ lt-ltb r (k + 1) (omega arith))) ∙ rest (value_with o c)
+                    ∙ sym (ap (after_changes o) (joined (with_c (under k) (ap (under k) ranked.1 ∙ lt-ltb r k less))
+                    (chosen-no key val (exactly k) x xs (ap (exactly k) ranked.1
+                    ∙ ne_eqb r k (λ e. absurd (omega arith))))))
                 | inr (inr more) ↦
-                    ap (after_changes o) (chosen-no key val (under (k + 1)) x xs (ap (under (k + 1)) ranked.1 ∙ le-ltb r (k + 1) (omega arith))) ∙ rest o
-                    ∙ sym (ap (after_changes o) (joined (chosen-no key val (under k) x xs (ap (under k) ranked.1 ∙ le-ltb r k (omega arith))) (chosen-no key val (exactly k) x xs (ap (exactly k) ranked.1 ∙ ne_eqb r k (λ e. absurd (omega arith))))))
+                    ap (after_changes o) (chosen-no key val (under (k + 1)) x xs (ap (under (k + 1)) ranked.1
+                    ∙ le-ltb r (k + 1) (omega arith))) ∙ rest o
+                    ∙ sym (ap (after_changes o)
+                    (joined (chosen-no key val (under k) x xs (ap (under k) ranked.1 ∙ le-ltb r k (omega arith)))
+                    (chosen-no key val (exactly k) x xs (ap (exactly k) ranked.1
+                    ∙ ne_eqb r k (λ e. absurd (omega arith))))))
               ]
         ]
       ]
@@ -166,24 +197,30 @@ goes_on_cases i (Commit j) h = (h, inr tt)
 goes_on_cases i _ h = absurd h
 
 -- the order of two neighbouring increments changes no value
-pub increments-swap : (o : Option ℕ) (front back : List Entry) (a b : Entry) (x : Name) → IsIncrement a → IsIncrement b → value_after o (front ++ a ∷ b ∷ back) x ≡ value_after o (front ++ b ∷ a ∷ back) x
+pub increments-swap : (o : Option ℕ) (front back : List Entry) (a b : Entry) (x : Name) → IsIncrement a
+    → IsIncrement b → value_after o (front ++ a ∷ b ∷ back) x ≡ value_after o (front ++ b ∷ a ∷ back) x
 increments-swap o front back a b x is_a is_b =
     let before = filter_map (change_of x) front in
     let after = filter_map (change_of x) back in
     let p = after_changes o before in
-    let whole = λ (d e : Entry). ap (after_changes o) (filter_map-append (change_of x) front (d ∷ e ∷ back)) ∙ fold-append value_with o before (filter_map (change_of x) (d ∷ e ∷ back)) in
+    let whole = λ (d e : Entry). ap (after_changes o) (filter_map-append (change_of x) front (d ∷ e ∷ back))
+    ∙ fold-append value_with o before (filter_map (change_of x) (d ∷ e ∷ back)) in
     whole a b ∙ elim (option_cases (change_of x a)) [
-      | inl none ↦ ap (λ t. after_changes p (cons_option t (cons_option (change_of x b) after))) none ∙ sym (ap (λ t. after_changes p (cons_option (change_of x b) (cons_option t after))) none)
+      | inl none ↦ ap (λ t. after_changes p (cons_option t (cons_option (change_of x b) after))) none
+          ∙ sym (ap (λ t. after_changes p (cons_option (change_of x b) (cons_option t after))) none)
       | inr first ↦ elim (option_cases (change_of x b)) [
-        | inl none ↦ ap (λ t. after_changes p (cons_option (change_of x a) (cons_option t after))) none ∙ sym (ap (λ t. after_changes p (cons_option t (cons_option (change_of x a) after))) none)
+        | inl none ↦ ap (λ t. after_changes p (cons_option (change_of x a) (cons_option t after))) none
+            ∙ sym (ap (λ t. after_changes p (cons_option t (cons_option (change_of x a) after))) none)
         | inr second ↦
             ap₂ (λ t u. after_changes p (cons_option t (cons_option u after))) first.1 second.1
-            ∙ ap (λ q. after_changes q after) (swap first.0 second.0 p (change-adds x a first.0 first.1 is_a) (change-adds x b second.0 second.1 is_b))
+            ∙ ap (λ q. after_changes q after) (swap first.0 second.0 p (change-adds x a first.0 first.1 is_a)
+            (change-adds x b second.0 second.1 is_b))
             ∙ sym (ap₂ (λ t u. after_changes p (cons_option u (cons_option t after))) first.1 second.1)
       ]
     ] ∙ sym (whole b a)
   where
-    swap : (c d : Change) (q : Option ℕ) → IsAdd c → IsAdd d → value_with (value_with q c) d ≡ value_with (value_with q d) c
+    swap : (c d : Change) (q : Option ℕ) → IsAdd c → IsAdd d
+        → value_with (value_with q c) d ≡ value_with (value_with q d) c
     swap (change.Add u) (change.Add v) q h g = adds-swap q u v
     swap (change.Put u) d q h g = absurd h
     swap (change.Add u) (change.Put v) q h g = absurd g
@@ -191,7 +228,8 @@ increments-swap o front back a b x is_a is_b =
 -- ---- what the last write and the increments behind it leave
 
 -- entries that don't overwrite the item add to it
-sum-is : (x : Name) (u : ℕ) (es : List Entry) → u < 2 ^ 64 → AllByRecursion (λ e. Overwrites x e → ⊥) es → value_after (Some u) es x ≡ Some ((u + sum_added x es) % 2 ^ 64)
+sum-is : (x : Name) (u : ℕ) (es : List Entry) → u < 2 ^ 64 → AllByRecursion (λ e. Overwrites x e → ⊥) es
+    → value_after (Some u) es x ≡ Some ((u + sum_added x es) % 2 ^ 64)
 sum-is x u [] small h = ap Some (omega arith)
 sum-is x u (Add tx y v ∷ es) small h =
     elim (cases_Bool (bytes_eq y x)) [
@@ -210,10 +248,13 @@ sum-is x u (Commit tx ∷ es) small h = sum-is x u es small h.1
 sum-is x u (Refuse tx ∷ es) small h = sum-is x u es small h.1
 sum-is x u (Withdraw tx ∷ es) small h = sum-is x u es small h.1
 
-pub value-from_first : (u : ℕ) (es : List Entry) (x : Name) → u < 2 ^ 64 → AllByRecursion (λ e. Overwrites x e → ⊥) es → value_after (Some u) es x ≡ Some ((u + sum_added x es) % 2 ^ 64)
+pub value-from_first : (u : ℕ) (es : List Entry) (x : Name) → u < 2 ^ 64 → AllByRecursion (λ e. Overwrites x e → ⊥) es
+    → value_after (Some u) es x ≡ Some ((u + sum_added x es) % 2 ^ 64)
 value-from_first u es x = sum-is x u es
 
-pub value-from_write : (o : Option ℕ) (front back : List Entry) (tx v : ℕ) (x : Name) → v < 2 ^ 64 → AllByRecursion (λ e. Overwrites x e → ⊥) back → value_after o (front ++ Write tx x v ∷ back) x ≡ Some ((v + sum_added x back) % 2 ^ 64)
+pub value-from_write : (o : Option ℕ) (front back : List Entry) (tx v : ℕ) (x : Name) → v < 2 ^ 64
+    → AllByRecursion (λ e. Overwrites x e → ⊥) back
+    → value_after o (front ++ Write tx x v ∷ back) x ≡ Some ((v + sum_added x back) % 2 ^ 64)
 value-from_write o front back tx v x small h =
     ap (after_changes o) (filter_map-append (change_of x) front (Write tx x v ∷ back))
     ∙ fold-append value_with o (filter_map (change_of x) front) (filter_map (change_of x) (Write tx x v ∷ back))

@@ -9,11 +9,13 @@ use lib.Lanes.{zip2, mask_l, top}
 use Rattle.sgt_names.specs.Stored.{first_set}
 
 -- an operation on two vectors that were computed lane by lane from v
-pub joined : (h : ℕ → ℕ → ℕ) (f g : ℕ → ℕ) (v : List ℕ) {a b : List ℕ} → a ≡ map f v → b ≡ map g v → zip2 h a b ≡ map (λ x. h (f x) (g x)) v
+pub joined : (h : ℕ → ℕ → ℕ) (f g : ℕ → ℕ) (v : List ℕ) {a b : List ℕ} → a ≡ map f v → b ≡ map g v
+    → zip2 h a b ≡ map (λ x. h (f x) (g x)) v
 joined h f g v p q = zip2_of_maps h f g v p q
 
 -- two tests that agree on bytes pass equally many
-prefix_same : (p q : ℕ → Bool) (v : List ℕ) → ((k : ℕ) → get_or v k 0 < 256) → agree_below p q 256 ≡ true → prefix_len p v ≡ prefix_len q v
+prefix_same : (p q : ℕ → Bool) (v : List ℕ) → ((k : ℕ) → get_or v k 0 < 256) → agree_below p q 256 ≡ true
+    → prefix_len p v ≡ prefix_len q v
 prefix_same p q [] fits all = refl
 prefix_same p q (x ∷ xs) fits all =
     ap (λ (t : Bool). cond t (1 + prefix_len p xs) 0) (agree_below_at p q 256 x all (fits 0))
@@ -45,7 +47,8 @@ step false n m r is = lt-leb (suc n) 0 (omega arith)
 pub front_all : (q : ℕ → Bool) (n : ℕ) (v : List ℕ) → n ≤ length v → leb n (prefix_len q v) ≡ list_all q (take n v)
 front_all q zero v le = le-leb 0 (prefix_len q v) (omega arith)
 front_all q (suc n) [] le = absurd (omega (arith, le))
-front_all q (suc n) (x ∷ xs) le = step (q x) n (prefix_len q xs) (list_all q (take n xs)) (front_all q n xs (omega (arith, le)))
+front_all q (suc n) (x ∷ xs) le =
+    step (q x) n (prefix_len q xs) (list_all q (take n xs)) (front_all q n xs (omega (arith, le)))
 
 -- ---- two vectors
 

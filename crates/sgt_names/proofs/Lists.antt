@@ -37,7 +37,8 @@ last_or-append o (x ∷ xs) ys = last_or-append (Some x) xs ys
 -- ---- what stands at a place
 
 -- the element that a loop has read
-pub element_at : {A : Type 0} (xs : List A) (n : ℕ) (x : A) → n < length xs → x ≡ get_or xs n x → slice_get xs n ≡ Some x
+pub element_at : {A : Type 0} (xs : List A) (n : ℕ) (x : A) → n < length xs → x ≡ get_or xs n x
+    → slice_get xs n ≡ Some x
 element_at xs n x within is = slice_get-get_or xs n x within ∙ ap Some (sym is)
 
 -- a place within a list has an element
@@ -54,23 +55,27 @@ front_at (y ∷ xs) ys (suc n) x at = front_at xs ys n x at
 
 pub back_at : {A : Type 0} (xs ys : List A) (n : ℕ) → slice_get (xs ++ ys) (length xs + n) ≡ slice_get ys n
 back_at [] ys n = ap (slice_get ys) (omega arith)
-back_at (x ∷ xs) ys n = ap (slice_get (x ∷ (xs ++ ys))) (let e : suc (length xs) + n ≡ suc (length xs + n) = omega arith in e) ∙ back_at xs ys n
+back_at (x ∷ xs) ys n = ap (slice_get (x ∷ (xs ++ ys))) (let e : suc (length xs) + n ≡ suc (length xs + n) =
+    omega arith in e) ∙ back_at xs ys n
 
 pub middle_at : {A : Type 0} (xs : List A) (y : A) (ys : List A) → slice_get (xs ++ y ∷ ys) (length xs) ≡ Some y
 middle_at [] y ys = refl
 middle_at (x ∷ xs) y ys = middle_at xs y ys
 
 -- in a list that is mapped
-pub map_at : {A B : Type 0} (f : A → B) (xs : List A) (n : ℕ) (y : B) → slice_get (map f xs) n ≡ Some y → (x : A) × (slice_get xs n ≡ Some x) × (f x ≡ y)
+pub map_at : {A B : Type 0} (f : A → B) (xs : List A) (n : ℕ) (y : B) → slice_get (map f xs) n ≡ Some y
+    → (x : A) × (slice_get xs n ≡ Some x) × (f x ≡ y)
 map_at f [] n y at = absurd cc
 map_at f (x ∷ xs) zero y at = (x, refl, same_Some (f x) y at)
 map_at f (x ∷ xs) (suc n) y at = map_at f xs n y at
 
 -- a loop's rest and front, one place further
 pub drop_next : {A : Type 0} (xs : List A) (n : ℕ) (x : A) → slice_get xs n ≡ Some x → drop n xs ≡ x ∷ drop (n + 1) xs
-drop_next xs n x at = drop-cons xs n x (slice_get_within xs n x at) ∙ ap₂ (λ y m. y ∷ drop m xs) (get_or_from_slice_get xs n x x at) (sym (add-one n))
+drop_next xs n x at = drop-cons xs n x (slice_get_within xs n x at)
+    ∙ ap₂ (λ y m. y ∷ drop m xs) (get_or_from_slice_get xs n x x at) (sym (add-one n))
 
-pub take_next : {A : Type 0} (xs : List A) (n : ℕ) (x : A) → slice_get xs n ≡ Some x → take (n + 1) xs ≡ take n xs ++ x ∷ []
+pub take_next : {A : Type 0} (xs : List A) (n : ℕ) (x : A) → slice_get xs n ≡ Some x
+    → take (n + 1) xs ≡ take n xs ++ x ∷ []
 take_next xs n x at = ap (λ m. take m xs) (add-one n) ∙ take-next xs n x at
 
 -- ---- a fact about all elements, or about one
@@ -81,14 +86,16 @@ All_in P xs x all c = let at = Contains_at xs x c in All_at P xs at.0 x all at.1
 pub All-weaken : {A : Type 0} (P Q : A → Type 0) (xs : List A) → ((x : A) → P x → Q x) → All P xs → All Q xs
 All-weaken P Q xs f all = λ n d within. f (get_or xs n d) (all n d within)
 
-pub Any_at : {A : Type 0} (P : A → Type 0) (xs : List A) → Any P xs → (n : ℕ) × (x : A) × (slice_get xs n ≡ Some x) × P x
+pub Any_at : {A : Type 0} (P : A → Type 0) (xs : List A) → Any P xs → (n : ℕ) × (x : A) × (slice_get xs n ≡ Some x)
+    × P x
 Any_at P xs any = (any.0, any.1, slice_get-get_or xs any.0 any.1 any.2 ∙ ap Some any.3, any.4)
 
 pub Any-from_at : {A : Type 0} (P : A → Type 0) (xs : List A) (n : ℕ) (x : A) → slice_get xs n ≡ Some x → P x → Any P xs
 Any-from_at P xs n x at p = (n, x, slice_get_within xs n x at, get_or_from_slice_get xs n x x at, p)
 
 -- of a loop's front, one place further, and at its end
-pub All-next : {A : Type 0} (P : A → Type 0) (xs : List A) (n : ℕ) (x : A) → slice_get xs n ≡ Some x → P x → All P (take n xs) → All P (take (n + 1) xs)
+pub All-next : {A : Type 0} (P : A → Type 0) (xs : List A) (n : ℕ) (x : A) → slice_get xs n ≡ Some x → P x
+    → All P (take n xs) → All P (take (n + 1) xs)
 All-next P xs n x at p all = subst (All P) (sym (take_next xs n x at)) (All-push P (take n xs) x all p)
 
 pub All-whole : {A : Type 0} (P : A → Type 0) (xs : List A) (n : ℕ) → length xs ≤ n → All P (take n xs) → All P xs
@@ -96,17 +103,22 @@ All-whole P xs n most all = subst (All P) (take_all n xs most) all
 
 -- of a list that is mapped
 pub All-map : {A B : Type 0} (P : B → Type 0) (f : A → B) (xs : List A) → All P (map f xs) → All (λ x. P (f x)) xs
-All-map P f xs all = All-from_at (λ x. P (f x)) xs (λ n x at. All_at P (map f xs) n (f x) all (slice_get-map f xs n ∙ ap (option_map f) at))
+All-map P f xs all =
+    All-from_at (λ x. P (f x)) xs (λ n x at. All_at P (map f xs) n (f x) all (slice_get-map f xs n
+    ∙ ap (option_map f) at))
 
 pub All-from_map : {A B : Type 0} (P : B → Type 0) (f : A → B) (xs : List A) → All (λ x. P (f x)) xs → All P (map f xs)
-All-from_map P f xs all = All-from_at P (map f xs) (λ n y at. let x = map_at f xs n y at in subst P x.2 (All_at (λ x. P (f x)) xs n x.0 all x.1))
+All-from_map P f xs all = All-from_at P (map f xs) (λ n y at. let x = map_at f xs n y at in
+    subst P x.2 (All_at (λ x. P (f x)) xs n x.0 all x.1))
 
-pub AllByRecursion-append : {A : Type 0} (P : A → Type 0) (xs ys : List A) → AllByRecursion P xs → AllByRecursion P ys → AllByRecursion P (xs ++ ys)
+pub AllByRecursion-append : {A : Type 0} (P : A → Type 0) (xs ys : List A) → AllByRecursion P xs → AllByRecursion P ys
+    → AllByRecursion P (xs ++ ys)
 AllByRecursion-append P [] ys front back = back
 AllByRecursion-append P (x ∷ xs) ys front back = (front.0, AllByRecursion-append P xs ys front.1 back)
 
 -- ---- what is chosen of a list
 
-pub filter_map-none : {A B : Type 0} (f : A → Option B) (xs : List A) → ((n : ℕ) (x : A) → slice_get xs n ≡ Some x → f x ≡ None) → filter_map f xs ≡ []
+pub filter_map-none : {A B : Type 0} (f : A → Option B) (xs : List A)
+    → ((n : ℕ) (x : A) → slice_get xs n ≡ Some x → f x ≡ None) → filter_map f xs ≡ []
 filter_map-none f [] none = refl
 filter_map-none f (x ∷ xs) none = let e = none 0 x refl in rw e (filter_map-none f xs (λ n y at. none (suc n) y at))

@@ -32,7 +32,8 @@ pub front : (xs : List ℕ) (k : ℕ) → All IsByte xs → take_while is_positi
 front [] zero all = refl
 front [] (suc k) all = refl
 front (zero ∷ xs) k all = absurd (omega (arith, All_at IsByte (zero ∷ xs) 0 0 all refl))
-front (suc x ∷ xs) k all = take_while-cons is_positive (suc x) (xs ++ replicate k 0) ∙ ap (λ (t : List ℕ). suc x ∷ t) (front xs k (All-tail IsByte (suc x) xs all))
+front (suc x ∷ xs) k all = take_while-cons is_positive (suc x) (xs ++ replicate k 0)
+    ∙ ap (λ (t : List ℕ). suc x ∷ t) (front xs k (All-tail IsByte (suc x) xs all))
 
 -- with zeros up to one length, they stand in the same order
 pub padded-order : (xs ys : List ℕ) (i j : ℕ) → All IsByte xs → All IsByte ys → length xs + i ≡ length ys + j
@@ -44,13 +45,16 @@ padded-order [] [] (suc i) (suc j) ax ay same = padded-order [] [] i j ax ay (om
 padded-order [] (zero ∷ ys) i j ax ay same = absurd (omega (arith, All_at IsByte (zero ∷ ys) 0 0 ay refl))
 padded-order [] (suc y ∷ ys) zero j ax ay same = refl
 padded-order [] (suc y ∷ ys) (suc i) j ax ay same =
-    ap (λ o. ordering_then o (slice_cmp nat_cmp (replicate i 0) (ys ++ replicate j 0))) (sym (nat_cmp_is 0 (suc y) Less (omega arith)))
+    ap (λ o. ordering_then o (slice_cmp nat_cmp (replicate i 0) (ys ++ replicate j 0)))
+    (sym (nat_cmp_is 0 (suc y) Less (omega arith)))
 padded-order (zero ∷ xs) [] i j ax ay same = absurd (omega (arith, All_at IsByte (zero ∷ xs) 0 0 ax refl))
 padded-order (suc x ∷ xs) [] i zero ax ay same = refl
 padded-order (suc x ∷ xs) [] i (suc j) ax ay same =
-    ap (λ o. ordering_then o (slice_cmp nat_cmp (xs ++ replicate i 0) (replicate j 0))) (sym (nat_cmp_is (suc x) 0 Greater (omega arith)))
+    ap (λ o. ordering_then o (slice_cmp nat_cmp (xs ++ replicate i 0) (replicate j 0)))
+    (sym (nat_cmp_is (suc x) 0 Greater (omega arith)))
 padded-order (x ∷ xs) (y ∷ ys) i j ax ay same =
-    ap (ordering_then (nat_cmp x y)) (padded-order xs ys i j (All-tail IsByte x xs ax) (All-tail IsByte y ys ay) (omega (arith, same)))
+    ap (ordering_then (nat_cmp x y)) (padded-order xs ys i j (All-tail IsByte x xs ax) (All-tail IsByte y ys ay)
+    (omega (arith, same)))
 
 -- ---- names are such bytes
 
@@ -68,18 +72,25 @@ names-bytes cs h = All-from_recursion IsByte cs (each cs h)
   where
     each : (cs : List ℕ) → list_all is_name_byte cs ≡ true → AllByRecursion IsByte cs
     each [] h = tt
-    each (c ∷ cs) h = let both = and_parts (is_name_byte c) (list_all is_name_byte cs) h in (name_byte-positive c both.0, each cs both.1)
+    each (c ∷ cs) h = let both = and_parts (is_name_byte c) (list_all is_name_byte cs) h in
+        (name_byte-positive c both.0, each cs both.1)
 
 -- a name begins as one, and has bytes of names alone
 pub name-parts : (n : Name) → IsName n → BeginsName n × AreNameBytes n
 name-parts [] is = absurd is
 name-parts (c ∷ cs) is =
-    let first = or_left (is_small_letter c || (nat_le 48 c && nat_le c 57)) (c == 95) (or_left (is_small_letter c) (nat_le 48 c && nat_le c 57) is.0) in
+    let first =
+    or_left (is_small_letter c || (nat_le 48 c && nat_le c 57)) (c == 95)
+    (or_left (is_small_letter c) (nat_le 48 c && nat_le c 57) is.0) in
     (is.0, (omega (arith, is.2), and_from (is_name_byte c) (list_all is_name_byte cs) first is.1))
 
 pub name-from_parts : (n : Name) → BeginsName n → AreNameBytes n → IsName n
 name-from_parts [] begins are = absurd begins
-name-from_parts (c ∷ cs) begins are = (begins, (and_parts (is_name_byte c) (list_all is_name_byte cs) are.1).1, omega (arith, are.0))
+name-from_parts (c ∷ cs) begins are = (
+  begins,
+  (and_parts (is_name_byte c) (list_all is_name_byte cs) are.1).1,
+  omega (arith, are.0),
+)
 
 pub name-bytes : (n : Name) → IsName n → All IsByte n
 name-bytes n is = names-bytes n (name-parts n is).1.1
@@ -95,10 +106,12 @@ pub passed-next : (bytes : List ℕ) (at : ℕ) → at < length bytes → list_a
 passed-next bytes at within before here =
     ap (list_all is_name_byte) (ap (λ (n : ℕ). take n bytes) (add-one at) ∙ take-suc bytes at 0 within)
     ∙ list_all-append is_name_byte (take at bytes) (get_or bytes at 0 ∷ [])
-    ∙ and_from (list_all is_name_byte (take at bytes)) (is_name_byte (get_or bytes at 0) && true) before (and_from _ true here refl)
+    ∙ and_from (list_all is_name_byte (take at bytes)) (is_name_byte (get_or bytes at 0) && true) before
+    (and_from _ true here refl)
 
 -- and is kept
-pub kept-next : (bytes padded : List ℕ) (at : ℕ) → at < length bytes → length bytes ≤ 16 → padded ≡ take at bytes ++ replicate (16 - at) 0
+pub kept-next : (bytes padded : List ℕ) (at : ℕ) → at < length bytes → length bytes ≤ 16
+    → padded ≡ take at bytes ++ replicate (16 - at) 0
     → set padded at (get_or bytes at 0) ≡ take (at + 1) bytes ++ replicate (16 - (at + 1)) 0
 kept-next bytes padded at within few is =
     let left : 16 - at ≡ suc (16 - (at + 1)) = omega (arith, within, few) in
@@ -124,11 +137,14 @@ stored-name n padded is kept =
     }
 
 -- the first bytes, where they are a name
-pub front-padded : (bytes kept : List ℕ) (len : ℕ) → length bytes ≡ 16 → len ≤ 16 → kept ≡ take len bytes ++ replicate (16 - len) 0 → kept ≡ padded_name (take len bytes)
+pub front-padded : (bytes kept : List ℕ) (len : ℕ) → length bytes ≡ 16 → len ≤ 16
+    → kept ≡ take len bytes ++ replicate (16 - len) 0 → kept ≡ padded_name (take len bytes)
 front-padded bytes kept len many few is =
-    is ∙ ap (λ (n : ℕ). take len bytes ++ replicate (16 - n) 0) (sym (length-take-le len bytes (omega (arith, many, few))))
+    is ∙ ap (λ (n : ℕ). take len bytes ++ replicate (16 - n) 0)
+    (sym (length-take-le len bytes (omega (arith, many, few))))
 
-pub front-is_name : (bytes : List ℕ) (len : ℕ) → length bytes ≡ 16 → len ≤ 16 → BeginsName (take len bytes) → list_all is_name_byte (take len bytes) ≡ true → IsName (take len bytes)
+pub front-is_name : (bytes : List ℕ) (len : ℕ) → length bytes ≡ 16 → len ≤ 16 → BeginsName (take len bytes)
+    → list_all is_name_byte (take len bytes) ≡ true → IsName (take len bytes)
 front-is_name bytes len many few begins all =
     let long = length-take-le len bytes (omega (arith, many, few)) in
     name-from_parts (take len bytes) begins (omega (arith, long, few), all)
@@ -138,8 +154,11 @@ front-is_name bytes len many few begins all =
 leading-begins : (bytes : List ℕ) → BeginsName bytes → BeginsName (take (prefix_len is_name_byte bytes) bytes)
 leading-begins [] begins = absurd begins
 leading-begins (c ∷ cs) begins =
-    let first = or_left (is_small_letter c || (nat_le 48 c && nat_le c 57)) (c == 95) (or_left (is_small_letter c) (nat_le 48 c && nat_le c 57) begins) in
-    let step : prefix_len is_name_byte (c ∷ cs) ≡ 1 + prefix_len is_name_byte cs = ap (λ (t : Bool). cond t (1 + prefix_len is_name_byte cs) 0) first in
+    let first =
+    or_left (is_small_letter c || (nat_le 48 c && nat_le c 57)) (c == 95)
+    (or_left (is_small_letter c) (nat_le 48 c && nat_le c 57) begins) in
+    let step : prefix_len is_name_byte (c ∷ cs) ≡ 1 + prefix_len is_name_byte cs =
+    ap (λ (t : Bool). cond t (1 + prefix_len is_name_byte cs) 0) first in
     let more : prefix_len is_name_byte (c ∷ cs) ≡ suc (prefix_len is_name_byte cs) = omega (arith, step) in
     subst (λ (n : ℕ). BeginsName (take n (c ∷ cs))) (sym more) begins
 
@@ -154,12 +173,15 @@ no-letters false n none is = cc is
 -- a name begins with some letters
 pub letters-begin : (bytes : List ℕ) (n : ℕ) → n ≡ prefix_len is_small_letter bytes → (n ≡ 0 → ⊥) → BeginsName bytes
 letters-begin [] n is some = absurd (some is)
-letters-begin (c ∷ cs) n is some = some-letters (is_small_letter c) (prefix_len is_small_letter cs) (λ none. some (is ∙ none))
+letters-begin (c ∷ cs) n is some =
+    some-letters (is_small_letter c) (prefix_len is_small_letter cs) (λ none. some (is ∙ none))
 
-pub no-letters-front : (bytes : List ℕ) (n len : ℕ) → n ≡ prefix_len is_small_letter bytes → n ≡ 0 → SpellsFront bytes len → ⊥
+pub no-letters-front : (bytes : List ℕ) (n len : ℕ) → n ≡ prefix_len is_small_letter bytes → n ≡ 0
+    → SpellsFront bytes len → ⊥
 no-letters-front bytes n zero is none spells = spells.1
 no-letters-front [] n (suc len) is none spells = spells.1
-no-letters-front (c ∷ cs) n (suc len) is none spells = no-letters (is_small_letter c) (prefix_len is_small_letter cs) (sym is ∙ none) spells.1.0
+no-letters-front (c ∷ cs) n (suc len) is none spells =
+    no-letters (is_small_letter c) (prefix_len is_small_letter cs) (sym is ∙ none) spells.1.0
 
 counted : (b : Bool) (m n : ℕ) → m ≤ n → cond b (1 + m) 0 ≤ suc n
 counted true m n le = omega (arith, le)
@@ -173,22 +195,29 @@ within-length (c ∷ cs) = counted (is_name_byte c) (prefix_len is_name_byte cs)
 pub leading-most : (bytes : List ℕ) (len : ℕ) → length bytes ≡ 16 → len ≡ prefix_len is_name_byte bytes → len ≤ 16
 leading-most bytes len many is = let within = within-length bytes in omega (arith, within, many, is)
 
-pub leading-is_name : (bytes : List ℕ) (len : ℕ) → length bytes ≡ 16 → BeginsName bytes → len ≡ prefix_len is_name_byte bytes → IsName (take len bytes)
+pub leading-is_name : (bytes : List ℕ) (len : ℕ) → length bytes ≡ 16 → BeginsName bytes
+    → len ≡ prefix_len is_name_byte bytes → IsName (take len bytes)
 leading-is_name bytes len many begins is =
     let few = leading-most bytes len many is in
-    let all = sym (front_all is_name_byte len bytes (omega (arith, few, many))) ∙ le-leb len (prefix_len is_name_byte bytes) (omega (arith, is)) in
-    front-is_name bytes len many few (subst (λ (n : ℕ). BeginsName (take n bytes)) (sym is) (leading-begins bytes begins)) all
+    let all = sym (front_all is_name_byte len bytes (omega (arith, few, many)))
+    ∙ le-leb len (prefix_len is_name_byte bytes) (omega (arith, is)) in
+    front-is_name bytes len many few (subst (λ (n : ℕ). BeginsName (take n bytes)) (sym is)
+    (leading-begins bytes begins)) all
 
-pub leading-spells : (bytes : List ℕ) (len : ℕ) → length bytes ≡ 16 → BeginsName bytes → len ≡ prefix_len is_name_byte bytes → SpellsFront bytes len
-leading-spells bytes len many begins is = let few = leading-most bytes len many is in (omega (arith, few, many), leading-is_name bytes len many begins is)
+pub leading-spells : (bytes : List ℕ) (len : ℕ) → length bytes ≡ 16 → BeginsName bytes
+    → len ≡ prefix_len is_name_byte bytes → SpellsFront bytes len
+leading-spells bytes len many begins is = let few = leading-most bytes len many is in
+    (omega (arith, few, many), leading-is_name bytes len many begins is)
 
 -- stored names stand in the order of their bytes
-pub stored-order : (a b : Inside) → IsStored a → IsStored b → slice_cmp nat_cmp a.bytes b.bytes ≡ slice_cmp nat_cmp (name_of a) (name_of b)
+pub stored-order : (a b : Inside) → IsStored a → IsStored b
+    → slice_cmp nat_cmp a.bytes b.bytes ≡ slice_cmp nat_cmp (name_of a) (name_of b)
 stored-order a b ha hb =
     let la = name-length (name_of a) ha.name in
     let lb = name-length (name_of b) hb.name in
     ap₂ (slice_cmp nat_cmp) ha.zeros hb.zeros
-    ∙ padded-order (name_of a) (name_of b) (16 - length (name_of a)) (16 - length (name_of b)) (name-bytes _ ha.name) (name-bytes _ hb.name) (omega (arith, la, lb))
+    ∙ padded-order (name_of a) (name_of b) (16 - length (name_of a)) (16 - length (name_of b)) (name-bytes _ ha.name)
+    (name-bytes _ hb.name) (omega (arith, la, lb))
 
 -- a name is ASCII, so a text
 small-low : (c : ℕ) → is_small_letter c ≡ true → c < 128
@@ -205,8 +234,11 @@ name_byte-low c h = elim (or_cases (is_small_letter c || (nat_le 48 c && nat_le 
 
 bytes-low : (cs : List ℕ) → list_all is_name_byte cs ≡ true → AllByRecursion (λ b. b < 128) cs
 bytes-low [] h = tt
-bytes-low (c ∷ cs) h = let both = and_parts (is_name_byte c) (list_all is_name_byte cs) h in (name_byte-low c both.0, bytes-low cs both.1)
+bytes-low (c ∷ cs) h = let both = and_parts (is_name_byte c) (list_all is_name_byte cs) h in
+    (name_byte-low c both.0, bytes-low cs both.1)
 
 pub name-utf8 : (name : Name) → IsName name → IsUtf8 name
 name-utf8 [] is = absurd is
-name-utf8 (c ∷ cs) is = IsUtf8-from_ascii (c ∷ cs) (IsAscii-from_all (c ∷ cs) (All-from_recursion (λ b. b < 128) (c ∷ cs) (small-low c is.0, bytes-low cs is.1)))
+name-utf8 (c ∷ cs) is =
+    IsUtf8-from_ascii (c ∷ cs)
+    (IsAscii-from_all (c ∷ cs) (All-from_recursion (λ b. b < 128) (c ∷ cs) (small-low c is.0, bytes-low cs is.1)))

@@ -5,8 +5,8 @@ ghost use Rattle.std.specs.Borrow.{ftrue};
 
 use std::marker::Model;
 
-/// How often a source was asked for bytes. It takes no bytes, and is there for proofs alone: what it counts are its own calls, so
-/// a source keeps one, and puts `one_more` in its place at each read.
+/// How often a source was asked for bytes. It takes no bytes, and is there for proofs alone: what it counts are its
+/// own calls, so a source keeps one, and puts `one_more` in its place at each read.
 #[derive(Drop)]
 pub struct Asks {
     pub ghost count: { ℕ },

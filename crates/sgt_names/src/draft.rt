@@ -188,8 +188,8 @@ impl Draft {
         self.kept.clear();
     }
 
-    /// The touched items, by rising site and name: in one list while they are few, and site by site once they are more than one
-    /// site may have. One of the two is empty.
+    /// The touched items, by rising site and name: in one list while they are few, and site by site once they are
+    /// more than one site may have. One of the two is empty.
     pub fn touched(&self) -> (&[Touch], &[Part])
         ensures all { result.0.now ++ touched_in result.1.now ≡ self.now.touched }
         ensures rising { AreRising self.now.touched }
@@ -213,7 +213,8 @@ impl Draft {
         }
     }
 
-    /// Makes room, so that the next `seen`, `put` or `add` takes no memory and succeeds. Errs where there was no memory.
+    /// Makes room, so that the next `seen`, `put` or `add` takes no memory and succeeds. Errs where there was no
+    /// memory.
     pub fn room(&mut self) -> Result<(), AllocError>
         ensures ok { OnOk result (self.new ≡ record self.old { has_room = true }) }
         ensures err { OnErr result (self.new ≡ self.old) }
@@ -224,8 +225,8 @@ impl Draft {
         }
     }
 
-    /// What this transaction sees of the item: its private write, or else its kept read with its private increment behind it.
-    /// None where it has an increment alone, or nothing. Binary searches.
+    /// What this transaction sees of the item: its private write, or else its kept read with its private increment
+    /// behind it. None where it has an increment alone, or nothing. Binary searches.
     pub fn look(&self, site: SiteNo, item: Item) -> Option<Value>
         ensures { result ≡ option_and_then look_of (touched_at self.now.touched (site, item)) }
     {
@@ -267,8 +268,8 @@ impl Draft {
         Ok(())
     }
 
-    /// Keeps a private write, in place of an earlier write or increment. Errs where there was no memory for an item that is new
-    /// to it. Binary searches; a new item moves others as `seen` says.
+    /// Keeps a private write, in place of an earlier write or increment. Errs where there was no memory for an item
+    /// that is new to it. Binary searches; a new item moves others as `seen` says.
     pub fn put(&mut self, site: SiteNo, item: Item, value: Value) -> Result<(), AllocError>
         ensures ok { OnOk result (ChangesOnly self.old.touched self.new.touched (record {
           site = site;
@@ -285,9 +286,9 @@ impl Draft {
         self.set_change(site, item, Change::Put(value))
     }
 
-    /// Keeps a private increment. Behind an earlier write or increment it becomes one with it: a write of the sum, or an
-    /// increment by the sum, modulo 2^64. Errs where there was no memory for an item that is new to it.
-    /// Binary searches; a new item moves others as `seen` says.
+    /// Keeps a private increment. Behind an earlier write or increment it becomes one with it: a write of the sum, or
+    /// an increment by the sum, modulo 2^64. Errs where there was no memory for an item that is new to it. Binary
+    /// searches; a new item moves others as `seen` says.
     pub fn add(&mut self, site: SiteNo, item: Item, value: Value) -> Result<(), AllocError>
         ensures ok { OnOk result (ChangesOnly self.old.touched self.new.touched (record {
           site = site;
@@ -353,7 +354,8 @@ impl Draft {
         nth_kept(self.at(site), n)
     }
 
-    /// The private write or increment of this number at a site, counted from 0 by rising item. Goes over what is touched at the site.
+    /// The private write or increment of this number at a site, counted from 0 by rising item. Goes over what is
+    /// touched at the site.
     pub fn writing(&self, site: SiteNo, n: usize) -> Option<(Item, Change)>
         ensures nth { result ≡ slice_get (writing_in (at_site site self.now.touched)) n }
         ensures rising { IsRisingBy (λ w. w.0) (slice_cmp nat_cmp)

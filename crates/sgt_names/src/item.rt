@@ -88,8 +88,8 @@ impl Item {
         Some((item, len))
     }
 
-    /// A number made of the name, by which names can mostly be told apart at once. It is a hint: the same name always has
-    /// the same number, but other names may have it too.
+    /// A number made of the name, by which names can mostly be told apart at once. It is a hint: the same name always
+    /// has the same number, but other names may have it too.
     #[inline(always)]
     pub fn key(&self) -> u64
         ensures { result ≡ name_key self.now }

@@ -11,8 +11,8 @@ ghost use Rattle.sgt_names.specs.declared.entry.Change.{Change};
 ghost use Rattle.sgt_names.specs.declared.entry.Entry.{Entry};
 ghost use Rattle.sgt_names.specs.declared.entry.Kind.{Kind};
 
-/// Where one item of a draft is changed, a look at its place finds it as it is now, and a look at any other place finds what
-/// it found before.
+/// Where one item of a draft is changed, a look at its place finds it as it is now, and a look at any other place
+/// finds what it found before.
 pub fn changes_show_at_their_place()
     ensures there { (old new : List Touch) (t : Touch) → AreRising new → ChangesOnly old new t
         → touched_at new (place_of t) ≡ Some t }
@@ -54,7 +54,8 @@ pub fn increments_do_not_conflict()
         → Clash kind x e f → ⊥ }
 {}
 
-/// An increment is in conflict with each read of its item, and with each write of it that is no increment, in both orders.
+/// An increment is in conflict with each read of its item, and with each write of it that is no increment, in both
+/// orders.
 pub fn increments_conflict_with_others()
     ensures reads { (x : Name) (e f : Entry) → IsIncrement e → Writes x e → Reads x f
         → Clash Kind.Wr x e f × Clash Kind.Rw x f e }

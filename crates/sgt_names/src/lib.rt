@@ -1,5 +1,5 @@
-//! The names of a certifier: transactions, sites, items and the entries of a site's log; and the readers and writers that
-//! the engines are generic over.
+//! The names of a certifier: transactions, sites, items and the entries of a site's log; and the readers and writers
+//! that the engines are generic over.
 #![tactic(auto)]
 
 mod asks;

@@ -103,8 +103,8 @@ impl Source for MemSource<'_> {
     }
 }
 
-/// Room in memory, made at once; what goes beyond it fails. From failure number 2^64 - 1 on it tells no bytes, and drops what
-/// comes once no room is left.
+/// Room in memory, made at once; what goes beyond it fails. From failure number 2^64 - 1 on it tells no bytes, and
+/// drops what comes once no room is left.
 #[derive(Drop)]
 pub struct MemSink {
     bytes: Vec<u8>,

@@ -23,7 +23,8 @@ pub trait Sink {
         ensures fails { CountsFailures result (failures self.old) (failures self.new) };
 }
 
-/// Writes all of the bytes. An Err is the writer's: a front of the bytes may have been written then, but not all of them.
+/// Writes all of the bytes. An Err is the writer's: a front of the bytes may have been written then, but not all of
+/// them.
 pub fn write_all<W: Sink>(writer: &mut W, bytes: &[u8]) -> Result<(), Failed>
     ensures ok { OnOk result (Appends (W.holds writer.old) (W.holds writer.new) bytes.now) }
     ensures err { OnErr result (WritesFront (W.holds writer.old) (W.holds writer.new) bytes.now) }

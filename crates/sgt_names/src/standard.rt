@@ -62,9 +62,9 @@ impl<R: Read> Source for FromRead<R> {
     }
 }
 
-/// A writer of std's as a sink. It tells what the inner writer tells, and never flushes it. A write that takes nothing of
-/// a slice that isn't empty is a failure, and so is an interrupted one. It counts 2^64 - 1 failures: from the last of them
-/// on it tells no bytes, and a further write that fails drops what it is given.
+/// A writer of std's as a sink. It tells what the inner writer tells, and never flushes it. A write that takes
+/// nothing of a slice that isn't empty is a failure, and so is an interrupted one. It counts 2^64 - 1 failures: from
+/// the last of them on it tells no bytes, and a further write that fails drops what it is given.
 #[derive(Drop)]
 pub struct ToWrite<W> {
     inner: W,

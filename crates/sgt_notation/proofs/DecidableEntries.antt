@@ -71,7 +71,8 @@ decidable-continues _ f = inr (λ h. h)
 -- ---- two operations on one item
 
 -- an item with this property stands in the entry, or it has none with it
-of_item : (P : Name → Type 0) (e : Entry) → ((x : Name) → Decidable (P x)) → ((x : Name) → P x → item_of e ≡ Some x) → Decidable ((x : Name) × P x)
+of_item : (P : Name → Type 0) (e : Entry) → ((x : Name) → Decidable (P x)) → ((x : Name) → P x → item_of e ≡ Some x)
+    → Decidable ((x : Name) × P x)
 of_item P e each on = from (item_of e) refl
   where
     from : (o : Option Name) → item_of e ≡ o → Decidable ((x : Name) × P x)
@@ -94,13 +95,15 @@ clash-item Ww x e f h = writes-item x e h.0
 -- of some kind, on some item
 pub decidable-clashes : (e f : Entry) → Decidable ((kind : Kind) × (x : Name) × Clash kind x e f)
 decidable-clashes e f =
-    or_else (on_item Wr) (λ h. (Wr, h.0, h.1)) (λ wr. or_else (on_item Rw) (λ h. (Rw, h.0, h.1)) (λ rw. or_else (on_item Ww) (λ h. (Ww, h.0, h.1)) (λ ww.
+    or_else (on_item Wr) (λ h. (Wr, h.0, h.1))
+    (λ wr. or_else (on_item Rw) (λ h. (Rw, h.0, h.1)) (λ rw. or_else (on_item Ww) (λ h. (Ww, h.0, h.1)) (λ ww.
     inr (λ h. none wr rw ww h.0 h.1 h.2))))
   where
     on_item : (kind : Kind) → Decidable ((x : Name) × Clash kind x e f)
     on_item kind = of_item (λ x. Clash kind x e f) e (λ x. decidable-clash kind x e f) (λ x h. clash-item kind x e f h)
 
-    none : (((x : Name) × Clash Wr x e f) → ⊥) → (((x : Name) × Clash Rw x e f) → ⊥) → (((x : Name) × Clash Ww x e f) → ⊥)
+    none : (((x : Name) × Clash Wr x e f) → ⊥) → (((x : Name) × Clash Rw x e f) → ⊥)
+        → (((x : Name) × Clash Ww x e f) → ⊥)
         → (kind : Kind) (x : Name) → Clash kind x e f → ⊥
     none wr rw ww Wr x h = wr (x, h)
     none wr rw ww Rw x h = rw (x, h)
@@ -114,4 +117,5 @@ pub decidable-first : (e f : Entry) → Decidable ((x : Name) → Repeats x e f 
 decidable-first e f =
     decidable-as (λ none x h. none (x, h)) (λ none h. none h.0 h.1)
     (decidable-not (of_item (λ x. Repeats x e f) e (λ x. decidable-both (cases_eq (tx_of e) (tx_of f))
-    (decidable-either (decidable-both (decidable-reads x e) (decidable-reads x f)) (decidable-both (decidable-writes x e) (decidable-writes x f)))) (λ x h. repeats-item x e f h)))
+    (decidable-either (decidable-both (decidable-reads x e) (decidable-reads x f))
+    (decidable-both (decidable-writes x e) (decidable-writes x f)))) (λ x h. repeats-item x e f h)))

@@ -90,7 +90,10 @@ empty-is = refl
 pub two_items : IsSiteLine (site (x ∷ y ∷ []))
 two_items = record {
   site = lit< tt;
-  each = All-from_recursion IsHolding (x ∷ y ∷ []) (((refl, refl, lit< tt), lit< tt), (((refl, refl, lit< tt), lit< tt), tt));
+  each = All-from_recursion IsHolding (x ∷ y ∷ []) (
+    ((refl, refl, lit< tt), lit< tt),
+    (((refl, refl, lit< tt), lit< tt), tt),
+  );
   room = lit≤ tt;
   rising = AllPairs-from_recursion Rises (x ∷ y ∷ []) ((refl, tt), (tt, tt));
 }

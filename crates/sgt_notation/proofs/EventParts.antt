@@ -16,7 +16,10 @@ use Rattle.sgt_notation.proofs.Pairs.{Both, IsCut, IsOne, IsPlain, joined, joine
 
 digits-above : (c : ℕ) → c < 48 → (ds : List ℕ) → AllDigits 10 ds → HasNot c ds
 digits-above c low [] h = tt
-digits-above c low (d ∷ ds) h = (λ e. let r = digit_from_value d h.0 in absurd (omega (arith, r.0, r.1)), digits-above c low ds h.1)
+digits-above c low (d ∷ ds) h = (
+  λ e. let r = digit_from_value d h.0 in absurd (omega (arith, r.0, r.1)),
+  digits-above c low ds h.1,
+)
 
 pub decimal-above : (c n : ℕ) → c < 48 → n < 2 ^ 64 → HasNot c (decimal n)
 decimal-above c n low small = digits-above c low (decimal n) (decimal_is_IsNumeral n small).0.1
@@ -28,22 +31,33 @@ small-site s h = omega (arith, h)
 module _ (c : ℕ) (digits : (n : ℕ) → n < 2 ^ 64 → HasNot c (decimal n)) (other : is_name_byte c ≡ false) where
   pub place-without : (46 == c) ≡ false → (p : ℕ × Name) → IsPlace p → HasNot c (place_text p)
   place-without dot p h =
-      HasNot-append c (decimal p.0) (46 ∷ p.1) (digits p.0 (small-site p.0 h.0)) (eqb-false 46 c dot, name-without c other p.1 h.1)
+      HasNot-append c (decimal p.0) (46 ∷ p.1) (digits p.0 (small-site p.0 h.0)) (
+        eqb-false 46 c dot,
+        name-without c other p.1 h.1,
+      )
 
   pub access-without : (46 == c) ≡ false → (91 == c) ≡ false → (93 == c) ≡ false → (a : ℕ × (ℕ × Name)) → IsAccess a
       → HasNot c (access_text a)
   access-without dot opens closes a h =
-      HasNot-append c (decimal a.0) (91 ∷ (place_text a.1 ++ 93 ∷ [])) (digits a.0 (small-tx a.0 h.0))
-      (eqb-false 91 c opens, HasNot-append c (place_text a.1) (93 ∷ []) (place-without dot a.1 h.1) (eqb-false 93 c closes, tt))
+      HasNot-append c (decimal a.0) (91 ∷ (place_text a.1 ++ 93 ∷ [])) (digits a.0 (small-tx a.0 h.0)) (
+        eqb-false 91 c opens,
+        HasNot-append c (place_text a.1) (93 ∷ []) (place-without dot a.1 h.1)
+            (eqb-false 93 c closes, tt),
+      )
 
-  pub update-without : (46 == c) ≡ false → (91 == c) ≡ false → (93 == c) ≡ false → (61 == c) ≡ false → (u : (ℕ × (ℕ × Name)) × ℕ)
+  pub update-without : (46 == c) ≡ false → (91 == c) ≡ false → (93 == c) ≡ false → (61 == c) ≡ false
+      → (u : (ℕ × (ℕ × Name)) × ℕ)
       → IsUpdate u → HasNot c (update_text u)
   update-without dot opens closes equals u h =
-      HasNot-append c (access_text u.0) (61 ∷ decimal u.1) (access-without dot opens closes u.0 h.0) (eqb-false 61 c equals, digits u.1 h.1)
+      HasNot-append c (access_text u.0) (61 ∷ decimal u.1) (access-without dot opens closes u.0 h.0)
+      (eqb-false 61 c equals, digits u.1 h.1)
 
   pub visit-without : (64 == c) ≡ false → (v : ℕ × ℕ) → IsVisit v → HasNot c (visit_text v)
   visit-without at v h =
-      HasNot-append c (decimal v.0) (64 ∷ decimal v.1) (digits v.0 (small-tx v.0 h.0)) (eqb-false 64 c at, digits v.1 (small-site v.1 h.1))
+      HasNot-append c (decimal v.0) (64 ∷ decimal v.1) (digits v.0 (small-tx v.0 h.0)) (
+        eqb-false 64 c at,
+        digits v.1 (small-site v.1 h.1),
+      )
 
 -- no first part has the byte at which it is cut
 pub site-plain : IsPlain 46 IsSite decimal
@@ -75,7 +89,8 @@ IsClosed = Both IsPlace IsNothing
 abbrev closed : (ℕ × Name) × Unit {0} → List ℕ
 closed = joined place_text 93 nothing
 
-as_access : (bs : List ℕ) → SpellsNone (Both IsTx IsClosed) (joined decimal 91 closed) bs → SpellsNone IsAccess access_text bs
+as_access : (bs : List ℕ) → SpellsNone (Both IsTx IsClosed) (joined decimal 91 closed) bs
+    → SpellsNone IsAccess access_text bs
 as_access bs none a is = none (a.0, (a.1, tt)) (is.0, (is.1, tt))
 
 pub access-unopened : (bs : List ℕ) → All (λ b. b ≢ 91) bs → SpellsNone IsAccess access_text bs
@@ -91,8 +106,10 @@ module _ (bs x y : List ℕ) (opens : IsCut 91 bs x y) where
   pub access-unclosed : All (λ b. b ≢ 93) y → SpellsNone IsAccess access_text bs
   access-unclosed none = not_closed (uncut IsPlace place_text 93 IsNothing nothing closed-plain y none)
 
-  pub access-not_place : (i l : List ℕ) → IsCut 93 y i l → SpellsNone IsPlace place_text i → SpellsNone IsAccess access_text bs
-  access-not_place i l closes none = not_closed (not_first IsPlace place_text 93 IsNothing nothing closed-plain y i l closes none)
+  pub access-not_place : (i l : List ℕ) → IsCut 93 y i l → SpellsNone IsPlace place_text i
+      → SpellsNone IsAccess access_text bs
+  access-not_place i l closes none =
+      not_closed (not_first IsPlace place_text 93 IsNothing nothing closed-plain y i l closes none)
 
   pub access-not_last : (i l : List ℕ) → IsCut 93 y i l → (l ≡ [] → ⊥) → SpellsNone IsAccess access_text bs
   access-not_last i l closes more =

@@ -138,20 +138,30 @@ pub all-not_longer : IsLongerThan 2 (97 ∷ 98 ∷ []) → ⊥
 all-not_longer h = omega (arith, h.0)
 
 pub one_more-longer : IsLongerThan 2 (97 ∷ 98 ∷ 99 ∷ [])
-one_more-longer = (lit< tt, All-from_recursion (λ b. b ≢ 10) (97 ∷ 98 ∷ 99 ∷ []) ((λ h. absurd (omega arith)), ((λ h. absurd (omega arith)), ((λ h. absurd (omega arith)), tt))))
+one_more-longer = (
+  lit< tt,
+  All-from_recursion (λ b. b ≢ 10) (97 ∷ 98 ∷ 99 ∷ []) (
+    (λ h. absurd (omega arith)),
+    ((λ h. absurd (omega arith)), ((λ h. absurd (omega arith)), tt)),
+  ),
+)
 
 -- a failure that isn't there, or whose read isn't counted
-pub unfailed-not_failed : Failed (stream (record { held = []; reads = 5 }) None 7) (stream (record { held = []; reads = 4 }) None 7) → ⊥
+pub unfailed-not_failed : Failed (stream (record { held = []; reads = 5 }) None 7)
+    (stream (record { held = []; reads = 4 }) None 7) → ⊥
 unfailed-not_failed h = omega (arith, h.0)
 
-pub uncounted-not_failed : Failed (stream (record { held = []; reads = 5 }) None 7) (stream (record { held = []; reads = 5 }) None 8) → ⊥
+pub uncounted-not_failed : Failed (stream (record { held = []; reads = 5 }) None 7)
+    (stream (record { held = []; reads = 5 }) None 8) → ⊥
 uncounted-not_failed h = omega (arith, h.1)
 
 -- a read is left, or the source failed
-pub one_left-not_spent : IsSpent (stream (record { held = []; reads = 1 }) None 7) (stream (record { held = []; reads = 1 }) None 7) → ⊥
+pub one_left-not_spent : IsSpent (stream (record { held = []; reads = 1 }) None 7)
+    (stream (record { held = []; reads = 1 }) None 7) → ⊥
 one_left-not_spent h = omega (arith, h.0)
 
-pub failed-not_spent : IsSpent (stream (record { held = []; reads = 0 }) None 7) (stream (record { held = []; reads = 0 }) None 8) → ⊥
+pub failed-not_spent : IsSpent (stream (record { held = []; reads = 0 }) None 7)
+    (stream (record { held = []; reads = 0 }) None 8) → ⊥
 failed-not_spent h = omega (arith, h.1)
 
 -- a line of two bytes fits a buffer with room for two
@@ -188,7 +198,8 @@ abbrev nothing_held : Ahead
 nothing_held = record { held = []; reads = 5 }
 
 -- a failure during a call that told what comes next
-pub failed-not_given : (line : List ℕ) → GaveNext 6 (stream held_a None 7) next.Line line (stream nothing_held None 8) → ⊥
+pub failed-not_given : (line : List ℕ) → GaveNext 6 (stream held_a None 7) next.Line line (stream nothing_held None 8)
+    → ⊥
 failed-not_given line h = omega (arith, h.quiet)
 
 -- a line that takes nothing from what is ahead
@@ -196,10 +207,12 @@ pub still-not_given : (line : List ℕ) → GaveNext 6 (stream held_a None 7) ne
 still-not_given line h = omega (arith, h.falls refl)
 
 -- an end, or a cut line, that was met by no counted read
-pub uncounted_end-not_given : (line : List ℕ) → GaveNext 6 (stream nothing_held None 7) next.End line (stream nothing_held None 7) → ⊥
+pub uncounted_end-not_given : (line : List ℕ)
+    → GaveNext 6 (stream nothing_held None 7) next.End line (stream nothing_held None 7) → ⊥
 uncounted_end-not_given line h = omega (arith, h.ended (inr refl))
 
-pub uncounted_cut-not_given : (line : List ℕ) → GaveNext 6 (stream nothing_held None 7) next.Cut line (stream nothing_held None 7) → ⊥
+pub uncounted_cut-not_given : (line : List ℕ)
+    → GaveNext 6 (stream nothing_held None 7) next.Cut line (stream nothing_held None 7) → ⊥
 uncounted_cut-not_given line h = omega (arith, h.ended (inl refl))
 
 -- too long a line, with no limit
@@ -210,12 +223,16 @@ unlimited-not_too_long old new line h = h.unlimited refl refl
 pub lost-no_fault : MetReadFault (stream held_a (Some []) 7) (97 ∷ []) (stream nothing_held (Some []) 8) → ⊥
 lost-no_fault h = let sizes = ap length h.left in absurd (omega (arith, sizes))
 
-pub kept-no_fault : (old : Stream) (line : List ℕ) (told : Option (List ℕ)) → MetReadFault old line (stream held_a told 8) → ⊥
+pub kept-no_fault : (old : Stream) (line : List ℕ) (told : Option (List ℕ))
+    → MetReadFault old line (stream held_a told 8) → ⊥
 kept-no_fault old line told h = let sizes = ap length h.held in absurd (omega (arith, sizes))
 
 -- the source did not fail, and there are reads left
 pub no_cause-no_fault : (line : List ℕ) → MetReadFault (stream held_a None 7) line (stream nothing_held None 7) → ⊥
-no_cause-no_fault line h = elim h.cause [ inl failed ↦ absurd (omega (arith, failed.0)) | inr spent ↦ absurd (omega (arith, spent.0)) ]
+no_cause-no_fault line h = elim h.cause [
+  | inl failed ↦ absurd (omega (arith, failed.0))
+  | inr spent ↦ absurd (omega (arith, spent.0))
+]
 
 -- room for all that the limit allows, a failure, a lost byte, and what comes is no longer than the room
 pub roomy-not_wanted : (old new : Stream) (line : List ℕ) → WantedMemory 2 2 old line new → ⊥

@@ -36,27 +36,33 @@ event-one (One (Add t s x v)) (One (Add u r y w)) h g e =
     ap (λ (a : (ℕ × (ℕ × Name)) × ℕ). One (Add a.0.0 a.0.1.0 a.0.1.1 a.1)) same
 event-one (One (Install t s)) (One (Install u r)) h g e =
     ap (λ (a : ℕ × ℕ). One (Install a.0 a.1)) (visit-one (t, s) (u, r) h g (tails 105 105 (visit t s) (visit u r) e))
-event-one (One (Commit t)) (One (Commit u)) h g e = ap (λ n. One (Commit n)) (tx-one t u h g (tails 99 99 (decimal t) (decimal u) e))
-event-one (One (Withdraw t)) (One (Withdraw u)) h g e = ap (λ n. One (Withdraw n)) (tx-one t u h g (tails 97 97 (decimal t) (decimal u) e))
+event-one (One (Commit t)) (One (Commit u)) h g e =
+    ap (λ n. One (Commit n)) (tx-one t u h g (tails 99 99 (decimal t) (decimal u) e))
+event-one (One (Withdraw t)) (One (Withdraw u)) h g e =
+    ap (λ n. One (Withdraw n)) (tx-one t u h g (tails 97 97 (decimal t) (decimal u) e))
 event-one (ToDecide t) (ToDecide u) h g e = ap ToDecide (tx-one t u h g (tails 118 118 (decimal t) (decimal u) e))
 event-one (ToDecide t) (One Begin) h g e = absurd (apart (event_text (ToDecide t)) (event_text (One Begin)) refl e)
 event-one d f h g e = absurd (apart (event_text d) (event_text f) refl e)
 
 -- ---- behind the letter of a kind stands no such event
 
-pub read_not : (line rest : List ℕ) → line ≡ 114 ∷ rest → SpellsNone IsAccess access_text rest → SpellsNone IsEventLine event_text line
+pub read_not : (line rest : List ℕ) → line ≡ 114 ∷ rest → SpellsNone IsAccess access_text rest
+    → SpellsNone IsEventLine event_text line
 read_not line rest is none (One (Read tx s x)) ok whole = none (tx, (s, x)) ok (tails _ _ _ _ (sym is ∙ whole))
 read_not line rest is none e ok whole = absurd (apart (114 ∷ rest) (event_text e) refl (sym is ∙ whole))
 
-pub put_not : (line rest : List ℕ) → line ≡ 119 ∷ rest → SpellsNone IsUpdate update_text rest → SpellsNone IsEventLine event_text line
+pub put_not : (line rest : List ℕ) → line ≡ 119 ∷ rest → SpellsNone IsUpdate update_text rest
+    → SpellsNone IsEventLine event_text line
 put_not line rest is none (One (Put tx s x v)) ok whole = none ((tx, (s, x)), v) ok (tails _ _ _ _ (sym is ∙ whole))
 put_not line rest is none e ok whole = absurd (apart (119 ∷ rest) (event_text e) refl (sym is ∙ whole))
 
-pub add_not : (line rest : List ℕ) → line ≡ 100 ∷ rest → SpellsNone IsUpdate update_text rest → SpellsNone IsEventLine event_text line
+pub add_not : (line rest : List ℕ) → line ≡ 100 ∷ rest → SpellsNone IsUpdate update_text rest
+    → SpellsNone IsEventLine event_text line
 add_not line rest is none (One (Add tx s x v)) ok whole = none ((tx, (s, x)), v) ok (tails _ _ _ _ (sym is ∙ whole))
 add_not line rest is none e ok whole = absurd (apart (100 ∷ rest) (event_text e) refl (sym is ∙ whole))
 
-pub install_not : (line rest : List ℕ) → line ≡ 105 ∷ rest → SpellsNone IsVisit visit_text rest → SpellsNone IsEventLine event_text line
+pub install_not : (line rest : List ℕ) → line ≡ 105 ∷ rest → SpellsNone IsVisit visit_text rest
+    → SpellsNone IsEventLine event_text line
 install_not line rest is none (One (Install tx s)) ok whole = none (tx, s) ok (tails _ _ _ _ (sym is ∙ whole))
 install_not line rest is none e ok whole = absurd (apart (105 ∷ rest) (event_text e) refl (sym is ∙ whole))
 
@@ -70,7 +76,8 @@ access-short a h = simp length-append (omega (arith, tx-short a.0 h.0, site-shor
 
 update-short : (u : (ℕ × (ℕ × Name)) × ℕ) → IsUpdate u → length (update_text u) ≤ 52
 update-short u h =
-    let both = length-append (access_text u.0) (61 ∷ decimal u.1) in omega (arith, both, access-short u.0 h.0, value-short u.1 h.1)
+    let both = length-append (access_text u.0) (61 ∷ decimal u.1) in
+    omega (arith, both, access-short u.0 h.0, value-short u.1 h.1)
 
 visit-short : (v : ℕ × ℕ) → IsVisit v → length (visit_text v) ≤ 13
 visit-short v h = simp length-append (omega (arith, tx-short v.0 h.0, site-short v.1 h.1))
@@ -93,7 +100,8 @@ event-one_line (One Begin) h = (eqb-false 98 10 refl, tt)
 event-one_line (One Close) h = (eqb-false 122 10 refl, tt)
 event-one_line (One (Gather tx s)) h = absurd h
 event-one_line (One (Decide tx)) h = absurd h
-event-one_line (One (Read tx s x)) h = (eqb-false 114 10 refl, access-without 10 decimal-one_line refl refl refl refl (tx, (s, x)) h)
+event-one_line (One (Read tx s x)) h =
+    (eqb-false 114 10 refl, access-without 10 decimal-one_line refl refl refl refl (tx, (s, x)) h)
 event-one_line (One (Put tx s x v)) h =
     (eqb-false 119 10 refl, update-without 10 decimal-one_line refl refl refl refl refl ((tx, (s, x)), v) h)
 event-one_line (One (Add tx s x v)) h =

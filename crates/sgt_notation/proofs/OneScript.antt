@@ -18,7 +18,8 @@ pub script-one : (s t : Script) → IsScript s → IsScript t → script_text s 
 script-one s t a b e =
     let left = recursion_from_All IsOp s.operations a.each in
     let right = recursion_from_All IsOp t.operations b.each in
-    let same = sym (words-of_script s.operations left a.some) ∙ ap words e ∙ words-of_script t.operations right b.some in
+    let same = sym (words-of_script s.operations left a.some) ∙ ap words e
+    ∙ words-of_script t.operations right b.some in
     ap (λ ops. record { operations = ops }) (ops-one s.operations t.operations left right same)
 
 pub script-back : (s : Script) (r : Result Script NotationFault) → IsScript s → ReadsScript (script_text s) r
@@ -39,4 +40,5 @@ one_line (op ∷ ops) all some =
 
 pub script-no_lf : (s : Script) → IsScript s → HasNoLf (script_text s)
 script-no_lf s is =
-    All-from_recursion (λ b. b ≢ 10) (script_text s) (one_line s.operations (recursion_from_All IsOp s.operations is.each) is.some)
+    All-from_recursion (λ b. b ≢ 10) (script_text s)
+    (one_line s.operations (recursion_from_All IsOp s.operations is.each) is.some)

@@ -16,7 +16,8 @@ use Rattle.sgt_notation.proofs.EventParts.{site-one as number-one, small-site}
 use Rattle.sgt_notation.proofs.OneSpelling.{HasNot, HasNot-append, HasNot-from_test, assignment-one_line, decimal-one_line, holding-one}
 use Rattle.sgt_notation.proofs.SiteWords.{words-of_site}
 
-items-one : (hs gs : List Holding) → AllByRecursion IsHolding hs → AllByRecursion IsHolding gs → item_words hs ≡ item_words gs → hs ≡ gs
+items-one : (hs gs : List Holding) → AllByRecursion IsHolding hs → AllByRecursion IsHolding gs
+    → item_words hs ≡ item_words gs → hs ≡ gs
 items-one [] [] a b e = refl
 items-one [] (g ∷ gs) a b e = absurd cc
 items-one (h ∷ hs) [] a b e = absurd cc
@@ -39,7 +40,8 @@ site-back l (Err Memory) is h = inr refl
 site-back l (Err NotALine) is h = absurd (h.1 l is refl)
 site-back l (Err TooLong) is h = absurd (h.1 l is refl)
 
-pub join-one_line : (w : List ℕ) (ws : List (List ℕ)) → HasNot 10 w → AllByRecursion (HasNot 10) ws → HasNot 10 (join_with_byte 32 (w ∷ ws))
+pub join-one_line : (w : List ℕ) (ws : List (List ℕ)) → HasNot 10 w → AllByRecursion (HasNot 10) ws
+    → HasNot 10 (join_with_byte 32 (w ∷ ws))
 join-one_line w [] h all = h
 join-one_line w (v ∷ ws) h all =
     HasNot-append 10 w (32 ∷ join_with_byte 32 (v ∷ ws)) h (eqb-false 32 10 refl, join-one_line v ws all.0 all.1)

@@ -26,8 +26,10 @@ abbrev pub IsPlain : {A : Type 0} → ℕ → (A → Type 0) → (A → List ℕ
 IsPlain {A} c IsA ta = (a : A) → IsA a → HasNot c (ta a)
 
 module _
-    {A B : Type 0} (IsA : A → Type 0) (ta : A → List ℕ) (c : ℕ) (IsB : B → Type 0) (tb : B → List ℕ) (plain : IsPlain c IsA ta) where
-  parts : (bs x y : List ℕ) → IsCut c bs x y → (p : A × B) → Both IsA IsB p → bs ≡ joined ta c tb p → (x ≡ ta p.0) × (y ≡ tb p.1)
+    {A B : Type 0} (IsA : A → Type 0) (ta : A → List ℕ) (c : ℕ) (IsB : B → Type 0) (tb : B
+    → List ℕ) (plain : IsPlain c IsA ta) where
+  parts : (bs x y : List ℕ) → IsCut c bs x y → (p : A × B) → Both IsA IsB p → bs ≡ joined ta c tb p
+      → (x ≡ ta p.0) × (y ≡ tb p.1)
   parts bs x y cut p is whole =
       cut_at_byte c x (ta p.0) y (tb p.1) (recursion_from_All (λ b. b ≢ c) x cut.1) (plain p.0 is.0) (sym cut.0 ∙ whole)
 
@@ -36,11 +38,13 @@ module _
   uncut bs h p is whole = never c bs (ta p.0) (tb p.1) h whole
 
   -- what stands before it is no first part
-  pub not_first : (bs x y : List ℕ) → IsCut c bs x y → SpellsNone IsA ta x → SpellsNone (Both IsA IsB) (joined ta c tb) bs
+  pub not_first : (bs x y : List ℕ) → IsCut c bs x y → SpellsNone IsA ta x
+      → SpellsNone (Both IsA IsB) (joined ta c tb) bs
   not_first bs x y cut none p is whole = none p.0 is.0 (parts bs x y cut p is whole).0
 
   -- what stands behind it is no second part
-  pub not_second : (bs x y : List ℕ) → IsCut c bs x y → SpellsNone IsB tb y → SpellsNone (Both IsA IsB) (joined ta c tb) bs
+  pub not_second : (bs x y : List ℕ) → IsCut c bs x y → SpellsNone IsB tb y
+      → SpellsNone (Both IsA IsB) (joined ta c tb) bs
   not_second bs x y cut none p is whole = none p.1 is.1 (parts bs x y cut p is whole).1
 
   pub joined-one : IsOne IsA ta → IsOne IsB tb → IsOne (Both IsA IsB) (joined ta c tb)

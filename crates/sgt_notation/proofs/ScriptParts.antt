@@ -31,7 +31,8 @@ total-one = joined-one IsPlace place_text 43 IsValue decimal total-plain place-o
 
 number-no_total : (v : ℕ) (t : (ℕ × Name) × ℕ) → IsValue v → decimal v ≢ total_text t
 number-no_total v t h e =
-    never 43 (decimal v) (place_text t.0) (decimal t.1) (All-from_recursion (λ b. b ≢ 43) (decimal v) (decimal-above 43 v (lit< tt) h)) e
+    never 43 (decimal v) (place_text t.0) (decimal t.1)
+    (All-from_recursion (λ b. b ≢ 43) (decimal v) (decimal-above 43 v (lit< tt) h)) e
 
 tail-one : IsOne IsTail tail_text
 tail-one Nothing Nothing h g e = refl
@@ -45,7 +46,8 @@ tail-one (Total p v) (Number w) h g e = absurd (number-no_total w (p, v) g (sym 
 tail-one (Total p v) (Total q w) h g e =
     ap (λ (t : (ℕ × Name) × ℕ). Total t.0 t.1) (total-one (p, v) (q, w) h g (tails _ _ _ _ e))
 
-pub tail-none : (bs rest : List ℕ) (b : ℕ) → bs ≡ b ∷ rest → SpellsNone IsValue decimal rest → SpellsNone IsTotal total_text rest
+pub tail-none : (bs rest : List ℕ) (b : ℕ) → bs ≡ b ∷ rest → SpellsNone IsValue decimal rest
+    → SpellsNone IsTotal total_text rest
     → SpellsNone IsTail tail_text bs
 tail-none bs rest b is number total Nothing h e = absurd (let f : b ∷ rest ≡ [] = sym is ∙ e in cc)
 tail-none bs rest b is number total (Number v) h e = number v h (tails _ _ _ _ (sym is ∙ e))
@@ -60,9 +62,11 @@ abbrev pub inside : (ℕ × Name) × Tail → List ℕ
 inside = joined place_text 93 tail_text
 
 aim-one : IsOne IsAim aim_text
-aim-one a b h g e = joined-one IsPlace place_text 93 IsTail tail_text closed-plain place-one tail-one a b h g (tails _ _ _ _ e)
+aim-one a b h g e = joined-one IsPlace place_text 93 IsTail tail_text closed-plain place-one tail-one a b h g
+    (tails _ _ _ _ e)
 
-pub aim-inside : (bs rest : List ℕ) (b : ℕ) → bs ≡ b ∷ rest → SpellsNone IsInside inside rest → SpellsNone IsAim aim_text bs
+pub aim-inside : (bs rest : List ℕ) (b : ℕ) → bs ≡ b ∷ rest → SpellsNone IsInside inside rest
+    → SpellsNone IsAim aim_text bs
 aim-inside bs rest b is none a h e = none a h (tails _ _ _ _ (sym is ∙ e))
 
 -- ---- operations
@@ -107,23 +111,28 @@ same-parts op p h g e =
     ap₂ (λ l a. (l, a)) (heads _ _ _ _ same) (aim-one (parts_of op).1 p.1 (op-aims op h) g (tails _ _ _ _ same))
 
 pub op-one : IsOne IsOp op_text
-op-one a b h g e = sym (op-parts a) ∙ ap from_parts (same-parts a (parts_of b) h (op-aims b g) (e ∙ op-word b)) ∙ op-parts b
+op-one a b h g e = sym (op-parts a) ∙ ap from_parts (same-parts a (parts_of b) h (op-aims b g) (e ∙ op-word b))
+    ∙ op-parts b
 
-pub op-no_aim : (word rest : List ℕ) (b : ℕ) → word ≡ b ∷ rest → SpellsNone IsAim aim_text rest → SpellsNone IsOp op_text word
+pub op-no_aim : (word rest : List ℕ) (b : ℕ) → word ≡ b ∷ rest → SpellsNone IsAim aim_text rest
+    → SpellsNone IsOp op_text word
 op-no_aim word rest b is none op h e = none (parts_of op).1 (op-aims op h) (tails _ _ _ _ (sym is ∙ e ∙ op-word op))
 
 op-no_kind : (word rest : List ℕ) (b : ℕ) (a : (ℕ × Name) × Tail) → word ≡ b ∷ rest → IsAim a → rest ≡ aim_text a
     → ((op : Op) → parts_of op ≢ (b, a)) → SpellsNone IsOp op_text word
-op-no_kind word rest b a is aim spells none op h e = none op (same-parts op (b, a) h aim (sym e ∙ is ∙ ap (λ r. b ∷ r) spells))
+op-no_kind word rest b a is aim spells none op h e =
+    none op (same-parts op (b, a) h aim (sym e ∙ is ∙ ap (λ r. b ∷ r) spells))
 
-op-found : (word rest : List ℕ) (b : ℕ) (a : (ℕ × Name) × Tail) (op : Op) → word ≡ b ∷ rest → IsAim a → rest ≡ aim_text a
+op-found : (word rest : List ℕ) (b : ℕ) (a : (ℕ × Name) × Tail) (op : Op) → word ≡ b ∷ rest → IsAim a
+    → rest ≡ aim_text a
     → parts_of op ≡ (b, a) → IsOp op × (word ≡ op_text op)
 op-found word rest b a op is aim spells parts = (
   aims-op op (subst (λ (p : ℕ × ((ℕ × Name) × Tail)). IsAim p.1) (sym parts) aim),
   is ∙ ap (λ r. b ∷ r) spells ∙ sym (ap word_of parts) ∙ sym (op-word op),
 )
 
-pub op-finds : (word rest : List ℕ) (b : ℕ) (a : (ℕ × Name) × Tail) (r : Option Op) → word ≡ b ∷ rest → IsAim a × (rest ≡ aim_text a)
+pub op-finds : (word rest : List ℕ) (b : ℕ) (a : (ℕ × Name) × Tail) (r : Option Op) → word ≡ b ∷ rest
+    → IsAim a × (rest ≡ aim_text a)
     → IfSome r (λ op. parts_of op ≡ (b, a)) → IfNone r ((op : Op) → parts_of op ≢ (b, a)) → Finds IsOp op_text word r
 op-finds word rest b a (Some op) is aim some none = op-found word rest b a op is aim.0 aim.1 some
 op-finds word rest b a None is aim some none = op-no_kind word rest b a is aim.0 aim.1 none
@@ -152,7 +161,10 @@ module _ (c : ℕ) (low : c < 43) (other : is_name_byte c ≡ false) where
   aim-without : (a : (ℕ × Name) × Tail) → IsAim a → HasNot c (aim_text a)
   aim-without a h = (
     above 91 c (omega (arith, low)),
-    HasNot-append c (place_text a.0) (93 ∷ tail_text a.1) (spot-without a.0 h.0) (above 93 c (omega (arith, low)), tail-without a.1 h.1),
+    HasNot-append c (place_text a.0) (93 ∷ tail_text a.1) (spot-without a.0 h.0) (
+      above 93 c (omega (arith, low)),
+      tail-without a.1 h.1,
+    ),
   )
 
   pub op-without : (op : Op) → IsOp op → HasNot c (op_text op)

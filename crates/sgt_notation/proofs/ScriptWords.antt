@@ -22,7 +22,8 @@ ops-plain : (ops : List Op) → AllByRecursion IsOp ops → AllByRecursion (HasN
 ops-plain [] all = tt
 ops-plain (op ∷ ops) all = (op-without 32 (lit< tt) refl op all.0, ops-plain ops all.1)
 
-pub ops-one : (ops os : List Op) → AllByRecursion IsOp ops → AllByRecursion IsOp os → map op_text ops ≡ map op_text os → ops ≡ os
+pub ops-one : (ops os : List Op) → AllByRecursion IsOp ops → AllByRecursion IsOp os → map op_text ops ≡ map op_text os
+    → ops ≡ os
 ops-one [] [] a b e = refl
 ops-one [] (o ∷ os) a b e = absurd cc
 ops-one (op ∷ ops) [] a b e = absurd cc
@@ -59,7 +60,8 @@ each-push : (ops : List Op) (op : Op) → AllByRecursion IsOp ops → IsOp op �
 each-push [] op all is = (is, tt)
 each-push (o ∷ os) op all is = (all.0, each-push os op all.1 is)
 
-map-push : (ops : List Op) (op : Op) (more : List (List ℕ)) → map op_text ops ++ op_text op ∷ more ≡ map op_text (ops ++ op ∷ []) ++ more
+map-push : (ops : List Op) (op : Op) (more : List (List ℕ))
+    → map op_text ops ++ op_text op ∷ more ≡ map op_text (ops ++ op ∷ []) ++ more
 map-push [] op more = refl
 map-push (o ∷ os) op more = ap (λ ws. op_text o ∷ ws) (map-push os op more)
 
@@ -83,36 +85,44 @@ module _ {all rest : List (List ℕ)} {items : List Op} {kept : Bool} (p : IsPar
     partly-next op is spells items' kept' pushed = record {
       ops = p.ops ++ op ∷ [];
       each = each-push p.ops op p.each is;
-      spelled = p.spelled ∙ ap (λ ws. map op_text p.ops ++ ws) (left ∙ ap (λ w. w ∷ more) spells) ∙ map-push p.ops op more;
+      spelled = p.spelled ∙ ap (λ ws. map op_text p.ops ++ ws) (left ∙ ap (λ w. w ∷ more) spells)
+          ∙ map-push p.ops op more;
       whole = λ k. let both = pushed k in both.1 ∙ ap (λ os. os ++ op ∷ []) (p.whole both.0);
     }
 
 -- ---- what the line spells
 
 pub too_long : (line : List ℕ) → max_line < length line → SpellsNone IsScript script_text line
-too_long line long s is whole = let room = is.room in let same = ap length whole in absurd (omega (arith, long, room, same))
+too_long line long s is whole = let room = is.room in let same = ap length whole in
+    absurd (omega (arith, long, room, same))
 
 words_are : (line : List ℕ) (s : Script) → IsScript s → line ≡ script_text s → words line ≡ map op_text s.operations
-words_are line s is whole = ap words whole ∙ words-of_script s.operations (recursion_from_All IsOp s.operations is.each) is.some
+words_are line s is whole = ap words whole
+    ∙ words-of_script s.operations (recursion_from_All IsOp s.operations is.each) is.some
 
-pub no_ops : (line : List ℕ) → ((os : List Op) → All IsOp os → words line ≢ map op_text os) → SpellsNone IsScript script_text line
+pub no_ops : (line : List ℕ) → ((os : List Op) → All IsOp os → words line ≢ map op_text os)
+    → SpellsNone IsScript script_text line
 no_ops line none s is whole = none s.operations is.each (words_are line s is whole)
 
 pub unnamed : (line : List ℕ) (items : List Op) (kept : Bool) → KeepsAll (words line) items kept → kept ≡ true
     → (AreSourcesNamed items → ⊥) → SpellsNone IsScript script_text line
 unnamed line items kept k all none s is whole =
     let each = recursion_from_All IsOp s.operations is.each in
-    let same = ops-one s.operations k.ops each (recursion_from_All IsOp k.ops k.each) (sym (words_are line s is whole) ∙ k.spelled) in
+    let same = ops-one s.operations k.ops each (recursion_from_All IsOp k.ops k.each) (sym (words_are line s is whole)
+    ∙ k.spelled) in
     none (subst AreSourcesNamed (same ∙ sym (k.whole all)) is.named)
 
-spells : (line : List ℕ) (ops : List Op) → words line ≡ map op_text ops → line ≡ script_text (record { operations = ops })
+spells : (line : List ℕ) (ops : List Op) → words line ≡ map op_text ops
+    → line ≡ script_text (record { operations = ops })
 spells line ops e = join-words line (map op_text ops) e
 
 some_op : (line : List ℕ) (ops : List Op) → words line ≡ map op_text ops → 1 ≤ length ops
-some_op line [] e = absurd (let empty : line ≡ [] = join-words line [] e in let same : words [] ≡ [] = sym (ap words empty) ∙ e in cc)
+some_op line [] e = absurd (let empty : line ≡ [] = join-words line [] e in let same : words [] ≡ [] =
+    sym (ap words empty) ∙ e in cc)
 some_op line (op ∷ ops) e = omega arith
 
-pub wanting : (line : List ℕ) (items : List Op) (kept : Bool) → KeepsAll (words line) items kept → length line ≤ max_line
+pub wanting : (line : List ℕ) (items : List Op) (kept : Bool) → KeepsAll (words line) items kept
+    → length line ≤ max_line
     → ReadsScript line (Err Memory)
 wanting line items kept k short =
     (record { operations = k.ops }, k.each, some_op line k.ops k.spelled, spells line k.ops k.spelled, short)

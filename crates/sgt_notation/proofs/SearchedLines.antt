@@ -19,7 +19,9 @@ use Rattle.sgt_notation.proofs.Decidable.{Decidable, decidable-three, decidable-
 
 decidable-name : (x : Name) → Decidable (IsName x)
 decidable-name [] = inr (λ h. h)
-decidable-name (c ∷ cs) = decidable-three (decidable-test (is_small_letter c)) (decidable-test (list_all is_name_byte cs)) (decidable-less (length cs) 16)
+decidable-name (c ∷ cs) =
+    decidable-three (decidable-test (is_small_letter c)) (decidable-test (list_all is_name_byte cs))
+    (decidable-less (length cs) 16)
 
 bytes-within : (most : ℕ) (cs : List ℕ) → list_all is_name_byte cs ≡ true → length cs ≤ most → IsWithin 128 most cs
 bytes-within most [] all short = tt
@@ -30,8 +32,11 @@ bytes-within (suc most) (c ∷ cs) all short =
 
 name-within : (x : Name) → IsName x → IsWithin 128 16 x
 name-within [] h = absurd h
-name-within (c ∷ cs) h =
-    (name_byte-low c (or_left (is_small_letter c || (nat_le 48 c && nat_le c 57)) (c == 95) (or_left (is_small_letter c) (nat_le 48 c && nat_le c 57) h.0)), bytes-within 15 cs h.1 (omega (arith, h.2)))
+name-within (c ∷ cs) h = (
+  name_byte-low c (or_left (is_small_letter c || (nat_le 48 c && nat_le c 57)) (c == 95)
+      (or_left (is_small_letter c) (nat_le 48 c && nat_le c 57) h.0)),
+  bytes-within 15 cs h.1 (omega (arith, h.2)),
+)
 
 pub searched-names : IsSearched Name IsName
 searched-names = searched-where (IsWithin 128 16) IsName (searched-lists 128 16) decidable-name name-within
@@ -51,8 +56,10 @@ searched-txs =
 
 searched-operations : IsSearched (ℕ × Name × ℕ) IsOperation
 searched-operations =
-    searched-made (λ o. IsTx o.0 × (IsName o.1.0 × IsValue o.1.1)) IsOperation (λ (o : ℕ × (Name × ℕ)). (o.0, o.1.0, o.1.1))
-    (searched-both IsTx (λ p. IsName p.0 × IsValue p.1) searched-txs (searched-both IsName IsValue searched-names (searched-below (2 ^ 64))))
+    searched-made (λ o. IsTx o.0 × (IsName o.1.0 × IsValue o.1.1)) IsOperation
+    (λ (o : ℕ × (Name × ℕ)). (o.0, o.1.0, o.1.1))
+    (searched-both IsTx (λ p. IsName p.0 × IsValue p.1) searched-txs
+    (searched-both IsName IsValue searched-names (searched-below (2 ^ 64))))
     (λ o h. (h.0, h.1.0, h.1.1)) (λ o h. ((o.0, (o.1, o.2)), (h.0, (h.1, h.2)), refl))
 
 module _ (Q : Entry → Type 0) where
@@ -63,7 +70,8 @@ module _ (Q : Entry → Type 0) where
   abbrev NoEnd : (ℕ → Entry) → Type 0
   NoEnd make = ((tx : ℕ) × IsTx tx × Q (make tx)) → ⊥
 
-  no-entry : NoOperation Read → NoOperation Write → NoOperation Add → NoOperation Want → NoOperation WantAdd → NoEnd Commit → NoEnd Refuse → NoEnd Withdraw
+  no-entry : NoOperation Read → NoOperation Write → NoOperation Add → NoOperation Want → NoOperation WantAdd
+      → NoEnd Commit → NoEnd Refuse → NoEnd Withdraw
       → (e : Entry) → IsEntry e → Q e → ⊥
   no-entry r w d p q c n a (Read tx x v) is h = r ((tx, x, v), is, h)
   no-entry r w d p q c n a (Write tx x v) is h = w ((tx, x, v), is, h)
@@ -100,11 +108,13 @@ searched-entries Q each = entry-found Q each
 
 pub searched-holdings : IsSearched Holding IsHolding
 searched-holdings =
-    searched-made (λ p. IsName p.0 × IsValue p.1) IsHolding (λ (p : Name × ℕ). record { item = p.0; value = p.1 }) (searched-both IsName IsValue searched-names (searched-below (2 ^ 64)))
+    searched-made (λ p. IsName p.0 × IsValue p.1) IsHolding (λ (p : Name × ℕ). record { item = p.0; value = p.1 })
+    (searched-both IsName IsValue searched-names (searched-below (2 ^ 64)))
     (λ p h. (h.0, h.1)) (λ h is. ((h.item, h.value), (is.0, is.1), refl))
 
 module _ (Q : SectionLine → Type 0) where
-  no-line : (((k : ℕ) × IsSite k × Q (Site k)) → ⊥) → (((h : Holding) × IsHolding h × Q (Initial h)) → ⊥) → (((e : Entry) × IsEntry e × Q (Logged e)) → ⊥)
+  no-line : (((k : ℕ) × IsSite k × Q (Site k)) → ⊥) → (((h : Holding) × IsHolding h × Q (Initial h)) → ⊥)
+      → (((e : Entry) × IsEntry e × Q (Logged e)) → ⊥)
       → (((h : Holding) × IsHolding h × Q (Final h)) → ⊥) → (Q End → ⊥) → (l : SectionLine) → IsLine l → Q l → ⊥
   no-line s i e f n (Site k) is h = s (k, is, h)
   no-line s i e f n (Initial x) is h = i (x, is, h)

@@ -45,7 +45,10 @@ pub words-join : (w : List ℕ) (ws : List (List ℕ)) → HasNot 32 w → AllBy
     → words (join_with_byte 32 (w ∷ ws)) ≡ w ∷ ws
 words-join w [] h all = words-only w (All-from_recursion (λ b. b ≢ 32) w h)
 words-join w (v ∷ ws) h all =
-    words-first (join_with_byte 32 (w ∷ v ∷ ws)) w (join_with_byte 32 (v ∷ ws)) (refl, All-from_recursion (λ b. b ≢ 32) w h)
+    words-first (join_with_byte 32 (w ∷ v ∷ ws)) w (join_with_byte 32 (v ∷ ws)) (
+      refl,
+      All-from_recursion (λ b. b ≢ 32) w h,
+    )
     ∙ ap (λ t. w ∷ t) (words-join v ws all.0 all.1)
 
 pub join-words : (text : List ℕ) (ws : List (List ℕ)) → words text ≡ ws → text ≡ join_with_byte 32 ws
@@ -59,7 +62,8 @@ unnumbered line none k ws e = none (join_with_byte 32 (decimal k ∷ ws)) (join-
 
 holding-plain : (h : Holding) → IsHolding h → HasNot 32 (assignment h.item h.value)
 holding-plain h is =
-    let name = HasNot-append 32 h.item (61 ∷ []) (name-without 32 refl h.item is.0) (HasNot-from_test 32 (61 ∷ []) refl) in
+    let name =
+    HasNot-append 32 h.item (61 ∷ []) (name-without 32 refl h.item is.0) (HasNot-from_test 32 (61 ∷ []) refl) in
     HasNot-append 32 (h.item ++ 61 ∷ []) (decimal h.value) name (decimal-above 32 h.value (lit< tt) is.1)
 
 holdings-plain : (hs : List Holding) → AllByRecursion IsHolding hs → AllByRecursion (HasNot 32) (item_words hs)
@@ -67,8 +71,10 @@ holdings-plain [] all = tt
 holdings-plain (h ∷ hs) all = (holding-plain h all.0, holdings-plain hs all.1)
 
 pub words-of_site : (l : SiteLine) → IsSiteLine l → words (site_text l) ≡ site_words l
-words-of_site l is = words-join (codes "site") (decimal l.site ∷ item_words l.items) (HasNot-from_test 32 (codes "site") refl)
-    (decimal-above 32 l.site (lit< tt) (small-site l.site is.site), holdings-plain l.items (recursion_from_All IsHolding l.items is.each))
+words-of_site l is = words-join (codes "site") (decimal l.site ∷ item_words l.items) (HasNot-from_test 32 (codes "site") refl) (
+  decimal-above 32 l.site (lit< tt) (small-site l.site is.site),
+  holdings-plain l.items (recursion_from_All IsHolding l.items is.each),
+)
 
 -- ---- items that may follow a name are items of a site
 
@@ -76,14 +82,16 @@ abbrev Rises : Holding → Holding → Type 0
 Rises a b = slice_cmp nat_cmp a.item b.item ≡ Less
 
 beyond : (x y : Name) → slice_cmp nat_cmp x y ≡ Less → (hs : List Holding)
-    → AllByRecursion (λ h. slice_cmp nat_cmp y h.item ≡ Less) hs → AllByRecursion (λ h. slice_cmp nat_cmp x h.item ≡ Less) hs
+    → AllByRecursion (λ h. slice_cmp nat_cmp y h.item ≡ Less) hs
+    → AllByRecursion (λ h. slice_cmp nat_cmp x h.item ≡ Less) hs
 beyond x y less [] all = tt
 beyond x y less (h ∷ hs) all = (nat_list_cmp_total.trans x y h.item less all.0, beyond x y less hs all.1)
 
 all-behind : (x : Name) (room : ℕ) (hs : List Holding) → MayFollow (Some x) room hs
     → AllByRecursion (λ h. slice_cmp nat_cmp x h.item ≡ Less) hs
 all-behind x room [] follow = tt
-all-behind x room (h ∷ hs) follow = (follow.1.1, beyond x h.item follow.1.1 hs (all-behind h.item (room - 1) hs follow.2))
+all-behind x room (h ∷ hs) follow =
+    (follow.1.1, beyond x h.item follow.1.1 hs (all-behind h.item (room - 1) hs follow.2))
 
 follow-each : (last : Option Name) (room : ℕ) (hs : List Holding) → MayFollow last room hs → AllByRecursion IsHolding hs
 follow-each last room [] follow = tt
@@ -91,11 +99,13 @@ follow-each last room (h ∷ hs) follow = (follow.0, follow-each (Some h.item) (
 
 follow-room : (last : Option Name) (room : ℕ) (hs : List Holding) → MayFollow last room hs → length hs ≤ room
 follow-room last room [] follow = omega arith
-follow-room last room (h ∷ hs) follow = let more = follow-room (Some h.item) (room - 1) hs follow.2 in omega (arith, more, follow.1.0)
+follow-room last room (h ∷ hs) follow = let more = follow-room (Some h.item) (room - 1) hs follow.2 in
+    omega (arith, more, follow.1.0)
 
 follow-rise : (last : Option Name) (room : ℕ) (hs : List Holding) → MayFollow last room hs → PairsByRecursion Rises hs
 follow-rise last room [] follow = tt
-follow-rise last room (h ∷ hs) follow = (all-behind h.item (room - 1) hs follow.2, follow-rise (Some h.item) (room - 1) hs follow.2)
+follow-rise last room (h ∷ hs) follow =
+    (all-behind h.item (room - 1) hs follow.2, follow-rise (Some h.item) (room - 1) hs follow.2)
 
 -- the first of them may stand behind the name
 abbrev Begins : Option Name → List Holding → Type 0
@@ -143,7 +153,8 @@ pub record Leads (all : List (List ℕ)) (items ts : List Holding) (kept : Bool)
   pub lost : kept ≡ false → 0 < length hs
 
 -- some of the words are read: what spells the rest leads to what spells all, and back
-pub record IsPartly (all rest : List (List ℕ)) (items : List Holding) (kept : Bool) (last : Option Name) (room : ℕ) : Type 0 where
+pub record IsPartly (all rest : List (List ℕ)) (items : List Holding) (kept : Bool) (last : Option Name)
+    (room : ℕ) : Type 0 where
   pub on : (ts : List Holding) → MayFollow last room ts → rest ≡ item_words ts → Leads all items ts kept
   pub back : (hs : List Holding) → MayFollow None max_items hs → all ≡ item_words hs
       → (ts : List Holding) × MayFollow last room ts × (rest ≡ item_words ts)
@@ -162,9 +173,11 @@ partly-none all items empty = record {
 }
 
 -- the next of the words that are left, where they are words of items: its item, and the items behind it
-back-next : (word : List ℕ) (more : List (List ℕ)) (last : Option Name) (room : ℕ) (ts : List Holding) → MayFollow last room ts
+back-next : (word : List ℕ) (more : List (List ℕ)) (last : Option Name) (room : ℕ) (ts : List Holding)
+    → MayFollow last room ts
     → word ∷ more ≡ item_words ts
-    → (h : Holding) × (us : List Holding) × MayFollow last room (h ∷ us) × (word ≡ assignment h.item h.value) × (more ≡ item_words us)
+    → (h : Holding) × (us : List Holding) × MayFollow last room (h ∷ us) × (word ≡ assignment h.item h.value)
+    × (more ≡ item_words us)
 back-next word more last room [] follow e = absurd cc
 back-next word more last room (g ∷ gs) follow e = (g, gs, follow, heads _ _ _ _ e, tails _ _ _ _ e)
 
@@ -175,11 +188,18 @@ module _
   pub partly-all : rest ≡ [] → Keeps all items kept
   partly-all end =
       let l = p.on [] tt end in
-      record { hs = l.hs; follow = l.follow; spelled = l.spelled; whole = λ k. sym (l.whole k ∙ append-nil items); lost = l.lost }
+      record {
+        hs = l.hs;
+        follow = l.follow;
+        spelled = l.spelled;
+        whole = λ k. sym (l.whole k ∙ append-nil items);
+        lost = l.lost;
+      }
 
   module _ (word : List ℕ) (more : List (List ℕ)) (left : rest ≡ word ∷ more) where
     -- the word spells no item
-    pub partly-no_item : SpellsNone IsHolding (λ h. assignment h.item h.value) word → (hs : List Holding) → MayFollow None max_items hs
+    pub partly-no_item : SpellsNone IsHolding (λ h. assignment h.item h.value) word → (hs : List Holding)
+        → MayFollow None max_items hs
         → all ≢ item_words hs
     partly-no_item none hs follow e =
         let b = p.back hs follow e in
@@ -189,7 +209,8 @@ module _
     module _ (h : Holding) (is : IsHolding h) (spells : word ≡ assignment h.item h.value) where
       same : (g : Holding) (gs : List Holding) → MayFollow last room (g ∷ gs) → word ≡ assignment g.item g.value
           → MayFollow last room (h ∷ gs)
-      same g gs follow e = subst (λ (x : Holding). MayFollow last room (x ∷ gs)) (holding-one g h follow.0 is (sym e ∙ spells)) follow
+      same g gs follow e =
+          subst (λ (x : Holding). MayFollow last room (x ∷ gs)) (holding-one g h follow.0 is (sym e ∙ spells)) follow
 
       -- it spells an item that may not follow
       pub partly-no_more : ((0 < room) × IsBehind last h.item → ⊥) → (hs : List Holding) → MayFollow None max_items hs
@@ -201,7 +222,8 @@ module _
 
       -- it spells one that may
       pub partly-next : (items' : List Holding) (kept' : Bool) → (0 < room) × IsBehind last h.item
-          → (kept' ≡ true → (kept ≡ true) × (items' ≡ items ++ h ∷ [])) → IsPartly all more items' kept' (Some h.item) (room - 1)
+          → (kept' ≡ true → (kept ≡ true) × (items' ≡ items ++ h ∷ []))
+          → IsPartly all more items' kept' (Some h.item) (room - 1)
       partly-next items' kept' may pushed = record {
         on = λ ts follow e.
             let old = p.on (h ∷ ts) (is, may, follow) (left ∙ ap₂ (λ w ws. w ∷ ws) spells e) in
@@ -233,7 +255,8 @@ pub behind-none : (r : Option (Bor (List ℕ))) → r ≡ None → words_behind 
 behind-none None e = refl
 behind-none (Some t) e = absurd cc
 
-pub behind-some : (r : Option (Bor (List ℕ))) (t : Bor (List ℕ)) → r ≡ Some t → words_behind (option_map (λ t. t.now) r) ≡ words t.now
+pub behind-some : (r : Option (Bor (List ℕ))) (t : Bor (List ℕ)) → r ≡ Some t
+    → words_behind (option_map (λ t. t.now) r) ≡ words t.now
 behind-some r t e = ap (λ (o : Option (Bor (List ℕ))). words_behind (option_map (λ t. t.now) o)) e
 
 shorter : (r : Option (Bor (List ℕ))) (t : Bor (List ℕ)) → IfSome r (λ x. length x.now < length t.now)
@@ -241,10 +264,12 @@ shorter : (r : Option (Bor (List ℕ))) (t : Bor (List ℕ)) → IfSome r (λ x.
 shorter None t h = omega arith
 shorter (Some x) t h = omega (arith, h)
 
-pub smaller : (r old : Option (Bor (List ℕ))) (t : Bor (List ℕ)) → old ≡ Some t → IfSome r (λ x. length x.now < length t.now)
+pub smaller : (r old : Option (Bor (List ℕ))) (t : Bor (List ℕ)) → old ≡ Some t
+    → IfSome r (λ x. length x.now < length t.now)
     → size (option_map (λ t. t.now) r) < size (option_map (λ t. t.now) old)
 smaller r old t e h =
-    subst (λ (o : Option (Bor (List ℕ))). size (option_map (λ t. t.now) r) < size (option_map (λ t. t.now) o)) (sym e) (shorter r t h)
+    subst (λ (o : Option (Bor (List ℕ))). size (option_map (λ t. t.now) r) < size (option_map (λ t. t.now) o)) (sym e)
+    (shorter r t h)
 
 pub pushed : {A E T : Type 0} (r : Result A E) (items items' : List T) (h : T)
     → items' ≡ (if is_ok r then items ++ h ∷ [] else items) → is_err r ≡ false → items' ≡ items ++ h ∷ []
@@ -253,7 +278,8 @@ pushed (Err f) items items' h e ok = absurd cc
 
 -- ---- what the line spells
 
-pub refused : (line : List ℕ) (f : NotationFault) → Refuses line f → SpellsNone IsSiteLine site_text line → ReadsSite line (Err f)
+pub refused : (line : List ℕ) (f : NotationFault) → Refuses line f → SpellsNone IsSiteLine site_text line
+    → ReadsSite line (Err f)
 refused line NotALine h none = (h, none)
 refused line TooLong h none = (h, none)
 refused line Memory h none = absurd h
@@ -266,8 +292,10 @@ pub site-keeps : (line : List ℕ) (k : ℕ) (ws : List (List ℕ)) (items : Lis
     → words line ≡ codes "site" ∷ decimal k ∷ ws → Keeps ws items kept → KeepsSite line k items kept
 site-keeps line k ws items true site e keeps =
     let whole = sym (keeps.whole refl) in
-    let l : SiteLine = record { site = k; items = items } in
-    (site-from_items l site (subst (MayFollow None max_items) whole keeps.follow), spelled line l ws e (keeps.spelled ∙ ap item_words whole))
+    let l : SiteLine = record { site = k; items = items } in (
+      site-from_items l site (subst (MayFollow None max_items) whole keeps.follow),
+      spelled line l ws e (keeps.spelled ∙ ap item_words whole),
+    )
 site-keeps line k ws items false site e keeps =
     let l : SiteLine = record { site = k; items = keeps.hs } in
     (l, site-from_items l site keeps.follow, keeps.lost refl, spelled line l ws e keeps.spelled)

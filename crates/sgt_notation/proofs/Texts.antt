@@ -21,9 +21,11 @@ has_no_lf l h = recursion_from_All (λ b. b ≢ 10) l h
 
 pub text-append : (xs ys : List (List ℕ)) → text_of_lines (xs ++ ys) ≡ text_of_lines xs ++ text_of_lines ys
 text-append [] ys = refl
-text-append (x ∷ xs) ys = ap (λ (t : List ℕ). (x ++ 10 ∷ []) ++ t) (text-append xs ys) ∙ sym (append_assoc (x ++ 10 ∷ []) (text_of_lines xs) (text_of_lines ys))
+text-append (x ∷ xs) ys = ap (λ (t : List ℕ). (x ++ 10 ∷ []) ++ t) (text-append xs ys)
+    ∙ sym (append_assoc (x ++ 10 ∷ []) (text_of_lines xs) (text_of_lines ys))
 
-pub all-spent : (told new : Option (List ℕ)) → Spends 4294967295 told 0 new → IfSome told (λ bytes. most_reads ≤ length bytes)
+pub all-spent : (told new : Option (List ℕ)) → Spends 4294967295 told 0 new
+    → IfSome told (λ bytes. most_reads ≤ length bytes)
 all-spent None new spends = tt
 all-spent (Some xs) None spends = absurd spends
 all-spent (Some xs) (Some ys) spends = let all : 4294967295 ≤ length xs = omega arith in all
@@ -33,7 +35,8 @@ decidable-Less Less = inl refl
 decidable-Less Equal = inr (λ e. cc)
 decidable-Less Greater = inr (λ e. cc)
 
-pub line_front : (l : List ℕ) (ls : List (List ℕ)) (rest : List ℕ) → text_of_lines (l ∷ ls) ++ rest ≡ l ++ 10 ∷ (text_of_lines ls ++ rest)
+pub line_front : (l : List ℕ) (ls : List (List ℕ)) (rest : List ℕ)
+    → text_of_lines (l ∷ ls) ++ rest ≡ l ++ 10 ∷ (text_of_lines ls ++ rest)
 line_front l ls rest = simp append_assoc
 
 pub first_line : (l : List ℕ) (ls : List (List ℕ)) → text_of_lines (l ∷ ls) ≡ l ++ 10 ∷ text_of_lines ls
@@ -51,26 +54,37 @@ pub spends-none : (told : Option (List ℕ)) (a b : ℕ) → b ≡ a → Spends 
 spends-none None a b same = tt
 spends-none (Some xs) a b same = omega arith
 
-pub spends_on : (told mid new : Option (List ℕ)) (a b c : ℕ) → Spends a told b mid → Spends b mid c new → Spends a told c new
+pub spends_on : (told mid new : Option (List ℕ)) (a b c : ℕ) → Spends a told b mid → Spends b mid c new
+    → Spends a told c new
 spends_on None mid new a b c first later = tt
 spends_on (Some xs) None new a b c first later = absurd first
 spends_on (Some xs) (Some ys) None a b c first later = absurd later
 spends_on (Some xs) (Some ys) (Some zs) a b c first later = omega arith
 
-pub text-one_line : (xs : List (List ℕ)) (l rest : List ℕ) → text_of_lines (xs ++ l ∷ []) ++ rest ≡ text_of_lines xs ++ (l ++ 10 ∷ rest)
+pub text-one_line : (xs : List (List ℕ)) (l rest : List ℕ)
+    → text_of_lines (xs ++ l ∷ []) ++ rest ≡ text_of_lines xs ++ (l ++ 10 ∷ rest)
 text-one_line xs l rest =
-    ap (λ (t : List ℕ). t ++ rest) (text-append xs (l ∷ [])) ∙ append_assoc (text_of_lines xs) (text_of_lines (l ∷ [])) rest
-    ∙ ap (λ (t : List ℕ). text_of_lines xs ++ t) (ap (λ (t : List ℕ). t ++ rest) (append-nil (l ++ 10 ∷ [])) ∙ append_assoc l (10 ∷ []) rest)
+    ap (λ (t : List ℕ). t ++ rest) (text-append xs (l ∷ []))
+    ∙ append_assoc (text_of_lines xs) (text_of_lines (l ∷ [])) rest
+    ∙ ap (λ (t : List ℕ). text_of_lines xs ++ t) (ap (λ (t : List ℕ). t ++ rest) (append-nil (l ++ 10 ∷ []))
+    ∙ append_assoc l (10 ∷ []) rest)
 
-pub fault-met : (told : Option (List ℕ)) (failures asked asked' reads : ℕ) (old new : Stream) (line : List ℕ) → old.failures ≡ failures → Spends 4294967295 told reads old.told → old.ahead.reads ≡ reads
-    → asked' + new.ahead.reads ≡ asked + 4294967295 → MetReadFault old line new → ReadFaultIsDue told failures new.failures asked asked'
+pub fault-met : (told : Option (List ℕ)) (failures asked asked' reads : ℕ) (old new : Stream) (line : List ℕ)
+    → old.failures ≡ failures → Spends 4294967295 told reads old.told → old.ahead.reads ≡ reads
+    → asked' + new.ahead.reads ≡ asked + 4294967295 → MetReadFault old line new
+    → ReadFaultIsDue told failures new.failures asked asked'
 fault-met told failures asked asked' reads old new line quiet spends same counts met =
     elim met.cause [
       | inl failed ↦ inl (omega (arith, failed.0, quiet))
-      | inr spent ↦ inr (omega (arith, spent.0, counts), all-spent told new.told (spends_on told old.told new.told 4294967295 reads 0 spends (subst (λ (n : ℕ). Spends n old.told 0 new.told) same spent.2)))
+      | inr spent ↦ inr (
+        omega (arith, spent.0, counts),
+        all-spent told new.told (spends_on told old.told new.told 4294967295 reads 0 spends
+            (subst (λ (n : ℕ). Spends n old.told 0 new.told) same spent.2)),
+      )
     ]
 
-pub clash_items : (kind : Kind) (x : Name) (e f : Entry) → Clash kind x e f → (item_of e ≡ Some x) × (item_of f ≡ Some x)
+pub clash_items : (kind : Kind) (x : Name) (e f : Entry) → Clash kind x e f
+    → (item_of e ≡ Some x) × (item_of f ≡ Some x)
 clash_items Wr x e f h = (writes-item x e h.0, reads-item x f h.1)
 clash_items Rw x e f h = (reads-item x e h.0, writes-item x f h.1)
 clash_items Ww x e f h = (writes-item x e h.0, writes-item x f h.1)

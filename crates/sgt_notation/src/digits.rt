@@ -39,7 +39,8 @@ fn keep_first(word: u64, count: u32) -> u64
     word << (56 - 8 * count) << 8
 }
 
-/// How many of the word's bytes are digits from the lowest on, and the number that they write if they are not all digits.
+/// How many of the word's bytes are digits from the lowest on, and the number that they write if they are not all
+/// digits.
 #[inline(always)]
 pub(crate) fn up_to_seven(word: u64) -> (usize, u64)
     ensures most { result.0 ≤ 8 }

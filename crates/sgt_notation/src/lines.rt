@@ -50,8 +50,8 @@ impl From<AllocError> for LinesFault {
     }
 }
 
-/// Cuts a reader into lines. It holds the bytes that were read and not yet given out, and no reader: each call is passed
-/// the same one. Contracts see those bytes, and how many more reads there may be.
+/// Cuts a reader into lines. It holds the bytes that were read and not yet given out, and no reader: each call is
+/// passed the same one. Contracts see those bytes, and how many more reads there may be.
 #[derive(Drop)]
 pub struct Lines {
     buffer: Vec<u8>,
@@ -78,8 +78,8 @@ pub fn find_lf(bytes: &[u8]) -> Option<usize>
 }
 
 /// Moves the bytes before the first LF, or all of them where there is none, to the end of the line, unless it gets too
-/// long by them. The first number is that of these bytes. The second is how many of the held bytes are used up: with the
-/// LF, or none of too long a line.
+/// long by them. The first number is that of these bytes. The second is how many of the held bytes are used up: with
+/// the LF, or none of too long a line.
 fn look_in(
     held: &[u8],
     line: &mut Vec<u8>,
@@ -271,7 +271,8 @@ impl Lines {
         ensures asks { S.asked source.new + self.new.reads ≡ S.asked source.old + self.old.reads }
         // they are no more than the bytes of the line, and one
         ensures few { self.old.reads ≤ self.new.reads + length line.new.items + 1 }
-        // each read that was counted gave a byte, but for the last; and a count gave no more bytes than the buffer holds
+        // each read that was counted gave a byte, but for the last; and a count gave no more bytes than the buffer
+        // holds
         ensures counted { self.old.reads + length self.old.held
             ≤ self.new.reads + length self.new.held + length line.new.items + 1 }
         ensures bounded { most_left self.new + length line.new.items ≤ most_left self.old }

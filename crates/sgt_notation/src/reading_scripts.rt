@@ -207,8 +207,8 @@ fn has_source(earlier: &[Op], naming: &Naming, op: &Op) -> bool
     }
 }
 
-/// Whether the source of each sum is named before it. A search of the items that are named for each, and of the operations where
-/// that finds none.
+/// Whether the source of each sum is named before it. A search of the items that are named for each, and of the
+/// operations where that finds none.
 fn are_sources_named(alloc: Global, ops: &[Op]) -> bool
     ensures { IsTrue result ↔ AreSourcesNamed ops.now }
 {
@@ -242,7 +242,8 @@ fn keep_script(alloc: Global, ops: &mut Vec<Op>, line: &[u8]) -> Result<(), Nota
     Ok(())
 }
 
-/// The script that this line, without its LF, spells: one or more operations with single spaces between, each `r[SITE.NAME]`,
+/// The script that this line, without its LF, spells: one or more operations with single spaces between, each
+/// `r[SITE.NAME]`,
 /// `w[SITE.NAME]=NUM`, `d[SITE.NAME]=NUM` or `w[SITE.NAME]=SITE.NAME+NUM`. The source of a sum stands in an earlier `r` or `w` of
 /// the line. L2 for a line that is too long, and L1 for any other line. L3 where a growth was refused: only of a line
 /// that spells operations. Each source is looked for by the item, in the logarithm of those that are named.

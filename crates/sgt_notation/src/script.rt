@@ -22,7 +22,8 @@ pub enum Op {
         item: Item,
         value: Value,
     },
-    /// It is to write the sum of this value and the one that it sees at the source. An earlier operation reads or writes that.
+    /// It is to write the sum of this value and the one that it sees at the source. An earlier operation reads or
+    /// writes that.
     Sum {
         site: SiteNo,
         item: Item,

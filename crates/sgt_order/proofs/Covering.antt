@@ -23,13 +23,21 @@ use Rattle.sgt_names.proofs.Elements.{get-slice_set_same, get-slice_set_other}
 -- the words after a bit of one of them was set
 module _ (words : List ℕ) (at : ℕ) where
   -- the word of the bit is the changed one
-  pub word_changed : (i : ℕ) → at / 64 < length words → i / 64 ≡ at / 64 → get_or (slice_set words (at / 64) (bit_or (get_or words (at / 64) 0) (1 * 2 ^ (at % 64) % 2 ^ 64))) (i / 64) 0 ≡ bit_or (get_or words (i / 64) 0) (1 * 2 ^ (at % 64) % 2 ^ 64)
-  word_changed i within same = rw same (get_or-set_same words (at / 64) (bit_or (get_or words (at / 64) 0) (1 * 2 ^ (at % 64) % 2 ^ 64)) 0 within)
+  pub word_changed : (i : ℕ) → at / 64 < length words → i / 64 ≡ at / 64
+      → get_or (slice_set words (at / 64) (bit_or (get_or words (at / 64) 0) (1 * 2 ^ (at % 64) % 2 ^ 64))) (i / 64) 0
+      ≡ bit_or (get_or words (i / 64) 0) (1 * 2 ^ (at % 64) % 2 ^ 64)
+  word_changed i within same =
+      rw same (get_or-set_same words (at / 64) (bit_or (get_or words (at / 64) 0) (1 * 2 ^ (at % 64) % 2 ^ 64)) 0
+      within)
 
-  pub word_same : (i : ℕ) → (i / 64 ≡ at / 64 → ⊥) → get_or (slice_set words (at / 64) (bit_or (get_or words (at / 64) 0) (1 * 2 ^ (at % 64) % 2 ^ 64))) (i / 64) 0 ≡ get_or words (i / 64) 0
-  word_same i other = get_or-set_other words (at / 64) (i / 64) (bit_or (get_or words (at / 64) 0) (1 * 2 ^ (at % 64) % 2 ^ 64)) 0 other
+  pub word_same : (i : ℕ) → (i / 64 ≡ at / 64 → ⊥)
+      → get_or (slice_set words (at / 64) (bit_or (get_or words (at / 64) 0) (1 * 2 ^ (at % 64) % 2 ^ 64))) (i / 64) 0
+      ≡ get_or words (i / 64) 0
+  word_same i other =
+      get_or-set_other words (at / 64) (i / 64) (bit_or (get_or words (at / 64) 0) (1 * 2 ^ (at % 64) % 2 ^ 64)) 0 other
 
-  pub bit_kept : at / 64 < length words → (i : ℕ) → HasBit words i → HasBit (slice_set words (at / 64) (bit_or (get_or words (at / 64) 0) (1 * 2 ^ (at % 64) % 2 ^ 64))) i
+  pub bit_kept : at / 64 < length words → (i : ℕ) → HasBit words i
+      → HasBit (slice_set words (at / 64) (bit_or (get_or words (at / 64) 0) (1 * 2 ^ (at % 64) % 2 ^ 64))) i
   unfolding HasBit
   bit_kept within i has =
       elim (cases_eq (i / 64) (at / 64)) [
@@ -40,12 +48,16 @@ module _ (words : List ℕ) (at : ℕ) where
         | inr other ↦ ap (λ w. bit_at w (i % 64)) (word_same i other) ∙ has
       ]
 
-  pub bit_new : at / 64 < length words → HasBit (slice_set words (at / 64) (bit_or (get_or words (at / 64) 0) (1 * 2 ^ (at % 64) % 2 ^ 64))) at
+  pub bit_new : at / 64 < length words
+      → HasBit (slice_set words (at / 64) (bit_or (get_or words (at / 64) 0) (1 * 2 ^ (at % 64) % 2 ^ 64))) at
   unfolding HasBit
   bit_new within =
-      ap (λ w. bit_at w (at % 64)) (word_changed at within refl) ∙ bit_at_set_same w64 (get_or words (at / 64) 0) (at % 64) (omega arith)
+      ap (λ w. bit_at w (at % 64)) (word_changed at within refl)
+      ∙ bit_at_set_same w64 (get_or words (at / 64) 0) (at % 64) (omega arith)
 
-  pub bit_none : at / 64 < length words → (i : ℕ) → HasBit (slice_set words (at / 64) (bit_or (get_or words (at / 64) 0) (1 * 2 ^ (at % 64) % 2 ^ 64))) i → HasBit words i ⊎ (i ≡ at)
+  pub bit_none : at / 64 < length words → (i : ℕ)
+      → HasBit (slice_set words (at / 64) (bit_or (get_or words (at / 64) 0) (1 * 2 ^ (at % 64) % 2 ^ 64))) i
+      → HasBit words i ⊎ (i ≡ at)
   unfolding HasBit
   bit_none within i has =
       elim (cases_eq i at) [
@@ -70,8 +82,12 @@ unfolding HasBit
 zero_bits n i has =
     let none = bit_at-zero (i % 64) in
     elim (cases_lt (i / 64) n) [
-      | inl within ↦ absurd (let word = ap (λ w. bit_at w (i % 64)) (get_or-replicate n (i / 64) 0 0 within) in omega (arith, has, none, word))
-      | inr past ↦ absurd (let word = ap (λ w. bit_at w (i % 64)) (get_or_past (replicate n 0) (i / 64) 0 (omega (arith, past, length-replicate {A = ℕ} n 0))) in omega (arith, has, none, word))
+      | inl within ↦ absurd (let word = ap (λ w. bit_at w (i % 64)) (get_or-replicate n (i / 64) 0 0 within) in
+          omega (arith, has, none, word))
+      | inr past ↦ absurd (let word =
+          ap (λ w. bit_at w (i % 64))
+          (get_or_past (replicate n 0) (i / 64) 0 (omega (arith, past, length-replicate {A = ℕ} n 0))) in
+          omega (arith, has, none, word))
     ]
 
 pub bare_words : (words : List ℕ) → words ≡ [] → (i : ℕ) → HasBit words i → ⊥
@@ -81,7 +97,9 @@ pub zero_words : (words : List ℕ) (n : ℕ) → words ≡ replicate n 0 → (i
 zero_words words n zeros i has = zero_bits n i (subst (λ ws. HasBit ws i) zeros has)
 
 -- words that add nothing to others have no bit that those lack
-pub bits_among : (words others : List ℕ) → ((j : ℕ) → j < length words → bit_or (get_or words j 0) (get_or others j 0) ≡ get_or others j 0) → (i : ℕ) → HasBit words i → HasBit others i
+pub bits_among : (words others : List ℕ)
+    → ((j : ℕ) → j < length words → bit_or (get_or words j 0) (get_or others j 0) ≡ get_or others j 0) → (i : ℕ)
+    → HasBit words i → HasBit others i
 unfolding HasBit
 bits_among words others same i has =
     elim (cases_lt (i / 64) (length words)) [
@@ -91,17 +109,23 @@ bits_among words others same i has =
           let is = ap (λ w. bit_at w (i % 64)) (same (i / 64) within) in
           omega (arith, two, one, is, has)
       | inr past ↦ absurd (
-          let none = ap (λ w. bit_at w (i % 64)) (get_or_past words (i / 64) 0 (omega (arith, past))) ∙ bit_at-zero (i % 64) in
+          let none = ap (λ w. bit_at w (i % 64)) (get_or_past words (i / 64) 0 (omega (arith, past)))
+          ∙ bit_at-zero (i % 64) in
           omega (arith, has, none))
     ]
 
 -- a row that was changed covers one more edge
-pub rows_change : (rows : List Row) (k : ℕ) (old new : Row) (over : List Edge) (e : Edge) → slice_get rows k ≡ Some old → e.from.index ≡ k → (IsOpenRow new → IsOpenRow old × ((i : ℕ) → HasBit old.words.items i → HasBit new.words.items i)) → (IsOpenRow new → HasBit new.words.items e.to.index) → RowsCover rows over → RowsCover (slice_set rows k new) (over ++ e ∷ [])
+pub rows_change : (rows : List Row) (k : ℕ) (old new : Row) (over : List Edge) (e : Edge)
+    → slice_get rows k ≡ Some old → e.from.index ≡ k
+    → (IsOpenRow new → IsOpenRow old × ((i : ℕ) → HasBit old.words.items i → HasBit new.words.items i))
+    → (IsOpenRow new → HasBit new.words.items e.to.index) → RowsCover rows over
+    → RowsCover (slice_set rows k new) (over ++ e ∷ [])
 rows_change rows k old new over e at from kept set covers j row got wide n f is leads =
     elim (cases_eq j k) [
       | inl same ↦
           let within : k < length rows = slice_get_within rows k old at in
-          let one : new ≡ row = same_Some new row (sym (get-slice_set_same rows k new within) ∙ subst (λ m. slice_get (slice_set rows k new) m ≡ Some row) same got) in
+          let one : new ≡ row = same_Some new row (sym (get-slice_set_same rows k new within)
+          ∙ subst (λ m. slice_get (slice_set rows k new) m ≡ Some row) same got) in
           let opened = subst IsOpenRow (sym one) wide in
           subst (λ (r : Row). HasBit r.words.items f.to.index) one (
           elim (get_push_cases over e f n is) [
@@ -117,15 +141,23 @@ rows_change rows k old new over e at from kept set covers j row got wide n f is 
     ]
 
 -- an edge from a node without a row
-pub rows_past : (rows : List Row) (over : List Edge) (e : Edge) → length rows ≤ e.from.index → RowsCover rows over → RowsCover rows (over ++ e ∷ [])
+pub rows_past : (rows : List Row) (over : List Edge) (e : Edge) → length rows ≤ e.from.index → RowsCover rows over
+    → RowsCover rows (over ++ e ∷ [])
 rows_past rows over e past covers j row got wide n f is leads =
     elim (get_push_cases over e f n is) [
       | inl early ↦ covers j row got wide n f early leads
-      | inr last ↦ absurd (omega (arith, slice_get_within rows j row got, leads, ap (λ (x : Edge). x.from.index) last.1, past))
+      | inr last ↦ absurd (omega (
+        arith,
+        slice_get_within rows j row got,
+        leads,
+        ap (λ (x : Edge). x.from.index) last.1,
+        past,
+      ))
     ]
 
 -- one more row, without words
-pub rows_push : (rows : List Row) (new : Row) (over : List Edge) → new.words.items ≡ [] → RowsCover rows over → RowsCover (rows ++ new ∷ []) over
+pub rows_push : (rows : List Row) (new : Row) (over : List Edge) → new.words.items ≡ [] → RowsCover rows over
+    → RowsCover (rows ++ new ∷ []) over
 rows_push rows new over bare covers j row got wide n f is leads =
     elim (get_push_cases rows new row j got) [
       | inl early ↦ covers j row early wide n f is leads
@@ -133,17 +165,21 @@ rows_push rows new over bare covers j row got wide n f is leads =
     ]
 
 -- a row in the place of another
-pub rows_put : (rows : List Row) (k : ℕ) (new : Row) (over : List Edge) → k < length rows → (IsOpenRow new → Covers over k new.words.items) → RowsCover rows over → RowsCover (slice_set rows k new) over
+pub rows_put : (rows : List Row) (k : ℕ) (new : Row) (over : List Edge) → k < length rows
+    → (IsOpenRow new → Covers over k new.words.items) → RowsCover rows over → RowsCover (slice_set rows k new) over
 rows_put rows k new over within covered covers j row got wide n f is leads =
     elim (cases_eq j k) [
       | inl same ↦
-          let one : new ≡ row = same_Some new row (sym (get-slice_set_same rows k new within) ∙ subst (λ m. slice_get (slice_set rows k new) m ≡ Some row) same got) in
-          subst (λ (r : Row). HasBit r.words.items f.to.index) one (covered (subst IsOpenRow (sym one) wide) n f is (leads ∙ same))
+          let one : new ≡ row = same_Some new row (sym (get-slice_set_same rows k new within)
+          ∙ subst (λ m. slice_get (slice_set rows k new) m ≡ Some row) same got) in
+          subst (λ (r : Row). HasBit r.words.items f.to.index) one
+          (covered (subst IsOpenRow (sym one) wide) n f is (leads ∙ same))
       | inr other ↦ covers j row (sym (get-slice_set_other rows k j new other) ∙ got) wide n f is leads
     ]
 
 -- the edges with these numbers are those from the node
-pub from_listed : (edges : List Edge) (h : Handle) (listed : List ℕ) (a b : List (Option Edge)) → AreNumbers edges h listed → Marked (IsListed edges listed) a b → Marked (IsFrom h edges) a b
+pub from_listed : (edges : List Edge) (h : Handle) (listed : List ℕ) (a b : List (Option Edge))
+    → AreNumbers edges h listed → Marked (IsListed edges listed) a b → Marked (IsFrom h edges) a b
 from_listed edges h listed a b lists then = record {
   kept = then.kept;
   fresh = λ k e had.
@@ -160,21 +196,31 @@ from_listed edges h listed a b lists then = record {
 }
 
 -- one more number, whose edge's bit was set
-pub listed_set : (edges : List Edge) (listed : List ℕ) (n m : ℕ) (x : Edge) (old new : Row) → slice_get listed n ≡ Some m → slice_get edges m ≡ Some x → (IsOpenRow new → IsOpenRow old × ((i : ℕ) → HasBit old.words.items i → HasBit new.words.items i)) → (IsOpenRow new → HasBit new.words.items x.to.index) → (IsOpenRow old → (e : Edge) → IsListed edges (take n listed) e → HasBit old.words.items e.to.index) → IsOpenRow new → (e : Edge) → IsListed edges (take (n + 1) listed) e → HasBit new.words.items e.to.index
+pub listed_set : (edges : List Edge) (listed : List ℕ) (n m : ℕ) (x : Edge) (old new : Row)
+    → slice_get listed n ≡ Some m → slice_get edges m ≡ Some x
+    → (IsOpenRow new → IsOpenRow old × ((i : ℕ) → HasBit old.words.items i → HasBit new.words.items i))
+    → (IsOpenRow new → HasBit new.words.items x.to.index)
+    → (IsOpenRow old → (e : Edge) → IsListed edges (take n listed) e → HasBit old.words.items e.to.index)
+    → IsOpenRow new → (e : Edge) → IsListed edges (take (n + 1) listed) e → HasBit new.words.items e.to.index
 listed_set edges listed n m x old new at is kept set before wide e l =
     elim (get_take_next listed n l.0 m l.1 at l.2) [
       | inl early ↦ (kept wide).1 e.to.index (before (kept wide).0 e (l.0, l.1, early.1, l.3))
-      | inr last ↦ subst (λ (y : Edge). HasBit new.words.items y.to.index) (same_Some x e (sym is ∙ (ap (slice_get edges) last.1 ∙ l.3))) (set wide)
+      | inr last ↦ subst (λ (y : Edge). HasBit new.words.items y.to.index)
+          (same_Some x e (sym is ∙ (ap (slice_get edges) last.1 ∙ l.3))) (set wide)
     ]
 
 -- each number of a node is an edge's
-pub numbers_within : (nodes : Arena Node) (edges : List Edge) (h : Handle) (node : Node) → Lists nodes edges → get nodes h ≡ Some node → (j n : ℕ) → slice_get node.out.items j ≡ Some n → n < length edges
+pub numbers_within : (nodes : Arena Node) (edges : List Edge) (h : Handle) (node : Node) → Lists nodes edges
+    → get nodes h ≡ Some node → (j n : ℕ) → slice_get node.out.items j ≡ Some n → n < length edges
 numbers_within nodes edges h node lists got j n at =
     let e = (are_numbers edges h node.out.items (lists h node got).is).sound j n at in
     slice_get_within edges n e.0 e.1
 
 -- words with the bits of a node's listed edges cover them
-pub covers_listed : (nodes : Arena Node) (edges : List Edge) (h : Handle) (node : Node) (words : List ℕ) → Lists nodes edges → ((n : ℕ) (e : Edge) → slice_get edges n ≡ Some e → e.from.generation ≡ nodes.generation) → get nodes h ≡ Some node → ((e : Edge) → IsListed edges node.out.items e → HasBit words e.to.index) → Covers edges h.index words
+pub covers_listed : (nodes : Arena Node) (edges : List Edge) (h : Handle) (node : Node) (words : List ℕ)
+    → Lists nodes edges → ((n : ℕ) (e : Edge) → slice_get edges n ≡ Some e → e.from.generation ≡ nodes.generation)
+    → get nodes h ≡ Some node → ((e : Edge) → IsListed edges node.out.items e → HasBit words e.to.index)
+    → Covers edges h.index words
 covers_listed nodes edges h node words lists window got set n e is leads =
     let same = same_handle e.from h leads (window n e is ∙ sym (got_window nodes h node got)) in
     let number = (are_numbers edges h node.out.items (lists h node got).is).complete n e is same in

@@ -14,8 +14,8 @@ const BLOCK: usize = 64;
 // Stands where no number does.
 const UNKNOWN: u32 = u32::MAX;
 
-/// The numbers of a node's edges by the index of the node that they lead to, in blocks. A block without numbers is of nodes
-/// that none leads to.
+/// The numbers of a node's edges by the index of the node that they lead to, in blocks. A block without numbers is of
+/// nodes that none leads to.
 #[derive(Drop)]
 pub struct Hints {
     pub blocks: Vec<Vec<u32>>,

@@ -9,7 +9,8 @@ use sgt_edges::Edge;
 pub struct Region {
     /// The place in the order where the region begins.
     pub first: usize,
-    /// One for each node of the window: the edge by which the search first met it. Between two admissions there are none.
+    /// One for each node of the window: the edge by which the search first met it. Between two admissions there are
+    /// none.
     pub marks: Vec<Option<Edge>>,
     /// The room for the region's next order.
     pub next: Vec<Handle>,

@@ -11,14 +11,15 @@ pub const WORDS: usize = 64;
 // So few members are gone over without bits.
 const FEW: usize = 16;
 
-/// Which nodes the edges of a node lead to: the bit at a node's index is set if one does. It says nothing if it has no words.
+/// Which nodes the edges of a node lead to: the bit at a node's index is set if one does. It says nothing if it has
+/// no words.
 #[derive(Drop)]
 pub struct Row {
     pub words: Vec<u64>,
 }
 
-/// Words for the bits of all nodes, none of which is set. There are none where few members are to be gone over, or memory is
-/// refused.
+/// Words for the bits of all nodes, none of which is set. There are none where few members are to be gone over, or
+/// memory is refused.
 #[tactic(auto, using(crate::proofs::Covering::bare_words, crate::proofs::Covering::zero_words))]
 pub(crate) fn no_bits(alloc: Global, members: usize) -> Vec<u64>
     ensures { (i : ℕ) → HasBit result.items i → ⊥ }

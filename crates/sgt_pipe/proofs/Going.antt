@@ -31,8 +31,13 @@ pub hears_none : (told : Option (List ℕ)) (given : List ℕ) (n : ℕ) → Hea
 hears_none told given n = record { bytes = []; gave = sym (append-nil given); took = consumes_none told; quiet = refl }
 
 pub speaks_none : (told : Option (List ℕ)) (written : List ℕ) (n : ℕ) → Speaks told told written written n n
-speaks_none told written n = record { bytes = []; wrote = sym (append-nil written); put = appends_none told; quiet =
-    refl }
+speaks_none told written n = record {
+  bytes = [];
+  wrote = sym (append-nil written);
+  put = appends_none told;
+  quiet =
+      refl;
+}
 
 -- these bytes, or these behind them
 pub hears_then : (a b c : Option (List ℕ)) (f g h : List ℕ) (k m n : ℕ) → Hears a b f g k m → Hears b c g h m n

@@ -13,11 +13,11 @@ pub record Hears (told told' : Option (List ℕ)) (given given' : List ℕ) (fai
 
 -- it gave some bytes, and then it failed, or no read was left
 pub record LosesReader (told told' : Option (List ℕ)) (given given' : List ℕ) (failures failures' reads : ℕ) : Type 0
-    where
-  pub bytes : List ℕ
-  pub gave : given' ≡ given ++ bytes
-  pub left : Leaves told bytes told'
-  pub fault : (failures < failures') ⊎ (reads ≡ 0)
+  where
+    pub bytes : List ℕ
+    pub gave : given' ≡ given ++ bytes
+    pub left : Leaves told bytes told'
+    pub fault : (failures < failures') ⊎ (reads ≡ 0)
 
 -- the writer took some bytes, and didn't fail
 pub record Speaks (told told' : Option (List ℕ)) (written written' : List ℕ) (failures failures' : ℕ) : Type 0 where
@@ -28,8 +28,8 @@ pub record Speaks (told told' : Option (List ℕ)) (written written' : List ℕ)
 
 -- it took some bytes, and then it failed
 pub record LosesWriter (told told' : Option (List ℕ)) (written written' : List ℕ) (failures failures' : ℕ) : Type 0
-    where
-  pub bytes : List ℕ
-  pub wrote : written' ≡ written ++ bytes
-  pub put : AppendsOrForgets told told' bytes
-  pub fault : failures < failures'
+  where
+    pub bytes : List ℕ
+    pub wrote : written' ≡ written ++ bytes
+    pub put : AppendsOrForgets told told' bytes
+    pub fault : failures < failures'

@@ -18,8 +18,9 @@ pub enum KeepFault {
     Refused,
 }
 
-/// The bundles that a place keeps, each with its number and its text, and what it answered each time that it was handed one. It takes
-/// no bytes, and is there for proofs alone: a place keeps one, and puts `with` in its place each time.
+/// The bundles that a place keeps, each with its number and its text, and what it answered each time that it was
+/// handed one. It takes no bytes, and is there for proofs alone: a place keeps one, and puts `with` in its place each
+/// time.
 #[derive(Drop)]
 pub struct Handed {
     pub ghost items: { List (ℕ × List ℕ) },

@@ -5,8 +5,8 @@ ghost use Rattle.std.specs.Borrow.{ftrue};
 
 use std::marker::Model;
 
-/// What was given and written so far; and at each read, what was given and written before it. It takes no bytes, and is there
-/// for proofs alone: what it tells are the reads and writes of the pipe that keeps it.
+/// What was given and written so far; and at each read, what was given and written before it. It takes no bytes, and
+/// is there for proofs alone: what it tells are the reads and writes of the pipe that keeps it.
 #[derive(Drop)]
 pub struct History {
     pub ghost given: { List ℕ },

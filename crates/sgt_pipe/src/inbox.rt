@@ -23,8 +23,9 @@ pub enum Front {
     TooLong,
 }
 
-/// Holds what was read of a pipe and not yet taken: a line of at most `MAX_LINE` bytes, and behind it as much as a read gives.
-/// It holds no pipe; each call is passed the same one. Contracts see those bytes, and how many more reads there may be.
+/// Holds what was read of a pipe and not yet taken: a line of at most `MAX_LINE` bytes, and behind it as much as a
+/// read gives. It holds no pipe; each call is passed the same one. Contracts see those bytes, and how many more reads
+/// there may be.
 #[derive(Drop)]
 pub struct Inbox {
     bytes: Vec<u8>,
@@ -121,8 +122,8 @@ impl Inbox {
         }
     }
 
-    /// Reads once behind what is held, where that is no longer than a line may be, and tells how many bytes came: none at the
-    /// end alone. Err: the reader failed, or 2^64 - 1 reads were made.
+    /// Reads once behind what is held, where that is no longer than a line may be, and tells how many bytes came:
+    /// none at the end alone. Err: the reader failed, or 2^64 - 1 reads were made.
     pub fn fill<R: Source, W: Sink>(&mut self, pipe: &mut Pipe<R, W>) -> Result<usize, Failed>
         requires { length self.old.held ≤ max_line }
         ensures ok { IfOk result

@@ -1,4 +1,5 @@
-//! A pipe: the reader and the writer of one talk, with what happened at both in its order; and the lines that came by it.
+//! A pipe: the reader and the writer of one talk, with what happened at both in its order; and the lines that came by
+//! it.
 #![tactic(auto)]
 
 mod handed;

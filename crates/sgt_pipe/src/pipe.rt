@@ -6,8 +6,8 @@ ghost use Rattle.sgt_names.specs.Device.{AtMost, CountsFailures, TakesFront, Tak
 use crate::history::{Act, History};
 use sgt_names::{Failed, Sink, Source};
 
-/// The reader and the writer of one talk. Its history tells, for proofs, what the reader gave, what the writer took, and at
-/// each read what both had done before it.
+/// The reader and the writer of one talk. Its history tells, for proofs, what the reader gave, what the writer took,
+/// and at each read what both had done before it.
 #[derive(Drop)]
 pub struct Pipe<R, W> {
     reader: R,

@@ -21,7 +21,7 @@ use Rattle.sgt_serial.specs.Text.{report_text}
 pub answered-front : (e : EngineFail) (told old new : Option (List ℕ)) (outcome : Outcome) (text : List ℕ)
     → IsAnswer told outcome text
     → (e ≡ Memory → new ≡ old) → (e ≡ ReadFault → ⊥) → (e ≡ WriteFault → WritesFront old new text)
-        → WroteAnswerFront told old new
+    → WroteAnswerFront told old new
 answered-front Memory told old new outcome text answer memory read write =
     inl (subst (λ held. AppendsOrForgets old held []) (sym (memory refl)) (wrote_nothing old))
 answered-front ReadFault told old new outcome text answer memory read write = absurd (read refl)

@@ -26,7 +26,7 @@ at_item : (sites : List SiteLog) (s : ℕ) (x : Name)
     → store_of (map (λ (log : SiteLog). log.items) sites) s x ≡ initial_store sites s x
 at_item sites s x =
     ap (option_and_then (λ (items : List Holding). value_in items x))
-        (slice_get-map (λ (log : SiteLog). log.items) sites s)
+    (slice_get-map (λ (log : SiteLog). log.items) sites s)
     ∙ mapped (λ (items : List Holding). value_in items x) (λ (log : SiteLog). log.items) (slice_get sites s)
 
 -- the initial values
@@ -39,7 +39,7 @@ Start = List SiteLog × List ℕ × Store
 
 module _ (b : Parts) (sites : List SiteLog) (txs : List ℕ) (values : List (List Holding))
     (of_sites : sites ≡ b.sites) (of_txs : txs ≡ by_rank b.certificate.decisions)
-        (of_values : values ≡ map (λ (log : SiteLog). log.items) sites) where
+    (of_values : values ≡ map (λ (log : SiteLog). log.items) sites) where
   abbrev here : Start
   here = (sites, txs, store_of values)
 
@@ -59,7 +59,7 @@ module _ (b : Parts) (sites : List SiteLog) (txs : List ℕ) (values : List (Lis
 
   module _ (last : Store) (finals : List SiteValue) (all : AllRunOn sites txs (store_of values))
       (after : (s : ℕ) (x : Name) → last s x ≡ store_after_all sites txs (store_of values) s x)
-          (of_finals : finals ≡ finals_of sites) where
+      (of_finals : finals ≡ finals_of sites) where
     end : last ≡ store_after_all sites txs (store_of values)
     end = λ i s x. after s x i
 
@@ -69,15 +69,15 @@ module _ (b : Parts) (sites : List SiteLog) (txs : List ℕ) (values : List (Lis
     differs-final a tx s x is site item first =
         let at_end = subst (λ (store : Store). IsFirstWithout (Has store) finals a) end first in
         let listed =
-            subst (λ (listed : List SiteValue). IsFirstWithout (Has (store_after_all sites txs (store_of values)))
-            listed a) of_finals at_end in
+        subst (λ (listed : List SiteValue). IsFirstWithout (Has (store_after_all sites txs (store_of values)))
+        listed a) of_finals at_end in
         let moved =
-            subst (λ (p : Start). AllRunOn p.0 p.1 p.2
-            × IsFirstWithout (Has (store_after_all p.0 p.1 p.2)) (finals_of p.0) a) start (all, listed) in
+        subst (λ (p : Start). AllRunOn p.0 p.1 p.2
+        × IsFirstWithout (Has (store_after_all p.0 p.1 p.2)) (finals_of p.0) a) start (all, listed) in
         let placed =
-            at_value (IsFirstWithout
-            (Has (store_after_all b.sites (by_rank b.certificate.decisions) (initial_store b.sites)))
-            (finals_of b.sites)) a s x site item moved.1 in
+        at_value (IsFirstWithout
+        (Has (store_after_all b.sites (by_rank b.certificate.decisions) (initial_store b.sites)))
+        (finals_of b.sites)) a s x site item moved.1 in
         subst (λ t. IsFirstDifference b t s x) is (a.value, moved.0, placed)
 
     -- no difference
@@ -86,6 +86,6 @@ module _ (b : Parts) (sites : List SiteLog) (txs : List ℕ) (values : List (Lis
         let at_end = subst (λ (store : Store). All (Has store) finals) end held in
         let listed = subst (All (Has (store_after_all sites txs (store_of values)))) of_finals at_end in
         let moved =
-            subst (λ (p : Start). AllRunOn p.0 p.1 p.2 × All (Has (store_after_all p.0 p.1 p.2)) (finals_of p.0))
-            start (all, listed) in
+        subst (λ (p : Start). AllRunOn p.0 p.1 p.2 × All (Has (store_after_all p.0 p.1 p.2)) (finals_of p.0))
+        start (all, listed) in
         runs-serially b.sites (by_rank b.certificate.decisions) (initial_store b.sites) moved.0 moved.1

@@ -54,9 +54,9 @@ by_rank-sorted ds ys moved rising stable =
     let ranks = range_with_len 0 limit in
     let below = All-permutation (λ (c : Ranked). c.rank < limit) (filter_map ranked_in ds) ys moved (ranked-below ds) in
     ap (map (λ (c : Ranked). c.tx))
-        (sym (by_number rank_of ys limit 0 rising (λ k d lt. omega arith) (λ k d lt. let under = below k d lt in
-        omega arith)))
+    (sym (by_number rank_of ys limit 0 rising (λ k d lt. omega arith) (λ k d lt. let under = below k d lt in
+    omega arith)))
     ∙ map-flat_map (λ (c : Ranked). c.tx) (λ k. of_number rank_of k ys) ranks
     ∙ flat_map-same (λ k. map (λ (c : Ranked). c.tx) (of_number rank_of k ys)) (λ k. filter_map (with_rank k) ds)
     (λ k. ap (map (λ (c : Ranked). c.tx)) (stable-of_number rank_of (filter_map ranked_in ds) ys stable
-        (record { tx = 0; rank = k })) ∙ of_rank k ds) ranks
+    (record { tx = 0; rank = k })) ∙ of_rank k ds) ranks

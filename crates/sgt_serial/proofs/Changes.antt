@@ -20,7 +20,7 @@ use Rattle.sgt_serial.specs.private.Values.{is_of, change_in, with_all}
 -- one change more is made
 pub with_all-next : (writes : List SiteChange) (w : SiteChange) (store : Store) (s : ℕ) (x : Name)
     → with_all (writes ++ w ∷ []) store s x ≡ cond (is_of s x w) (value_with (with_all writes store s x) w.change)
-        (with_all writes store s x)
+    (with_all writes store s x)
 with_all-next writes w store s x =
     ap (fold value_with (store s x)) (filter_map-append (change_in s x) writes (w ∷ []))
     ∙ fold-append value_with (store s x) (filter_map (change_in s x) writes) (filter_map (change_in s x) (w ∷ []))
@@ -37,8 +37,10 @@ both false b h = absurd (false≢true h)
 is_of-is : (s : ℕ) (x : Name) (w : SiteChange) → is_of s x w ≡ true → (w.site ≡ s) × (w.item ≡ x)
 is_of-is s x w hit =
     let parts = both (w.site == s) (bytes_eq w.item x) hit in (
-      elim (cases_eq w.site s) [ inl same ↦ same
-          | inr other ↦ absurd (false≢true (sym (ne_eqb w.site s other) ∙ parts.0)) ],
+      elim (cases_eq w.site s) [
+        | inl same ↦ same
+        | inr other ↦ absurd (false≢true (sym (ne_eqb w.site s other) ∙ parts.0))
+      ],
       (bytes_eq-Decides w.item x).0 parts.1,
     )
 

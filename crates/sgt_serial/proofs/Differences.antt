@@ -47,7 +47,7 @@ finals-each sites store all s log at =
     lists.All-map (Has store) (final_at s) log.finals
     (subst (λ o. All (Has store) (map (final_at s) (finals_at o))) at
     (All-flat_map_at (Has store) (λ k. map (final_at k) (finals_at (slice_get sites k)))
-        (range_with_len 0 (length sites)) s s (range_at (length sites) s (slice_get_within sites s log at)) all))
+    (range_with_len 0 (length sites)) s s (range_at (length sites) s (slice_get_within sites s log at)) all))
 
 -- a serial run is one in which each transaction runs as logged and the final values are left
 pub as_logged : (sites : List SiteLog) (txs : List ℕ) (store : Store) → RunsSerially sites txs store
@@ -97,13 +97,13 @@ none-from sites tx store s x runs (inl read) =
     (has-reads sites tx store runs) read.1
 none-from sites tx store s x runs (inr write) =
     none-without (Knows store) (writes_of sites tx) (record { site = s; item = x; change = write.1.0 })
-        (knows-writes sites tx store runs) write.1.1
+    (knows-writes sites tx store runs) write.1.1
 
 one-from : (store : Store) (reads : List SiteValue) (writes : List SiteChange) (s r : ℕ) (x y : Name)
     → DiffersFrom store reads writes s x → DiffersFrom store reads writes r y → (s ≡ r) × (x ≡ y)
 one-from store reads writes s r x y (inl f) (inl g) =
     let one = one-without (Has store) reads (record { site = s; item = x; value = f.0 })
-        (record { site = r; item = y; value = g.0 }) f.1 g.1 in
+    (record { site = r; item = y; value = g.0 }) f.1 g.1 in
     (ap (λ (a : SiteValue). a.site) one, ap (λ (a : SiteValue). a.item) one)
 one-from store reads writes s r x y (inl f) (inr g) =
     absurd (none-without (Has store) reads (record { site = s; item = x; value = f.0 }) g.0 f.1)
@@ -111,7 +111,7 @@ one-from store reads writes s r x y (inr f) (inl g) =
     absurd (none-without (Has store) reads (record { site = r; item = y; value = g.0 }) f.0 g.1)
 one-from store reads writes s r x y (inr f) (inr g) =
     let one = one-without (Knows store) writes (record { site = s; item = x; change = f.1.0 })
-        (record { site = r; item = y; change = g.1.0 }) f.1.1 g.1.1 in
+    (record { site = r; item = y; change = g.1.0 }) f.1.1 g.1.1 in
     (ap (λ (a : SiteChange). a.site) one, ap (λ (a : SiteChange). a.item) one)
 
 none-in : (sites : List SiteLog) (txs : List ℕ) (store : Store) (tx s : ℕ) (x : Name) → AllRunOn sites txs store
@@ -126,7 +126,7 @@ earlier sites txs store t s x d m all lt =
     let runs = AllRunOn-at sites (take m txs) d.0 t store all (slice_get-take_at txs m d.0 t lt d.1) in
     none-from sites t (store_after_all sites (take d.0 txs) store) s x
     (subst (λ (us : List ℕ). RunsOn sites t (store_after_all sites us store)) (take-take d.0 m txs (omega arith))
-        runs) d.3
+    runs) d.3
 
 -- two differences are at one place of the run
 one-in : (sites : List SiteLog) (txs : List ℕ) (store : Store) (t s : ℕ) (x : Name) (u r : ℕ) (y : Name)
@@ -141,10 +141,10 @@ one-in sites txs store t s x u r y d e =
                 let place : e.0 ≡ d.0 = omega arith in
                 let same : u ≡ t = same_Some u t (sym e.1 ∙ ap (slice_get txs) place ∙ d.1) in
                 let there = λ (n v : ℕ). DiffersFrom (store_after_all sites (take n txs) store) (reads_of sites v)
-                    (writes_of sites v) r y in
+                (writes_of sites v) r y in
                 let here = subst (λ (n : ℕ). there n t) place (subst (λ (v : ℕ). there e.0 v) same e.3) in
                 let one = one-from (store_after_all sites (take d.0 txs) store) (reads_of sites t) (writes_of sites t)
-                    s r x y d.3 here in
+                s r x y d.3 here in
                 (sym same, one.0, one.1)
           ]
     ]
@@ -156,7 +156,7 @@ agrees-differs b (Some tx) s x agrees d =
     (as_logged b.sites (by_rank b.certificate.decisions) (initial_store b.sites) agrees) d
 agrees-differs b None s x agrees d =
     none-without (Has (store_after_all b.sites (by_rank b.certificate.decisions) (initial_store b.sites)))
-        (finals_of b.sites) (record { site = s; item = x; value = d.0 })
+    (finals_of b.sites) (record { site = s; item = x; value = d.0 })
     (has-finals b.sites (by_rank b.certificate.decisions) (initial_store b.sites) agrees) d.2
 
 -- a run has one first difference
@@ -171,7 +171,7 @@ one-difference b None s x (Some u) r y d e =
     absurd (none-in b.sites (by_rank b.certificate.decisions) (initial_store b.sites) u r y d.1 e)
 one-difference b None s x None r y d e =
     let one = one-without (Has (store_after_all b.sites (by_rank b.certificate.decisions) (initial_store b.sites)))
-        (finals_of b.sites)
+    (finals_of b.sites)
     (record { site = s; item = x; value = d.0 }) (record { site = r; item = y; value = e.0 }) d.2 e.2 in
     (refl, ap (λ (a : SiteValue). a.site) one, ap (λ (a : SiteValue). a.item) one)
 

@@ -48,8 +48,10 @@ has-decidable : (store : Store) → IsDecidable (Has store)
 has-decidable store a = is-value (store a.site a.item) a.value
 
 knows-decidable : (store : Store) → IsDecidable (Knows store)
-knows-decidable store a = elim (cases_Bool (is_some (store a.site a.item))) [ inl there ↦ inl there
-    | inr missing ↦ inr (λ e. false≢true (sym missing ∙ e)) ]
+knows-decidable store a = elim (cases_Bool (is_some (store a.site a.item))) [
+  | inl there ↦ inl there
+  | inr missing ↦ inr (λ e. false≢true (sym missing ∙ e))
+]
 
 -- all transactions run as logged, or there is a first that differs
 all-or-differs : (sites : List SiteLog) (txs : List ℕ) (store : Store)

@@ -41,7 +41,7 @@ bundle decisions sites = record { certificate = record { sites = 1; decisions = 
 abbrev moved : Parts
 moved = bundle (Commit 2 1 ∷ Commit 1 0 ∷ [])
     (log (holds x 5 ∷ holds y 2 ∷ []) (e.Read 1 x 5 ∷ e.Write 2 x 6 ∷ e.Commit 2 ∷ e.Write 1 y 3 ∷ e.Commit 1 ∷ [])
-        (holds x 6 ∷ holds y 3 ∷ []) ∷ [])
+    (holds x 6 ∷ holds y 3 ∷ []) ∷ [])
 
 moved-text : report_text (report_of moved) ≡ text_of_lines (codes "t1" ∷ codes "r1[0.x]=5" ∷ codes "w1[0.y]=3" ∷ codes "t2" ∷ codes "w2[0.x]=6" ∷ codes "final 0.x=6" ∷ codes "final 0.y=3" ∷ [])
 unfolding digits
@@ -51,7 +51,7 @@ moved-text = refl
 abbrev two_sites : Parts
 two_sites = bundle (Withdraw 2 ∷ Commit 1 0 ∷ [])
     (log (holds x 5 ∷ []) (e.Write 1 x 6 ∷ e.Read 1 x 5 ∷ e.Read 2 x 1 ∷ []) (holds x 6 ∷ []) ∷ log (holds x 7 ∷ [])
-        (e.Read 1 x 7 ∷ []) (holds x 7 ∷ []) ∷ [])
+    (e.Read 1 x 7 ∷ []) (holds x 7 ∷ []) ∷ [])
 
 two_sites-text : report_text (report_of two_sites) ≡ text_of_lines (codes "t1" ∷ codes "r1[0.x]=5" ∷ codes "r1[1.x]=7" ∷ codes "w1[0.x]=6" ∷ codes "final 0.x=6" ∷ codes "final 1.x=7" ∷ [])
 unfolding digits
@@ -67,10 +67,21 @@ five≢four : ◌≡◌ {A = ℕ} 5 4 → ⊥
 five≢four h = absurd (omega arith)
 
 wrong_read-differs : IsFirstDifference wrong_read (Some 1) 0 x
-wrong_read-differs =
-    (0, refl, tt,
-    inl (4, record { place = 0; at = refl; before = All-nil (Has (initial_store wrong_read.sites)); without =
-    λ h. five≢four (same_Some 5 4 h) }))
+wrong_read-differs = (
+  0,
+  refl,
+  tt,
+  inl (
+    4,
+    record {
+      place = 0;
+      at = refl;
+      before = All-nil (Has (initial_store wrong_read.sites));
+      without =
+          λ h. five≢four (same_Some 5 4 h);
+    },
+  ),
+)
 
 wrong_read-not : SerialAgrees wrong_read → ⊥
 wrong_read-not agrees = agrees-differs wrong_read (Some 1) 0 x agrees wrong_read-differs
@@ -85,10 +96,21 @@ five≢six : ◌≡◌ {A = ℕ} 5 6 → ⊥
 five≢six h = absurd (omega arith)
 
 own_write-differs : IsFirstDifference own_write (Some 1) 0 x
-own_write-differs =
-    (0, refl, tt,
-    inl (6, record { place = 0; at = refl; before = All-nil (Has (initial_store own_write.sites)); without =
-    λ h. five≢six (same_Some 5 6 h) }))
+own_write-differs = (
+  0,
+  refl,
+  tt,
+  inl (
+    6,
+    record {
+      place = 0;
+      at = refl;
+      before = All-nil (Has (initial_store own_write.sites));
+      without =
+          λ h. five≢six (same_Some 5 6 h);
+    },
+  ),
+)
 
 -- a write of an item that isn't there, and a wrong final value behind it
 abbrev unknown_item : Parts
@@ -100,11 +122,24 @@ reads-five : All (Has (initial_store unknown_item.sites)) (reads_of unknown_item
 reads-five = All-from_recursion (Has (initial_store unknown_item.sites)) (reads_of unknown_item.sites 1) (refl, tt)
 
 unknown_item-differs : IsFirstDifference unknown_item (Some 1) 0 y
-unknown_item-differs =
-    (0, refl, tt,
-        inr (reads-five,
-        (Put 6, record { place = 0; at = refl; before = All-nil (Knows (initial_store unknown_item.sites)); without =
-        λ h. absurd (false≢true h) })))
+unknown_item-differs = (
+  0,
+  refl,
+  tt,
+  inr (
+    reads-five,
+    (
+      Put 6,
+      record {
+        place = 0;
+        at = refl;
+        before = All-nil (Knows (initial_store unknown_item.sites));
+        without =
+            λ h. absurd (false≢true h);
+      },
+    ),
+  ),
+)
 
 -- the first difference isn't the later one
 unknown_item-first : IsFirstDifference unknown_item None 0 x → ⊥
@@ -124,9 +159,16 @@ wrong_final-runs =
     (All-from_recursion (Knows (initial_store wrong_final.sites)) (writes_of wrong_final.sites 1) (refl, tt))
 
 wrong_final-differs : IsFirstDifference wrong_final None 0 x
-wrong_final-differs =
-    (5, (wrong_final-runs, tt), record { place = 0; at = refl; before = All-nil (Has (last_store wrong_final));
-    without = λ h. six≢five (same_Some 6 5 h) })
+wrong_final-differs = (
+  5,
+  (wrong_final-runs, tt),
+  record {
+    place = 0;
+    at = refl;
+    before = All-nil (Has (last_store wrong_final));
+    without = λ h. six≢five (same_Some 6 5 h);
+  },
+)
 
 -- two increments of one item, the other way round by rank than in the log
 abbrev increments : Parts
@@ -145,7 +187,7 @@ increments-sum = refl
 abbrev mixed : Parts
 mixed = bundle (Commit 1 0 ∷ [])
     (log (holds x 5 ∷ holds y 2 ∷ []) (e.Add 1 x 3 ∷ e.Write 1 y 6 ∷ e.Read 1 x 5 ∷ e.Commit 1 ∷ [])
-        (holds x 8 ∷ holds y 6 ∷ []) ∷ log (holds x 1 ∷ []) (e.Add 1 x 1 ∷ []) (holds x 2 ∷ []) ∷ [])
+    (holds x 8 ∷ holds y 6 ∷ []) ∷ log (holds x 1 ∷ []) (e.Add 1 x 1 ∷ []) (holds x 2 ∷ []) ∷ [])
 
 mixed-text : report_text (report_of mixed)
     ≡ text_of_lines (codes "t1" ∷ codes "r1[0.x]=5" ∷ codes "d1[0.x]=3" ∷ codes "w1[0.y]=6" ∷ codes "d1[1.x]=1" ∷ codes "final 0.x=8" ∷ codes "final 0.y=6" ∷ codes "final 1.x=2" ∷ [])
@@ -182,9 +224,16 @@ sum_as_write-runs =
     (All-from_recursion (Knows (initial_store sum_as_write.sites)) (writes_of sum_as_write.sites 1) (refl, tt))
 
 sum_as_write-differs : IsFirstDifference sum_as_write None 0 x
-sum_as_write-differs =
-    (3, (sum_as_write-runs, tt), record { place = 0; at = refl; before = All-nil (Has (last_store sum_as_write));
-    without = λ h. eight≢three (same_Some 8 3 h) })
+sum_as_write-differs = (
+  3,
+  (sum_as_write-runs, tt),
+  record {
+    place = 0;
+    at = refl;
+    before = All-nil (Has (last_store sum_as_write));
+    without = λ h. eight≢three (same_Some 8 3 h);
+  },
+)
 
 -- an increment of an item that isn't there
 abbrev unknown_sum : Parts
@@ -192,7 +241,12 @@ unknown_sum = bundle (Commit 1 0 ∷ []) (log (holds x 5 ∷ []) (e.Add 1 y 3 �
 
 unknown_sum-differs : IsFirstDifference unknown_sum (Some 1) 0 y
 unknown_sum-differs =
-    let store = initial_store unknown_sum.sites in
-    (0, refl, tt,
-        inr (All-nil (Has store),
-        (Add 3, record { place = 0; at = refl; before = All-nil (Knows store); without = λ h. absurd (false≢true h) })))
+    let store = initial_store unknown_sum.sites in (
+      0,
+      refl,
+      tt,
+      inr (
+        All-nil (Has store),
+        (Add 3, record { place = 0; at = refl; before = All-nil (Knows store); without = λ h. absurd (false≢true h) }),
+      ),
+    )

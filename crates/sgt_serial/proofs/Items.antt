@@ -51,12 +51,12 @@ value_in-at [] rising i h at = absurd cc
 value_in-at (g ∷ hs) rising zero h at =
     let same = same_Some g h at in
     ap (λ b. cond b (Some g.value) (value_in hs h.item))
-        ((bytes_eq-Decides g.item h.item).1 (ap (λ (k : Holding). k.item) same))
-        ∙ ap (λ (k : Holding). Some k.value) same
+    ((bytes_eq-Decides g.item h.item).1 (ap (λ (k : Holding). k.item) same))
+    ∙ ap (λ (k : Holding). Some k.value) same
 value_in-at (g ∷ hs) rising (suc i) h at =
     let other = apart g.item h.item Less (before (g ∷ hs) rising 0 (suc i) g h (omega arith) refl at) less-equal in
     ap (λ b. cond b (Some g.value) (value_in hs h.item)) (bytes_eq-other g.item h.item other)
-        ∙ value_in-at hs (AllPairs-tail ComesBefore g.item (names hs) rising) i h at
+    ∙ value_in-at hs (AllPairs-tail ComesBefore g.item (names hs) rising) i h at
 
 -- an item that stands nowhere has no value
 value_in-none : (hs : List Holding) (x : Name) → ((i : ℕ) (h : Holding) → slice_get hs i ≡ Some h → h.item ≢ x)
@@ -64,28 +64,31 @@ value_in-none : (hs : List Holding) (x : Name) → ((i : ℕ) (h : Holding) → 
 value_in-none [] x nowhere = refl
 value_in-none (g ∷ hs) x nowhere =
     ap (λ b. cond b (Some g.value) (value_in hs x)) (bytes_eq-other g.item x (nowhere 0 g refl))
-        ∙ value_in-none hs x (λ i h at. nowhere (suc i) h at)
+    ∙ value_in-none hs x (λ i h at. nowhere (suc i) h at)
 
 sorted : (hs : List Holding) → IsRising hs → IsSortedBy (λ (g h : Holding). is_lt (name_cmp g.item h.item)) hs
 sorted hs rising k d low within =
     let g = get_or hs k d in
     let h = get_or hs (k + 1) d in
     ap is_lt (nat_list_cmp_total.antisymm h.item g.item
-        ∙ ap ordering_reverse (before hs rising k (k + 1) g h (omega arith) (slice_get-get_or hs k d (omega arith))
-        (slice_get-get_or hs (k + 1) d within)))
+    ∙ ap ordering_reverse (before hs rising k (k + 1) g h (omega arith) (slice_get-get_or hs k d (omega arith))
+    (slice_get-get_or hs (k + 1) d within)))
 
 -- what a binary search for the name finds
 pub searched : (hs : List Holding) → IsRising hs → (x : Name) (r : Result ℕ ℕ) → IsSearchInRange r (length hs)
     → IsBinarySearchResult (λ (h : Holding). name_cmp h.item x) hs r
     → MatchOption (result_ok r) (value_in hs x ≡ None) (λ i. (v : ℕ)
-        × (slice_get hs i ≡ Some (record { item = x; value = v })) × (value_in hs x ≡ Some v))
+    × (slice_get hs i ≡ Some (record { item = x; value = v })) × (value_in hs x ≡ Some v))
 searched hs rising x (Ok i) within found =
     let d : Holding = record { item = x; value = 0 } in
     let h = get_or hs i d in
     let same : h.item ≡ x = exact_bytes h.item x (found d) in
-    let at = slice_get-get_or hs i d within in
-    (h.value, at ∙ ap (λ y. Some (record { item = y; value = h.value })) same, ap (value_in hs) (sym same)
-        ∙ value_in-at hs rising i h at)
+    let at = slice_get-get_or hs i d within in (
+      h.value,
+      at ∙ ap (λ y. Some (record { item = y; value = h.value })) same,
+      ap (value_in hs) (sym same)
+          ∙ value_in-at hs rising i h at,
+    )
 searched hs rising x (Err i) within found =
     let parts = found (searchable_from_sorted nat_list_cmp_total (λ (h : Holding). h.item) hs x (sorted hs rising)) in
     value_in-none hs x (λ j h at.
@@ -108,7 +111,7 @@ names-set (g ∷ hs) (suc i) h v at = ap (λ (ys : List Name). g.item ∷ ys) (n
 pub value_in-set : (hs : List Holding) → IsRising hs → (i : ℕ) (h : Holding) (v : ℕ) → slice_get hs i ≡ Some h
     → (y : Name)
     → value_in (slice_set hs i (record { item = h.item; value = v })) y ≡ cond (bytes_eq h.item y) (Some v)
-        (value_in hs y)
+    (value_in hs y)
 value_in-set [] rising i h v at y = absurd cc
 value_in-set (g ∷ hs) rising zero h v at y =
     let same = same_Some g h at in

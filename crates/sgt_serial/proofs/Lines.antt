@@ -26,7 +26,7 @@ pub writes-line : {A : Type 0} (line : A → List ℕ) (xs : List A) (i : ℕ) (
     → new ≡ before ++ text_of_lines (map line (take (i + 1) xs))
 writes-line line xs i x within is before out new so_far wrote =
     wrote ∙ ap (λ bytes. bytes ++ with_lf (line x)) so_far
-        ∙ append_assoc before (text_of_lines (map line (take i xs))) (with_lf (line x))
+    ∙ append_assoc before (text_of_lines (map line (take i xs))) (with_lf (line x))
     ∙ ap (λ bytes. before ++ bytes) (sym (text_of_lines-next line xs i x (element_at xs i x within is)))
 
 -- the lines of what is picked
@@ -37,5 +37,5 @@ module _ {A B : Type 0} (line : B → List ℕ) (pick : A → Option B) where
   pub picked-append : (xs ys : List A) → picked_text (xs ++ ys) ≡ picked_text xs ++ picked_text ys
   picked-append xs ys =
       ap (λ zs. text_of_lines (map line zs)) (filter_map-append pick xs ys)
-          ∙ ap text_of_lines (map-append line (filter_map pick xs) (filter_map pick ys))
+      ∙ ap text_of_lines (map-append line (filter_map pick xs) (filter_map pick ys))
       ∙ text-append (map line (filter_map pick xs)) (map line (filter_map pick ys))

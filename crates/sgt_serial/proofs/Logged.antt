@@ -58,8 +58,10 @@ module _ {A : Type 0} (P : A → Type 0) where
           | inl hit ↦
               elim (option_cases (h e)) [
                 | inl none ↦ rw (hit, none) rest
-                | inr some ↦ rw (hit,
-                    some.1) (All-cons P some.0 (filter_map h (filter p es)) (each 0 e some.0 refl hit some.1) rest)
+                | inr some ↦ rw (
+                  hit,
+                  some.1,
+                ) (All-cons P some.0 (filter_map h (filter p es)) (each 0 e some.0 refl hit some.1) rest)
               ]
           | inr miss ↦ rw miss rest
         ]
@@ -71,7 +73,7 @@ module _ {A : Type 0} (P : A → Type 0) where
         let same = same_Some f e at in
         let first : filter_map h (filter p (f ∷ es)) ≡ y ∷ filter_map h (filter p es) =
         ap (λ b. filter_map h (cond b (f ∷ filter p es) (filter p es))) (ap p same ∙ hit)
-            ∙ ap (λ o. cons_option o (filter_map h (filter p es))) (ap h same ∙ some) in
+        ∙ ap (λ o. cons_option o (filter_map h (filter p es))) (ap h same ∙ some) in
         All-head P y (filter_map h (filter p es)) (subst (All P) first all)
     All-picked_at (f ∷ es) (suc n) e y at hit some all =
         All-picked_at es n e y at hit some
@@ -82,7 +84,7 @@ module _ {A : Type 0} (P : A → Type 0) where
                     ∙ ap (λ o. cons_option o (filter_map h (filter p es))) none) all
                 | inr gives ↦ All-tail P gives.0 (filter_map h (filter p es))
                     (subst (All P) (ap (λ b. filter_map h (cond b (f ∷ filter p es) (filter p es))) passes
-                        ∙ ap (λ o. cons_option o (filter_map h (filter p es))) gives.1) all)
+                    ∙ ap (λ o. cons_option o (filter_map h (filter p es))) gives.1) all)
               ]
           | inr fails ↦ subst (All P) (ap (λ b. filter_map h (cond b (f ∷ filter p es) (filter p es))) fails) all
         ])
@@ -90,7 +92,7 @@ module _ {A : Type 0} (P : A → Type 0) where
 pub range_at : (m k : ℕ) → k < m → slice_get (range_with_len 0 m) k ≡ Some k
 range_at m k lt =
     slice_get-get_or (range_with_len 0 m) k 0 (omega (arith, length-range_with_len 0 m))
-        ∙ ap Some (get_or-range_with_len 0 m k 0 lt ∙ zero-add k)
+    ∙ ap Some (get_or-range_with_len 0 m k 0 lt ∙ zero-add k)
 
 -- a site that has an entry is there
 site-there : (o : Option SiteLog) (n : ℕ) (e : Entry) → slice_get (entries_at o) n ≡ Some e
@@ -114,7 +116,7 @@ module _ {A : Type 0} (pick : ℕ → Entry → Option A) (sites : List SiteLog)
   all-picked each =
       All-flat_map P of_site (λ s. All-picked P (λ e. tx_of e == tx) (pick s) (entries_of sites s) (λ n e a at hit some.
       each s e a (Contains-from_at (entries_of sites s) n e at) (by-tx (tx_of e) hit) some))
-          (range_with_len 0 (length sites))
+      (range_with_len 0 (length sites))
 
   each-picked : All P (picked_of pick sites tx) → EachPicked
   each-picked all s e a contains by some =
@@ -122,7 +124,7 @@ module _ {A : Type 0} (pick : ℕ → Entry → Option A) (sites : List SiteLog)
       let site = site-there (slice_get sites s) place.0 e place.1 in
       let within = slice_get_within sites s site.0 site.1 in
       All-picked_at P (λ f. tx_of f == tx) (pick s) (entries_of sites s) place.0 e a place.1 (eq-eqb (tx_of e) tx by)
-          some
+      some
       (All-flat_map_at P of_site (range_with_len 0 (length sites)) s s (range_at (length sites) s within) all)
 
 module _ (sites : List SiteLog) (tx : ℕ) (store : Store) where
@@ -140,7 +142,7 @@ module _ (sites : List SiteLog) (tx : ℕ) (store : Store) where
   has-read : RunsOn sites tx store → EachPicked read_at sites tx (Has store)
   has-read runs s (Read u x v) a c by some =
       subst (Has store) (same_Some (record { site = s; item = x; value = v }) a some)
-          (runs.reads s x v (subst (λ (t : ℕ). Contains (entries_of sites s) (Read t x v)) by c))
+      (runs.reads s x v (subst (λ (t : ℕ). Contains (entries_of sites s) (Read t x v)) by c))
   has-read runs s (Write u x v) a c by some = absurd cc
   has-read runs s (entry.Add u x v) a c by some = absurd cc
   has-read runs s (Want u x v) a c by some = absurd cc
@@ -152,10 +154,10 @@ module _ (sites : List SiteLog) (tx : ℕ) (store : Store) where
   knows-write : RunsOn sites tx store → EachPicked write_at sites tx (Knows store)
   knows-write runs s (Write u x v) a c by some =
       subst (Knows store) (same_Some (record { site = s; item = x; change = Put v }) a some)
-          (runs.writes s x v (subst (λ (t : ℕ). Contains (entries_of sites s) (Write t x v)) by c))
+      (runs.writes s x v (subst (λ (t : ℕ). Contains (entries_of sites s) (Write t x v)) by c))
   knows-write runs s (entry.Add u x v) a c by some =
       subst (Knows store) (same_Some (record { site = s; item = x; change = Add v }) a some)
-          (runs.adds s x v (subst (λ (t : ℕ). Contains (entries_of sites s) (entry.Add t x v)) by c))
+      (runs.adds s x v (subst (λ (t : ℕ). Contains (entries_of sites s) (entry.Add t x v)) by c))
   knows-write runs s (Read u x v) a c by some = absurd cc
   knows-write runs s (Want u x v) a c by some = absurd cc
   knows-write runs s (WantAdd u x v) a c by some = absurd cc
@@ -217,10 +219,10 @@ elsewhere : (s : ℕ) (x : Name) (k : ℕ) → k ≢ s → (e : Entry) (a : Site
     → is_of s x a ≡ false
 elsewhere s x k other (Write tx y v) a some =
     subst (λ (c : SiteChange). is_of s x c ≡ false) (same_Some (record { site = k; item = y; change = Put v }) a some)
-        (rw (ne_eqb k s other) refl)
+    (rw (ne_eqb k s other) refl)
 elsewhere s x k other (entry.Add tx y v) a some =
     subst (λ (c : SiteChange). is_of s x c ≡ false) (same_Some (record { site = k; item = y; change = Add v }) a some)
-        (rw (ne_eqb k s other) refl)
+    (rw (ne_eqb k s other) refl)
 elsewhere s x k other (Read tx y v) a some = absurd cc
 elsewhere s x k other (Want tx y v) a some = absurd cc
 elsewhere s x k other (WantAdd tx y v) a some = absurd cc
@@ -252,6 +254,6 @@ store_after-all sites tx store s x =
     ap (fold value_with (store s x))
     (filter_map-flat_map (change_in s x) of_site (range_with_len 0 (length sites))
     ∙ range-one (λ k. filter_map (change_in s x) (of_site k)) s (length sites) 0 (omega arith)
-        (λ k other. changes-elsewhere s x k other (own_entries tx (entries_of sites k)))
+    (λ k other. changes-elsewhere s x k other (own_entries tx (entries_of sites k)))
     (λ past. past-end sites tx s x (omega arith))
     ∙ changes-here s x (own_entries tx (entries_of sites s)))

@@ -35,17 +35,17 @@ broken a b c held first mid second more whole one fails split =
     let e : one.0 ++ (mid ++ second) ≡ held ++ (first ++ second) =
     sym (append_assoc one.0 mid second) ∙ ap (λ xs. xs ++ second) (sym one.2) ∙ append_assoc held first second in
     let all : (held ++ (first ++ second)) ++ more ≡ held ++ whole = append_assoc held (first ++ second) more
-        ∙ ap (λ xs. held ++ xs) (sym split) in
+    ∙ ap (λ xs. held ++ xs) (sym split) in
     subst (WritesFront a c) all
-        (front-longer a c (held ++ (first ++ second)) more
-        (subst (WritesFront a c) e (front-second a b c one.0 (mid ++ second) one.1 fails)))
+    (front-longer a c (held ++ (first ++ second)) more
+    (subst (WritesFront a c) e (front-second a b c one.0 (mid ++ second) one.1 fails)))
 
 -- the writer fails at the first bytes
 pub broken-first : (a c : Option (List ℕ)) (held first more whole : List ℕ) → WritesFront a c (held ++ first)
     → whole ≡ first ++ more → WritesFront a c (held ++ whole)
 broken-first a c held first more whole fails split =
     subst (WritesFront a c) (append_assoc held first more ∙ ap (λ xs. held ++ xs) (sym split))
-        (front-longer a c (held ++ first) more fails)
+    (front-longer a c (held ++ first) more fails)
 
 -- of a whole text all was passed on but the rest
 abbrev pub IsPassed : (a b : Option (List ℕ)) → (held left rest whole : List ℕ) → Type 0
@@ -67,7 +67,7 @@ pub passes-all : (a b : Option (List ℕ)) (held left rest whole : List ℕ) →
     → IsPassed a b held left rest whole → PassesOn a b held whole left
 passes-all a b held left rest whole e one =
     subst (λ bytes. PassesOn a b held bytes left) (sym (append-nil one.0) ∙ ap (λ xs. one.0 ++ xs) (sym e)
-        ∙ one.2) one.1
+    ∙ one.2) one.1
 
 -- the writer fails
 pub passes-front : (a b c : Option (List ℕ)) (held mid piece rest more whole : List ℕ) → rest ≡ piece ++ more
@@ -75,7 +75,7 @@ pub passes-front : (a b c : Option (List ℕ)) (held mid piece rest more whole :
     → WritesFront b c (mid ++ piece) → WritesFront a c (held ++ whole)
 passes-front a b c held mid piece rest more whole e one fails =
     broken a b c held one.0 mid piece more whole one.1 fails (sym one.2 ∙ ap (λ xs. one.0 ++ xs) e
-        ∙ sym (append_assoc one.0 piece more))
+    ∙ sym (append_assoc one.0 piece more))
 
 -- all is written in the end
 pub written-all : (a c d : Option (List ℕ)) (held bytes mid whole : List ℕ) → held ≡ [] → bytes ≡ whole

@@ -58,7 +58,7 @@ store_after_all-push sites (t ∷ txs) tx store = store_after_all-push sites txs
 module _ (sites : List SiteLog) (order : List ℕ) (i tx : ℕ) (at : slice_get order i ≡ Some tx) (first now : Store)
     (run : SerialTx)
     (as_logged : AllRunOn sites (take i order) first) (after : (s : ℕ) (x : Name)
-        → now s x ≡ store_after_all sites (take i order) first s x) (own : run ≡ run_of sites tx) where
+    → now s x ≡ store_after_all sites (take i order) first s x) (own : run ≡ run_of sites tx) where
   abbrev before : Store
   before = store_after_all sites (take i order) first
 
@@ -74,19 +74,19 @@ module _ (sites : List SiteLog) (order : List ℕ) (i tx : ℕ) (at : slice_get 
   pub turn-as_logged : All (Has now) run.reads → All (Knows now) run.writes → AllRunOn sites (take (i + 1) order) first
   turn-as_logged reads writes =
       let has =
-          subst (λ (r : SerialTx). All (Has before) r.reads) own
-          (subst (λ (store : Store). All (Has store) run.reads) same-store reads) in
+      subst (λ (r : SerialTx). All (Has before) r.reads) own
+      (subst (λ (store : Store). All (Has store) run.reads) same-store reads) in
       let knows =
-          subst (λ (r : SerialTx). All (Knows before) r.writes) own
-          (subst (λ (store : Store). All (Knows store) run.writes) same-store writes) in
+      subst (λ (r : SerialTx). All (Knows before) r.writes) own
+      (subst (λ (store : Store). All (Knows store) run.writes) same-store writes) in
       subst (λ (txs : List ℕ). AllRunOn sites txs first) (sym (take_next order i tx at))
-          (AllRunOn-push sites (take i order) tx first as_logged (runs-on sites tx before has knows))
+      (AllRunOn-push sites (take i order) tx first as_logged (runs-on sites tx before has knows))
 
   pub turn-after : (new : Store) (s : ℕ) (x : Name) → new s x ≡ with_all run.writes now s x
       → new s x ≡ store_after_all sites (take (i + 1) order) first s x
   turn-after new s x put =
       put ∙ ap (λ (r : SerialTx). with_all r.writes now s x) own
-          ∙ ap (λ (store : Store). with_all (writes_of sites tx) store s x) same-store
+      ∙ ap (λ (store : Store). with_all (writes_of sites tx) store s x) same-store
       ∙ store_after-all sites tx before s x
       ∙ ap (λ (store : Store). store s x) (sym (store_after_all-push sites (take i order) tx first))
       ∙ ap (λ (txs : List ℕ). store_after_all sites txs first s x) (sym (take_next order i tx at))
@@ -95,4 +95,4 @@ module _ (sites : List SiteLog) (order : List ℕ) (i tx : ℕ) (at : slice_get 
       → runs ++ run ∷ [] ≡ map (run_of sites) (take (i + 1) order)
   turn-runs runs so_far =
       ap₂ (λ rs (r : SerialTx). rs ++ r ∷ []) so_far own ∙ sym (map-append (run_of sites) (take i order) (tx ∷ []))
-          ∙ ap (map (run_of sites)) (sym (take_next order i tx at))
+      ∙ ap (map (run_of sites)) (sym (take_next order i tx at))

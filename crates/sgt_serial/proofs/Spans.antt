@@ -20,7 +20,7 @@ split-in : (logs : List SiteLog) (o : Operations) (from mid to : ℕ) → from �
     → entries_in logs o from to ≡ entries_in logs o from mid ++ entries_in logs o mid to
 split-in logs (Grouped g) from mid to low high =
     ap (filter_map (λ p. slice_get (all_entries logs) p)) (window-split g.groups.places.items from mid to low high)
-        ∙ filter_map-append (λ p. slice_get (all_entries logs) p) _ _
+    ∙ filter_map-append (λ p. slice_get (all_entries logs) p) _ _
 split-in logs (Sorted s) from mid to low high = window-split s from mid to low high
 
 pub none-in : (logs : List SiteLog) (o : Operations) (from : ℕ) → entries_in logs o from from ≡ []
@@ -35,7 +35,7 @@ next-in logs o place to e within next =
     let low : place ≤ place + 1 = omega arith in
     let high : place + 1 ≤ to = omega (arith, within) in
     split-in logs o place (place + 1) to low high ∙ ap (λ es. es ++ entries_in logs o (place + 1) to) (next
-        ∙ ap (λ es. es ++ e ∷ []) (none-in logs o place))
+    ∙ ap (λ es. es ++ e ∷ []) (none-in logs o place))
 
 module _ {B : Type 0} (line : B → List ℕ) (pick : ℕ → Entry → Option B) (logs : List SiteLog) (o : Operations) where
   abbrev pub by : SiteEntry → Option B
@@ -50,7 +50,7 @@ module _ {B : Type 0} (line : B → List ℕ) (pick : ℕ → Entry → Option B
       → text_in place to ≡ picked_text line by (e ∷ []) ++ text_in (place + 1) to
   text-next place to e within next =
       ap (picked_text line by) (next-in logs o place to e within next)
-          ∙ picked-append line by (e ∷ []) (entries_in logs o (place + 1) to)
+      ∙ picked-append line by (e ∷ []) (entries_in logs o (place + 1) to)
 
   pub text-none : (place to : ℕ) → place ≡ to → text_in place to ≡ []
   text-none place to end = ap (λ n. text_in n to) end ∙ ap (picked_text line by) (none-in logs o to)

@@ -94,10 +94,10 @@ fn write_answer<W: Sink>(
     }
 }
 
-/// Audits all that the reader gives, as `audit` does. A no is written as its line. For a yes the serial run of the bundle
-/// is written and no verdict: of each committed transaction by rank a line of its number, its reads, and its writes and
-/// increments, each by site and then in log order; then the final values by site and name. The reader is read once, and no
-/// further than the first line with a fault.
+/// Audits all that the reader gives, as `audit` does. A no is written as its line. For a yes the serial run of the
+/// bundle is written and no verdict: of each committed transaction by rank a line of its number, its reads, and its
+/// writes and increments, each by site and then in log order; then the final values by site and name. The reader is
+/// read once, and no further than the first line with a fault.
 ///
 /// ReadFault where the reader failed, or no read is left, and Memory where a growth was refused: nothing was written.
 /// WriteFault where the writer failed: a front of the answer may have been written.

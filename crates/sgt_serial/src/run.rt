@@ -84,11 +84,11 @@ fn run_bundle(alloc: Global, bundle: &Bundle) -> Result<SerialReport, SerialFail
     })
 }
 
-/// Runs the committed transactions of the bundle alone, one after another by rank (those of one rank in the order of their
-/// decisions), from the initial values: of each its logged reads are compared with the values so far, and then its logged
-/// writes are put into them and its increments added, modulo 2^64. At the end the recorded final values are compared. Z1
-/// names the first difference: in a transaction, or with `None` among the final values. Z2 comes only where a growth was
-/// refused.
+/// Runs the committed transactions of the bundle alone, one after another by rank (those of one rank in the order of
+/// their decisions), from the initial values: of each its logged reads are compared with the values so far, and then
+/// its logged writes are put into them and its increments added, modulo 2^64. At the end the recorded final values
+/// are compared. Z1 names the first difference: in a transaction, or with `None` among the final values. Z2 comes
+/// only where a growth was refused.
 pub fn serial_run(alloc: Global, bundle: &Bundle) -> Result<SerialReport, SerialFail>
     // What is said is so.
     ensures agrees { OnOk result (SerialAgrees bundle.now) }

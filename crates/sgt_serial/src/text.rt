@@ -115,8 +115,8 @@ fn push_finals(out: &mut Vec<u8>, values: &[SiteValue]) -> Result<(), AllocError
 }
 
 impl SerialReport {
-    /// The text of the run: of each transaction a line of its number, its reads, and its writes and increments; then the final values.
-    /// Err: memory ran out.
+    /// The text of the run: of each transaction a line of its number, its reads, and its writes and increments; then
+    /// the final values. Err: memory ran out.
     pub fn to_text(&self, alloc: Global) -> Result<Vec<u8>, AllocError>
         ensures { IfOk result (λ text. text.items ≡ report_text self.now) }
     {

@@ -39,9 +39,12 @@ Installed old new =
     GoesOn (λ c d. (replies : List Reply) × Run c (installs_of (open_tx c) (length c.items)) replies d) old new
 
 pub installed_none : (m : Parts) → ((c : CoreState) → StandsFor m c → None ≡ open_tx c) → Installed m m
-installed_none m none c stands =
-    (c, subst (λ (tx : Option ℕ). (replies : List Reply) × Run c (installs_of tx (length c.items)) replies c)
-        (none c stands) ([], refl), stands)
+installed_none m none c stands = (
+  c,
+  subst (λ (tx : Option ℕ). (replies : List Reply) × Run c (installs_of tx (length c.items)) replies c)
+      (none c stands) ([], refl),
+  stands,
+)
 
 pub installed_some : (m n : Parts) (tx sites : ℕ) → ((c : CoreState) → StandsFor m c → Some tx ≡ open_tx c)
     → ((c : CoreState) → StandsFor m c → sites ≡ length c.items)
@@ -49,49 +52,78 @@ pub installed_some : (m n : Parts) (tx sites : ℕ) → ((c : CoreState) → Sta
 installed_some m n tx sites open_step count asked c stands =
     let (d, ran, there) = asked c stands in
     let all = subst (λ (k : ℕ). (replies : List Reply) × Run c (installs_of (Some tx) k) replies d)
-        (count c stands) ran in
-    (d, subst (λ (t : Option ℕ). (replies : List Reply) × Run c (installs_of t (length c.items)) replies d)
-        (open_step c stands) all, there)
+    (count c stands) ran in (
+      d,
+      subst (λ (t : Option ℕ). (replies : List Reply) × Run c (installs_of t (length c.items)) replies d)
+          (open_step c stands) all,
+      there,
+    )
 
 -- ---- the last bundle
 
 closed_so : (last : Last) (c d : CoreState) (kept kept' : Handed) → c.certifier.begun ≢ 0 → Closes c d
     → HandsOut last d kept kept' → ClosesSo last c kept kept'
-closed_so Done c d kept kept' some closes (idle, number, more, says) =
-    (record { number = number; bundle = bundle_of d } ∷ [], Ok number ∷ [],
-        (inr (d, closes, idle, number, refl), refl), more, says)
+closed_so Done c d kept kept' some closes (idle, number, more, says) = (
+  record { number = number; bundle = bundle_of d } ∷ [],
+  Ok number ∷ [],
+  (inr (d, closes, idle, number, refl), refl),
+  more,
+  says,
+)
 closed_so Memory c d kept kept' some closes (same, inl says) =
     ([], [], (some, refl, inl refl), same ∙ sym (append-nil kept.items), says ∙ sym (append-nil kept.answers))
-closed_so Memory c d kept kept' some closes (same, inr says) = ([], Err keep.Memory ∷ [], (some, refl, inr refl), same
-    ∙ sym (append-nil kept.items), says)
-closed_so Unwritten c d kept kept' some closes (same, says) = ([], Err keep.Refused ∷ [], (some, refl, refl), same
-    ∙ sym (append-nil kept.items), says)
+closed_so Memory c d kept kept' some closes (same, inr says) = (
+  [],
+  Err keep.Memory ∷ [],
+  (some, refl, inr refl),
+  same
+      ∙ sym (append-nil kept.items),
+  says,
+)
+closed_so Unwritten c d kept kept' some closes (same, says) = (
+  [],
+  Err keep.Refused ∷ [],
+  (some, refl, refl),
+  same
+      ∙ sym (append-nil kept.items),
+  says,
+)
 
 pub closed_over : (m n o : Parts) (begun : ℕ) (last : Last) (kept kept' : Handed)
     → ((c : CoreState) → StandsFor m c → begun ≡ c.certifier.begun) → begun ≢ 0
     → Installed m n → Asked n (map Withdraw (range_with_len 1 begun)) o
-        → ((c : CoreState) → StandsFor o c → HandsOut last c kept kept')
+    → ((c : CoreState) → StandsFor o c → HandsOut last c kept kept')
     → (c : CoreState) → StandsFor m c → ClosesSo last c kept kept'
 closed_over m n o begun last kept kept' count some installs withdraws hands c stands =
     let (d, ran, there) = installs c stands in
     let (e, then, at) = withdraws d there in
     let rest = subst (λ (k : ℕ). Run d (map Withdraw (range_with_len 1 k)) then.0 e) (count c stands) then.1 in
-    closed_so last c e kept kept' (λ none. some (count c stands ∙ none)) (ran.0 ++ then.0,
-        run_on c d e (installs_of (open_tx c) (length c.items)) (map Withdraw (range_with_len 1 c.certifier.begun))
-        ran.0 then.0 ran.1 rest) (hands e at)
+    closed_so last c e kept kept' (λ none. some (count c stands ∙ none)) (
+      ran.0 ++ then.0,
+      run_on c d e (installs_of (open_tx c) (length c.items)) (map Withdraw (range_with_len 1 c.certifier.begun))
+          ran.0 then.0 ran.1 rest,
+    ) (hands e at)
 
 pub closed_none : (m : Parts) (begun : ℕ) (kept : Handed)
     → ((c : CoreState) → StandsFor m c → begun ≡ c.certifier.begun) → begun ≡ 0
     → (c : CoreState) → StandsFor m c → ClosesSo Done c kept kept
-closed_none m begun kept count none c stands =
-    ([], [], (inl (sym (count c stands) ∙ none, refl), refl), sym (append-nil kept.items),
-    sym (append-nil kept.answers))
+closed_none m begun kept count none c stands = (
+  [],
+  [],
+  (inl (sym (count c stands) ∙ none, refl), refl),
+  sym (append-nil kept.items),
+  sym (append-nil kept.answers),
+)
 
 pub handed_out : (m : Parts) (b : Logs) (text : List ℕ) (number : ℕ) (kept kept' : Handed)
     → ((c : CoreState) → StandsFor m c → b ≡ bundle_of c)
     → ((c : CoreState) → StandsFor m c → c.certifier.active ≡ []) → text ≡ text_of b
-        → kept'.items ≡ kept.items ++ (number, text) ∷ [] → kept'.answers ≡ kept.answers ++ Ok number ∷ []
+    → kept'.items ≡ kept.items ++ (number, text) ∷ [] → kept'.answers ≡ kept.answers ++ Ok number ∷ []
     → (c : CoreState) → StandsFor m c → HandsOut Done c kept kept'
-handed_out m b text number kept kept' same idle spelled more says c stands =
-    (idle c stands, number, more ∙ ap (λ (t : List ℕ). kept.items ++ (number, t) ∷ []) (spelled
-        ∙ ap text_of (same c stands)), says)
+handed_out m b text number kept kept' same idle spelled more says c stands = (
+  idle c stands,
+  number,
+  more ∙ ap (λ (t : List ℕ). kept.items ++ (number, t) ∷ []) (spelled
+      ∙ ap text_of (same c stands)),
+  says,
+)

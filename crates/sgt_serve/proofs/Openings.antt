@@ -54,7 +54,7 @@ front_answered sites history held part h = record {
 pub next_misplaced : (n : ℕ) (sites sites' : List SiteLine) (held line : List ℕ) → line ≡ take n held
     → TakesSite sites line sites' false
     → (sites' ≡ []) ⊎ ((line ≢ cut_line) × SpellsNone IsEventLine event_text line)
-        → TakesNext n sites sites' held held (Some (Unreadable NotALine))
+    → TakesNext n sites sites' held held (Some (Unreadable NotALine))
 next_misplaced n sites sites' held line same (none, kept) (inl empty) = (
   subst (IsMisplaced sites) same (record {
     site = none;
@@ -94,7 +94,7 @@ has_same : (sites sites' : List SiteLine) (history : History) (held held' : List
     → HasSites sites history held → HasSites sites' history held'
 has_same sites sites' history held held' same left h =
     subst (λ (ss : List SiteLine). HasSites ss history held') (sym same)
-        (subst (λ (t : List ℕ). HasSites sites history t) (sym left) h)
+    (subst (λ (t : List ℕ). HasSites sites history t) (sym left) h)
 
 pub opens_line : (o : Option Opened) (at : Option (List ℕ)) (n : ℕ) (sites sites' : List SiteLine) (history : History)
     (held held' : List ℕ) → IsLineOf held n → HasSites sites history held
@@ -129,7 +129,7 @@ front_waited sites held old new part h waits = waited old new h.answered (front_
 kept_sites : (sites : List SiteLine) (held held' : List ℕ) (old new : History) → IsPart held → HasSites sites old held
     → new.written ≡ old.written
     → (new.waits ≡ old.waits) ⊎ (new.waits ≡ old.waits ++ (old.given, old.written) ∷ [])
-        → new.given ≡ text_of_lines (map site_text sites) ++ held' → HasSites sites new held'
+    → new.given ≡ text_of_lines (map site_text sites) ++ held' → HasSites sites new held'
 kept_sites sites held held' old new part h written waits given = record {
   begun = h.begun;
   given = given;
@@ -140,10 +140,10 @@ kept_sites sites held held' old new part h written waits given = record {
 same_sites : (sites : List SiteLine) (held held' : List ℕ) (old new : History) → IsPart held → HasSites sites old held
     → new.written ≡ old.written
     → (new.waits ≡ old.waits) ⊎ (new.waits ≡ old.waits ++ (old.given, old.written) ∷ []) → held' ≡ held
-        → new.given ≡ old.given → HasSites sites new held'
+    → new.given ≡ old.given → HasSites sites new held'
 same_sites sites held held' old new part h written waits left given =
     kept_sites sites held held' old new part h written waits (given
-        ∙ (h.given ∙ ap (λ (t : List ℕ). text_of_lines (map site_text sites) ++ t) (sym left)))
+    ∙ (h.given ∙ ap (λ (t : List ℕ). text_of_lines (map site_text sites) ++ t) (sym left)))
 
 empty_sites : (sites : List SiteLine) (any : Bool) → (sites ≢ [] → any ≡ true) → (any ≡ true → ⊥) → sites ≡ []
 empty_sites [] any tells not = refl
@@ -152,28 +152,40 @@ empty_sites (s ∷ sites) any tells not = absurd (not (tells (λ e. cc)))
 pub opens_read : (r : Result (Option Opened) ServeFail) (any : Bool) (at : Option (List ℕ)) (sites : List SiteLine)
     (held held' : List ℕ) (old new : History) → HasSites sites old held → IsPart held
     → (any ≡ true → sites ≢ []) → (sites ≢ [] → any ≡ true) → ReadsFront r any at held held' old new
-        → OpensOn r at sites new held'
+    → OpensOn r at sites new held'
 opens_read (Ok None) any at sites held held' old new h part filled tells ((bytes, more, given), written, waits) =
     kept_sites sites held held' old new part h written waits
     (given ∙ (ap (λ (t : List ℕ). t ++ bytes) h.given
-        ∙ (Rattle.std.proofs.Common.append_assoc (text_of_lines (map site_text sites)) held bytes
+    ∙ (Rattle.std.proofs.Common.append_assoc (text_of_lines (map site_text sites)) held bytes
     ∙ ap (λ (t : List ℕ). text_of_lines (map site_text sites) ++ t) (sym more))))
 opens_read (Ok (Some (Begun n))) any at sites held held' old new h part filled tells (reads, written, waits) =
     absurd reads
-opens_read (Ok (Some Ended)) any at sites held held' old new h part filled tells ((none, is, empty, left, given),
-    written, waits) =
+opens_read (Ok (Some Ended)) any at sites held held' old new h part filled tells (
+  (none, is, empty, left, given),
+  written,
+  waits,
+) =
     (none, same_sites sites held held' old new part h written waits left given, filled is, left ∙ empty)
 opens_read (Ok (Some (Unreadable NotALine))) any at sites held held' old new h part filled tells
     ((none, not, left, given), written, waits) = (
-  same_sites sites held held' old new part h written waits left given,
-  inr (none, subst IsPart (sym left) part, λ empty. empty_sites sites any tells (not (sym left ∙ empty))),
-)
-opens_read (Ok (Some (Unreadable TooLong))) any at sites held held' old new h part filled tells (reads, written,
-    waits) = absurd reads
-opens_read (Ok (Some (Unreadable Memory))) any at sites held held' old new h part filled tells (reads, written,
-    waits) = absurd reads
-opens_read (Err (fail.ReadFault l)) any at sites held held' old new h part filled tells ((none, left, given), written,
-    waits) =
+      same_sites sites held held' old new part h written waits left given,
+      inr (none, subst IsPart (sym left) part, λ empty. empty_sites sites any tells (not (sym left ∙ empty))),
+    )
+opens_read (Ok (Some (Unreadable TooLong))) any at sites held held' old new h part filled tells (
+  reads,
+  written,
+  waits,
+) = absurd reads
+opens_read (Ok (Some (Unreadable Memory))) any at sites held held' old new h part filled tells (
+  reads,
+  written,
+  waits,
+) = absurd reads
+opens_read (Err (fail.ReadFault l)) any at sites held held' old new h part filled tells (
+  (none, left, given),
+  written,
+  waits,
+) =
     (none, same_sites sites held held' old new part h written waits left given, subst IsPart (sym left) part)
 opens_read (Err fail.Memory) any at sites held held' old new h part filled tells (reads, written, waits) = absurd reads
 opens_read (Err (fail.WriteFault l)) any at sites held held' old new h part filled tells (reads, written, waits) =
@@ -186,9 +198,15 @@ pub no_sites : (sites : List SiteLine) (history : History) (held : List ℕ) →
     → history.given ≡ [] → history.written ≡ [] → history.waits ≡ []
     → HasSites sites history held
 no_sites sites history held none empty given written waits = has_same [] sites history [] held none empty (record {
-  begun = record { few = Rattle.std.proofs.Common.lit≤ tt; numbered = refl; each =
-      Rattle.std.proofs.lemmas.List.Elements.All-nil IsSiteLine; events =
-      Rattle.std.proofs.lemmas.List.Elements.All-nil IsEventLine; first = λ e. refl };
+  begun = record {
+    few = Rattle.std.proofs.Common.lit≤ tt;
+    numbered = refl;
+    each =
+        Rattle.std.proofs.lemmas.List.Elements.All-nil IsSiteLine;
+    events =
+        Rattle.std.proofs.lemmas.List.Elements.All-nil IsEventLine;
+    first = λ e. refl;
+  };
   given = given;
   written = written;
   answered =

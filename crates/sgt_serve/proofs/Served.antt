@@ -59,7 +59,7 @@ says_by stop.Memory l t left rest written some none less = inr (inl less)
 pub is_served : (s : Stop) (l : Last) (result : Result Outcome ServeFail) (left : Option (List ℕ))
     (sites : List SiteLine) (before kept' : Handed) (d : Desk) → result ≡ ends_by s l
     → (s ≡ stop.Ended → NoneLeft left) → HasStopped s sites before d
-        → ((c : CoreState) → StandsFor d.core c → ClosesSo l c d.kept kept')
+    → ((c : CoreState) → StandsFor d.core c → ClosesSo l c d.kept kept')
     → Served result left d.given d.written before kept' × AreAnswered d.waits
 is_served s l result left sites before kept' d same none h closes =
     let (bundles, said, ends, more, says) = closes h.talk.last h.has.stands in (
@@ -160,8 +160,13 @@ pub served_ended : (left : Option (List ℕ)) (sites : List SiteLine) (history :
     (kept : Handed) → NoneLeft left → HasSites sites history held → sites ≢ [] → held ≡ []
     → Served (Ok outcome.Yes) left history.given history.written kept kept
 served_ended left sites history held kept end h some none =
-    served_front (Ok outcome.Yes) left sites history held history.written kept h (refl, some, [],
-        (end, inl (none, refl)), h.written)
+    served_front (Ok outcome.Yes) left sites history held history.written kept h (
+      refl,
+      some,
+      [],
+      (end, inl (none, refl)),
+      h.written,
+    )
 
 pub served_unread : (l : Last) (left : Option (List ℕ)) (sites : List SiteLine) (history : History) (held : List ℕ)
     (kept : Handed) → l ≡ last.Done → HasSites sites history held
@@ -172,7 +177,7 @@ served_unread l left sites history held kept done h part =
 told_so : (result : Result Outcome ServeFail) (left : Option (List ℕ)) (sites : List SiteLine) (old new : History)
     (held : List ℕ) (fault : NotationFault) → HasSites sites old held
     → IsUnreadable sites left held fault → TellsFront result (length sites + 1) fault old new
-        → SaysSo result last.Done (opened sites) left held new.written
+    → SaysSo result last.Done (opened sites) left held new.written
 told_so (Ok outcome.Yes) left sites old new held fault h not (tells, given, waits) = absurd tells
 told_so (Ok outcome.No) left sites old new held fault h not (tells, given, waits) = absurd tells
 told_so (Ok outcome.Unreadable) left sites old new held fault h not (wrote, given, waits) = (
@@ -198,7 +203,7 @@ pub served_told : (result : Result Outcome ServeFail) (left : Option (List ℕ))
 served_told result left sites old new held fault kept h not tells = (
   subst (λ (given : List ℕ). Served result left given new.written kept kept) (sym tells.1)
       (served_front result left sites old held new.written kept h
-          (told_so result left sites old new held fault h not tells)),
+      (told_so result left sites old new held fault h not tells)),
   subst AreAnswered (sym tells.2) h.answered,
 )
 

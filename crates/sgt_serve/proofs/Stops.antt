@@ -49,7 +49,7 @@ pub flushed_none : (E : Type 0) (kept : Handed) (core : Parts) (old new : Histor
     → ComesOn (desk kept core old g held) (desk kept core new [] held)
 flushed_none E kept core old new g g' held flushes none sites before h =
     subst (λ (xs : List ℕ). HasCome sites before (desk kept core new xs held)) none
-        (flushed_on {E = E} (Ok tt) kept core old new g g' held flushes sites before h)
+    (flushed_on {E = E} (Ok tt) kept core old new g g' held flushes sites before h)
 
 pub flushed_some : (E : Type 0) (kept : Handed) (core : Parts) (old new : History) (g g' held : List ℕ)
     → Flushes {E = E} (Ok tt) old g new g'
@@ -72,7 +72,7 @@ comes_at (Some s) a b not p = absurd (not s refl)
 pub took_front : (E : Type 0) (n : ℕ) (answer : Answer) (kept kept' : Handed) (core core' : Parts)
     (gathered gathered' held held' line : List ℕ) → line ≡ take n held
     → Takes core line answer kept kept' core' → gathered' ≡ gathered ++ (answer_line line answer ++ 10 ∷ [])
-        → held' ≡ drop (n + 1) held
+    → held' ≡ drop (n + 1) held
     → TakesFront {E = E} (Ok tt) n kept kept' core core' gathered gathered' held held'
 took_front E n answer kept kept' core core' gathered gathered' held held' line same takes more left = (
   answer,
@@ -84,13 +84,13 @@ took_front E n answer kept kept' core core' gathered gathered' held held' line s
 pub took_none : {E : Type 0} (e : E) (n : ℕ) (answer : Answer) (kept kept' : Handed) (core core' : Parts)
     (gathered gathered' held held' line : List ℕ) → line ≡ take n held
     → Takes core line answer kept kept' core' → gathered' ≡ gathered → held' ≡ held
-        → TakesFront {E = E} (Err e) n kept kept' core core' gathered gathered' held held'
+    → TakesFront {E = E} (Err e) n kept kept' core core' gathered gathered' held held'
 took_none {E} e n answer kept kept' core core' gathered gathered' held held' line same takes more left =
     (answer, subst (λ (l : List ℕ). Takes core l answer kept kept' core') same takes, more, left)
 
 pub stops_held : (s : Stop) (kept : Handed) (core : Parts) (old new : History) (g g' rest held : List ℕ) → rest ≡ held
     → Stops s (desk kept core old g rest) (desk kept core new g' rest)
-        → Stops s (desk kept core old g held) (desk kept core new g' held)
+    → Stops s (desk kept core old g held) (desk kept core new g' held)
 stops_held s kept core old new g g' rest held same p =
     subst (λ (h : List ℕ). Stops s (desk kept core old g h) (desk kept core new g' h)) same p
 

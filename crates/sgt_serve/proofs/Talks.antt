@@ -46,7 +46,7 @@ starts_on (u ∷ us) turn s either = s
 is_taken : (t : Talk) (line : List ℕ) (answer : Answer) (handed : List Numbered) (d : CoreState) → IsTalk t
     → t.sites ≢ []
     → (t.turns ≢ []) ⊎ (answer ≢ Unreadable) → MayTake t.last line answer handed d
-        → IsTalk (taken t line answer handed d)
+    → IsTalk (taken t line answer handed d)
 is_taken t line answer handed d is some either may = record {
   sites = is.sites;
   some = λ none. absurd (some none);
@@ -59,7 +59,7 @@ one_text line = append-nil (line ++ 10 ∷ [])
 
 asked_more : (sites : List (List ℕ)) (turns : List Turn) (turn : Turn)
     → text_of_lines (sites ++ map (λ (u : Turn). u.asked) (turns ++ turn ∷ [])) ≡ text_of_lines
-        (sites ++ map (λ (u : Turn). u.asked) turns) ++ (turn.asked ++ 10 ∷ [])
+    (sites ++ map (λ (u : Turn). u.asked) turns) ++ (turn.asked ++ 10 ∷ [])
 asked_more sites turns turn =
     ap (λ (ls : List (List ℕ)). text_of_lines (sites ++ ls)) (map-append (λ (u : Turn). u.asked) turns (turn ∷ []))
     ∙ (ap text_of_lines (sym (append_assoc sites (map (λ (u : Turn). u.asked) turns) (turn.asked ∷ [])))
@@ -69,21 +69,31 @@ asked_more sites turns turn =
 told_more : (turns : List Turn) (turn : Turn)
     → text_of_lines (map (λ (u : Turn). answer_line u.asked u.answer) (turns ++ turn ∷ []))
     ≡ text_of_lines (map (λ (u : Turn). answer_line u.asked u.answer) turns) ++
-        (answer_line turn.asked turn.answer ++ 10 ∷ [])
+    (answer_line turn.asked turn.answer ++ 10 ∷ [])
 told_more turns turn =
     ap text_of_lines (map-append (λ (u : Turn). answer_line u.asked u.answer) turns (turn ∷ []))
     ∙ (text-append (map (λ (u : Turn). answer_line u.asked u.answer) turns) (answer_line turn.asked turn.answer ∷ [])
     ∙ ap (λ (ts : List ℕ). text_of_lines (map (λ (u : Turn). answer_line u.asked u.answer) turns) ++ ts)
-        (one_text (answer_line turn.asked turn.answer)))
+    (one_text (answer_line turn.asked turn.answer)))
 
 -- the place answered so over the turns, and then so
 said_more : (turns : List Turn) (turn : Turn) (said own : List (Result ℕ KeepFault)) → PlaceSaid turns said
     → PlaceSays turn.answer own → PlaceSaid (turns ++ turn ∷ []) (said ++ own)
-said_more [] turn said own none says = (own, [], ap (λ (xs : List (Result ℕ KeepFault)). xs ++ own) none
-    ∙ sym (append-nil own), says, refl)
-said_more (u ∷ us) turn said own (first, more, is, here, later) says =
-    (first, more ++ own, ap (λ (xs : List (Result ℕ KeepFault)). xs ++ own) is ∙ append_assoc first more own, here,
-        said_more us turn more own later says)
+said_more [] turn said own none says = (
+  own,
+  [],
+  ap (λ (xs : List (Result ℕ KeepFault)). xs ++ own) none
+      ∙ sym (append-nil own),
+  says,
+  refl,
+)
+said_more (u ∷ us) turn said own (first, more, is, here, later) says = (
+  first,
+  more ++ own,
+  ap (λ (xs : List (Result ℕ KeepFault)). xs ++ own) is ∙ append_assoc first more own,
+  here,
+  said_more us turn more own later says,
+)
 
 pub handed_more : (xs ys : List Numbered) → handed_texts (xs ++ ys) ≡ handed_texts xs ++ handed_texts ys
 handed_more xs ys = map-append _ xs ys
@@ -120,12 +130,12 @@ less_part written gathered tail m lt = grind (arith, common_steps)
 
 -- what a turn makes of a talk that has come so far
 record IsOn (sites : List SiteLine) (before : Handed) (t : Talk) (old new : Desk) (line rest told : List ℕ) : Type 0
-    where
-  talk : Talk
-  has : HasTalk sites before talk new
-  begun : talk.turns ≢ []
-  asked : new.given ≡ asked_text talk ++ rest
-  says : told_text talk ≡ told_text t ++ told
+  where
+    talk : Talk
+    has : HasTalk sites before talk new
+    begun : talk.turns ≢ []
+    asked : new.given ≡ asked_text talk ++ rest
+    says : told_text talk ≡ told_text t ++ told
 
 some_behind : {A : Type 0} (xs : List A) (x : A) → xs ++ x ∷ [] ≢ []
 some_behind [] x = λ e. cc
@@ -134,12 +144,12 @@ some_behind (y ∷ ys) x = λ e. cc
 turn_on : (sites : List SiteLine) (before : Handed) (t : Talk) (history : History) (n : ℕ) (answer : Answer)
     (kept kept' : Handed) (core core' : Parts)
     (gathered gathered' held held' : List ℕ) → HasTalk sites before t (desk kept core history gathered held)
-        → history.given ≡ asked_text t ++ held → IsLineOf held n
+    → history.given ≡ asked_text t ++ held → IsLineOf held n
     → ((c : CoreState) (handed : List Numbered) (d : CoreState) → MayTake c (take n held) answer handed d
-        → (t.turns ≢ []) ⊎ (answer ≢ Unreadable))
+    → (t.turns ≢ []) ⊎ (answer ≢ Unreadable))
     → Takes core (take n held) answer kept kept' core'
     → IsOn sites before t (desk kept core history gathered held) (desk kept' core' history gathered' held')
-        (take n held) (drop (n + 1) held) (answer_line (take n held) answer ++ 10 ∷ [])
+    (take n held) (drop (n + 1) held) (answer_line (take n held) answer ++ 10 ∷ [])
 turn_on sites before t history n answer kept kept' core core' gathered gathered' held held' has asked line either
     takes =
     let (d, handed, may, more, stands) = takes.0 t.last has.stands in
@@ -183,14 +193,14 @@ way t c line handed d answer may (inr asks) = inr (not_unreadable c line answer 
 pub take_on : {E : Type 0} (r : Result (Unit {0}) E) (sites : List SiteLine) (before : Handed) (t : Talk)
     (history : History) (n : ℕ) (kept kept' : Handed) (core core' : Parts)
     (gathered gathered' held held' : List ℕ) → HasTalk sites before t (desk kept core history gathered held)
-        → history.given ≡ asked_text t ++ held → told_text t ≡ history.written ++ gathered
+    → history.given ≡ asked_text t ++ held → told_text t ≡ history.written ++ gathered
     → IsLineOf held n → (t.turns ≢ []) ⊎ Asks (take n held)
-        → TakesFront r n kept kept' core core' gathered gathered' held held'
+    → TakesFront r n kept kept' core core' gathered gathered' held held'
     → TakesOr r sites before (desk kept' core' history gathered' held')
 take_on (Ok u) sites before t history n kept kept' core core' gathered gathered' held held' has asked told line either
     (answer, takes, more, left) =
     let on = turn_on sites before t history n answer kept kept' core core' gathered gathered' held held' has asked
-        line (λ c handed d may. way t c (take n held) handed d answer may either) takes in
+    line (λ c handed d may. way t c (take n held) handed d answer may either) takes in
     record {
       talk = on.talk;
       has = on.has;
@@ -203,10 +213,10 @@ take_on (Ok u) sites before t history n kept kept' core core' gathered gathered'
 take_on (Err e) sites before t history n kept kept' core core' gathered gathered' held held' has asked told line
     either (answer, takes, same, left) =
     let on = turn_on sites before t history n answer kept kept' core core' gathered gathered' held held' has asked
-        line (λ c handed d may. way t c (take n held) handed d answer may either) takes in
+    line (λ c handed d may. way t c (take n held) handed d answer may either) takes in
     let all : told_text on.talk ≡ history.written ++ (gathered ++ (answer_line (take n held) answer ++ 10 ∷ [])) =
     on.says ∙ (ap (λ (ts : List ℕ). ts ++ (answer_line (take n held) answer ++ 10 ∷ [])) told
-        ∙ append_assoc history.written gathered (answer_line (take n held) answer ++ 10 ∷ [])) in
+    ∙ append_assoc history.written gathered (answer_line (take n held) answer ++ 10 ∷ [])) in
     record {
       talk = on.talk;
       has = on.has;
@@ -224,22 +234,22 @@ take_on (Err e) sites before t history n kept kept' core core' gathered gathered
 pub taken_come : {E : Type 0} (r : Result (Unit {0}) E) (n : ℕ) (kept kept' : Handed) (core core' : Parts)
     (history : History) (gathered gathered' held held' : List ℕ)
     → IsLineOf held n → TakesFront r n kept kept' core core' gathered gathered' held held'
-        → (sites : List SiteLine) (before : Handed)
+    → (sites : List SiteLine) (before : Handed)
     → HasCome sites before (desk kept core history gathered held)
-        → TakesOr r sites before (desk kept' core' history gathered' held')
+    → TakesOr r sites before (desk kept' core' history gathered' held')
 taken_come r n kept kept' core core' history gathered gathered' held held' line takes sites before h =
     take_on r sites before h.talk history n kept kept' core core' gathered gathered' held held' h.has h.asked h.told
-        line (inl h.begun) takes
+    line (inl h.begun) takes
 
 pub taken_first : {E : Type 0} (r : Result (Unit {0}) E) (n : ℕ) (kept kept' : Handed) (core core' : Parts)
     (history : History) (gathered gathered' held held' : List ℕ)
     → IsLineOf held n → TakesFront r n kept kept' core core' gathered gathered' held held'
-        → (sites : List SiteLine) (before : Handed)
+    → (sites : List SiteLine) (before : Handed)
     → HasOpened sites before (desk kept core history gathered held) → Asks (take n held)
-        → TakesOr r sites before (desk kept' core' history gathered' held')
+    → TakesOr r sites before (desk kept' core' history gathered' held')
 taken_first r n kept kept' core core' history gathered gathered' held held' line takes sites before h asks =
     take_on r sites before h.talk history n kept kept' core core' gathered gathered' held held' h.has h.asked h.told
-        line (inr asks) takes
+    line (inr asks) takes
 
 -- ---- answers are written
 
@@ -247,7 +257,7 @@ taken_first r n kept kept' core core' history gathered gathered' held held' line
 has_moved : (sites : List SiteLine) (before : Handed) (t : Talk) (kept : Handed) (core : Parts) (old new : History)
     (g g' held held' : List ℕ)
     → new.waits ≡ old.waits → HasTalk sites before t (desk kept core old g held)
-        → HasTalk sites before t (desk kept core new g' held')
+    → HasTalk sites before t (desk kept core new g' held')
 has_moved sites before t kept core old new g g' held held' same h = record {
   is = h.is;
   over = h.over;
@@ -265,7 +275,7 @@ part_of : (written gathered tail : List ℕ) (m : ℕ) → m < length gathered
 part_of written gathered tail m lt =
     sym (ap (λ (ts : List ℕ). take (length written + m) ts) (append_assoc written gathered tail)
     ∙ (take-append-add written (gathered ++ tail) m
-        ∙ ap (λ (ts : List ℕ). written ++ ts) (take-append-le m gathered tail (omega (arith, lt)))))
+    ∙ ap (λ (ts : List ℕ). written ++ ts) (take-append-le m gathered tail (omega (arith, lt)))))
 
 -- so, or a front of the answers was written
 abbrev pub FlushesOr : {E : Type 0} → Result (Unit {0}) E → List SiteLine → Handed → Desk → Type 0
@@ -275,7 +285,7 @@ FlushesOr (Err e) sites before new = HasStopped stop.WriteFault sites before new
 pub flushed_on : {E : Type 0} (r : Result (Unit {0}) E) (kept : Handed) (core : Parts) (old new : History)
     (g g' held : List ℕ) → Flushes r old g new g' → (sites : List SiteLine)
     (before : Handed) → HasCome sites before (desk kept core old g held)
-        → FlushesOr r sites before (desk kept core new g' held)
+    → FlushesOr r sites before (desk kept core new g' held)
 flushed_on (Ok u) kept core old new g g' held (wrote, given, waits) sites before h = record {
   talk = h.talk;
   has = has_moved sites before h.talk kept core old new g g' held held waits h.has;
@@ -310,7 +320,7 @@ part_tail : (written tail : List ℕ) (m : ℕ) → m < length tail
     → written ++ take m tail ≡ take (length written + m) ((written ++ []) ++ tail)
 part_tail written tail m lt =
     sym (ap (λ (ts : List ℕ). take (length written + m) (ts ++ tail)) (append-nil written)
-        ∙ take-append-add written tail m)
+    ∙ take-append-add written tail m)
 
 less_tail : (written tail : List ℕ) (m : ℕ) → m < length tail → length written + m < length ((written ++ []) ++ tail)
 less_tail written tail m lt = grind (arith, common_steps)
@@ -319,7 +329,7 @@ pub said_last : (result stop' : Stop) (tail : List ℕ) (kept : Handed) (core : 
     (held : List ℕ) → SaysLast result stop' tail old new
     → MayClose held tail → ((t : Talk) (written : List ℕ) → WroteAll t tail written → SaysStop stop' t held written)
     → (sites : List SiteLine) (before : Handed) → HasCome sites before (desk kept core old [] held)
-        → HasStopped result sites before (desk kept core new [] held)
+    → HasStopped result sites before (desk kept core new [] held)
 said_last result stop' tail kept core old new held (inl (same, wrote), given, waits) behind so sites before h =
     subst (λ r. HasStopped r sites before (desk kept core new [] held)) (sym same) (record {
       talk = h.talk;
@@ -367,13 +377,15 @@ pub waited : (old new : History) → AreAnswered old.waits → IsAnswered old.gi
     → (new.waits ≡ old.waits) ⊎ (new.waits ≡ old.waits ++ (old.given, old.written) ∷ []) → AreAnswered new.waits
 waited old new all one (inl same) = subst AreAnswered (sym same) all
 waited old new all one (inr more) =
-    subst AreAnswered (sym more) (All-push (λ (w : List ℕ × List ℕ). IsAnswered w.0 w.1) old.waits (old.given,
-    old.written) all one)
+    subst AreAnswered (sym more) (All-push (λ (w : List ℕ × List ℕ). IsAnswered w.0 w.1) old.waits (
+      old.given,
+      old.written,
+    ) all one)
 
 has_waited : (sites : List SiteLine) (before : Handed) (t : Talk) (kept : Handed) (core : Parts) (old new : History)
     (held held' : List ℕ)
     → AreAnswered new.waits → HasTalk sites before t (desk kept core old [] held)
-        → HasTalk sites before t (desk kept core new [] held')
+    → HasTalk sites before t (desk kept core new [] held')
 has_waited sites before t kept core old new held held' all h = record {
   is = h.is;
   over = h.over;
@@ -389,7 +401,7 @@ has_waited sites before t kept core old new held held' all h = record {
 pub filled : (kept : Handed) (core : Parts) (old new : History) (held held' bytes : List ℕ) → IsPart held
     → held' ≡ held ++ bytes → new.given ≡ old.given ++ bytes → new.written ≡ old.written
     → (new.waits ≡ old.waits) ⊎ (new.waits ≡ old.waits ++ (old.given, old.written) ∷ [])
-        → (sites : List SiteLine) (before : Handed)
+    → (sites : List SiteLine) (before : Handed)
     → HasCome sites before (desk kept core old [] held) → HasCome sites before (desk kept core new [] held')
 filled kept core old new held held' bytes part more given written waits sites before h = record {
   talk = h.talk;
@@ -405,9 +417,9 @@ filled kept core old new held held' bytes part more given written waits sites be
 pub unread : (kept : Handed) (core : Parts) (old new : History) (held held' : List ℕ) → IsPart held
     → new.given ≡ old.given → new.written ≡ old.written
     → (new.waits ≡ old.waits) ⊎ (new.waits ≡ old.waits ++ (old.given, old.written) ∷ [])
-        → (sites : List SiteLine) (before : Handed)
+    → (sites : List SiteLine) (before : Handed)
     → HasCome sites before (desk kept core old [] held)
-        → HasStopped stop.ReadFault sites before (desk kept core new [] held')
+    → HasStopped stop.ReadFault sites before (desk kept core new [] held')
 unread kept core old new held held' part given written waits sites before h = record {
   talk = h.talk;
   has = has_waited sites before h.talk kept core old new held held'

@@ -37,17 +37,22 @@ pub takes_none : (old : Parts) (line : List ℕ) (kept : Handed) → SpellsNone 
     → line ≢ cut_line → HasNoLf line
     → length line ≤ max_line → Takes old line Unreadable kept kept old
 takes_none old line kept event cut one short = (
-  λ c stands. (c, [], (record { event = event; cut = cut; one = one; short = short }, refl, refl),
-      sym (append-nil kept.items), stands),
+  λ c stands. (
+    c,
+    [],
+    (record { event = event; cut = cut; one = one; short = short }, refl, refl),
+    sym (append-nil kept.items),
+    stands,
+  ),
   ([], refl, sym (append-nil kept.answers)),
 )
 
 pub takes_cut : (old next : Parts) (number : ℕ) (text : List ℕ) (kept kept' : Handed)
     → ((c : CoreState) → StandsFor old c → text ≡ text_of (bundle_of c))
     → ((c : CoreState) → StandsFor old c → StandsFor next (fresh (last_values c)))
-        → ((c : CoreState) → StandsFor old c → c.certifier.active ≡ [])
+    → ((c : CoreState) → StandsFor old c → c.certifier.active ≡ [])
     → kept'.items ≡ kept.items ++ (number, text) ∷ [] → kept'.answers ≡ kept.answers ++ Ok number ∷ []
-        → Takes old cut_line (Cut number) kept kept' next
+    → Takes old cut_line (Cut number) kept kept' next
 takes_cut old next number text kept kept' spelled begins idle more says = (
   λ c stands. (
     fresh (last_values c),
@@ -70,11 +75,16 @@ said_as keep.Refused = refl
 pub takes_unkept : (old : Parts) (f : KeepFault) (told : CutFault) (kept kept' : Handed)
     → ((c : CoreState) → StandsFor old c → c.certifier.active ≡ []) → told ≡ uncut_by f
     → kept'.items ≡ kept.items → kept'.answers ≡ kept.answers ++ Err f ∷ []
-        → Takes old cut_line (Uncut told) kept kept' old
+    → Takes old cut_line (Uncut told) kept kept' old
 takes_unkept old f told kept kept' idle is same says =
     subst (λ (t : CutFault). Takes old cut_line (Uncut t) kept kept' old) (sym is) (
-      (λ c stands. (c, [], (refl, uncut_as c f (idle c stands), refl, refl), same ∙ sym (append-nil kept.items),
-          stands)),
+      (λ c stands. (
+        c,
+        [],
+        (refl, uncut_as c f (idle c stands), refl, refl),
+        same ∙ sym (append-nil kept.items),
+        stands,
+      )),
       (Err f ∷ [], said_as f, says),
     )
 
@@ -91,7 +101,12 @@ pub takes_refused : (old : Parts) (f : CoreFault) (told : CutFault) (kept : Hand
     → ((c : CoreState) → StandsFor old c → RefusesBundle c f) → told ≡ cut_fault_of f
     → Takes old cut_line (Uncut told) kept kept old
 takes_refused old f told kept refused same = (
-  λ c stands. (c, [], (refl, subst (IsUncut c) (sym same) (refused_as c f (refused c stands)), refl, refl),
-      sym (append-nil kept.items), stands),
+  λ c stands. (
+    c,
+    [],
+    (refl, subst (IsUncut c) (sym same) (refused_as c f (refused c stands)), refl, refl),
+    sym (append-nil kept.items),
+    stands,
+  ),
   ([], subst (λ (t : CutFault). PlaceSays (Uncut t) []) (sym same) (silent_as f), sym (append-nil kept.answers)),
 )

@@ -40,7 +40,7 @@ speaks_at (Some s) a b f g k m not p = absurd (not s refl)
 pub silent_as : (a b : Option (List ℕ)) (f g : List ℕ) (k m : ℕ) → b ≡ a → g ≡ f → m ≡ k → Speaks a b f g k m
 silent_as a b f g k m told written count =
     subst (λ (x : Option (List ℕ)). Speaks a x f g k m) (sym told)
-        (subst (λ (x : List ℕ). Speaks a a f x k m) (sym written)
+    (subst (λ (x : List ℕ). Speaks a a f x k m) (sym written)
     (subst (λ (x : ℕ). Speaks a a f f k x) (sym count) (speaks_none a f k)))
 
 pub deaf_as : (a b : Option (List ℕ)) (f g : List ℕ) (k m : ℕ) → b ≡ a → g ≡ f → m ≡ k → Hears a b f g k m

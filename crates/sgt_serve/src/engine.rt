@@ -96,20 +96,21 @@ fn tell_unreadable<R: Source, W: Sink>(
     }
 }
 
-/// Serves a talk: the lines of its sites, from site 0 on, and behind them events and cuts, each of which is answered by a line. An
-/// event is answered as a replay answers it (want of memory too, `! E9`); a cut `x` by `x N`, and its bundle is kept at the place
-/// with the number N. Where no cut may be made, or its bundle isn't kept, `! E8`, `! E9` or `! B` is answered, and all is as before.
-/// A line that asks for nothing is answered by `! L1`, also the last one if it has no LF; one that is too long by `! L2`, and that
-/// is the end. In front of the first event or cut a line that can't be read is answered by `! L1 line N` or `! L2 line N`, and
-/// that is the end. At the end the open step is installed where it lacks, what is active is withdrawn by rising number, and where a
-/// transaction was begun since the last cut its bundle is kept too.
+/// Serves a talk: the lines of its sites, from site 0 on, and behind them events and cuts, each of which is answered
+/// by a line. An event is answered as a replay answers it (want of memory too, `! E9`); a cut `x` by `x N`, and its
+/// bundle is kept at the place with the number N. Where no cut may be made, or its bundle isn't kept, `! E8`, `! E9`
+/// or `! B` is answered, and all is as before. A line that asks for nothing is answered by `! L1`, also the last one
+/// if it has no LF; one that is too long by `! L2`, and that is the end. In front of the first event or cut a line
+/// that can't be read is answered by `! L1 line N` or `! L2 line N`, and that is the end. At the end the open step is
+/// installed where it lacks, what is active is withdrawn by rising number, and where a transaction was begun since
+/// the last cut its bundle is kept too.
 ///
 /// All that was given is answered before the reader is asked for more; lines that came by one read may share a write.
 ///
-/// Yes at the end of the input; Unreadable where a line was too long, or one in front can't be read. An Err beats both: ReadFault
-/// where the reader failed, or 2^64 - 1 reads were made, and WriteFault where the writer failed, and then the talk is ended as ever,
-/// which the fault tells of; BundleFault where the place refused the last bundle; Memory where there is no memory to begin with, for
-/// an answer, or for the last bundle.
+/// Yes at the end of the input; Unreadable where a line was too long, or one in front can't be read. An Err beats
+/// both: ReadFault where the reader failed, or 2^64 - 1 reads were made, and WriteFault where the writer failed, and
+/// then the talk is ended as ever, which the fault tells of; BundleFault where the place refused the last bundle;
+/// Memory where there is no memory to begin with, for an answer, or for the last bundle.
 pub fn serve<R: Source, W: Sink, B: Bundles>(
     alloc: Global,
     pipe: &mut Pipe<R, W>,

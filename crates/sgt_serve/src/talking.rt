@@ -315,8 +315,8 @@ fn talk_on<R: Source, W: Sink, B: Bundles>(
     }
 }
 
-/// Answers the first line, which is of so many bytes and asks for something, and then line after line, up to the end of the
-/// input or to a fault.
+/// Answers the first line, which is of so many bytes and asks for something, and then line after line, up to the end
+/// of the input or to a fault.
 pub(crate) fn talk<R: Source, W: Sink, B: Bundles>(
     pipe: &mut Pipe<R, W>,
     inbox: &mut Inbox,

@@ -15,7 +15,9 @@ use Rattle.sgt_names.proofs.Elements.{bytes_eq-other}
 
 -- a smaller name is another
 pub less_apart : (x y : Name) → slice_cmp nat_cmp x y ≡ Less → x ≡ y → ⊥
-less_apart x y less same = absurd (let tied : slice_cmp nat_cmp x y ≡ Equal = subst (λ z. slice_cmp nat_cmp x z ≡ Equal) same (tied_itself nat_list_cmp_total x) in cc)
+less_apart x y less same =
+    absurd (let tied : slice_cmp nat_cmp x y ≡ Equal =
+    subst (λ z. slice_cmp nat_cmp x z ≡ Equal) same (tied_itself nat_list_cmp_total x) in cc)
 
 -- all that a list of one has
 pub is_single : {A : Type 0} (a b : A) → Contains (a ∷ []) b → b ≡ a

@@ -13,7 +13,8 @@ use Rattle.sgt_site.specs.State.{change_entry, IsWant}
 use Rattle.sgt_site.specs.private.Cells.{adds}
 
 -- what counts as a write changes the item, or asks to in vain
-pub change_or_want : {P : Type 0} (x : Name) (e : Entry) → Writes x e → ((c : Change) → change_of x e ≡ Some c → P) → (IsWant e → P) → P
+pub change_or_want : {P : Type 0} (x : Name) (e : Entry) → Writes x e → ((c : Change) → change_of x e ≡ Some c → P)
+    → (IsWant e → P) → P
 change_or_want x (Write t y v) w changes want = changes (change.Put v) (rw ((bytes_eq-Decides y x).1 w) refl)
 change_or_want x (Add t y v) w changes want = changes (change.Add v) (rw ((bytes_eq-Decides y x).1 w) refl)
 change_or_want x (Want t y v) w changes want = want tt

@@ -59,14 +59,20 @@ adding = Write 1 x 6 ∷ Commit 1 ∷ Add 2 x 3 ∷ Commit 2 ∷ WantAdd 3 x 4 �
 pub version-counts_increments : version_at adding x ≡ 2
 version-counts_increments = refl
 
-pub writers-of_increments : writers_of (installed ++ record { tx = 2; handle = handle } ∷ []) adding x ≡ record { tx = 1; handle = handle; increment = false } ∷ record { tx = 2; handle = handle; increment = true } ∷ []
+pub writers-of_increments : writers_of (installed ++ record { tx = 2; handle = handle } ∷ []) adding x ≡ record {
+  tx =
+      1;
+  handle = handle;
+  increment = false;
+} ∷ record { tx = 2; handle = handle; increment = true } ∷ []
 writers-of_increments = refl
 
 -- the blocks
 pub block-of_a_commit : commit_block 1 ((x, Put 6) ∷ (y, change.Add 3) ∷ []) ≡ Write 1 x 6 ∷ Add 1 y 3 ∷ Commit 1 ∷ []
 block-of_a_commit = refl
 
-pub block-of_a_refusal : refuse_block 1 ((x, change.Add 6) ∷ (y, Put 3) ∷ []) ≡ WantAdd 1 x 6 ∷ Want 1 y 3 ∷ Refuse 1 ∷ []
+pub block-of_a_refusal : refuse_block 1 ((x, change.Add 6) ∷ (y, Put 3) ∷ []) ≡ WantAdd 1 x 6 ∷ Want 1 y 3 ∷ Refuse 1
+    ∷ []
 block-of_a_refusal = refl
 
 pub block-of_a_withdrawal : withdraw_block 1 ≡ Withdraw 1 ∷ []
@@ -104,13 +110,18 @@ pub second-keeps_its_read : KeepsReads log 2 kept
 second-keeps_its_read z v n = (there, back)
   where
     there : Contains {X = Name × ℕ × ℕ} kept (z, v, n) → LogsRead log 2 z v n
-    there has = subst (λ (k : Name × ℕ × ℕ). LogsRead log 2 k.0 k.1 k.2) (sym (is_single (x, 6, 1) (z, v, n) has)) (record { place = 3; at = refl; version = refl })
+    there has = subst (λ (k : Name × ℕ × ℕ). LogsRead log 2 k.0 k.1 k.2) (sym (is_single (x, 6, 1) (z, v, n) has))
+        (record { place = 3; at = refl; version = refl })
 
     back : LogsRead log 2 z v n → Contains {X = Name × ℕ × ℕ} kept (z, v, n)
     back r =
         let is = read_is r.place z v r.at in
-        let version : 1 ≡ n = ap (λ m. version_at (take m log) x) is.2 ∙ ap (version_at (take r.place log)) is.0 ∙ r.version in
-        subst (λ (a : Name). Contains {X = Name × ℕ × ℕ} kept (a, v, n)) is.0 (subst (λ (b : ℕ). Contains {X = Name × ℕ × ℕ} kept (x, b, n)) is.1 (subst (λ (c : ℕ). Contains {X = Name × ℕ × ℕ} kept (x, 6, c)) version (Contains-from_at kept 0 (x, 6, 1) refl)))
+        let version : 1 ≡ n = ap (λ m. version_at (take m log) x) is.2 ∙ ap (version_at (take r.place log)) is.0
+        ∙ r.version in
+        subst (λ (a : Name). Contains {X = Name × ℕ × ℕ} kept (a, v, n)) is.0
+        (subst (λ (b : ℕ). Contains {X = Name × ℕ × ℕ} kept (x, b, n)) is.1
+        (subst (λ (c : ℕ). Contains {X = Name × ℕ × ℕ} kept (x, 6, c)) version
+        (Contains-from_at kept 0 (x, 6, 1) refl)))
 
 -- a draft that kept another version, or nothing, doesn't keep the reads of the log
 pub second-not_at_another_version : KeepsReads log 2 ((x, 6, 0) ∷ []) → ⊥
@@ -119,7 +130,8 @@ second-not_at_another_version keeps =
     eqb-false 1 0 refl (ap (λ (k : Name × ℕ × ℕ). k.2) e)
 
 pub second-not_without_reads : KeepsReads log 2 [] → ⊥
-second-not_without_reads keeps = let has = (keeps x 6 1).1 (record { place = 3; at = refl; version = refl }) in absurd (omega (arith, has.1))
+second-not_without_reads keeps = let has = (keeps x 6 1).1 (record { place = 3; at = refl; version = refl }) in
+    absurd (omega (arith, has.1))
 
 -- transaction 1 read x at version 0, before its own write
 pub first-reader : IsReader installed log x (record { tx = 1; handle = handle; version = 0 })
@@ -135,5 +147,7 @@ falling = record { item = y; value = 2 } ∷ record { item = x; value = 5 } ∷ 
 
 pub falling-no_items : AreItems falling → ⊥
 falling-no_items are =
-    let rises : slice_cmp nat_cmp y x ≡ Less = AllPairs_at (λ (a b : Holding). slice_cmp nat_cmp a.item b.item ≡ Less) falling 0 1 (record { item = y; value = 2 }) (record { item = x; value = 5 }) are.rising (lit< tt) refl refl in
+    let rises : slice_cmp nat_cmp y x ≡ Less =
+    AllPairs_at (λ (a b : Holding). slice_cmp nat_cmp a.item b.item ≡ Less) falling 0 1
+    (record { item = y; value = 2 }) (record { item = x; value = 5 }) are.rising (lit< tt) refl refl in
     absurd cc

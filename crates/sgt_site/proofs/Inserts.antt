@@ -11,7 +11,8 @@ module _ {A : Type 0} where
   pub Contains-later : (x : A) (xs : List A) (a : A) → Contains xs a → Contains (x ∷ xs) a
   Contains-later x xs a has = let at = Contains_at xs a has in Contains-from_at (x ∷ xs) (suc at.0) a at.1
 
-  insert_at : (xs : List A) (n : ℕ) (y : A) (k : ℕ) (a : A) → slice_get (insert xs n y) k ≡ Some a → (a ≡ y) ⊎ Contains xs a
+  insert_at : (xs : List A) (n : ℕ) (y : A) (k : ℕ) (a : A) → slice_get (insert xs n y) k ≡ Some a
+      → (a ≡ y) ⊎ Contains xs a
   insert_at xs zero y zero a h = inl (sym (same_Some y a h))
   insert_at xs zero y (suc k) a h = inr (Contains-from_at xs k a h)
   insert_at [] (suc n) y zero a h = inl (sym (same_Some y a h))
@@ -45,7 +46,8 @@ module _ {A : Type 0} where
       by_side (inl same) = subst (Contains (insert xs n y)) (sym same) (at_new xs n y)
       by_side (inr has) = let at = Contains_at xs a has in at_old xs n y at.0 a at.1
 
-  all-insert : (P : A → Type 0) (xs : List A) (n : ℕ) (y : A) → P y → AllByRecursion P xs → AllByRecursion P (insert xs n y)
+  all-insert : (P : A → Type 0) (xs : List A) (n : ℕ) (y : A) → P y → AllByRecursion P xs
+      → AllByRecursion P (insert xs n y)
   all-insert P xs zero y p all = (p, all)
   all-insert P [] (suc n) y p all = (p, tt)
   all-insert P (x ∷ xs) (suc n) y p all = (all.0, all-insert P xs n y p all.1)
@@ -54,17 +56,25 @@ module _ {A : Type 0} where
   all-from_at P [] h = tt
   all-from_at P (x ∷ xs) h = (h 0 x refl, all-from_at P xs (λ m a at. h (suc m) a at))
 
-  pairs-insert : (R : A → A → Type 0) (xs : List A) (n : ℕ) (y : A) → ((m : ℕ) (a : A) → m < n → slice_get xs m ≡ Some a → R a y) → ((m : ℕ) (a : A) → n ≤ m → slice_get xs m ≡ Some a → R y a) → PairsByRecursion R xs → PairsByRecursion R (insert xs n y)
+  pairs-insert : (R : A → A → Type 0) (xs : List A) (n : ℕ) (y : A)
+      → ((m : ℕ) (a : A) → m < n → slice_get xs m ≡ Some a → R a y)
+      → ((m : ℕ) (a : A) → n ≤ m → slice_get xs m ≡ Some a → R y a) → PairsByRecursion R xs
+      → PairsByRecursion R (insert xs n y)
   pairs-insert R xs zero y before after pairs = (all-from_at (R y) xs (λ m a at. after m a (omega arith) at), pairs)
   pairs-insert R [] (suc n) y before after pairs = (tt, tt)
   pairs-insert R (x ∷ xs) (suc n) y before after pairs = (
     all-insert (R x) xs n y (before 0 x (omega arith) refl) pairs.0,
-    pairs-insert R xs n y (λ m a lt at. before (suc m) a (omega arith) at) (λ m a le at. after (suc m) a (omega arith) at) pairs.1,
+    pairs-insert R xs n y (λ m a lt at. before (suc m) a (omega arith) at)
+        (λ m a le at. after (suc m) a (omega arith) at) pairs.1,
   )
 
   -- and what holds of each and each later one
-  pub AllPairs-insert : (R : A → A → Type 0) (xs : List A) (n : ℕ) (y : A) → ((m : ℕ) (a : A) → m < n → slice_get xs m ≡ Some a → R a y) → ((m : ℕ) (a : A) → n ≤ m → slice_get xs m ≡ Some a → R y a) → AllPairs R xs → AllPairs R (insert xs n y)
-  AllPairs-insert R xs n y before after pairs = AllPairs-from_recursion R (insert xs n y) (pairs-insert R xs n y before after (recursion_from_AllPairs R xs pairs))
+  pub AllPairs-insert : (R : A → A → Type 0) (xs : List A) (n : ℕ) (y : A)
+      → ((m : ℕ) (a : A) → m < n → slice_get xs m ≡ Some a → R a y)
+      → ((m : ℕ) (a : A) → n ≤ m → slice_get xs m ≡ Some a → R y a) → AllPairs R xs → AllPairs R (insert xs n y)
+  AllPairs-insert R xs n y before after pairs =
+      AllPairs-from_recursion R (insert xs n y)
+      (pairs-insert R xs n y before after (recursion_from_AllPairs R xs pairs))
 
   -- so an order by a number is kept where the element goes behind all that have its number or a smaller one
   pub nondecreasing : (n : A → ℕ) (xs : List A) → AllPairs (λ a b. n a ≤ n b) xs → IsNonDecreasingBy n xs
@@ -76,10 +86,15 @@ module _ {A : Type 0} where
         omega (arith, e)
   ]
 
-  pub point-insert : (n : A → ℕ) (xs : List A) (i : ℕ) (y : A) → IsPartitionPoint (λ a. leb (n a) (n y) ≡ true) (λ a. leb (n a) (n y) ≡ false) xs i → AllPairs (λ a b. n a ≤ n b) xs → AllPairs (λ a b. n a ≤ n b) (insert xs i y)
+  pub point-insert : (n : A → ℕ) (xs : List A) (i : ℕ) (y : A)
+      → IsPartitionPoint (λ a. leb (n a) (n y) ≡ true) (λ a. leb (n a) (n y) ≡ false) xs i
+      → AllPairs (λ a b. n a ≤ n b) xs → AllPairs (λ a b. n a ≤ n b) (insert xs i y)
   point-insert n xs i y point pairs = AllPairs-insert (λ a b. n a ≤ n b) xs i y
-      (λ m a lt at. leb-true (n a) (n y) (subst (λ b. leb (n b) (n y) ≡ true) (get_or_from_slice_get xs m a a at) (point.0 m a (omega arith) lt)))
-      (λ m a le at. let more = leb-false (n a) (n y) (subst (λ b. leb (n b) (n y) ≡ false) (get_or_from_slice_get xs m a a at) (point.1 m a le (slice_get_within xs m a at))) in omega (arith, more))
+      (λ m a lt at. leb-true (n a) (n y) (subst (λ b. leb (n b) (n y) ≡ true) (get_or_from_slice_get xs m a a at)
+      (point.0 m a (omega arith) lt)))
+      (λ m a le at. let more =
+      leb-false (n a) (n y) (subst (λ b. leb (n b) (n y) ≡ false) (get_or_from_slice_get xs m a a at)
+      (point.1 m a le (slice_get_within xs m a at))) in omega (arith, more))
       pairs
 
   -- what is at a place after another element was put there, or elsewhere

@@ -38,7 +38,8 @@ apart t u other = elim (cases_Bool (is_eq (nat_cmp t u))) [
     ties Greater e = absurd cc
 
 -- the others of a list with a change at one transaction
-pub updated-others : (old new : BTreeMap ℕ (Vec Name Global)) (tx : ℕ) (w : Option (Vec Name Global)) → Updates nat_cmp old new tx w
+pub updated-others : (old new : BTreeMap ℕ (Vec Name Global)) (tx : ℕ) (w : Option (Vec Name Global))
+    → Updates nat_cmp old new tx w
     → (t : ℕ) → t ≢ tx → or_nothing (get nat_cmp new t) ≡ or_nothing (get nat_cmp old t)
 updated-others old new tx w updates t other = ap or_nothing (updates.2 t (apart tx t other))
 
@@ -66,7 +67,8 @@ free-slot s tx none = elim (cases_Bool (s.tx == tx)) [
 
 -- ---- both parts
 
-pub or_else-push : (own others : List Name) (x : Name) → (own ≡ [] → others ≡ []) → or_else (own ++ x ∷ []) others ≡ or_else own others ++ x ∷ []
+pub or_else-push : (own others : List Name) (x : Name) → (own ≡ [] → others ≡ [])
+    → or_else (own ++ x ∷ []) others ≡ or_else own others ++ x ∷ []
 or_else-push [] others x none = rw (none refl) refl
 or_else-push (y ∷ ys) others x none = refl
 
@@ -96,22 +98,27 @@ read_in : (es : List Entry) (tx : ℕ) (x : Name) (n : ℕ) (v : ℕ) → slice_
 read_in es tx x n v at = Any-from_at (λ e. (tx_of e ≡ tx) × Reads x e) es n (Read tx x v) at (refl, refl)
 
 -- a read of the item is an entry that says so
-pub read_at : (es : List Entry) (tx : ℕ) (x : Name) → HasRead es tx x → (n : ℕ) × (v : ℕ) × (slice_get es n ≡ Some (Read tx x v))
+pub read_at : (es : List Entry) (tx : ℕ) (x : Name) → HasRead es tx x
+    → (n : ℕ) × (v : ℕ) × (slice_get es n ≡ Some (Read tx x v))
 read_at es tx x has =
     let a = Any_at (λ e. (tx_of e ≡ tx) × Reads x e) es has in
     let read = read_is x a.1 a.3.1 in
     (a.0, read.0, a.2 ∙ ap Some (read.1 ∙ ap (λ (t : ℕ). Read t x read.0) a.3.0))
 
 pub read_logged : (es : List Entry) (tx : ℕ) (x : Name) → HasRead es tx x → (v : ℕ) × (n : ℕ) × LogsRead es tx x v n
-read_logged es tx x has = let at = read_at es tx x has in (at.1, version_at (take at.0 es) x, record { place = at.0; at = at.2; version = refl })
+read_logged es tx x has = let at = read_at es tx x has in
+    (at.1, version_at (take at.0 es) x, record { place = at.0; at = at.2; version = refl })
 
 HasRead-append : (es bs : List Entry) (tx : ℕ) (x : Name) → HasRead es tx x → HasRead (es ++ bs) tx x
-HasRead-append es bs tx x has = let at = read_at es tx x has in read_in (es ++ bs) tx x at.0 at.1 (front_at es bs at.0 (Read tx x at.1) at.2)
+HasRead-append es bs tx x has = let at = read_at es tx x has in
+    read_in (es ++ bs) tx x at.0 at.1 (front_at es bs at.0 (Read tx x at.1) at.2)
 
-HasRead-cases : {P : Type 0} (es bs : List Entry) (tx : ℕ) (x : Name) → HasRead (es ++ bs) tx x → (HasRead es tx x → P) → ((m v : ℕ) → slice_get bs m ≡ Some (Read tx x v) → P) → P
+HasRead-cases : {P : Type 0} (es bs : List Entry) (tx : ℕ) (x : Name) → HasRead (es ++ bs) tx x
+    → (HasRead es tx x → P) → ((m v : ℕ) → slice_get bs m ≡ Some (Read tx x v) → P) → P
 HasRead-cases es bs tx x has front back =
     let at = read_at (es ++ bs) tx x has in
-    get_cases es bs at.0 (Read tx x at.1) at.2 (λ here. front (read_in es tx x at.0 at.1 here)) (λ m is here. back m at.1 here)
+    get_cases es bs at.0 (Read tx x at.1) at.2 (λ here. front (read_in es tx x at.0 at.1 here))
+    (λ m is here. back m at.1 here)
 
 -- ---- what stays pending
 
@@ -125,7 +132,8 @@ pending-fresh p none tx x = (
 )
 
 pub pending-same : (p new : Pending) (es : List Entry) → ArePending p es → AreSame p new → ArePending new es
-pending-same p new es pending same tx x = subst (λ xs. Contains xs x ↔ (HasRead es tx x × (HasEnded es tx → ⊥))) (sym (same tx)) (pending tx x)
+pending-same p new es pending same tx x =
+    subst (λ xs. Contains xs x ↔ (HasRead es tx x × (HasEnded es tx → ⊥))) (sym (same tx)) (pending tx x)
 
 -- a read that was added and taken back
 pub added-back : (p mid new : Pending) (tx : ℕ) (x : Name) → AddsRead p mid tx x
@@ -137,7 +145,8 @@ added-back p mid new tx x adds own others t = elim (cases_Bool (t == tx)) [
 ]
 
 -- a read of a transaction that has no end
-module _ (p new : Pending) (es : List Entry) (tx : ℕ) (x : Name) (v : ℕ) (pending : ArePending p es) (active : HasEnded es tx → ⊥) where
+module _ (p new : Pending) (es : List Entry) (tx : ℕ) (x : Name) (v : ℕ) (pending : ArePending p es)
+    (active : HasEnded es tx → ⊥) where
   abbrev one : List Entry
   one = Read tx x v ∷ []
 
@@ -166,7 +175,8 @@ module _ (p new : Pending) (es : List Entry) (tx : ℕ) (x : Name) (v : ℕ) (pe
   pending-read adds t y = elim (cases_Bool (t == tx)) [
     | inl hit ↦
         let same = eqb-true t tx hit in
-        let own : items_by new t ≡ items_by p t ++ x ∷ [] = subst (λ u. items_by new u ≡ items_by p u ++ x ∷ []) (sym same) adds.own in (
+        let own : items_by new t ≡ items_by p t ++ x ∷ [] =
+        subst (λ u. items_by new u ≡ items_by p u ++ x ∷ []) (sym same) adds.own in (
           λ has. elim (Contains-append_cases (items_by p t) (x ∷ []) y (subst (λ xs. Contains xs y) own has)) [
             | inl old ↦ was_there t y old
             | inr last ↦
@@ -177,7 +187,8 @@ module _ (p new : Pending) (es : List Entry) (tx : ℕ) (x : Name) (v : ℕ) (pe
           λ both. subst (λ xs. Contains xs y) (sym own) (
               HasRead-cases es one t y both.0
               (λ old. Contains-append_left (items_by p t) (x ∷ []) y (was_read t y old both.1))
-              (λ m w at. Contains-append_right (items_by p t) (x ∷ []) y (Contains-from_at (x ∷ []) 0 y (ap Some (sym (is_new t y m w at).1))))
+              (λ m w at. Contains-append_right (items_by p t) (x ∷ []) y
+              (Contains-from_at (x ∷ []) 0 y (ap Some (sym (is_new t y m w at).1))))
               ),
         )
     | inr miss ↦
@@ -185,13 +196,15 @@ module _ (p new : Pending) (es : List Entry) (tx : ℕ) (x : Name) (v : ℕ) (pe
         let kept = adds.others t apart in (
           λ has. was_there t y (subst (λ xs. Contains xs y) kept has),
           λ both. subst (λ xs. Contains xs y) (sym kept) (
-              HasRead-cases es one t y both.0 (λ old. was_read t y old both.1) (λ m w at. absurd (apart (is_new t y m w at).0))
+              HasRead-cases es one t y both.0 (λ old. was_read t y old both.1)
+              (λ m w at. absurd (apart (is_new t y m w at).0))
               ),
         )
   ]
 
 -- a block that ends a transaction and reads nothing
-module _ (p new : Pending) (es bs : List Entry) (tx : ℕ) (pending : ArePending p es) (ending : HasEnded bs tx) (alone : (t : ℕ) → HasEnded bs t → t ≡ tx) where
+module _ (p new : Pending) (es bs : List Entry) (tx : ℕ) (pending : ArePending p es) (ending : HasEnded bs tx)
+    (alone : (t : ℕ) → HasEnded bs t → t ≡ tx) where
   pub pending-ended : ((m t : ℕ) (x : Name) (v : ℕ) → slice_get bs m ≡ Some (Read t x v) → ⊥) → items_by new tx ≡ []
       → ((t : ℕ) → t ≢ tx → items_by new t ≡ items_by p t) → ArePending new (es ++ bs)
   pending-ended quiet own others t y = elim (cases_Bool (t == tx)) [
@@ -204,8 +217,10 @@ module _ (p new : Pending) (es bs : List Entry) (tx : ℕ) (pending : ArePending
         let apart = eqb-false t tx miss in
         let kept = others t apart in (
           λ has.
-              let old = (pending t y).0 (subst (λ xs. Contains xs y) kept has) in
-              (HasRead-append es bs t y old.0, λ ended. HasEnded-cases es bs t ended old.1 (λ now. apart (alone t now))),
+              let old = (pending t y).0 (subst (λ xs. Contains xs y) kept has) in (
+                HasRead-append es bs t y old.0,
+                λ ended. HasEnded-cases es bs t ended old.1 (λ now. apart (alone t now)),
+              ),
           λ both. subst (λ xs. Contains xs y) (sym kept) ((pending t y).1 (
             HasRead-cases es bs t y both.0 (λ old. old) (λ m v at. absurd (quiet m t y v at)),
             λ ended. both.1 (HasEnded-append es bs t ended),
@@ -218,8 +233,10 @@ pub pending-withdrawn : (p new : Pending) (es : List Entry) (tx : ℕ) → ArePe
     → ((t : ℕ) → t ≢ tx → items_by new t ≡ items_by p t) → ArePending new (es ++ Withdraw tx ∷ [])
 pending-withdrawn p new es tx pending own others = pending-ended p new es (Withdraw tx ∷ []) tx pending
     (Any-from_at (λ e. (tx_of e ≡ tx) × IsEnd e) (Withdraw tx ∷ []) 0 (Withdraw tx) refl (refl, tt))
-    (λ t has. let a = Any_at (λ e. (tx_of e ≡ t) × IsEnd e) (Withdraw tx ∷ []) has in sym a.3.0 ∙ ap tx_of (is_single (Withdraw tx) a.1 (Contains-from_at (Withdraw tx ∷ []) a.0 a.1 a.2)))
-    (λ m t x v at. let e = is_single (Withdraw tx) (Read t x v) (Contains-from_at (Withdraw tx ∷ []) m (Read t x v) at) in absurd cc)
+    (λ t has. let a = Any_at (λ e. (tx_of e ≡ t) × IsEnd e) (Withdraw tx ∷ []) has in sym a.3.0
+    ∙ ap tx_of (is_single (Withdraw tx) a.1 (Contains-from_at (Withdraw tx ∷ []) a.0 a.1 a.2)))
+    (λ m t x v at. let e =
+    is_single (Withdraw tx) (Read t x v) (Contains-from_at (Withdraw tx ∷ []) m (Read t x v) at) in absurd cc)
     own others
 
 -- ---- what a draft keeps of them
@@ -230,4 +247,5 @@ module _ (P : Name → Type 0) (p : Pending) (es : List Entry) (tx : ℕ) (pendi
   own-kept active kept x has = All_in P (items_by p tx) x kept ((pending tx x).1 (has, active))
 
   pub kept-own : ((x : Name) → HasRead es tx x → P x) → All P (items_by p tx)
-  kept-own keeps = All-from_at P (items_by p tx) (λ n x at. keeps x ((pending tx x).0 (Contains-from_at (items_by p tx) n x at)).0)
+  kept-own keeps =
+      All-from_at P (items_by p tx) (λ n x at. keeps x ((pending tx x).0 (Contains-from_at (items_by p tx) n x at)).0)

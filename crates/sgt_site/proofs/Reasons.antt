@@ -78,7 +78,8 @@ module _ (s : SiteState) (tx : ℕ) where
   read-once x PledgeOpen DraftDiffers a b = absurd b
   read-once x DraftDiffers g a b = absurd a
 
-  pub pledge-once : (touched : List Touch) (f g : SiteFault) → RefusesPledge s tx touched f → RefusesPledge s tx touched g → f ≡ g
+  pub pledge-once : (touched : List Touch) (f g : SiteFault) → RefusesPledge s tx touched f
+      → RefusesPledge s tx touched g → f ≡ g
   pledge-once touched UnknownItem UnknownItem a b = refl
   pledge-once touched UnknownItem ReadTwice a b = absurd b
   pledge-once touched UnknownItem Ended a b = absurd (a b.0)

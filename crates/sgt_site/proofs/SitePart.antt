@@ -39,7 +39,13 @@ module _ (s : SiteState) (tx : ℕ) (ts here : List Touch) (is : here ≡ at_sit
 
   -- a pledge is allowed and refused by what is touched at the site
   pub may-whole : MayPledge s tx here → MayPledge s tx ts
-  may-whole may = record { known = subst Known again may.known; active = may.active; free = may.free; same = subst Same again may.same }
+  may-whole may = record {
+    known = subst Known again may.known;
+    active = may.active;
+    free = may.free;
+    same =
+        subst Same again may.same;
+  }
 
   pub refuses-whole : (f : SiteFault) → RefusesPledge s tx here f → RefusesPledge s tx ts f
   refuses-whole UnknownItem refused = λ known. refused (subst Known (sym again) known)
@@ -49,13 +55,18 @@ module _ (s : SiteState) (tx : ℕ) (ts here : List Touch) (is : here ≡ at_sit
   refuses-whole NotPledged refused = refused
   refuses-whole BadItems refused = refused
   refuses-whole PledgeOpen refused = ((subst Known again refused.0.0, refused.0.1), refused.1)
-  refuses-whole DraftDiffers refused = (((subst Known again refused.0.0.0, refused.0.0.1), refused.0.1), λ same. refused.1 (subst Same (sym again) same))
+  refuses-whole DraftDiffers refused = (
+    ((subst Known again refused.0.0.0, refused.0.0.1), refused.0.1),
+    λ same. refused.1 (subst Same (sym again) same),
+  )
 
 -- ---- a read that is kept
 
-pub keeps-found : (ts : List Touch) (n : ℕ) (x : Name) (k : ℕ) (t : Touch) → AreRising ts → IsAt place_of ts (n, x) k → slice_get ts k ≡ Some t → IsSome t.seen ↔ KeepsItem ts n x
+pub keeps-found : (ts : List Touch) (n : ℕ) (x : Name) (k : ℕ) (t : Touch) → AreRising ts → IsAt place_of ts (n, x) k
+    → slice_get ts k ≡ Some t → IsSome t.seen ↔ KeepsItem ts n x
 keeps-found ts n x k t rising at here = (
-  λ seen. Any-from_at (λ (u : Touch). (u.site ≡ n) × IsSome u.seen × (u.item ≡ x)) ts k t here (ap (λ (p : ℕ × Name). p.0) (at.is t here), seen, ap (λ (p : ℕ × Name). p.1) (at.is t here)),
+  λ seen. Any-from_at (λ (u : Touch). (u.site ≡ n) × IsSome u.seen × (u.item ≡ x)) ts k t here
+      (ap (λ (p : ℕ × Name). p.0) (at.is t here), seen, ap (λ (p : ℕ × Name). p.1) (at.is t here)),
   λ kept.
       let u = Any_at (λ (u : Touch). (u.site ≡ n) × IsSome u.seen × (u.item ≡ x)) ts kept in
       let place : place_of u.1 ≡ (n, x) = λ i. (u.3.0 i, u.3.2 i) in
@@ -64,14 +75,21 @@ keeps-found ts n x k t rising at here = (
   where
     one : (m : ℕ) (u : Touch) → slice_get ts m ≡ Some u → place_of u ≡ (n, x) → u ≡ t
     one m u there place = elim (cases_lt m k) [
-      | inl lt ↦ absurd (less_apart (place_of u) (place_of t) (AllPairs_at (λ a b. place_cmp (place_of a) (place_of b) ≡ Less) ts m k u t rising lt there here) (place ∙ sym (at.is t here)))
+      | inl lt ↦ absurd
+          (less_apart (place_of u) (place_of t)
+          (AllPairs_at (λ a b. place_cmp (place_of a) (place_of b) ≡ Less) ts m k u t rising lt there here) (place
+          ∙ sym (at.is t here)))
       | inr le ↦ elim (cases_lt k m) [
-        | inl more ↦ absurd (less_apart (place_of t) (place_of u) (AllPairs_at (λ a b. place_cmp (place_of a) (place_of b) ≡ Less) ts k m t u rising more here there) (at.is t here ∙ sym place))
+        | inl more ↦ absurd
+            (less_apart (place_of t) (place_of u)
+            (AllPairs_at (λ a b. place_cmp (place_of a) (place_of b) ≡ Less) ts k m t u rising more here there)
+            (at.is t here ∙ sym place))
         | inr less ↦ same_Some u t (sym there ∙ ap (slice_get ts) (omega (arith, le, less)) ∙ here)
       ]
     ]
 
-pub keeps-none : (ts : List Touch) (n : ℕ) (x : Name) (k : ℕ) → IsGapFor place_of place_cmp ts (n, x) k → KeepsItem ts n x → ⊥
+pub keeps-none : (ts : List Touch) (n : ℕ) (x : Name) (k : ℕ) → IsGapFor place_of place_cmp ts (n, x) k
+    → KeepsItem ts n x → ⊥
 keeps-none ts n x k gap kept =
     let u = Any_at (λ (u : Touch). (u.site ≡ n) × IsSome u.seen × (u.item ≡ x)) ts kept in
     let place : place_of u.1 ≡ (n, x) = λ i. (u.3.0 i, u.3.2 i) in

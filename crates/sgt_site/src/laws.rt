@@ -14,13 +14,15 @@ pub fn items_are_refused_once()
         → f ≡ g }
 {}
 
-/// No read is refused for two reasons; want of memory stands where there is no other, so a read that may be made has none.
+/// No read is refused for two reasons; want of memory stands where there is no other, so a read that may be made has
+/// none.
 pub fn reads_are_refused_once()
     ensures { (s : SiteState) (tx : ℕ) (x : Name) (f g : SiteFault) → RefusesRead s tx x f
         → RefusesRead s tx x g → f ≡ g }
 {}
 
-/// No pledge is refused for two reasons; want of memory stands where there is no other, so a pledge that may be given has none.
+/// No pledge is refused for two reasons; want of memory stands where there is no other, so a pledge that may be given
+/// has none.
 pub fn pledges_are_refused_once()
     ensures { (s : SiteState) (tx : ℕ) (touched : List Touch) (f g : SiteFault)
         → RefusesPledge s tx touched f → RefusesPledge s tx touched g → f ≡ g }

@@ -135,7 +135,8 @@ fn items_at(slots: &[Slot], at: usize, tx: Tx) -> &[Item]
     }
 }
 
-// Whether the transaction's read is to be kept at this place: it has reads there, or nobody has and it has none elsewhere.
+// Whether the transaction's read is to be kept at this place: it has reads there, or nobody has and it has none
+// elsewhere.
 #[inline(always)]
 fn may_add(slots: &[Slot], at: usize, tx: Tx, free: bool) -> bool
     ensures may { IsTrue result

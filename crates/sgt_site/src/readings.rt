@@ -76,7 +76,8 @@ impl Short {
 pub(crate) struct Readings {
     // by rising transaction
     readings: Vec<Short>,
-    // those that came behind many of greater transactions, so that not many are moved for them, and those that aren't short
+    // those that came behind many of greater transactions, so that not many are moved for them, and those that aren't
+    // short
     late: BTreeMap<Tx, Seen>,
 }
 
@@ -119,8 +120,8 @@ impl Readings {
         }
     }
 
-    /// Keeps the read of a transaction that has none yet. Those of greater transactions that came before it are moved by a place,
-    /// if they are few, and else it is a search of the reads that came so late.
+    /// Keeps the read of a transaction that has none yet. Those of greater transactions that came before it are moved
+    /// by a place, if they are few, and else it is a search of the reads that came so late.
     pub(crate) fn add(&mut self, tx: Tx, seen: Seen) -> Result<(), AllocError>
         requires { IsAnswering self.old tx → ⊥ }
         ensures ok { OnOk result (ReadsAlso self.old self.new (record { tx = tx; seen = seen })) }

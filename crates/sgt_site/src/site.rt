@@ -1,8 +1,8 @@
 //! A site: its items with their values, its log, and the pledge that stands.
 //!
-//! Writes are deferred: a transaction's writes stay in its draft until it is certified, and are logged as one block with its end.
-//! Logs, conflicts and "reads from" are those of Bernstein, Hadzilacos and Goodman, Concurrency Control and Recovery in Database
-//! Systems (1987), chapter 2.
+//! Writes are deferred: a transaction's writes stay in its draft until it is certified, and are logged as one block
+//! with its end. Logs, conflicts and "reads from" are those of Bernstein, Hadzilacos and Goodman, Concurrency Control
+//! and Recovery in Database Systems (1987), chapter 2.
 
 ghost use Rattle.std.specs.Prelude.{◌≡◌, ◌↔◌, ◌⊎◌, ℕ, ◌+◌, ◌<◌, ◌≤◌, Some, length, vec_len, vec_capacity, Contains, IsTrue, IfOk, IfErr};
 ghost use Rattle.std.specs.Ordering.{nat_cmp};
@@ -157,8 +157,8 @@ impl Site {
         (items, log)
     }
 
-    /// Reads an item for a transaction, and logs it. What is answered was written by a committed transaction, or is the first value.
-    /// A pledge that stands stays covered.
+    /// Reads an item for a transaction, and logs it. What is answered was written by a committed transaction, or is
+    /// the first value. A pledge that stands stays covered.
     ///
     /// The first that holds is answered:
     /// - S1: the item isn't at this site.
@@ -167,8 +167,8 @@ impl Site {
     /// - S7: the pledge that stands is its own.
     /// - S4: there was no memory.
     ///
-    /// Searches the items, the reads of this one, the ended transactions and those that have read and have no end, each in the
-    /// logarithm of their number, and not the log.
+    /// Searches the items, the reads of this one, the ended transactions and those that have read and have no end,
+    /// each in the logarithm of their number, and not the log.
     pub fn read(&mut self, tx: Tx, item: Item) -> Result<Seen, SiteFault>
         ensures value { IfOk result
             (λ seen. value_at self.old.items self.old.entries item ≡ Some seen.value) }
@@ -215,8 +215,9 @@ impl Site {
         }
     }
 
-    /// Ends a transaction as withdrawn, under its pledge for whichever draft. Takes no memory; the cost is a search of the ended
-    /// transactions, of which those of greater numbers move, and one of those that have read and have no end.
+    /// Ends a transaction as withdrawn, under its pledge for whichever draft. Takes no memory; the cost is a search
+    /// of the ended transactions, of which those of greater numbers move, and one of those that have read and have no
+    /// end.
     ///
     /// - S5: no pledge of the transaction stands.
     pub fn withdraw(&mut self, tx: Tx) -> Result<(), SiteFault>
@@ -240,7 +241,8 @@ impl Site {
         Ok(())
     }
 
-    /// The committed transactions that wrote the item or added to it, in the order of the log. Searches the items, and copies nothing.
+    /// The committed transactions that wrote the item or added to it, in the order of the log. Searches the items,
+    /// and copies nothing.
     ///
     /// - S1: the item isn't at this site.
     pub fn writers(&self, item: Item) -> Result<&[Writer], SiteFault>
@@ -257,8 +259,8 @@ impl Site {
         }
     }
 
-    /// The version that the last write of the item made, 0 where there is none: from there on it was only added to. Searches
-    /// the items.
+    /// The version that the last write of the item made, 0 where there is none: from there on it was only added to.
+    /// Searches the items.
     ///
     /// - S1: the item isn't at this site.
     pub fn version_written(&self, item: Item) -> Result<u64, SiteFault>
@@ -275,7 +277,8 @@ impl Site {
         }
     }
 
-    /// The committed transactions that read the item, by rising version that they read. Searches the items, and copies nothing.
+    /// The committed transactions that read the item, by rising version that they read. Searches the items, and
+    /// copies nothing.
     ///
     /// - S1: the item isn't at this site.
     pub fn readers(&self, item: Item) -> Result<&[Reader], SiteFault>

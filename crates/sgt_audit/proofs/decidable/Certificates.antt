@@ -26,7 +26,7 @@ decidable-ranks : (rs : List ℕ) → Decidable (AreRanks rs)
 decidable-ranks rs =
     decidable-as (λ both. record { below = both.0; apart = both.1 }) (λ (are : AreRanks rs). (are.below, are.apart))
     (decidable-both (decidable-All (λ r. r < length rs) (λ r. decidable-less r (length rs)) rs)
-        (decidable-AllPairs (λ r s. r ≢ s) (λ r s. decidable-not (cases_eq r s)) rs))
+    (decidable-AllPairs (λ r s. r ≢ s) (λ r s. decidable-not (cases_eq r s)) rs))
 
 -- the decision commits the transaction
 decidable-commit : (a : ℕ) (d : Decision) → Decidable ((rank : ℕ) × (d ≡ Commit a rank))
@@ -41,7 +41,7 @@ decidable-earlier : (ds : List Decision) (number a : ℕ)
 decidable-earlier ds number a =
     decidable-as (λ h. (h.0, h.3.1.0, h.3.0, h.2 ∙ ap Some h.3.1.1)) (λ h. (h.0, Commit a h.1, h.3, (h.2, (h.1, refl))))
     (decidable-found (λ n d. (n < number) × ((rank : ℕ) × (d ≡ Commit a rank)))
-        (λ n d. decidable-both (decidable-less n number) (decidable-commit a d)) ds)
+    (λ n d. decidable-both (decidable-less n number) (decidable-commit a d)) ds)
 
 -- ---- walks
 
@@ -65,18 +65,24 @@ module _ (ds : List Decision) (number tx : ℕ) (walk : List Step) where
   decidable-between between =
       decidable-both
       (decidable-both (decidable-most 1 (length between))
-          (decidable-AllPairs (λ a b. a ≢ b) (λ a b. decidable-not (cases_eq a b)) between))
+      (decidable-AllPairs (λ a b. a ≢ b) (λ a b. decidable-not (cases_eq a b)) between))
       (decidable-both (decidable-All (λ a. a ≢ tx) (λ a. decidable-not (cases_eq a tx)) between)
       (decidable-All (λ a. (m : ℕ) × (rank : ℕ) × (m < number) × IsCommitted ds m a rank)
-          (λ a. decidable-earlier ds number a) between))
+      (λ a. decidable-earlier ds number a) between))
 
   decidable-cycle : Decidable (IsCycle ds number tx walk)
   decidable-cycle = elim (unpushed (stops walk)) [
     | inl none ↦ inr (λ (cycle : IsCycle ds number tx walk). let size = length-append cycle.between (tx ∷ []) in
         let same = ap length (sym none ∙ cycle.closed) in absurd (omega arith))
     | inr (between, to, closed) ↦ decidable-as
-        (λ both. record { between = between; long = both.1.0.0; closed = closed ∙ ap (λ t. between ++ t ∷ []) both.0;
-            distinct = both.1.0.1; others = both.1.1.0; earlier = both.1.1.1 })
+        (λ both. record {
+          between = between;
+          long = both.1.0.0;
+          closed = closed ∙ ap (λ t. between ++ t ∷ []) both.0;
+          distinct = both.1.0.1;
+          others = both.1.1.0;
+          earlier = both.1.1.1;
+        })
         (λ (cycle : IsCycle ds number tx walk).
         let same = push-one between cycle.between to tx (sym closed ∙ cycle.closed) in
         (same.1, subst IsBetween (sym same.0) ((cycle.long, cycle.distinct), (cycle.others, cycle.earlier))))
@@ -87,7 +93,7 @@ decidable-walk : (ds : List Decision) (number : ℕ) (d : Decision)
     → Decidable ((tx : ℕ) (walk : List Step) → d ≡ Refuse tx walk → IsCycle ds number tx walk)
 decidable-walk ds number (Refuse tx walk) =
     decidable-as (λ cycle i w e. let same : tx ≡ i = cc in let steps : walk ≡ w = cc in
-        subst (IsCycle ds number i) steps (subst (λ t. IsCycle ds number t walk) same cycle))
+    subst (IsCycle ds number i) steps (subst (λ t. IsCycle ds number t walk) same cycle))
     (λ all. all tx walk refl) (decidable-cycle ds number tx walk)
 decidable-walk ds number (Commit i rank) = inl (λ tx walk e. absurd cc)
 decidable-walk ds number (Withdraw i) = inl (λ tx walk e. absurd cc)
@@ -100,7 +106,7 @@ decidable-itself ds fault.DecidedTwice =
     (λ d e. decidable-not (cases_eq (decided_tx d) (decided_tx e))) ds
 decidable-itself ds fault.WalkShape =
     decidable-as (λ all number tx walk at. all number (Refuse tx walk) at tx walk refl)
-        (λ all number d at tx walk is. all number tx walk (at ∙ ap Some is))
+    (λ all number d at tx walk is. all number tx walk (at ∙ ap Some is))
     (decidable-each (λ number d. (tx : ℕ) (walk : List Step) → d ≡ Refuse tx walk
-        → IsCycle ds number tx walk) (decidable-walk ds) ds)
+    → IsCycle ds number tx walk) (decidable-walk ds) ds)
 decidable-itself ds _ = inl tt

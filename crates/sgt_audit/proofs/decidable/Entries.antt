@@ -49,11 +49,11 @@ pub decidable-in_order : (ds : List Decision) (e f : Entry) → Decidable (EndIn
 decidable-in_order ds e f =
     decidable-if (decidable-end e) (λ first. decidable-if (decidable-end f) (λ second.
     decidable-as (λ all m n h k. all m h.0 h.1 (h.2, h.3) n k.0 k.1 (k.2, k.3))
-        (λ all m d at h n g there k. all m n (d, at, h.0, h.1) (g, there, k.0, k.1))
+    (λ all m d at h n g there k. all m n (d, at, h.0, h.1) (g, there, k.0, k.1))
     (decidable-each (λ m d. DecidesEntry e d → (n : ℕ) (g : Decision) → slice_get ds n ≡ Some g → DecidesEntry f g
-        → m ≤ n)
+    → m ≤ n)
     (λ m d. decidable-if (decidable-decision e d) (λ h. decidable-each (λ n g. DecidesEntry f g
-        → m ≤ n) (λ n g. decidable-if (decidable-decision f g) (λ k. decidable-most m n)) ds)) ds)))
+    → m ≤ n) (λ n g. decidable-if (decidable-decision f g) (λ k. decidable-most m n)) ds)) ds)))
 
 -- a rank of the decision, where it commits the transaction
 decidable-rank : (Q : ℕ → Type 0) → ((r : ℕ) → Decidable (Q r)) → (tx : ℕ) (d : Decision)
@@ -73,39 +73,55 @@ decidable-ranked ds a b =
     decidable-as (λ all m n r s h k. all m (Commit a r) h r refl n (Commit b s) k s refl)
     (λ all m d at r is n g there s same. all m n r s (at ∙ ap Some is) (there ∙ ap Some same))
     (decidable-each (λ m d. (r : ℕ) → d ≡ Commit a r → (n : ℕ) (g : Decision) → slice_get ds n ≡ Some g → (s : ℕ)
-        → g ≡ Commit b s → r < s)
+    → g ≡ Commit b s → r < s)
     (λ m d. decidable-rank (λ r. (n : ℕ) (g : Decision) → slice_get ds n ≡ Some g → (s : ℕ) → g ≡ Commit b s → r < s)
     (λ r. decidable-each (λ n g. (s : ℕ) → g ≡ Commit b s
-        → r < s) (λ n g. decidable-rank (λ s. r < s) (λ s. decidable-less r s) b g) ds) a d) ds)
+    → r < s) (λ n g. decidable-rank (λ s. r < s) (λ s. decidable-less r s) b g) ds) a d) ds)
 
 pub decidable-rise : (ds : List Decision) (e f : Entry) → Decidable (RiseInRank ds e f)
 decidable-rise ds e f =
     decidable-as (λ all kind x m n r s clash apart h k. all (kind, x, clash) apart m n r s h k)
-        (λ all clash apart m n r s h k. all clash.0 clash.1 m n r s clash.2 apart h k)
+    (λ all clash apart m n r s h k. all clash.0 clash.1 m n r s clash.2 apart h k)
     (decidable-if (decidable-clashes e f) (λ clash. decidable-if (decidable-not (cases_eq (tx_of e) (tx_of f)))
-        (λ apart. decidable-ranked ds (tx_of e) (tx_of f))))
+    (λ apart. decidable-ranked ds (tx_of e) (tx_of f))))
 
 -- ---- walks
 
 decidable-conflicts : (es : List Entry) (kind : Kind) (x : Name) (a b : ℕ) → Decidable (Conflicts es kind x a b)
 decidable-conflicts es kind x a b =
     decidable-as
-    (λ h. let g = h.3 in record { p = h.0; q = g.0; e = h.1; f = g.1; before = g.3.0.0; first = h.2; second =
-        g.2; from = g.3.0.1; to = g.3.0.2; apart = g.3.1.0; clash = g.3.1.1 })
-    (λ (c : Conflicts es kind x a b). (c.p, c.e, c.first,
-        (c.q, c.f, c.second, ((c.before, c.from, c.to), (c.apart, c.clash)))))
+    (λ h. let g = h.3 in record {
+      p = h.0;
+      q = g.0;
+      e = h.1;
+      f = g.1;
+      before = g.3.0.0;
+      first = h.2;
+      second =
+          g.2;
+      from = g.3.0.1;
+      to = g.3.0.2;
+      apart = g.3.1.0;
+      clash = g.3.1.1;
+    })
+    (λ (c : Conflicts es kind x a b). (
+      c.p,
+      c.e,
+      c.first,
+      (c.q, c.f, c.second, ((c.before, c.from, c.to), (c.apart, c.clash))),
+    ))
     (decidable-found (λ p e. (q : ℕ) × (f : Entry) × (slice_get es q ≡ Some f)
-        × (((p < q) × (tx_of e ≡ a) × (tx_of f ≡ b)) × ((a ≢ b) × Clash kind x e f)))
+    × (((p < q) × (tx_of e ≡ a) × (tx_of f ≡ b)) × ((a ≢ b) × Clash kind x e f)))
     (λ p e. decidable-found (λ q f. ((p < q) × (tx_of e ≡ a) × (tx_of f ≡ b)) × ((a ≢ b) × Clash kind x e f))
     (λ q f. decidable-both (decidable-three (decidable-less p q) (cases_eq (tx_of e) a) (cases_eq (tx_of f) b))
-        (decidable-both (decidable-not (cases_eq a b)) (decidable-clash kind x e f))) es) es)
+    (decidable-both (decidable-not (cases_eq a b)) (decidable-clash kind x e f))) es) es)
 
 decidable-step : (sites : List SiteLog) (a : ℕ) (step : Step) → Decidable (IsLogged sites a step)
 decidable-step sites a step = elim (option_cases (slice_get sites step.label.site)) [
   | inl none ↦ inr (λ h. let both : None ≡ Some h.0 = sym none ∙ h.1 in cc)
   | inr (log, at) ↦ decidable-as (λ c. (log, at, c))
       (λ h. subst (λ (l : SiteLog). Conflicts l.entries step.label.kind step.label.item a step.to)
-          (same_Some h.0 log (sym h.1 ∙ at)) h.2)
+      (same_Some h.0 log (sym h.1 ∙ at)) h.2)
       (decidable-conflicts log.entries step.label.kind step.label.item a step.to)
 ]
 
@@ -118,7 +134,7 @@ decidable-refusal : (sites : List SiteLog) (d : Decision)
     → Decidable ((tx : ℕ) (walk : List Step) → d ≡ Refuse tx walk → AreLogged sites tx walk)
 decidable-refusal sites (Refuse tx walk) =
     decidable-as (λ logged i w e. let same : tx ≡ i = cc in let steps : walk ≡ w = cc in
-        subst (AreLogged sites i) steps (subst (λ t. AreLogged sites t walk) same logged))
+    subst (AreLogged sites i) steps (subst (λ t. AreLogged sites t walk) same logged))
     (λ all. all tx walk refl) (decidable-logged sites tx walk)
 decidable-refusal sites (Commit i rank) = inl (λ tx walk e. absurd cc)
 decidable-refusal sites (Withdraw i) = inl (λ tx walk e. absurd cc)
@@ -130,7 +146,7 @@ WalksOf ds logs = (tx : ℕ) (walk : List Step) → Contains ds (Refuse tx walk)
 pub decidable-walks : (ds : List Decision) (sites : List SiteLog) → Decidable (WalksOf ds sites)
 decidable-walks ds sites =
     decidable-as (λ all tx walk c. let at = Contains_at ds (Refuse tx walk) c in
-        all at.0 (Refuse tx walk) at.1 tx walk refl)
+    all at.0 (Refuse tx walk) at.1 tx walk refl)
     (λ all n d at tx walk is. all tx walk (Contains-from_at ds n (Refuse tx walk) (at ∙ ap Some is)))
     (decidable-each (λ n d. (tx : ℕ) (walk : List Step) → d ≡ Refuse tx walk
-        → AreLogged sites tx walk) (λ n d. decidable-refusal sites d) ds)
+    → AreLogged sites tx walk) (λ n d. decidable-refusal sites d) ds)

@@ -33,7 +33,7 @@ pub decidable-line : (second : Bool) (l : List ℕ)
 decidable-line second l =
     decidable-as (λ h. (h.0, (h.1, h.2.0), h.2.1)) (λ h. (h.0, h.1.0, (h.1.1, h.2)))
     (searched-lines (λ line. Allows second line × (l ≡ line_text line))
-        (λ line. decidable-both (decidable-allows second line) (decidable-text l (line_text line))))
+    (λ line. decidable-both (decidable-allows second line) (decidable-text l (line_text line))))
 
 -- ---- the rules of an entry
 
@@ -41,7 +41,7 @@ decidable-ended : (es : List Entry) → Decidable (AllEnded es)
 decidable-ended es =
     decidable-All (λ e. Any (λ f. IsEnd f × (tx_of f ≡ tx_of e)) es)
     (λ e. decidable-Any (λ f. IsEnd f × (tx_of f ≡ tx_of e))
-        (λ f. decidable-both (decidable-end f) (cases_eq (tx_of f) (tx_of e))) es) es
+    (λ f. decidable-both (decidable-end f) (cases_eq (tx_of f) (tx_of e))) es) es
 
 module _ (c : Certificate) (before : List SectionLine) where
   decidable-read : (e : Entry) → Decidable (Keeps c before (Logged e) fault.ReadValue)
@@ -53,7 +53,7 @@ module _ (c : Certificate) (before : List SectionLine) where
   decidable-entry e fault.Section section block = section
   decidable-entry e fault.Item section block =
       decidable-ForSome (Contains (names (items_in before)))
-          (λ x. decidable-Contains decidable-text (names (items_in before)) x) (item_of e)
+      (λ x. decidable-Contains decidable-text (names (items_in before)) x) (item_of e)
   decidable-entry e fault.Twice section block =
       decidable-All (λ f. (x : Name) → Repeats x f e → ⊥) (λ f. decidable-first f e) (entries_in before)
   decidable-entry e fault.ReadValue section block = decidable-read e
@@ -63,9 +63,9 @@ module _ (c : Certificate) (before : List SectionLine) where
   decidable-entry e fault.End section block =
       decidable-both (decidable-number c.decisions e)
       (decidable-All (λ f. IsEnd f
-          → tx_of f ≢ tx_of e)
-          (λ f. decidable-if (decidable-end f) (λ ends. decidable-not (cases_eq (tx_of f) (tx_of e))))
-          (entries_in before))
+      → tx_of f ≢ tx_of e)
+      (λ f. decidable-if (decidable-end f) (λ ends. decidable-not (cases_eq (tx_of f) (tx_of e))))
+      (entries_in before))
   decidable-entry e fault.DecisionOrder section block =
       decidable-All (λ f. EndInOrder c.decisions f e) (λ f. decidable-in_order c.decisions f e) (entries_in before)
   decidable-entry e _ section block = inl tt
@@ -75,7 +75,7 @@ module _ (c : Certificate) (before : List SectionLine) where
   goes-on : (f : Entry) (line : SectionLine) → Decidable ((e : Entry) × (line ≡ Logged e) × Continues f e)
   goes-on f (Logged e) =
       decidable-as (λ on. (e, refl, on)) (λ h. let same = h.1 in let is : h.0 ≡ e = cc in subst (Continues f) is h.2)
-          (decidable-continues f e)
+      (decidable-continues f e)
   goes-on f (Site k) = inr (λ h. let same = h.1 in cc)
   goes-on f (Initial x) = inr (λ h. let same = h.1 in cc)
   goes-on f (Final x) = inr (λ h. let same = h.1 in cc)
@@ -86,7 +86,7 @@ module _ (c : Certificate) (before : List SectionLine) where
   decidable-block line (Some (Logged g)) =
       decidable-as
       (λ on f e. let same : g ≡ f = cc in
-          subst (λ f. IsOpen f → (e : Entry) × (line ≡ Logged e) × Continues f e) same on)
+      subst (λ f. IsOpen f → (e : Entry) × (line ≡ Logged e) × Continues f e) same on)
       (λ all. all g refl) (decidable-if (decidable-open g) (λ opens. goes-on g line))
   decidable-block line _ = inl (λ f e. absurd cc)
 

@@ -24,7 +24,7 @@ HoldsBegun _ = Unit {0}
 decidable-format : (l : List ℕ) → Decidable ((second : Bool) × (l ≡ format_line second))
 decidable-format l =
     or_else (decidable-text l (format_line false)) (λ e. (false, e))
-        (λ not_first. or_else (decidable-text l (format_line true)) (λ e. (true, e)) (λ not_second.
+    (λ not_first. or_else (decidable-text l (format_line true)) (λ e. (true, e)) (λ not_second.
     inr (λ h. neither not_first not_second h.0 h.1)))
   where
     neither : (l ≡ format_line false → ⊥) → (l ≡ format_line true → ⊥) → (second : Bool) → l ≡ format_line second → ⊥
@@ -36,7 +36,7 @@ of_certificate : (l : List ℕ) (f : Fault) → Decidable ((c : Certificate) × 
     → Decidable ((c : Certificate) → IsCertificate c → l ≡ certificate_text c → KeepsItself c.decisions f)
 of_certificate l f (inl (c, is, e)) =
     decidable-as (λ keeps d is_d same. subst (λ (c : Certificate). KeepsItself c.decisions f)
-        (certificate-one c d is is_d (sym e ∙ same)) keeps) (λ all. all c is e) (decidable-itself c.decisions f)
+    (certificate-one c d is is_d (sym e ∙ same)) keeps) (λ all. all c is e) (decidable-itself c.decisions f)
 of_certificate l f (inr none) = inl (λ c is e. absurd (none (c, is, e)))
 
 -- a rule of the section's line that the line spells, if it spells one
@@ -47,7 +47,7 @@ module _ (second : Bool) (c : Certificate) (before : List SectionLine) (held : H
       → Decidable ((line : SectionLine) → IsLineIn second line → l ≡ line_text line → Keeps c before line f)
   of_line f below (inl (line, is, e)) =
       decidable-as (λ keeps m is_m same. subst (λ k. Keeps c before k f) (line-one line m is.0 is_m.0 (sym e ∙ same))
-          keeps) (λ all. all line is e)
+      keeps) (λ all. all line is e)
       (decidable-keeps c before held line f (λ lt. below lt line is e))
   of_line f below (inr none) = inl (λ line is e. absurd (none (line, is, e)))
 

@@ -36,8 +36,8 @@ decidable-fits log (Initial h) =
     decidable-as (λ f. (f.0.0, f.0.1, f.1.0, f.1.1)) (λ (f : Fits log (Initial h)). ((f.0, f.1), (f.2, f.3)))
     (decidable-both (decidable-both (decidable-empty log.entries) (decidable-empty log.finals))
     (decidable-both (decidable-less (length log.items) max_items)
-        (decidable-All (λ x. ComesBefore x h.item) (λ x. decidable-Less (slice_cmp nat_cmp x h.item))
-        (names log.items))))
+    (decidable-All (λ x. ComesBefore x h.item) (λ x. decidable-Less (slice_cmp nat_cmp x h.item))
+    (names log.items))))
 decidable-fits log (Logged e) = decidable-empty log.finals
 decidable-fits log (Final h) = decidable-value decidable-text (slice_get (names log.items) (length log.finals)) h.item
 decidable-fits log End = cases_eq (length log.finals) (length log.items)
@@ -136,7 +136,7 @@ module _ (c : Certificate) (before : List SectionLine) (held : HasBegun c before
       inl (λ logs each e. absurd (never (ap length (sections-whole held.begun logs (e ∙ held.lines)).1 ∙ each)))
   walks-behind None here (inl all) =
       decidable-as (λ walks logs each e. subst (WalksOf c.decisions) (sections-whole held.begun logs (e
-          ∙ held.lines)).1 walks) (λ behind. behind held.begun.whole all (sections-of here))
+      ∙ held.lines)).1 walks) (λ behind. behind held.begun.whole all (sections-of here))
       (decidable-walks c.decisions held.begun.whole)
 
   pub decidable-behind : Decidable WalksBehind

@@ -51,11 +51,11 @@ pub record AreWithdrawn (tx : ℕ) (old new : List Place) : Type 0 where
 -- the pledge of the transaction at this place of the table, which has this handle, stands wherever
 -- it touches
 pub record OffersAt (old new : List Place) (table : List (Option Running)) (slot tx : ℕ) (handle : Handle) : Type 0
-    where
-  pub running : Running
-  pub there : slice_get table slot ≡ Some (Some running)
-  pub handle_is : handle ≡ running.handle
-  pub pledges : ArePledgedBy tx running.draft.touched old new
+  where
+    pub running : Running
+    pub there : slice_get table slot ≡ Some (Some running)
+    pub handle_is : handle ≡ running.handle
+    pub pledges : ArePledgedBy tx running.draft.touched old new
 
 -- the certifier refuses no withdrawal of the transaction at this place of the table
 abbrev pub MayWithdrawAt : State → List (Option Running) → ℕ → Type 0

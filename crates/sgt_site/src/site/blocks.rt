@@ -16,13 +16,14 @@ impl Site {
     ghost use Rattle.sgt_site.specs.declared.fault.SiteFault.{SiteFault};
     ghost use Rattle.sgt_site.specs.State.{IsPledgedFor, commit_block, refuse_block};
 
-    /// Commits a transaction here, under its pledge for this draft: its writes and increments by rising item, and its end. The
-    /// handle is kept as it is given; that no other transaction was given it is for the caller to see to. Takes no memory.
+    /// Commits a transaction here, under its pledge for this draft: its writes and increments by rising item, and its
+    /// end. The handle is kept as it is given; that no other transaction was given it is for the caller to see to.
+    /// Takes no memory.
     ///
     /// - S5: no pledge of the transaction stands, or the draft reads or writes otherwise here than the one that was pledged.
     ///
-    /// Goes over what the draft touches here, with a search of the items for each. Where it read an item, the committed readers
-    /// of newer versions move by a place.
+    /// Goes over what the draft touches here, with a search of the items for each. Where it read an item, the
+    /// committed readers of newer versions move by a place.
     pub fn install(&mut self, tx: Tx, handle: Handle, draft: &Draft) -> Result<(), SiteFault>
         ensures ok { OnOk result (self.new ≡ record self.old {
           entries = self.old.entries
@@ -49,8 +50,8 @@ impl Site {
         Ok(())
     }
 
-    /// Ends a transaction as refused, under its pledge for this draft: what it asked for by rising item, and its end. No value
-    /// changes. Takes no memory, and goes over what the draft touches here.
+    /// Ends a transaction as refused, under its pledge for this draft: what it asked for by rising item, and its end.
+    /// No value changes. Takes no memory, and goes over what the draft touches here.
     ///
     /// - S5: no pledge of the transaction stands, or the draft reads or writes otherwise here than the one that was pledged.
     pub fn refuse(&mut self, tx: Tx, draft: &Draft) -> Result<(), SiteFault>

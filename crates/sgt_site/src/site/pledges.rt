@@ -21,7 +21,8 @@ impl Site {
     ghost use Rattle.sgt_site.specs.State.{IsPledged};
     ghost use Rattle.sgt_site.specs.Refused.{RefusesPledge, MayPledge};
 
-    /// Makes room for the block that is to end a transaction, whichever it is. While the pledge stands, `install`, `refuse`,
+    /// Makes room for the block that is to end a transaction, whichever it is. While the pledge stands, `install`,
+    /// `refuse`,
     /// `withdraw` and `unpledge` take no memory and succeed, however many reads of others come between. One stands at a time.
     ///
     /// The first that holds is answered:
@@ -31,8 +32,9 @@ impl Site {
     /// - S8: the draft's reads here aren't the transaction's in the log, each with its value and version.
     /// - S4: there was no memory.
     ///
-    /// Searches the draft for what it touches here, and goes over that alone, with a search of the items for each. For each read of the transaction here it searches what the draft touches here. It doesn't go over the
-    /// log, nor over what the draft touches elsewhere.
+    /// Searches the draft for what it touches here, and goes over that alone, with a search of the items for each.
+    /// For each read of the transaction here it searches what the draft touches here. It doesn't go over the log, nor
+    /// over what the draft touches elsewhere.
     pub fn pledge(&mut self, tx: Tx, draft: &Draft) -> Result<(), SiteFault>
         ensures ok { OnOk result (self.new ≡ record self.old {
           pledge = Some (record { tx = tx; part = at_site self.old.number draft.now.touched });

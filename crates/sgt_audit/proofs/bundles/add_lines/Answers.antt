@@ -16,8 +16,8 @@ returns-in_default-read_line-clause-all c lines s =
 pub returns-then-not-may_go_on-clause-all : goal.returns-then-not-may_go_on-clause-all
 returns-then-not-may_go_on-clause-all c lines s =
     refuted c.may_go_on.result (c.may_go_on.ensures _ c.lines.invariant.1 c.lines.invariant.2) c.if-not-may_go_on.true
-        (next-begins _ _ _ _ _ c.lines.invariant.0 lines s _ _ c.in-Some.ensures.some.0 c.in-Some.ensures.some.1
-        c.in-Some-read_line.read c.in-Some-read_line.ensures.0 c.in-Some-read_line.ensures.1)
+    (next-begins _ _ _ _ _ c.lines.invariant.0 lines s _ _ c.in-Some.ensures.some.0 c.in-Some.ensures.some.1
+    c.in-Some-read_line.read c.in-Some-read_line.ensures.0 c.in-Some-read_line.ensures.1)
 
 pub lines-init : goal.lines-init
 lines-init c = (ahead-none _ _ _ c.requires.none, c.requires.begun, c.requires.here)
@@ -47,4 +47,4 @@ pub returns-clause-all : goal.returns-clause-all
 returns-clause-all c =
     let inv = c.lines.invariant in
     all-spelled _ _ _ _ _ inv.0 c.is_complete.result (c.is_complete.ensures _ inv.1 inv.2)
-        (empty-nil _ (empty _ _ c.is_empty.ensures c.if-not-is_empty.false))
+    (empty-nil _ (empty _ _ c.is_empty.ensures c.if-not-is_empty.false))

@@ -15,8 +15,8 @@ returns-in-None-split_line-clause-bundle c b s =
 pub returns-in-Err-NotJson-clause-bundle : goal.returns-in-Err-NotJson-clause-bundle
 returns-in-Err-NotJson-clause-bundle c b s =
     let second =
-        second-is _ b s _ _ c.in-Some.ensures.some.0 c.in-Some.ensures.some.1 _ _ c.in-Some-split_line.ensures.some.0
-        c.in-Some-split_line.ensures.some.1 in
+    second-is _ b s _ _ c.in-Some.ensures.some.0 c.in-Some.ensures.some.1 _ _ c.in-Some-split_line.ensures.some.0
+    c.in-Some-split_line.ensures.some.1 in
     let memory = c.in-Err-NotJson.ensures.only b.certificate s.certificate second in
     let other = c.in-Err-NotJson.field-0-is in
     absurd (cc (memory, other))
@@ -24,8 +24,8 @@ returns-in-Err-NotJson-clause-bundle c b s =
 pub returns-in-Err-Shape-clause-bundle : goal.returns-in-Err-Shape-clause-bundle
 returns-in-Err-Shape-clause-bundle c b s =
     let second =
-        second-is _ b s _ _ c.in-Some.ensures.some.0 c.in-Some.ensures.some.1 _ _ c.in-Some-split_line.ensures.some.0
-        c.in-Some-split_line.ensures.some.1 in
+    second-is _ b s _ _ c.in-Some.ensures.some.0 c.in-Some.ensures.some.1 _ _ c.in-Some-split_line.ensures.some.0
+    c.in-Some-split_line.ensures.some.1 in
     let memory = c.in-Err-Shape.ensures.only b.certificate s.certificate second in
     let other = c.in-Err-Shape.field-0-is in
     absurd (cc (memory, other))
@@ -33,8 +33,8 @@ returns-in-Err-Shape-clause-bundle c b s =
 pub returns-in-Err-Range-clause-bundle : goal.returns-in-Err-Range-clause-bundle
 returns-in-Err-Range-clause-bundle c b s =
     let second =
-        second-is _ b s _ _ c.in-Some.ensures.some.0 c.in-Some.ensures.some.1 _ _ c.in-Some-split_line.ensures.some.0
-        c.in-Some-split_line.ensures.some.1 in
+    second-is _ b s _ _ c.in-Some.ensures.some.0 c.in-Some.ensures.some.1 _ _ c.in-Some-split_line.ensures.some.0
+    c.in-Some-split_line.ensures.some.1 in
     let memory = c.in-Err-Range.ensures.only b.certificate s.certificate second in
     let other = c.in-Err-Range.field-0-is in
     absurd (cc (memory, other))
@@ -42,13 +42,13 @@ returns-in-Err-Range-clause-bundle c b s =
 pub returns-in-Ok-None-clause-bundle : goal.returns-in-Ok-None-clause-bundle
 returns-in-Ok-None-clause-bundle c b s =
     let second =
-        second-is _ b s _ _ c.in-Some.ensures.some.0 c.in-Some.ensures.some.1 _ _ c.in-Some-split_line.ensures.some.0
-        c.in-Some-split_line.ensures.some.1 in
+    second-is _ b s _ _ c.in-Some.ensures.some.0 c.in-Some.ensures.some.1 _ _ c.in-Some-split_line.ensures.some.0
+    c.in-Some-split_line.ensures.some.1 in
     let same = c.in-Ok.ensures.only b.certificate s.certificate second in
     let none = rw c.in-Ok-None.field-0-is at c.in-Ok-None.ensures in
     none _ (spells-sections _ b s _ _ c.in-Some.ensures.some.0 c.in-Some.ensures.some.1 _ _
-        c.in-Some-split_line.ensures.some.0 c.in-Some-split_line.ensures.some.1 _ c.in-Ok.certificate
-        c.in-Some-read_format.ensures.some same)
+    c.in-Some-split_line.ensures.some.0 c.in-Some-split_line.ensures.some.1 _ c.in-Ok.certificate
+    c.in-Some-read_format.ensures.some same)
 
 pub returns-in-Ok-Some-clause-bundle : goal.returns-in-Ok-Some-clause-bundle
 returns-in-Ok-Some-clause-bundle c =
@@ -58,9 +58,9 @@ returns-in-Ok-Some-clause-bundle c =
     let next = c.in-Some-split_line.ensures.some in
     bundle-answers c.args.bytes.now c.new.result _ c.new.ensures
     (read-spells _ _ _ _ _ _ c.in-Ok.certificate c.in-Ok-Some.sections _ first.1 format next.1 c.in-Ok.ensures.ok.1
-        read.1 read.0 c.into_logs.ensures c.in-Ok.ensures.ok.0)
+    read.1 read.0 c.into_logs.ensures c.in-Ok.ensures.ok.0)
     (λ b s miss.
     let second = second-is _ b s _ _ first.0 first.1 _ _ next.0 next.1 in
     read-only _ _ _ _ _ _ c.in-Ok.certificate c.in-Ok-Some.sections _ first.1 format next.1 c.in-Ok.ensures.ok.1
-        read.1 read.0 c.into_logs.ensures b s first.0 next.0 (c.in-Ok.ensures.only b.certificate s.certificate second)
-        miss)
+    read.1 read.0 c.into_logs.ensures b s first.0 next.0 (c.in-Ok.ensures.only b.certificate s.certificate second)
+    miss)

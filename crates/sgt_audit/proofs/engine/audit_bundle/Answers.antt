@@ -23,7 +23,7 @@ unreachable-requires-in-None g c =
     let all = whole-bundle k (rw c.in-Ok-Ok.field-0-is at c.in-Ok-Ok.ensures.all) in
     let sections = kept-sections k all.1 c.in-Some.sections all.2.0 c.in-Some.is in
     let same = ap₂ parts-of c.into_certificate-certificate.ensures (c.into_logs-logs.ensures
-        ∙ ap (λ (s : Begun). s.whole) sections) in
+    ∙ ap (λ (s : Begun). s.whole) sections) in
     c.in-None.ensures (subst FitTogether (sym same) (kept-fit k all.0 all.1 all.2))
 
 pub returns-in-Some-new-clause-audited : goal.returns-in-Some-new-clause-audited
@@ -35,7 +35,7 @@ returns-in-Some-new-clause-audited g c =
     let b = judged-bundle k bytes j in
     let sections = kept-sections k b.0 c.in-Some.sections b.1.0 c.in-Some.is in
     let same = ap₂ parts-of c.into_certificate-certificate.ensures (c.into_logs-logs.ensures
-        ∙ ap (λ (s : Begun). s.whole) sections) in
+    ∙ ap (λ (s : Begun). s.whole) sections) in
     subst (λ p. Spells bytes p × IsValid p) (sym (c.in-Some-new.ensures.1 ∙ same)) (b.1.1, b.1.2)) told
 
 pub returns-in-Some-new-clause-valid : goal.returns-in-Some-new-clause-valid
@@ -44,5 +44,5 @@ returns-in-Some-new-clause-valid g c =
     let all = whole-bundle k (rw c.in-Ok-Ok.field-0-is at c.in-Ok-Ok.ensures.all) in
     let sections = kept-sections k all.1 c.in-Some.sections all.2.0 c.in-Some.is in
     let same = ap₂ parts-of c.into_certificate-certificate.ensures (c.into_logs-logs.ensures
-        ∙ ap (λ (s : Begun). s.whole) sections) in
+    ∙ ap (λ (s : Begun). s.whole) sections) in
     subst IsValid (sym (c.in-Some-new.ensures.1 ∙ same)) all.2.2

@@ -14,8 +14,8 @@ returns-in-Some-fault-clause-goes c all told reads goes =
     let fed = rw c.in-Some.is at c.in_ok-n.ensures.fed in
     let gave = front-gave old new _ _ _ c.lines.lines c.pass.new.self told fed c.held.ensures c.pass.ensures in
     fault-line all (at.Reading old) (at.Reading new) 50 c.lines.number (coming c.lines.lines told)
-        (coming c.pass.new.self told) (line_text fed.line) c.in-Some-fault.fault reads reads
-        (c.lines.invariant.0 all told reads goes) (omega arith) gave.gives
+    (coming c.pass.new.self told) (line_text fed.line) c.in-Some-fault.fault reads reads
+    (c.lines.invariant.0 all told reads goes) (omega arith) gave.gives
     (λ s here. rw c.in-Some-fault.is at (fed.follows s here))
 
 pub lines-preserved : goal.lines-preserved
@@ -24,11 +24,11 @@ lines-preserved c =
     let new = c.feed_front.new.kept in
     let fed = rw c.in-Some.is at c.in_ok-n.ensures.fed in
     let gave = λ (told : Option (List ℕ)). front-gave old new _ _ _ c.lines.lines c.pass.new.self told fed
-        c.held.ensures c.pass.ensures in (
+    c.held.ensures c.pass.ensures in (
       λ all told reads goes.
           after-line all (at.Reading old) (at.Reading new) 50 c.lines.number (coming c.lines.lines told)
-              (coming c.pass.new.self told) (line_text fed.line) reads reads (c.lines.invariant.0 all told reads goes)
-              (omega arith) (gave told).gives
+          (coming c.pass.new.self told) (line_text fed.line) reads reads (c.lines.invariant.0 all told reads goes)
+          (omega arith) (gave told).gives
           (λ s here. rw c.in_default-fault.is at (fed.follows s here)),
       ap (λ (a : Ahead). a.reads) c.pass.ensures ∙ c.lines.invariant.1,
       omega (arith, (gave None).falls refl, c.lines.invariant.2),
@@ -40,4 +40,4 @@ pub returns-clause-goes : goal.returns-clause-goes
 returns-clause-goes c all told reads goes =
     let same = rw c.in_default.is at c.in_ok-n.ensures.none in
     subst (λ (k : Kept). Goes all (at.Reading k) (coming c.lines.lines told) c.lines.number reads) (sym same)
-        (c.lines.invariant.0 all told reads goes)
+    (c.lines.invariant.0 all told reads goes)

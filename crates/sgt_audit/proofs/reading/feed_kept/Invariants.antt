@@ -8,8 +8,8 @@ use Rattle.sgt_audit.proofs.reading.feed_kept.Given as goal
 abbrev pub invariant-lines : goal.invariant-lines
 invariant-lines l =
     ((all told : Option (List ℕ)) (reads : ℕ)
-        → Goes all (at.Reading l.initial.kept) (coming l.initial.lines told) l.initial.number reads
-        → Goes all (at.Reading l.kept) (coming l.lines told) l.number reads)
+    → Goes all (at.Reading l.initial.kept) (coming l.initial.lines told) l.initial.number reads
+    → Goes all (at.Reading l.kept) (coming l.lines told) l.number reads)
     × (l.lines.reads ≡ l.initial.lines.reads)
     × (l.number + most_left l.lines ≤ l.initial.number + most_left l.initial.lines)
     × (most_left l.lines ≤ most_left l.initial.lines)

@@ -11,8 +11,12 @@ pub lines-preserved : goal.lines-preserved
 lines-preserved g c =
     let held = rw c.in_default.is at (c.in_ok-fault.ensures.goes _ _ _ c.lines.invariant.0) in
     let gave = rw c.in-Ok-Line.field-0-is at c.in-Ok-Line.ensures.ok in (
-      after-line _ _ _ _ _ _ _ _ _ _ held (omega (arith, c.in_ok-fault.ensures.unread, c.in-Ok-Line.ensures.asks,
-          c.in-Ok-Line.ensures.few)) gave.gives
+      after-line _ _ _ _ _ _ _ _ _ _ held (omega (
+        arith,
+        c.in_ok-fault.ensures.unread,
+        c.in-Ok-Line.ensures.asks,
+        c.in-Ok-Line.ensures.few,
+      )) gave.gives
           (λ s stands. rw c.in-Ok-None.field-0-is at (c.in-Ok-None.ensures.follows s stands)),
       gave.quiet ∙ c.lines.invariant.1,
       spends_on _ _ _ _ _ _ _ c.lines.invariant.2 c.in_ok-fault.ensures.unread gave.spends,
@@ -22,7 +26,7 @@ lines-preserved g c =
       inr (last-line _ _ _ _ _ _
           (held-fed _ _ _ _ _ c.lines.invariant.6 c.in_ok-fault.ensures.unread c.in_ok-fault.ensures.bounded)
           c.in-Ok-Line.ensures.reads c.in-Ok-Line.ensures.still
-              (λ less. rw c.in-Ok-Line.field-0-is at (c.in-Ok-Line.ensures.fresh less)) (gave.falls refl)),
+          (λ less. rw c.in-Ok-Line.field-0-is at (c.in-Ok-Line.ensures.fresh less)) (gave.falls refl)),
     )
 
 pub returns-in-Ok-Some-clause-stops : goal.returns-in-Ok-Some-clause-stops
@@ -30,31 +34,43 @@ returns-in-Ok-Some-clause-stops g c =
     let held = rw c.in_default.is at (c.in_ok-fault.ensures.goes _ _ _ c.lines.invariant.0) in
     let gave = rw c.in-Ok-Line.field-0-is at c.in-Ok-Line.ensures.ok in
     fault-line _ _ c.line_of.new.self.progress _ _ _ _ _ _ _ _ held
-        (omega (arith, c.in_ok-fault.ensures.unread, c.in-Ok-Line.ensures.asks, c.in-Ok-Line.ensures.few)) gave.gives
+    (omega (arith, c.in_ok-fault.ensures.unread, c.in-Ok-Line.ensures.asks, c.in-Ok-Line.ensures.few)) gave.gives
     (λ s stands. rw c.in-Ok-Some.field-0-is at (c.in-Ok-Some.ensures.follows s stands))
 
 pub returns-in-Ok-Cut-clause-stops : goal.returns-in-Ok-Cut-clause-stops
 returns-in-Ok-Cut-clause-stops g c =
     let held = rw c.in_default.is at (c.in_ok-fault.ensures.goes _ _ _ c.lines.invariant.0) in
     let gave = rw c.in-Ok-Cut.field-0-is at c.in-Ok-Cut.ensures.ok in
-    stops-cut _ _ _ _ _ _ _ _ _ held (omega (arith, c.in_ok-fault.ensures.unread, c.in-Ok-Cut.ensures.asks,
-        c.in-Ok-Cut.ensures.few)) gave.gives (λ s stands. subst (λ n. length c.next.new.line.items ≤ n)
-        (c.limit.ensures s stands) c.in-Ok-Cut.ensures.line.1) c.in-Ok-Cut.ensures.line.0
+    stops-cut _ _ _ _ _ _ _ _ _ held (omega (
+      arith,
+      c.in_ok-fault.ensures.unread,
+      c.in-Ok-Cut.ensures.asks,
+      c.in-Ok-Cut.ensures.few,
+    )) gave.gives (λ s stands. subst (λ n. length c.next.new.line.items ≤ n)
+    (c.limit.ensures s stands) c.in-Ok-Cut.ensures.line.1) c.in-Ok-Cut.ensures.line.0
 
 pub returns-in-Ok-End-clause-stops : goal.returns-in-Ok-End-clause-stops
 returns-in-Ok-End-clause-stops g c =
     let held = rw c.in_default.is at (c.in_ok-fault.ensures.goes _ _ _ c.lines.invariant.0) in
     let gave = rw c.in-Ok-End.field-0-is at c.in-Ok-End.ensures.ok in
-    stops-end _ _ _ _ _ _ _ _ _ held (omega (arith, c.in_ok-fault.ensures.unread, c.in-Ok-End.ensures.asks,
-        c.in-Ok-End.ensures.few)) gave.gives (λ s stands. subst (λ n. length c.next.new.line.items ≤ n)
-        (c.limit.ensures s stands) c.in-Ok-End.ensures.line.1) c.in-Ok-End.ensures.line.0
+    stops-end _ _ _ _ _ _ _ _ _ held (omega (
+      arith,
+      c.in_ok-fault.ensures.unread,
+      c.in-Ok-End.ensures.asks,
+      c.in-Ok-End.ensures.few,
+    )) gave.gives (λ s stands. subst (λ n. length c.next.new.line.items ≤ n)
+    (c.limit.ensures s stands) c.in-Ok-End.ensures.line.1) c.in-Ok-End.ensures.line.0
 
 pub returns-in-Ok-TooLong-clause-stops : goal.returns-in-Ok-TooLong-clause-stops
 returns-in-Ok-TooLong-clause-stops g c =
     let held = rw c.in_default.is at (c.in_ok-fault.ensures.goes _ _ _ c.lines.invariant.0) in
     let gave = rw c.in-Ok-TooLong.field-0-is at c.in-Ok-TooLong.ensures.ok in
-    at-long _ _ _ _ _ _ _ _ _ _ held (omega (arith, c.in_ok-fault.ensures.unread, c.in-Ok-TooLong.ensures.asks,
-        c.in-Ok-TooLong.ensures.few)) c.in-Ok-TooLong.ensures.line.1 gave.gives
+    at-long _ _ _ _ _ _ _ _ _ _ held (omega (
+      arith,
+      c.in_ok-fault.ensures.unread,
+      c.in-Ok-TooLong.ensures.asks,
+      c.in-Ok-TooLong.ensures.few,
+    )) c.in-Ok-TooLong.ensures.line.1 gave.gives
     (λ s stands next long.
     c.too_long.ensures s next stands (λ second here. gave.unlimited (c.limit.ensures s stands ∙ ap limit_of here) refl)
     (subst (λ n. n < length (bytes_of next)) (c.limit.ensures s stands) long))
@@ -65,15 +81,18 @@ returns-in-Some-clause-stops g c = rw c.in-Some.is at (c.in_ok-fault.ensures.goe
 pub lines-smaller : goal.lines-smaller
 lines-smaller g c =
     let less : most_left c.next.new.self < most_left c.lines.lines =
-        omega (arith, (rw c.in-Ok-Line.field-0-is at c.in-Ok-Line.ensures.ok).falls refl,
-        c.in_ok-fault.ensures.bounded) in
+    omega (
+      arith,
+      (rw c.in-Ok-Line.field-0-is at c.in-Ok-Line.ensures.ok).falls refl,
+      c.in_ok-fault.ensures.bounded,
+    ) in
     less
 
 pub returns-in-Err-ReadFault-clause-read_fault : goal.returns-in-Err-ReadFault-clause-read_fault
 returns-in-Err-ReadFault-clause-read_fault g c same =
     fault-met _ _ _ _ _ _ _ _ c.lines.invariant.1 c.lines.invariant.2 c.in_ok-fault.ensures.unread
     (omega (arith, c.in_ok-fault.ensures.unread, c.in-Err-ReadFault.ensures.asks, c.lines.invariant.5))
-        (c.in-Err-ReadFault.ensures.read_fault (ap Err c.in-Err-ReadFault.field-0-is))
+    (c.in-Err-ReadFault.ensures.read_fault (ap Err c.in-Err-ReadFault.field-0-is))
 
 pub returns-in_err-fault-clause-kept : goal.returns-in_err-fault-clause-kept
 returns-in_err-fault-clause-kept g c keeps kept = c.in_err-fault.ensures.kept keeps (c.lines.invariant.4 keeps kept)
@@ -114,10 +133,10 @@ returns-in-Ok-Some-clause-began g c =
     let gave = rw c.in-Ok-Line.field-0-is at c.in-Ok-Line.ensures.ok in
     let at = eaten-there _ _ _ _ _ (rw c.in_default.is at (c.in_ok-fault.ensures.goes _ _ _ c.lines.invariant.0)) in
     let held =
-        last-line _ _ _ _ _ _
-        (held-fed _ _ _ _ _ c.lines.invariant.6 c.in_ok-fault.ensures.unread c.in_ok-fault.ensures.bounded)
+    last-line _ _ _ _ _ _
+    (held-fed _ _ _ _ _ c.lines.invariant.6 c.in_ok-fault.ensures.unread c.in_ok-fault.ensures.bounded)
     c.in-Ok-Line.ensures.reads c.in-Ok-Line.ensures.still
-        (λ less. rw c.in-Ok-Line.field-0-is at (c.in-Ok-Line.ensures.fresh less)) (gave.falls refl) in (
+    (λ less. rw c.in-Ok-Line.field-0-is at (c.in-Ok-Line.ensures.fresh less)) (gave.falls refl) in (
       at.0 + length c.next.new.line.items + 1,
       fault-line _ _ c.line_of.new.self.progress _ _ _ _ _ _ _ _ at.1 (omega arith) gave.gives
           (λ s stands. rw c.in-Ok-Some.field-0-is at (c.in-Ok-Some.ensures.follows s stands)),
@@ -151,16 +170,16 @@ returns-in-Ok-TooLong-clause-began g c =
     let gave = rw c.in-Ok-TooLong.field-0-is at c.in-Ok-TooLong.ensures.ok in
     let at = eaten-there _ _ _ _ _ (rw c.in_default.is at (c.in_ok-fault.ensures.goes _ _ _ c.lines.invariant.0)) in
     let held =
-        last-long _ _ _ _ _ _ _
-        (held-fed _ _ _ _ _ c.lines.invariant.6 c.in_ok-fault.ensures.unread c.in_ok-fault.ensures.bounded)
+    last-long _ _ _ _ _ _ _
+    (held-fed _ _ _ _ _ c.lines.invariant.6 c.in_ok-fault.ensures.unread c.in_ok-fault.ensures.bounded)
     c.in-Ok-TooLong.ensures.reads c.in-Ok-TooLong.ensures.still
-        (λ less. rw c.in-Ok-TooLong.field-0-is at (c.in-Ok-TooLong.ensures.fresh less))
-        c.in-Ok-TooLong.ensures.bounded in (
+    (λ less. rw c.in-Ok-TooLong.field-0-is at (c.in-Ok-TooLong.ensures.fresh less))
+    c.in-Ok-TooLong.ensures.bounded in (
       at.0 + length c.next.new.line.items + 1,
       at-long _ _ _ _ _ _ _ _ _ _ at.1 (omega arith) c.in-Ok-TooLong.ensures.line.1 gave.gives
           (λ s stands next long.
           c.too_long.ensures s next stands (λ second here. gave.unlimited (c.limit.ensures s stands
-              ∙ ap limit_of here) refl)
+          ∙ ap limit_of here) refl)
           (subst (λ n. n < length (bytes_of next)) (c.limit.ensures s stands) long)),
       within-long _ _ _ _ _ _ _ _ at.2 gave.gives held,
     )

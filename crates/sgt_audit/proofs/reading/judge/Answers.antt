@@ -8,9 +8,9 @@ use Rattle.sgt_audit.proofs.reading.judge.Goals as goal
 pub returns-in-Ok-clause-judged : goal.returns-in-Ok-clause-judged
 returns-in-Ok-clause-judged g c =
     (stop-judged _ _ _ _ _ _
-        (subst (λ stop. IsStop (g.R.Source.tells c.args.reader.now) stop c.feed_lines.new.machine.progress
-        c.feed_lines.new.line.items (g.R.Source.asked c.feed_lines.new.reader - g.R.Source.asked c.args.reader.now))
-        c.in-Ok.is c.in_ok-number.ensures.stops)
+    (subst (λ stop. IsStop (g.R.Source.tells c.args.reader.now) stop c.feed_lines.new.machine.progress
+    c.feed_lines.new.line.items (g.R.Source.asked c.feed_lines.new.reader - g.R.Source.asked c.args.reader.now))
+    c.in-Ok.is c.in_ok-number.ensures.stops)
     (λ s stands le.
     subst (λ (l : List ℕ). EndsWith s l c.in-Ok.number c.end.result) c.as_slice.ensures.value
     (c.end.ensures.ends s stands (subst (λ (l : List ℕ). length l ≤ limit_of s) (sym c.as_slice.ensures.value) le)))).0
@@ -18,9 +18,9 @@ returns-in-Ok-clause-judged g c =
 pub returns-in-Ok-clause-all : goal.returns-in-Ok-clause-all
 returns-in-Ok-clause-all g c =
     (stop-judged _ _ _ _ _ _
-        (subst (λ stop. IsStop (g.R.Source.tells c.args.reader.now) stop c.feed_lines.new.machine.progress
-        c.feed_lines.new.line.items (g.R.Source.asked c.feed_lines.new.reader - g.R.Source.asked c.args.reader.now))
-        c.in-Ok.is c.in_ok-number.ensures.stops)
+    (subst (λ stop. IsStop (g.R.Source.tells c.args.reader.now) stop c.feed_lines.new.machine.progress
+    c.feed_lines.new.line.items (g.R.Source.asked c.feed_lines.new.reader - g.R.Source.asked c.args.reader.now))
+    c.in-Ok.is c.in_ok-number.ensures.stops)
     (λ s stands le.
     subst (λ (l : List ℕ). EndsWith s l c.in-Ok.number c.end.result) c.as_slice.ensures.value
     (c.end.ensures.ends s stands (subst (λ (l : List ℕ). length l ≤ limit_of s) (sym c.as_slice.ensures.value) le)))).1
@@ -28,9 +28,9 @@ returns-in-Ok-clause-all g c =
 pub returns-in-Ok-clause-no_further : goal.returns-in-Ok-clause-no_further
 returns-in-Ok-clause-no_further g c =
     (stop-judged _ _ _ _ _ _
-        (subst (λ stop. IsStop (g.R.Source.tells c.args.reader.now) stop c.feed_lines.new.machine.progress
-        c.feed_lines.new.line.items (g.R.Source.asked c.feed_lines.new.reader - g.R.Source.asked c.args.reader.now))
-        c.in-Ok.is c.in_ok-number.ensures.stops)
+    (subst (λ stop. IsStop (g.R.Source.tells c.args.reader.now) stop c.feed_lines.new.machine.progress
+    c.feed_lines.new.line.items (g.R.Source.asked c.feed_lines.new.reader - g.R.Source.asked c.args.reader.now))
+    c.in-Ok.is c.in_ok-number.ensures.stops)
     (λ s stands le.
     subst (λ (l : List ℕ). EndsWith s l c.in-Ok.number c.end.result) c.as_slice.ensures.value
     (c.end.ensures.ends s stands (subst (λ (l : List ℕ). length l ≤ limit_of s) (sym c.as_slice.ensures.value) le)))).2
@@ -47,13 +47,13 @@ pub returns-in-Ok-clause-none_behind : goal.returns-in-Ok-clause-none_behind
 returns-in-Ok-clause-none_behind g c =
     let began = c.in_ok-number.ensures.began in
     none_behind _ _ _ _
-        (stop-judged _ _ _ _ _ _
-        (subst (λ stop. IsStop (g.R.Source.tells c.args.reader.now) stop c.feed_lines.new.machine.progress
-        c.feed_lines.new.line.items began.0) c.in-Ok.is began.1)
+    (stop-judged _ _ _ _ _ _
+    (subst (λ stop. IsStop (g.R.Source.tells c.args.reader.now) stop c.feed_lines.new.machine.progress
+    c.feed_lines.new.line.items began.0) c.in-Ok.is began.1)
     (λ s stands le.
     subst (λ (l : List ℕ). EndsWith s l c.in-Ok.number c.end.result) c.as_slice.ensures.value
     (c.end.ensures.ends s stands (subst (λ (l : List ℕ). length l ≤ limit_of s) (sym c.as_slice.ensures.value)
-        le)))).2 began.2
+    le)))).2 began.2
 
 pub returns-clause-none_behind : goal.returns-clause-none_behind
 returns-clause-none_behind g c =

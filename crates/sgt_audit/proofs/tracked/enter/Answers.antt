@@ -7,9 +7,9 @@ returns-in-Some-clause-tracks c =
     let e = c.args.entry.now in
     let known = c.args.known.now in
     on_ok_weaker c.enter.result (λ tracks ds items entries k once apart listed by t. tracks ds items entries once
-        apart listed (k.place items entries t)
+    apart listed (k.place items entries t)
     (suiting-at ds e known.ruling.suiting c.in-Some.number c.in-Some.is k.ruling.suiting) k.ruling.rank t)
-        c.enter.ensures.tracks
+    c.enter.ensures.tracks
 
 pub returns-in-None-clause-tracks : goal.returns-in-None-clause-tracks
 returns-in-None-clause-tracks c ds items entries k once apart listed by t =

@@ -11,4 +11,4 @@ returns-in-Some c ds state items entries k t =
 pub returns-in-None : goal.returns-in-None
 returns-in-None c ds state items entries k t =
     listed-missing (names items) c.args.entry.now c.args.known.now.place c.is_none.result c.in-None.is
-        (ap is_some (sym c.item_in.ensures) ∙ c.is_none.ensures) (k.place items entries t)
+    (ap is_some (sym c.item_in.ensures) ∙ c.is_none.ensures) (k.place items entries t)

@@ -6,21 +6,21 @@ use Rattle.sgt_audit.proofs.verdict.yes_to.Goals as goal
 pub overflow_add-committed : goal.overflow_add-committed
 overflow_add-committed c =
     let few = count-few is_commit _ _ _ c.loop-decision-test.true c.loop-decision.invariant.0 _ _ _ c.decision-item.is
-        c.is_commit.ensures c.from-committed.ensures in
+    c.is_commit.ensures c.from-committed.ensures in
     omega (arith, few)
 
 pub overflow_add-refused : goal.overflow_add-refused
 overflow_add-refused c =
     let few =
-        count-few is_refusal _ _ _ c.loop-decision-test.true c.loop-decision.invariant.1 _ _ _ c.decision-item.is
-        c.is_refusal.ensures c.from-refused.ensures in
+    count-few is_refusal _ _ _ c.loop-decision-test.true c.loop-decision.invariant.1 _ _ _ c.decision-item.is
+    c.is_refusal.ensures c.from-refused.ensures in
     omega (arith, few)
 
 pub overflow_add-withdrawn : goal.overflow_add-withdrawn
 overflow_add-withdrawn c =
     let few =
-        count-few is_withdrawal _ _ _ c.loop-decision-test.true c.loop-decision.invariant.2 _ _ _ c.decision-item.is
-        c.is_withdrawal.ensures c.from-withdrawn.ensures in
+    count-few is_withdrawal _ _ _ c.loop-decision-test.true c.loop-decision.invariant.2 _ _ _ c.decision-item.is
+    c.is_withdrawal.ensures c.from-withdrawn.ensures in
     omega (arith, few)
 
 pub loop-decision-preserved : goal.loop-decision-preserved

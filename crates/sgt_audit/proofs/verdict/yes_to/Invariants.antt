@@ -7,4 +7,4 @@ abbrev pub invariant-loop-decision : goal.invariant-loop-decision
 invariant-loop-decision l =
     let met = take l.decision-index l.decisions in
     (l.committed ≡ count_by is_commit met) × (l.refused ≡ count_by is_refusal met)
-        × (l.withdrawn ≡ count_by is_withdrawal met)
+    × (l.withdrawn ≡ count_by is_withdrawal met)

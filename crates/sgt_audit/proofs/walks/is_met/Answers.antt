@@ -9,8 +9,8 @@ returns c items entries t =
     let from = c.args.edge.now.from in
     let to = c.args.edge.now.step.to in
     let first =
-        number-is ds from c.number_of-first.result c.number_of-first.ensures.some c.number_of-first.ensures.none in
+    number-is ds from c.number_of-first.result c.number_of-first.ensures.some c.number_of-first.ensures.none in
     let second =
-        number-is ds to c.number_of-second.result c.number_of-second.ensures.some c.number_of-second.ensures.none in
+    number-is ds to c.number_of-second.result c.number_of-second.ensures.some c.number_of-second.ensures.none in
     c.have_conflict.ensures ds items entries from to t first second (λ e. true≢false (sym (eq-eqb _ _ e)
-        ∙ sym c.eq.ensures ∙ c.if-eq.false))
+    ∙ sym c.eq.ensures ∙ c.if-eq.false))

@@ -15,4 +15,4 @@ returns c ds items entries once apart is (d, at, on) by =
     let old = is.each place c.index-cells-place.result c.requires in
     let new = c.note.ensures.cell ds items entries once old (on ∙ ap (λ (x : Cell). Some x.name) (sym read)) by in
     cells-entered ds items entries cells place c.note.new.cell d c.args.entry.now c.requires is apart (on
-        ∙ ap (λ (x : Cell). Some x.name) (sym there)) same new
+    ∙ ap (λ (x : Cell). Some x.name) (sym there)) same new

@@ -9,10 +9,12 @@ pub nodes-init : goal.nodes-init
 nodes-init c = (c.requires.within, (λ h. h, λ h. h))
 
 pub returns-then-clashes_with : goal.returns-then-clashes_with
-returns-then-clashes_with c =
-    (λ _. c.nodes.invariant.1.1 (back-here c.args.nodes.now c.requires.linked c.nodes.at c.node_at-node.result
-    c.nodes.invariant.0 c.nodes-test.true c.node_at-node.ensures (ClashesWith c.args.kind c.args.act.now)
-    (c.clashes_with.ensures.0 c.if-clashes_with.true)), λ _. refl)
+returns-then-clashes_with c = (
+  λ _. c.nodes.invariant.1.1 (back-here c.args.nodes.now c.requires.linked c.nodes.at c.node_at-node.result
+      c.nodes.invariant.0 c.nodes-test.true c.node_at-node.ensures (ClashesWith c.args.kind c.args.act.now)
+      (c.clashes_with.ensures.0 c.if-clashes_with.true)),
+  λ _. refl,
+)
 
 pub nodes-smaller : goal.nodes-smaller
 nodes-smaller c = back-early c.args.nodes.now c.requires.linked c.nodes.at c.node_at-node.result c.nodes.invariant.0
@@ -28,7 +30,8 @@ nodes-preserved c = (
 )
 
 pub returns : goal.returns
-returns c =
-    (λ h. absurd (false≢true h),
-    λ any. absurd (back-end c.args.nodes.now c.nodes.at (ClashesWith c.args.kind c.args.act.now)
-    (omega (arith, c.nodes-test.false)) (c.nodes.invariant.1.0 any)))
+returns c = (
+  λ h. absurd (false≢true h),
+  λ any. absurd (back-end c.args.nodes.now c.nodes.at (ClashesWith c.args.kind c.args.act.now)
+      (omega (arith, c.nodes-test.false)) (c.nodes.invariant.1.0 any)),
+)

@@ -8,7 +8,7 @@ abbrev pub invariant-nodes : goal.invariant-nodes
 invariant-nodes l =
     (l.at ≤ length l.nodes)
     × (Any (IsOf l.place (changes l.deed)) (chain l.nodes l.last)
-        ↔ Any (IsOf l.place (changes l.deed)) (chain l.nodes l.at))
+    ↔ Any (IsOf l.place (changes l.deed)) (chain l.nodes l.at))
 
 abbrev pub decreases-nodes : goal.decreases-nodes
 decreases-nodes l = l.at

@@ -11,11 +11,13 @@ pub nodes-init : goal.nodes-init
 nodes-init c = (c.requires.first, (λ h. h, λ h. h))
 
 pub returns-then-clashes_at : goal.returns-then-clashes_at
-returns-then-clashes_at c =
-    (λ _. c.nodes.invariant.1.1 (back-here c.args.nodes.now c.requires.linked c.nodes.at c.node_at-node.result
-    c.nodes.invariant.0 c.nodes-test.true c.node_at-node.ensures (λ (a : Act). (a.place ≡ c.args.place)
-    × Any (ClashesWith c.args.kind a) (chain c.args.nodes.now c.args.second))
-    (c.clashes_at.ensures.0 c.if-clashes_at.true)), λ _. refl)
+returns-then-clashes_at c = (
+  λ _. c.nodes.invariant.1.1 (back-here c.args.nodes.now c.requires.linked c.nodes.at c.node_at-node.result
+      c.nodes.invariant.0 c.nodes-test.true c.node_at-node.ensures (λ (a : Act). (a.place ≡ c.args.place)
+      × Any (ClashesWith c.args.kind a) (chain c.args.nodes.now c.args.second))
+      (c.clashes_at.ensures.0 c.if-clashes_at.true)),
+  λ _. refl,
+)
 
 pub nodes-smaller : goal.nodes-smaller
 nodes-smaller c = back-early c.args.nodes.now c.requires.linked c.nodes.at c.node_at-node.result c.nodes.invariant.0
@@ -32,8 +34,9 @@ nodes-preserved c = (
 )
 
 pub returns : goal.returns
-returns c =
-    (λ h. absurd (false≢true h),
-    λ any. absurd (back-end c.args.nodes.now c.nodes.at (λ (a : Act). (a.place ≡ c.args.place)
-    × Any (ClashesWith c.args.kind a) (chain c.args.nodes.now c.args.second)) (omega (arith, c.nodes-test.false))
-    (c.nodes.invariant.1.0 any)))
+returns c = (
+  λ h. absurd (false≢true h),
+  λ any. absurd (back-end c.args.nodes.now c.nodes.at (λ (a : Act). (a.place ≡ c.args.place)
+      × Any (ClashesWith c.args.kind a) (chain c.args.nodes.now c.args.second)) (omega (arith, c.nodes-test.false))
+      (c.nodes.invariant.1.0 any)),
+)

@@ -8,7 +8,7 @@ abbrev pub invariant-nodes : goal.invariant-nodes
 invariant-nodes l =
     (l.at ≤ length l.nodes)
     × (Any (λ a. (a.place ≡ l.place) × Any (ClashesWith l.kind a) (chain l.nodes l.second)) (chain l.nodes l.first)
-        ↔ Any (λ a. (a.place ≡ l.place) × Any (ClashesWith l.kind a) (chain l.nodes l.second)) (chain l.nodes l.at))
+    ↔ Any (λ a. (a.place ≡ l.place) × Any (ClashesWith l.kind a) (chain l.nodes l.second)) (chain l.nodes l.at))
 
 abbrev pub decreases-nodes : goal.decreases-nodes
 decreases-nodes l = l.at

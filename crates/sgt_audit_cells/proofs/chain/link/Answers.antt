@@ -18,7 +18,7 @@ returns-clause-place c =
     let x : Node = record { act = c.in-Some.act; before = c.args.last } in
     let items = c.in_ok-add.ensures.ok in
     let place : c.in_ok-place.place ≡ suc (length nodes) =
-        omega (arith, c.in_ok-place.ensures, c.len.ensures, c.args.nodes.now.ok.0) in
+    omega (arith, c.in_ok-place.ensures, c.len.ensures, c.args.nodes.now.ok.0) in
     let long = ap length items ∙ length_push nodes x in (
       omega (arith, place, long),
       ap (λ ns. chain ns c.in_ok-place.place) items ∙ ap (chain (nodes ++ x ∷ [])) place

@@ -12,6 +12,7 @@ returns-then-at-words c =
     (λ h. sym same ∙ eqb-true _ _ h, λ has. eq-eqb _ _ (same ∙ has))
 
 pub returns-else-at-words : goal.returns-else-at-words
-returns-else-at-words c =
-    (λ h. absurd (false≢true h),
-    λ has. absurd (past_bits c.args.words.now c.args.at (omega (arith, c.if-at-words.false)) has))
+returns-else-at-words c = (
+  λ h. absurd (false≢true h),
+  λ has. absurd (past_bits c.args.words.now c.args.at (omega (arith, c.if-at-words.false)) has),
+)

@@ -29,7 +29,7 @@ nodes-preserved c =
       c.add.ensures.node ∙ c.nodes.invariant.1,
       λ place change. moved (c.nodes.invariant.2 place change) (c.add.ensures.set c.if-add.true place change)
           (any-split c.args.nodes.now c.requires.linked c.nodes.at c.in-Some.node.now c.nodes-test.true there
-              (IsOf place change)),
+          (IsOf place change)),
     )
 
 pub returns : goal.returns
@@ -38,5 +38,5 @@ returns c = (
   λ place change. subst (λ k. Any (IsOf place change) (chain c.args.nodes.now k) ↔ HasMark c.nodes.row change place)
       (sym c.nodes.invariant.1)
       (all-marked (c.nodes.invariant.2 place change) (back-end c.args.nodes.now c.nodes.at (IsOf place change)
-          (omega (arith, c.nodes-test.false)))),
+      (omega (arith, c.nodes-test.false)))),
 )

@@ -9,7 +9,7 @@ abbrev pub invariant-nodes : goal.invariant-nodes
 invariant-nodes l =
     (l.at ≤ length l.nodes) × (l.row.upto ≡ l.last)
     × ((place : ℕ) (change : Bool) → Any (IsOf place change) (chain l.nodes l.last)
-        ↔ (HasMark l.row change place ⊎ Any (IsOf place change) (chain l.nodes l.at)))
+    ↔ (HasMark l.row change place ⊎ Any (IsOf place change) (chain l.nodes l.at)))
 
 abbrev pub decreases-nodes : goal.decreases-nodes
 decreases-nodes l = l.at

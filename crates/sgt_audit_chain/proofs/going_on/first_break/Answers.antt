@@ -21,8 +21,12 @@ returns-in-Some-first_difference-clause-some c =
     let there = element_at left n values c.in-Some.ensures.lookup.3.0 c.in-Some.ensures.lookup.1 in
     let found = c.in-Some-first_difference.ensures.some in
     let line : c.saturating_add-in-Some-first_difference.result ≡ in_64_bits (site_line logs n + place + 1) =
-    omega (arith, c.loop-site.invariant.0, c.saturating_add.ensures,
-        c.saturating_add-in-Some-first_difference.ensures) in (
+    omega (
+      arith,
+      c.loop-site.invariant.0,
+      c.saturating_add.ensures,
+      c.saturating_add-in-Some-first_difference.ensures,
+    ) in (
       site_line logs n + place + 1,
       record {
         site = n;
@@ -30,7 +34,7 @@ returns-in-Some-first_difference-clause-some c =
         here = breaks-at _ _ log.items values (site_line logs n) place (items-at logs n log at) there
             (ap (take place) (sym c.as_slice.ensures) ∙ found.0 ∙ ap (take place) c.as_slice-in-loop-site.ensures)
             (λ same. found.1 (ap (λ xs. slice_get xs place) c.as_slice.ensures ∙ same
-                ∙ sym (ap (λ xs. slice_get xs place) c.as_slice-in-loop-site.ensures)));
+            ∙ sym (ap (λ xs. slice_get xs place) c.as_slice-in-loop-site.ensures)));
       },
       line,
     )

@@ -8,6 +8,6 @@ returns-in-Ok-clause-text c =
     let bytes = c.args.bytes.now in
     checked bytes c.number_of_check.result c.in-Ok.outcome c.check.new.writer.bytes.items c.number_of_check.ensures
     (held (IsAnswer plainly bytes c.in-Ok.outcome) c.new-writer.result.is_short c.check.new.writer.is_short
-        c.new-writer.result.bytes.items
+    c.new-writer.result.bytes.items
     c.check.new.writer.bytes.items c.new-writer.ensures.whole c.new-writer.ensures.none
-        (rw c.in-Ok.is at c.check.ensures.answer))
+    (rw c.in-Ok.is at c.check.ensures.answer))

@@ -8,7 +8,7 @@ pub returns-in-Ok-clause-text : goal.returns-in-Ok-clause-text
 returns-in-Ok-clause-text c =
     let P : Outcome → List ℕ → Type 0 = λ o text. IsAnswer (Some c.args.bytes.now) o text in
     told P (λ text no. no) c.number_of_answer.result c.in-Ok.outcome c.serial.new.writer.bytes.items
-        c.number_of_answer.ensures
+    c.number_of_answer.ensures
     (held (P c.in-Ok.outcome) c.new-writer.result.is_short c.serial.new.writer.is_short
-        c.new-writer.result.bytes.items c.serial.new.writer.bytes.items
+    c.new-writer.result.bytes.items c.serial.new.writer.bytes.items
     c.new-writer.ensures.whole c.new-writer.ensures.none (rw c.in-Ok.is at c.serial.ensures.answer))

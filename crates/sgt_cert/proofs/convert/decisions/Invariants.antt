@@ -5,4 +5,6 @@ use Rattle.sgt_cert.proofs.convert.decisions.Given as goal
 
 -- what was found, before what the rest gives, is what all give
 abbrev pub invariant-loop-item : goal.invariant-loop-item
-invariant-loop-item l = option_map (λ xs. l.found.items ++ xs) (decisions_in l.sites (map view (drop l.item-index l.items))) ≡ decisions_in l.sites (map view l.items)
+invariant-loop-item l =
+    option_map (λ xs. l.found.items ++ xs) (decisions_in l.sites (map view (drop l.item-index l.items)))
+    ≡ decisions_in l.sites (map view l.items)

@@ -5,4 +5,6 @@ use Rattle.sgt_cert.specs.Line.{items_list}
 use Rattle.sgt_cert.proofs.convert.list.Goals as goal
 
 pub returns-in-Some : goal.returns-in-Some
-returns-in-Some c = list_of_vec _ ∙ (ap (option_map items_list) c.as_array.ensures ∙ ap (λ r. option_map items_list (option_and_then as_array r)) c.in-Some.ensures)
+returns-in-Some c = list_of_vec _
+    ∙ (ap (option_map items_list) c.as_array.ensures
+    ∙ ap (λ r. option_map items_list (option_and_then as_array r)) c.in-Some.ensures)

@@ -5,4 +5,6 @@ use Rattle.sgt_cert.proofs.convert.walk.Given as goal
 
 -- what was found, before what the rest gives, is what all give
 abbrev pub invariant-loop-item : goal.invariant-loop-item
-invariant-loop-item l = option_map (λ xs. l.found.items ++ xs) (walk_in l.sites (map view (drop l.item-index l.items))) ≡ walk_in l.sites (map view l.items)
+invariant-loop-item l =
+    option_map (λ xs. l.found.items ++ xs) (walk_in l.sites (map view (drop l.item-index l.items))) ≡ walk_in l.sites
+    (map view l.items)

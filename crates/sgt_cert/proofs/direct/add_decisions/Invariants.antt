@@ -4,7 +4,8 @@ use Rattle.sgt_cert.specs.Private.{with_commas}
 use Rattle.sgt_cert.specs.Text.{IsDecision, decision_data}
 use Rattle.sgt_cert.proofs.direct.add_decisions.Given as goal
 
--- the decisions read so far, with a comma behind each, and what is left are the text; and the decisions are in their ranges
+-- the decisions read so far, with a comma behind each, and what is left are the text; and the decisions are in their
+-- ranges
 abbrev pub invariant-loop : goal.invariant-loop
 invariant-loop l =
     (with_commas decision_data l.fn.decisions.items ++ l.bytes ≡ with_commas decision_data l.decisions.items ++ l.rest)

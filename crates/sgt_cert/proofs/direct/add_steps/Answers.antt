@@ -6,15 +6,18 @@ use Rattle.sgt_cert.proofs.direct.add_steps.Goals as goal
 
 pub returns-in_default-behind-clause-in_range : goal.returns-in_default-behind-clause-in_range
 returns-in_default-behind-clause-in_range c =
-    last-in_range (IsStep max_sites) (All (IsStep max_sites) c.args.walk.now.items) c.loop.walk.items c.in-Some.step c.push.new.self.items c.behind-in_default-behind.result
+    last-in_range (IsStep max_sites) (All (IsStep max_sites) c.args.walk.now.items) c.loop.walk.items c.in-Some.step
+    c.push.new.self.items c.behind-in_default-behind.result
     c.loop.invariant.1 c.in-Some.ensures.0 c.in_ok-push.ensures.items
 
 pub returns-in_default-behind-clause-text : goal.returns-in_default-behind-clause-text
 returns-in_default-behind-clause-text c =
-    last-read step_data c.args.walk.now.items c.args.bytes.now c.loop.walk.items c.loop.rest.now c.in-Some.step c.in-Some.after.now c.push.new.self.items c.behind-in_default-behind.result
+    last-read step_data c.args.walk.now.items c.args.bytes.now c.loop.walk.items c.loop.rest.now c.in-Some.step
+    c.in-Some.after.now c.push.new.self.items c.behind-in_default-behind.result
     c.loop.invariant.0 c.in-Some.ensures.1 c.in_ok-push.ensures.items c.behind-in_default-behind.ensures
 
 pub loop-preserved : goal.loop-preserved
 loop-preserved c =
-    more-read step_data (IsStep max_sites) c.args.walk.now.items c.args.bytes.now c.loop.walk.items c.loop.rest.now c.in-Some.step c.in-Some.after.now c.in-Some-behind.more.now c.push.new.self.items
+    more-read step_data (IsStep max_sites) c.args.walk.now.items c.args.bytes.now c.loop.walk.items c.loop.rest.now
+    c.in-Some.step c.in-Some.after.now c.in-Some-behind.more.now c.push.new.self.items
     c.loop.invariant c.in-Some.ensures c.in_ok-push.ensures.items c.in-Some-behind.ensures

@@ -11,7 +11,11 @@ on_ok (Ok a) f p = f p
 on_ok (Err e) f p = tt
 
 pub returns-clause-text : goal.returns-clause-text
-returns-clause-text c = on_ok c.push_parts.result (λ e. certificate-pieces c.args.certificate.now _ _ _ e c.decisions.ensures) c.push_parts.ensures.text
+returns-clause-text c =
+    on_ok c.push_parts.result (λ e. certificate-pieces c.args.certificate.now _ _ _ e c.decisions.ensures)
+    c.push_parts.ensures.text
 
 pub returns-clause-one_line : goal.returns-clause-one_line
-returns-clause-one_line c = on_ok c.push_parts.result (written-no_lf c.args.certificate.now (certificate_text c.args.certificate.now) _ refl (omega arith) c.decisions.ensures) c.push_parts.ensures.in_range
+returns-clause-one_line c =
+    on_ok c.push_parts.result (written-no_lf c.args.certificate.now (certificate_text c.args.certificate.now) _ refl
+    (omega arith) c.decisions.ensures) c.push_parts.ensures.in_range

@@ -7,5 +7,6 @@ use Rattle.sgt_cert.proofs.line.push_decisions.Given as goal
 -- what is written, and the text of the rest, is the text of all; and what is written is in its ranges
 abbrev pub invariant-loop-decision : goal.invariant-loop-decision
 invariant-loop-decision l =
-    (l.out.items ++ items_text true (items_data decision_data (drop l.decision-index l.further)) ≡ l.fn.out.items ++ items_text false (items_data decision_data l.decisions))
+    (l.out.items ++ items_text true (items_data decision_data (drop l.decision-index l.further)) ≡ l.fn.out.items
+    ++ items_text false (items_data decision_data l.decisions))
     × All (IsDecision max_sites) (take l.decision-index l.further)

@@ -6,5 +6,7 @@ use Rattle.sgt_cert.proofs.line.push_step.Goals as goal
 pub returns-clause-text : goal.returns-clause-text
 returns-clause-text c =
     on_ok_weaker c.push_step_parts.result
-    (λ e. e ∙ ap (λ t. c.args.out.now.items ++ t) (step-pieces c.args.step.now _ _ _ _ c.as_bytes.ensures.name c.as_bytes.ensures.bytes c.kind_text.ensures c.number.ensures.is c.number-2.ensures.is))
+    (λ e. e ∙ ap (λ t. c.args.out.now.items ++ t)
+    (step-pieces c.args.step.now _ _ _ _ c.as_bytes.ensures.name c.as_bytes.ensures.bytes c.kind_text.ensures
+    c.number.ensures.is c.number-2.ensures.is))
     c.push_step_parts.ensures

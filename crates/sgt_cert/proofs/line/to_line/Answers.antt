@@ -4,9 +4,11 @@ use Rattle.sgt_notation.specs.Spelling.{HasNoLf}
 use Rattle.sgt_cert.proofs.line.to_line.Goals as goal
 
 pub returns-clause-text : goal.returns-clause-text
-returns-clause-text c = c.in_ok-push_certificate.ensures.text ∙ ap (λ (start : List ℕ). start ++ certificate_text c.args.certificate.now) c.new-line.ensures.items
+returns-clause-text c = c.in_ok-push_certificate.ensures.text
+    ∙ ap (λ (start : List ℕ). start ++ certificate_text c.args.certificate.now) c.new-line.ensures.items
 
 pub returns-clause-one_line : goal.returns-clause-one_line
 returns-clause-one_line c =
-    let is = c.in_ok-push_certificate.ensures.text ∙ ap (λ (start : List ℕ). start ++ certificate_text c.args.certificate.now) c.new-line.ensures.items in
+    let is = c.in_ok-push_certificate.ensures.text
+    ∙ ap (λ (start : List ℕ). start ++ certificate_text c.args.certificate.now) c.new-line.ensures.items in
     subst HasNoLf (sym is) c.in_ok-push_certificate.ensures.one_line

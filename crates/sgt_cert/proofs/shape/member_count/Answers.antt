@@ -5,4 +5,5 @@ use Rattle.sgt_cert.proofs.Shapes.{members_count-members_view}
 use Rattle.sgt_cert.proofs.shape.member_count.Goals as goal
 
 pub returns-in-Some : goal.returns-in-Some
-returns-in-Some c = c.len.ensures.len ∙ (sym (members_count-members_view c.in-Some.map.now.entries) ∙ ap (λ r. option_map_or members_count r 0) c.in-Some.ensures)
+returns-in-Some c = c.len.ensures.len ∙ (sym (members_count-members_view c.in-Some.map.now.entries)
+    ∙ ap (λ r. option_map_or members_count r 0) c.in-Some.ensures)

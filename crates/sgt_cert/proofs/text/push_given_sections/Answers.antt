@@ -12,7 +12,8 @@ loop-log-init c =
     let same = c.into_iter-log-iterator.ensures.into_iter_gives.0 in
     record {
       few = omega (arith, c.requires, ap (λ (logs : List SiteLog). length logs) same);
-      text = ap (λ (logs : List SiteLog). c.args.out.now.items ++ text_of_lines (map line_text (sections_from 0 logs))) same;
+      text = ap (λ (logs : List SiteLog). c.args.out.now.items ++ text_of_lines
+          (map line_text (sections_from 0 logs))) same;
       in_range = λ whole. subst (All IsLog) same whole;
     }
 
@@ -23,7 +24,9 @@ loop-log-preserved c =
     record {
       few = grind (arith, common_steps);
       text = grind (arith, common_steps);
-      in_range = λ rest. c.loop-log.invariant.in_range (All-same IsLog _ _ c.in-Some.ensures.steps.0 (All-cons IsLog log _ here rest));
+      in_range =
+          λ rest. c.loop-log.invariant.in_range
+          (All-same IsLog _ _ c.in-Some.ensures.steps.0 (All-cons IsLog log _ here rest));
     }
 
 pub returns-clause-in_range : goal.returns-clause-in_range

@@ -8,6 +8,7 @@ use Rattle.sgt_cert.proofs.text.push_given_sections.Given as goal
 abbrev pub invariant-loop-log : goal.invariant-loop-log
 invariant-loop-log l = record {
   few : l.site + length l.log-iterator.rest.items ≤ max_sites;
-  text : l.out.items ++ text_of_lines (map line_text (sections_from l.site l.log-iterator.rest.items)) ≡ l.fn.out.items ++ text_of_lines (map line_text (sections_from 0 l.fn.sites.items));
+  text : l.out.items ++ text_of_lines (map line_text (sections_from l.site l.log-iterator.rest.items))
+      ≡ l.fn.out.items ++ text_of_lines (map line_text (sections_from 0 l.fn.sites.items));
   in_range : All IsLog l.log-iterator.rest.items → All IsLog l.fn.sites.items;
 }

@@ -7,13 +7,18 @@ use Rattle.sgt_cert.proofs.tokens.steps.Goals as goal
 pub loop-reader-smaller : goal.loop-reader-smaller
 loop-reader-smaller c =
     let here : c.take_end_array.new.self ≡ c.loop-reader.reader = grind arith in
-    let less : length c.step.new.reader < length c.loop-reader.reader = fewer is_step_object 1 c.loop-reader.reader c.step.new.reader (subst (λ ts. HasValue is_step_object 1 ts c.step.new.reader) here c.in_ok-step.ensures) in
+    let less : length c.step.new.reader < length c.loop-reader.reader =
+    fewer is_step_object 1 c.loop-reader.reader c.step.new.reader
+    (subst (λ ts. HasValue is_step_object 1 ts c.step.new.reader) here c.in_ok-step.ensures) in
     less
 
 pub loop-reader-preserved : goal.loop-reader-preserved
 loop-reader-preserved c = λ new more.
     let here : c.take_end_array.new.self ≡ c.loop-reader.reader = grind arith in
-    c.loop-reader.invariant new (one_more is_step_object 1 c.loop-reader.reader c.step.new.reader new (subst (λ ts. HasValue is_step_object 1 ts c.step.new.reader) here c.in_ok-step.ensures) more)
+    c.loop-reader.invariant new (one_more is_step_object 1 c.loop-reader.reader c.step.new.reader new
+    (subst (λ ts. HasValue is_step_object 1 ts c.step.new.reader) here c.in_ok-step.ensures) more)
 
 pub returns : goal.returns
-returns c = c.loop-reader.invariant c.take_end_array.new.self (no_more is_step_object 1 c.loop-reader.reader c.take_end_array.new.self (grind arith))
+returns c =
+    c.loop-reader.invariant c.take_end_array.new.self
+    (no_more is_step_object 1 c.loop-reader.reader c.take_end_array.new.self (grind arith))

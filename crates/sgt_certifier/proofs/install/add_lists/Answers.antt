@@ -22,8 +22,8 @@ loop-touch-preserved c =
       | then-is_changed+then-not-has_site+in_ok-items+in_ok-push w ↦
           let one : Prepared = listed whole t.site in
           let is : c.if-is_changed.lists.items ≡ lists ++ one ∷ [] =
-              (let made = w.lists-is in let pushed = w.in_ok-push.ensures.items in let items =
-              w.in_ok-items.ensures.ok ∙ w.touched_near.ensures.changed in cc) in
+          (let made = w.lists-is in let pushed = w.in_ok-push.ensures.items in let items =
+          w.in_ok-items.ensures.ok ∙ w.touched_near.ensures.changed in cc) in
           record {
             each = λ p m. elim (Contains-append_cases lists (one ∷ []) p (subst (λ xs. Contains xs p) is m)) [
               | inl was ↦ c.loop-touch.invariant.each p was
@@ -37,7 +37,7 @@ loop-touch-preserved c =
             all = listed_next whole touched lists c.if-is_changed.lists.items n t here
                 (λ p m. subst (λ xs. Contains xs p) (sym is) (Contains-append_left lists (one ∷ []) p m))
                 (λ hit. subst (λ xs. Contains xs one) (sym is)
-                    (Contains-append_right lists (one ∷ []) one (cons_here one []))) c.loop-touch.invariant.all;
+                (Contains-append_right lists (one ∷ []) one (cons_here one []))) c.loop-touch.invariant.all;
           }
       | else-is_changed w ↦
           let same : c.if-is_changed.lists.items ≡ lists = (let kept = w.lists-is in cc) in

@@ -16,11 +16,11 @@ loop-part-preserved c =
       all = listed_part whole ps c.loop-part.part-index c.part-item.result c.loop-part.lists.items next at
           c.in_ok-add_lists.ensures.kept
           (subst (λ (ts : List Touch). (s : ℕ) → (changed_at ts s ≡ []) ⊎ Contains next (listed whole s))
-              c.touched-in-loop-part.ensures.all c.in_ok-add_lists.ensures.all) c.loop-part.invariant.all;
+          c.touched-in-loop-part.ensures.all c.in_ok-add_lists.ensures.all) c.loop-part.invariant.all;
     }
 
 pub returns : goal.returns
 returns c = listed_all c.args.draft.now.touched c.touched.result.0.now c.touched.result.1.now c.loop-part.part-index
     c.loop-part.lists.items c.add_lists-2.new.lists.items
     (let end = c.loop-part-test.false in omega (arith, end)) c.in_ok-add_lists-2.ensures.kept
-        c.in_ok-add_lists-2.ensures.all c.loop-part.invariant.all c.touched.ensures.all
+    c.in_ok-add_lists-2.ensures.all c.loop-part.invariant.all c.touched.ensures.all

@@ -12,7 +12,7 @@ returns-in_err-place_each-in-None-clause-wants c =
     on-err c.from_residual-in_err-place_each-in-None.result _
     (not-placed c.args.counts.now c.args.expected.now.items c.args.touched.now c.args.site c.requires.placed
     (λ all. c.in_err-place_each-in-None.ensures.err
-        (subst (All (HasPlace c.args.counts.now c.args.site)) (sym items) all)))
+    (subst (All (HasPlace c.args.counts.now c.args.site)) (sym items) all)))
 
 pub returns-in-Some-clause-items : goal.returns-in-Some-clause-items
 returns-in-Some-clause-items c =

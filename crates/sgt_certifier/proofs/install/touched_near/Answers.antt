@@ -10,13 +10,13 @@ pub returns-then-are_near-clause-changed : goal.returns-then-are_near-clause-cha
 returns-then-are_near-clause-changed c =
     ap (λ (ts : List Touch). changed_at ts c.args.site)
     (few-all c.touched.result.0.now c.touched.result.1.now _ c.touched.ensures.all
-        (c.are_near.ensures c.if-are_near.true))
+    (c.are_near.ensures c.if-are_near.true))
 
 pub returns-then-are_near-clause-rising : goal.returns-then-are_near-clause-rising
 returns-then-are_near-clause-rising c =
     subst AreRising
-        (sym (few-all c.touched.result.0.now c.touched.result.1.now _ c.touched.ensures.all
-        (c.are_near.ensures c.if-are_near.true)))
+    (sym (few-all c.touched.result.0.now c.touched.result.1.now _ c.touched.ensures.all
+    (c.are_near.ensures c.if-are_near.true)))
     c.touched.ensures.rising
 
 pub returns-else-are_near-clause-changed : goal.returns-else-are_near-clause-changed

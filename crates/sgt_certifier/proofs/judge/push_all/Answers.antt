@@ -10,16 +10,24 @@ pub push_reserved-requires : goal.push_reserved-requires
 push_reserved-requires c =
     let f = tx_at c.args.before in
     let before = take c.loop-handle.handle-index c.args.order.now in
-    omega (arith, c.requires.room, ap length c.loop-handle.invariant.items,
-        length-append c.args.past.now.items (map f before), length-map before f,
-        length-take-le c.loop-handle.handle-index c.args.order.now (omega (arith, c.loop-handle-test.true)),
-        c.loop-handle.invariant.capacity, c.loop-handle-test.true, c.loop-handle.past.ok, c.args.past.now.ok)
+    omega (
+      arith,
+      c.requires.room,
+      ap length c.loop-handle.invariant.items,
+      length-append c.args.past.now.items (map f before),
+      length-map before f,
+      length-take-le c.loop-handle.handle-index c.args.order.now (omega (arith, c.loop-handle-test.true)),
+      c.loop-handle.invariant.capacity,
+      c.loop-handle-test.true,
+      c.loop-handle.past.ok,
+      c.args.past.now.ok,
+    )
 
 pub tx_of-requires : goal.tx_of-requires
 tx_of-requires c =
     let none : Handle = record { index = 0; generation = 0 } in
     c.requires.numbers c.loop-handle.handle-index (get_or c.args.order.now c.loop-handle.handle-index none)
-        (slice_get-get_or c.args.order.now c.loop-handle.handle-index none c.loop-handle-test.true)
+    (slice_get-get_or c.args.order.now c.loop-handle.handle-index none c.loop-handle-test.true)
 
 pub loop-handle-preserved : goal.loop-handle-preserved
 loop-handle-preserved c =

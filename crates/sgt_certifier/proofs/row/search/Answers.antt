@@ -13,7 +13,7 @@ returns-clause-found c =
     let facts = c.binary_search_by.ensures in
     let same = always_returns_same _ _ _ (λ a r g called. (search rules, search rules)) in
     (searched (λ (d : ItemCount). d.item) (slice_cmp nat_cmp) nat_list_cmp_total (λ x y e. exact_bytes x y e) _ _
-        c.requires _ facts.bound
+    c.requires _ facts.bound
     (facts.position (λ d. slice_cmp nat_cmp d.item c.args.item) same)).0
 
 pub returns-clause-absent : goal.returns-clause-absent
@@ -21,5 +21,5 @@ returns-clause-absent c =
     let facts = c.binary_search_by.ensures in
     let same = always_returns_same _ _ _ (λ a r g called. (search rules, search rules)) in
     (searched (λ (d : ItemCount). d.item) (slice_cmp nat_cmp) nat_list_cmp_total (λ x y e. exact_bytes x y e) _ _
-        c.requires _ facts.bound
+    c.requires _ facts.bound
     (facts.position (λ d. slice_cmp nat_cmp d.item c.args.item) same)).1

@@ -18,6 +18,7 @@ returns c h is =
       cycle_is = subst (IsFirstOf h cyclic.graph) (sym c.in_ok-steps.ensures.lines) is.cycle_is;
       ranks = c.as_slice.result.now;
       told_first = c.in_ok-steps.ensures.first h is;
-      text_is = c.in_ok-push_cycle.ensures ∙ ap (λ (t : List ℕ). t ++ cycle_text s c.as_slice-2.result.now) c.new-text.ensures.items
+      text_is = c.in_ok-push_cycle.ensures
+          ∙ ap (λ (t : List ℕ). t ++ cycle_text s c.as_slice-2.result.now) c.new-text.ensures.items
           ∙ ap (λ (steps : List Step). cycle_text s steps) c.as_slice-2.ensures.value;
     }

@@ -17,8 +17,10 @@ returns-in-Serial c =
       serves = v.serves;
       least = v.least;
       text_is = c.in_ok-serial_text-in-Serial.ensures
-          ∙ ap₂ (λ (ls : List Line) (order : List ℕ). yes_text c.args.options c.args.naming.now ls order) lines c.as_slice-in-Serial.ensures.value
-          ∙ yes-cut c.args.options c.args.naming.now history.lines.items history.operations.items c.in-Serial.order.items;
+          ∙ ap₂ (λ (ls : List Line) (order : List ℕ). yes_text c.args.options c.args.naming.now ls order) lines
+          c.as_slice-in-Serial.ensures.value
+          ∙ yes-cut c.args.options c.args.naming.now history.lines.items history.operations.items
+          c.in-Serial.order.items;
     }
 
 pub unreachable-requires : goal.unreachable-requires

@@ -9,4 +9,5 @@ pub returns : goal.returns
 returns c =
     let r = c.args.reading in
     let n : Naming = record { ids = r.ids; items = r.items; values = r.values } in
-    IfOk-weaker c.history_answer.result _ _ (λ a told bytes is. told-answer neither c.args.options bytes r is n refl refl refl a.outcome a.text.items told) c.history_answer.ensures
+    IfOk-weaker c.history_answer.result _ _ (λ a told bytes is. told-answer neither c.args.options bytes r is n refl
+    refl refl a.outcome a.text.items told) c.history_answer.ensures

@@ -7,4 +7,5 @@ use Rattle.sgt_check.proofs.cycle.push_cycle.Given as goal
 
 abbrev pub invariant-loop-step : goal.invariant-loop-step
 invariant-loop-step l =
-    l.out.items ≡ l.fn.out.items ++ (anomaly_text (named l.steps) ++ flat_map (step_text (spelled l.naming)) (take l.step-index l.steps))
+    l.out.items ≡ l.fn.out.items ++ (anomaly_text (named l.steps) ++ flat_map (step_text (spelled l.naming))
+    (take l.step-index l.steps))

@@ -12,7 +12,8 @@ returns c =
     let h = closed_of c.args.history.now in
     let f = c.args.fault in
     let a = c.requires.faulty in
-    let is = subst (λ (o : Operation ℕ ℕ). IsOperation h f.line f.place a.t o) (c.operation_at-operation.ensures a.t a.o a.is) a.is in
+    let is = subst (λ (o : Operation ℕ ℕ). IsOperation h f.line f.place a.t o)
+    (c.operation_at-operation.ensures a.t a.o a.is) a.is in
     let told : IsToldAs h f = record {
       t = a.t;
       o = c.operation_at-operation.result;
@@ -22,5 +23,6 @@ returns c =
     } in
     on_ok_weaker c.push_told.result (λ e. (
       told,
-      two _ _ _ _ _ (c.in_ok-extend_from_slice.ensures.items ∙ ap (λ (t : List ℕ). c.args.out.now.items ++ t) c.flaw_line.ensures) e,
+      two _ _ _ _ _ (c.in_ok-extend_from_slice.ensures.items
+          ∙ ap (λ (t : List ℕ). c.args.out.now.items ++ t) c.flaw_line.ensures) e,
     )) c.push_told.ensures

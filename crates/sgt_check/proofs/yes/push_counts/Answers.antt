@@ -8,8 +8,10 @@ use Rattle.sgt_check.proofs.yes.push_counts.Goals as goal
 pub returns : goal.returns
 returns c =
     subst (λ n. OnOk c.extend_from_slice-3.result
-    (c.extend_from_slice-3.new.self.items ≡ c.args.out.now.items ++ counts_text n (length c.args.lines.now - n))) c.count_committed-committed.ensures.count
+    (c.extend_from_slice-3.new.self.items ≡ c.args.out.now.items ++ counts_text n (length c.args.lines.now - n)))
+    c.count_committed-committed.ensures.count
     (on_ok_weaker c.extend_from_slice-3.result (λ e.
-    five _ _ _ _ _ _ _ _ _ _ _ c.in_ok-extend_from_slice.ensures.items c.in_ok-push_number.ensures.ok c.in_ok-extend_from_slice-2.ensures.items
+    five _ _ _ _ _ _ _ _ _ _ _ c.in_ok-extend_from_slice.ensures.items c.in_ok-push_number.ensures.ok
+    c.in_ok-extend_from_slice-2.ensures.items
     c.in_ok-push_number-2.ensures.ok e)
     (ok-taken c.extend_from_slice-3.result _ _ _ c.extend_from_slice-3.ensures.items))

@@ -22,7 +22,7 @@ returns-in-Ok-clause-unreadable g c =
     let answer = c.in_ok-answer.answer in
     let told = g.R.Source.tells c.args.reader.now in
     answer-unreadable told answer.outcome (answer.text.items ++ answer.bundle.items)
-        (c.in_ok-answer.ensures told c.in_ok-stop.ensures.stops)
+    (c.in_ok-answer.ensures told c.in_ok-stop.ensures.stops)
 
 pub read_lines-requires-clause-begins : goal.read_lines-requires-clause-begins
 read_lines-requires-clause-begins g c = none-begins

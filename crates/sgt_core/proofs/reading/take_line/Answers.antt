@@ -13,18 +13,18 @@ pub returns-then-branch : goal.returns-then-branch
 returns-then-branch c =
     took-site _ _ _ (empty_when _ _ (sym c.args.events.now.ok.0) c.if-not-is_empty.ensures) refl
     (subst (λ (b : Bool). TakesSite c.args.sites.now.items c.args.line.now c.take_site.new.sites.items b)
-        c.if-branch.true (c.in_ok-take_site.ensures))
+    c.if-branch.true (c.in_ok-take_site.ensures))
 
 pub returns-then-is_empty : goal.returns-then-is_empty
 returns-then-is_empty c =
     let site = subst (λ (b : Bool). TakesSite c.args.sites.now.items c.args.line.now c.take_site.new.sites.items b)
-        c.if-branch.false c.in_ok-take_site.ensures in
+    c.if-branch.false c.in_ok-take_site.ensures in
     took-none _ _ (λ _. site.0)
-        (λ some. absurd (some (sym site.1 ∙ empty_when _ _ (sym c.take_site.new.sites.ok.0) c.if-is_empty.ensures)))
+    (λ some. absurd (some (sym site.1 ∙ empty_when _ _ (sym c.take_site.new.sites.ok.0) c.if-is_empty.ensures)))
 
 pub returns : goal.returns
 returns c =
     let site = subst (λ (b : Bool). TakesSite c.args.sites.now.items c.args.line.now c.take_site.new.sites.items b)
-        c.if-branch.false c.in_ok-take_site.ensures in
+    c.if-branch.false c.in_ok-take_site.ensures in
     after-event _ _ _ _ site.1 (λ begun none. filled_when _ _ (sym c.take_site.new.sites.ok.0) c.if-is_empty.ensures
-        (site.1 ∙ none)) (λ _. site.0) c.take_event-2.ensures
+    (site.1 ∙ none)) (λ _. site.0) c.take_event-2.ensures

@@ -10,4 +10,4 @@ returns-in-Ok c =
     (c.new.ensures ∙ c.into_log-items.ensures.items)
     (c.new-in-Ok.ensures ∙ c.into_log-items.ensures.entries)
     (c.new-in-Ok-2.ensures
-        ∙ finals_are items entries items c.in-Ok.finals.items c.in-Ok.ensures.items c.in-Ok.ensures.values)
+    ∙ finals_are items entries items c.in-Ok.finals.items c.in-Ok.ensures.items c.in-Ok.ensures.values)

@@ -10,5 +10,5 @@ returns-in-Ok-final_values c =
     (c.new.ensures ∙ (c.in-Ok.ensures.items ∙ c.items.ensures.items))
     (c.new-in-Ok-final_values.ensures ∙ (c.in-Ok-from_slice.ensures.items ∙ c.log.ensures.entries))
     (c.new-in-Ok-final_values-2.ensures
-        ∙ finals_are items entries items c.in-Ok-final_values.finals.items c.in-Ok-final_values.ensures.items
-        c.in-Ok-final_values.ensures.values)
+    ∙ finals_are items entries items c.in-Ok-final_values.finals.items c.in-Ok-final_values.ensures.items
+    c.in-Ok-final_values.ensures.values)

@@ -15,7 +15,7 @@ returns-clause-ok c =
     let here = element_at c.args.places.now c.args.at c.index-places-at.result c.requires.site c.index-places-at.is in
     let within = slice_get_within c.args.table.now c.args.slot _ c.requires.slot.1 in
     let runs = element_at c.args.table.now c.args.slot c.index-table-slot.result within c.index-table-slot.is
-        ∙ ap Some c.in-Some.is in
+    ∙ ap Some c.in-Some.is in
     all_ok (λ given stand once. record {
       place = c.index-places-at.result;
       running = c.in-Some.running;
@@ -32,6 +32,6 @@ returns-clause-memory c =
     let here = element_at c.args.places.now c.args.at c.index-places-at.result c.requires.site c.index-places-at.is in
     let within = slice_get_within c.args.table.now c.args.slot _ c.requires.slot.1 in
     let runs = element_at c.args.table.now c.args.slot c.index-table-slot.result within c.index-table-slot.is
-        ∙ ap Some c.in-Some.is in
+    ∙ ap Some c.in-Some.is in
     memory_alone c.index-places-at.result.site c.in-Some.running.draft.touched c.gather_into.result
-        (c.requires.seen c.index-places-at.result c.in-Some.running here runs) c.gather_into.ensures.refused
+    (c.requires.seen c.index-places-at.result c.in-Some.running here runs) c.gather_into.ensures.refused

@@ -8,8 +8,8 @@ pub returns-else-is_ok-clause-memory : goal.returns-else-is_ok-clause-memory
 returns-else-is_ok-clause-memory c =
     let places = c.args.places.now.items in
     let here = slice_get_read places (length places) c.args.at c.index_mut-place.result.now refl c.requires.site
-        c.index_mut-place.ensures.value in
+    c.index_mut-place.ensures.value in
     let runs = found_there c.args.table.now c.args.slot c.index-table-slot.result c.requires.slot.0 c.requires.slot.1
-        c.index-table-slot.is ∙ ap Some c.in-Some.is in
+    c.index-table-slot.is ∙ ap Some c.in-Some.is in
     pledge_memory c.index_mut-place.result.now.site c.args.tx c.in-Some.running.draft.touched c.pledge-pledged.result
-        (c.requires.may _ _ here runs) c.pledge-pledged.ensures.refused
+    (c.requires.may _ _ here runs) c.pledge-pledged.ensures.refused

@@ -15,7 +15,7 @@ loop-touch-preserved c =
     let t = c.touch-item.result in
     let at = element_at ts n t c.loop-touch-test.true c.touch-item.is in
     find_further (λ (u : Touch). (u.site == c.args.site) && bytes_eq u.item c.args.item.now) ts n t at
-        c.loop-touch.invariant (sym c.is_of.ensures ∙ c.if-is_of.false)
+    c.loop-touch.invariant (sym c.is_of.ensures ∙ c.if-is_of.false)
 
 pub returns-then-is_of : goal.returns-then-is_of
 returns-then-is_of c =
@@ -24,9 +24,9 @@ returns-then-is_of c =
     let t = c.touch-item.result in
     let at = element_at ts n t c.loop-touch-test.true c.touch-item.is in
     c.seen_of.ensures
-        ∙ ap (option_and_then look_of)
-        (sym (find_first (λ (u : Touch). (u.site == c.args.site) && bytes_eq u.item c.args.item.now) ts n t at
-        c.loop-touch.invariant (sym c.is_of.ensures ∙ c.if-is_of.true)))
+    ∙ ap (option_and_then look_of)
+    (sym (find_first (λ (u : Touch). (u.site == c.args.site) && bytes_eq u.item c.args.item.now) ts n t at
+    c.loop-touch.invariant (sym c.is_of.ensures ∙ c.if-is_of.true)))
 
 pub returns : goal.returns
 returns c =

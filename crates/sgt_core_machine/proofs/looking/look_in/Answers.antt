@@ -10,4 +10,4 @@ returns-then-are_near c =
     c.look_among.ensures
     ∙ ap (λ (ts : List Touch). option_and_then look_of (touched_at ts (c.args.site, c.args.item)))
     (few-all c.touched.result.0.now c.touched.result.1.now _ c.touched.ensures.all
-        (c.are_near.ensures c.if-are_near.true))
+    (c.are_near.ensures c.if-are_near.true))

@@ -8,6 +8,6 @@ use Rattle.sgt_core_machine.proofs.machine.add_at.Goals as goal
 pub returns-clause-err : goal.returns-clause-err
 returns-clause-err c = OnErr_then c.add-kept.result c.add-kept.ensures.err (λ same.
     ap (λ (q : DraftView). slice_set c.args.table.now.items c.args.slot
-        (Some (record { handle = c.in-Some.running.handle; draft = q }))) same
+    (Some (record { handle = c.in-Some.running.handle; draft = q }))) same
     ∙ put_back c.args.table.now.items c.args.slot c.in-Some.running c.index_mut.result.now
-        (slice_get_within c.args.table.now.items c.args.slot _ c.requires.1) c.index_mut.ensures.value c.in-Some.is)
+    (slice_get_within c.args.table.now.items c.args.slot _ c.requires.1) c.index_mut.ensures.value c.in-Some.is)

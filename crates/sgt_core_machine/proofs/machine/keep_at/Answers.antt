@@ -7,7 +7,7 @@ pub returns : goal.returns
 returns c =
     let table = c.args.table.now.items in
     let at = slice_get_read table (length table) c.args.slot c.index_mut.result.now refl
-        (slice_get_within table c.args.slot _ c.requires.1) c.index_mut.ensures.value ∙ ap Some c.in-Some.is in
+    (slice_get_within table c.args.slot _ c.requires.1) c.index_mut.ensures.value ∙ ap Some c.in-Some.is in
     record {
       before = c.in-Some.running;
       after = record { handle = c.in-Some.running.handle; draft = c.seen-kept.new.self };

@@ -16,8 +16,8 @@ loop-i-preserved c =
     let i = c.loop-i.i in
     let items = c.as_slice.result.now in
     let at : slice_get sites i ≡ Some items =
-        slice_get_read sites (length sites) i c.index-sites-i.result refl c.loop-i-test.true c.index-sites-i.is
-        ∙ ap Some (sym c.as_slice.ensures) in
+    slice_get_read sites (length sites) i c.index-sites-i.result refl c.loop-i-test.true c.index-sites-i.is
+    ∙ ap Some (sym c.as_slice.ensures) in
     let are : AreItems items = c.in_ok-opened.ensures.allowed in
     record {
       items = items_more sites i items at c.loop-i.invariant.items are;
@@ -27,7 +27,7 @@ loop-i-preserved c =
             let was = c.loop-i.invariant.opened (subst IsTrue w.has_room-is t) in
             subst (λ (ps : List Place). AreOpened (take (i + 1) sites) ps) (sym added.2)
             (one_opened sites c.loop-i.places.items i items added.0 c.loop-i-test.true at was are
-                (c.in_ok-opened.ensures.ok added.0 added.1))
+            (c.in_ok-opened.ensures.ok added.0 added.1))
         | else-add_place w ↦ absurd (true≢false (sym t ∙ (w.has_room-is ∙ w.if-add_place.false)))
       ];
     }

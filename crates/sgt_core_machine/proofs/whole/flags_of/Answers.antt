@@ -9,4 +9,4 @@ pub returns : goal.returns
 returns c =
     subst (λ (ts : List Touch). AreFlags c.mark_parts.new.flags ts) c.touched.ensures.all
     (flags_whole (replicate 64 false) c.mark_all.new.flags c.mark_parts.new.flags c.touched.result.0.now
-        c.touched.result.1.now (unset 64) c.mark_all.ensures.marks c.mark_parts.ensures)
+    c.touched.result.1.now (unset 64) c.mark_all.ensures.marks c.mark_parts.ensures)

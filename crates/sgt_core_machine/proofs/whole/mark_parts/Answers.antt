@@ -15,7 +15,7 @@ loop-part-preserved c =
     let new = c.mark_all.new.flags in
     let at = element_at ps n p c.loop-part-test.true c.part-item.is in
     let marks =
-        subst (λ (ts : List Touch). Marks flags new (Touches ts)) c.touched.ensures.all c.mark_all.ensures.marks in
+    subst (λ (ts : List Touch). Marks flags new (Touches ts)) c.touched.ensures.all c.mark_all.ensures.marks in
     record {
       long = c.mark_all.ensures.long;
       hit = parts_hit c.args.flags.now flags new ps n p at marks c.loop-part.invariant.hit;

@@ -19,10 +19,10 @@ loop-number-preserved c = λ r at.
           let any = flag.0 (sym c.is_set.ensures ∙ w.if-is_set.true) in
           subst (λ (ys : List ℕ). AreTouched ts (n + 1) ys)
           (sym (ap (λ (v : Vec ℕ Global). v.items) w.sites-is
-              ∙ (w.in_ok-push.ensures.items ∙ ap (λ (s : ℕ). xs ++ s ∷ []) w.in-Ok.ensures.1)))
+          ∙ (w.in_ok-push.ensures.items ∙ ap (λ (s : ℕ). xs ++ s ∷ []) w.in-Ok.ensures.1)))
           (touched_hit ts n xs (c.loop-number.invariant r at) any)
       | else-is_set w ↦
           subst (λ (ys : List ℕ). AreTouched ts (n + 1) ys) (sym (ap (λ (v : Vec ℕ Global). v.items) w.sites-is))
           (touched_miss ts n xs (c.loop-number.invariant r at) (λ any. true≢false (sym (c.is_set.ensures ∙ flag.1 any)
-              ∙ w.if-is_set.false)))
+          ∙ w.if-is_set.false)))
     ]

@@ -17,8 +17,8 @@ loop-at-preserved c =
     let R = IsPledgedBy c.args.tx c.args.draft.now.touched in
     let long = h.long in
     let there : slice_get now i ≡ Some c.index_mut.result.now =
-        slice_get_read now (length now) i c.index_mut.result.now refl (omega (arith, long, c.loop-at-test.true))
-        c.index_mut.ensures.value in
+    slice_get_read now (length now) i c.index_mut.result.now refl (omega (arith, long, c.loop-at-test.true))
+    c.index_mut.ensures.value in
     record {
       long = length-set now i c.offer.new.place ∙ long;
       done = done_more R old now i c.index_mut.result.now c.offer.new.place there h.done h.rest c.in-Ok.ensures.ok;
@@ -41,8 +41,8 @@ offer-requires c =
     let h = c.loop-at.invariant in
     let long = h.long in
     let there : slice_get now i ≡ Some c.index_mut.result.now =
-        slice_get_read now (length now) i c.index_mut.result.now refl (omega (arith, long, c.loop-at-test.true))
-        c.index_mut.ensures.value in
+    slice_get_read now (length now) i c.index_mut.result.now refl (omega (arith, long, c.loop-at-test.true))
+    c.index_mut.ensures.value in
     c.requires i c.index_mut.result.now (sym (h.rest i (omega arith)) ∙ there)
 
 pub returns-in-Err-clause-offered : goal.returns-in-Err-clause-offered
@@ -54,10 +54,10 @@ returns-in-Err-clause-offered c =
     let R = IsOffered c.args.tx in
     let long = h.long in
     let there : slice_get now i ≡ Some c.index_mut.result.now =
-        slice_get_read now (length now) i c.index_mut.result.now refl (omega (arith, long, c.loop-at-test.true))
-        c.index_mut.ensures.value in
+    slice_get_read now (length now) i c.index_mut.result.now refl (omega (arith, long, c.loop-at-test.true))
+    c.index_mut.ensures.value in
     let done : (k : ℕ) (p q : Place) → k < i → slice_get old k ≡ Some p → slice_get now k ≡ Some q
-        → R p q = λ k p q lt at_p at_q. (h.done k p q lt at_p at_q).offered in
+    → R p q = λ k p q lt at_p at_q. (h.done k p q lt at_p at_q).offered in
     record {
       long = length-set now i c.offer.new.place ∙ long;
       each = λ k p q at_p at_q. elim (cases_order k i) [
@@ -67,8 +67,8 @@ returns-in-Err-clause-offered c =
             c.in-Err.ensures.offered k p q (omega (arith, lt)) at_p at_q
         | inr (inr gt) ↦
             let same =
-                rest_more R old now i c.index_mut.result.now c.offer.new.place there done h.rest
-                c.in-Err.ensures.offered k (omega (arith, gt)) in
+            rest_more R old now i c.index_mut.result.now c.offer.new.place there done h.rest
+            c.in-Err.ensures.offered k (omega (arith, gt)) in
             subst (R p) (same_Some p q (sym at_p ∙ (sym same ∙ at_q))) (record { same = refl; pledge = inl refl })
       ];
     }

@@ -5,7 +5,7 @@ use Rattle.sgt_core_machine.proofs.withdrawing.offer_at.Goals as goal
 pub offer_all-requires : goal.offer_all-requires
 offer_all-requires c =
     let runs = found_there c.args.table.now c.args.slot c.index-table-slot.result c.requires.slot.0 c.requires.slot.1
-        c.index-table-slot.is ∙ ap Some c.in-Some.is in
+    c.index-table-slot.is ∙ ap Some c.in-Some.is in
     λ t p here. c.requires.may t p c.in-Some.running here runs
 
 pub unreachable-requires : goal.unreachable-requires
@@ -16,5 +16,5 @@ unreachable-requires c =
 pub returns-in-Ok-clause-ok : goal.returns-in-Ok-clause-ok
 returns-in-Ok-clause-ok c =
     let runs = found_there c.args.table.now c.args.slot c.index-table-slot.result c.requires.slot.0 c.requires.slot.1
-        c.index-table-slot.is ∙ ap Some c.in-Some.is in
+    c.index-table-slot.is ∙ ap Some c.in-Some.is in
     record { running = c.in-Some.running; there = runs; handle_is = refl; pledges = c.in-Ok.ensures.ok }

@@ -20,7 +20,7 @@ pub returns-clause-ranked : goal.returns-clause-ranked
 returns-clause-ranked c items events replies after r =
     let ordered = (runs-kept items events replies after r).sound.ordered in
     topological-fewer (IsLoggedConflict (written after)) (IsLoggedConflict after.entries) (serial after.certifier)
-        (ordered-serial after ordered)
+    (ordered-serial after ordered)
     (λ a b ca cb k. (k.0, k.1, k.2, in_longer (after.entries k.0) (after.due k.0) k.1 k.2 a b k.3))
 
 pub returns-clause-valid : goal.returns-clause-valid
@@ -30,4 +30,4 @@ returns-clause-valid c items events replies after r none =
 pub returns-clause-fits : goal.returns-clause-fits
 returns-clause-fits c items events replies after are r =
     bundle-fits after (runs-kept items events replies after r).sound
-        (subst AreSites (sym (run-same (fresh items) events replies after r)) are)
+    (subst AreSites (sym (run-same (fresh items) events replies after r)) are)

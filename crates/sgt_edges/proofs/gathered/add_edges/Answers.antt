@@ -5,10 +5,22 @@ use Rattle.sgt_edges.proofs.Once.{once-both, read-change-differ}
 use Rattle.sgt_edges.proofs.gathered.add_edges.Goals as goal
 
 pub add_of_read-requires-clause-seen : goal.add_of_read-requires-clause-seen
-add_of_read-requires-clause-seen c = λ new. false≢true (c.if-exceeds.ensures.1 (new.1.0, new.1.1, subst (λ n. n < new.1.0.version) (sym c.writers_at-writers.ensures.writers.1) new.1.2))
+add_of_read-requires-clause-seen c =
+    λ new. false≢true
+    (c.if-exceeds.ensures.1 (
+      new.1.0,
+      new.1.1,
+      subst (λ n. n < new.1.0.version) (sym c.writers_at-writers.ensures.writers.1) new.1.2,
+    ))
 
 pub returns-clause-seen : goal.returns-clause-seen
-returns-clause-seen c = λ new. false≢true (c.if-exceeds.ensures.1 (new.1.0, new.1.1, subst (λ n. n < new.1.0.version) (sym c.writers_at-writers.ensures.writers.1) new.1.2))
+returns-clause-seen c =
+    λ new. false≢true
+    (c.if-exceeds.ensures.1 (
+      new.1.0,
+      new.1.1,
+      subst (λ n. n < new.1.0.version) (sym c.writers_at-writers.ensures.writers.1) new.1.2,
+    ))
 
 pub returns-clause-all : goal.returns-clause-all
 returns-clause-all c =
@@ -18,7 +30,9 @@ returns-clause-all c =
 pub returns-clause-once : goal.returns-clause-once
 returns-clause-once c = λ own.
     let here : c.args.touch.now.site ≡ c.args.site.now.number = search rules in
-    once-both _ _ _ _ _ _ (one-parts _ _ c.args.me here) (read-change-differ c.args.touch.now c.args.me c.args.site.now) c.in-Ok.ensures.all (c.in-Ok.ensures.once (c.writers_at-writers.ensures.apart own)) (c.in-Ok-add_of_change.ensures.once own)
+    once-both _ _ _ _ _ _ (one-parts _ _ c.args.me here)
+    (read-change-differ c.args.touch.now c.args.me c.args.site.now) c.in-Ok.ensures.all
+    (c.in-Ok.ensures.once (c.writers_at-writers.ensures.apart own)) (c.in-Ok-add_of_change.ensures.once own)
 
 pub returns-then-ne-clause-once : goal.returns-then-ne-clause-once
 returns-then-ne-clause-once c = λ own apart none. apart

@@ -7,4 +7,5 @@ use Rattle.sgt_edges.proofs.gathered.add_readers.Given as goal
 abbrev pub invariant-loop-r : goal.invariant-loop-r
 invariant-loop-r l =
     AddsAll (λ e. Any (λ r. FromReader l.touch l.me r e) (take l.r-index l.readers)) l.fn.edges l.edges
-    × (ReadersApart l.readers → AddsOnce (λ e. Any (λ r. FromReader l.touch l.me r e) (take l.r-index l.readers)) l.fn.edges l.edges)
+    × (ReadersApart l.readers
+    → AddsOnce (λ e. Any (λ r. FromReader l.touch l.me r e) (take l.r-index l.readers)) l.fn.edges l.edges)

@@ -9,5 +9,6 @@ use Rattle.sgt_edges.proofs.gathered.to_neighbours.Given as goal
 abbrev pub invariant-loop-t : goal.invariant-loop-t
 invariant-loop-t l =
     AddsAll (λ e. Any (λ t. IsNear l.site (t ∷ []) l.me e) (take l.t-index l.touched)) [] l.edges
-    × (HaveOwnHandles l.site → AddsOnce (λ e. Any (λ t. IsNear l.site (t ∷ []) l.me e) (take l.t-index l.touched)) [] l.edges)
+    × (HaveOwnHandles l.site
+    → AddsOnce (λ e. Any (λ t. IsNear l.site (t ∷ []) l.me e) (take l.t-index l.touched)) [] l.edges)
     × ((n : ℕ) (t : Touch) → n < l.t-index → slice_get l.touched n ≡ Some t → IsTooNew l.site t → ⊥)

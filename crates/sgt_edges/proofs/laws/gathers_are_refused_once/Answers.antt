@@ -6,7 +6,8 @@ use Rattle.sgt_edges.specs.declared.fault.EdgeFault.{EdgeFault}
 use Rattle.sgt_edges.specs.declared.fault.EdgeFault.TheVariants.{SeenTooNew, Memory}
 use Rattle.sgt_edges.proofs.laws.gathers_are_refused_once.Goals as goal
 
-once : (s : SiteState) (touched : List Touch) (f g : EdgeFault) → RefusesEdges s touched f → RefusesEdges s touched g → f ≡ g
+once : (s : SiteState) (touched : List Touch) (f g : EdgeFault) → RefusesEdges s touched f → RefusesEdges s touched g
+    → f ≡ g
 once s touched SeenTooNew SeenTooNew a b = refl
 once s touched SeenTooNew Memory a b = absurd (b a)
 once s touched Memory SeenTooNew a b = absurd (a b)

@@ -7,19 +7,26 @@ use Rattle.sgt_edges.proofs.runs.read_above.Goals as goal
 pub returns-in-Some-clause-upto : goal.returns-in-Some-clause-upto
 returns-in-Some-clause-upto c =
     let first = rw take_rest at c.in-Some.ensures.value in
-    let newer = first-newer c.readers_at-readers.result.now (c.args.version + 1) _ c.readers_at-readers.ensures.by_version c.older_readers-older.ensures.within c.older_readers-older.ensures.point _ (sym first) in
-    let most = reader_below c.args.site.now c.args.item c.readers_at-readers.ensures.site _ ((c.readers_at-readers.ensures.readers c.in-Some.r.now).0 newer.0) in
+    let newer =
+    first-newer c.readers_at-readers.result.now (c.args.version + 1) _ c.readers_at-readers.ensures.by_version
+    c.older_readers-older.ensures.within c.older_readers-older.ensures.point _ (sym first) in
+    let most = reader_below c.args.site.now c.args.item c.readers_at-readers.ensures.site _
+    ((c.readers_at-readers.ensures.readers c.in-Some.r.now).0 newer.0) in
     let present = c.requires.present in
     omega (arith, most, present)
 
 pub returns-in-Some-clause-read : goal.returns-in-Some-clause-read
 returns-in-Some-clause-read c =
     let first = rw take_rest at c.in-Some.ensures.value in
-    let newer = first-newer c.readers_at-readers.result.now (c.args.version + 1) _ c.readers_at-readers.ensures.by_version c.older_readers-older.ensures.within c.older_readers-older.ensures.point _ (sym first) in
+    let newer =
+    first-newer c.readers_at-readers.result.now (c.args.version + 1) _ c.readers_at-readers.ensures.by_version
+    c.older_readers-older.ensures.within c.older_readers-older.ensures.point _ (sym first) in
     inr (c.in-Some.r.now, (c.readers_at-readers.ensures.readers c.in-Some.r.now).0 newer.0, refl)
 
 pub returns-in-Some-clause-unread : goal.returns-in-Some-clause-unread
 returns-in-Some-clause-unread c = λ r is later below.
     let first = rw take_rest at c.in-Some.ensures.value in
-    let newer = first-newer c.readers_at-readers.result.now (c.args.version + 1) _ c.readers_at-readers.ensures.by_version c.older_readers-older.ensures.within c.older_readers-older.ensures.point _ (sym first) in
+    let newer =
+    first-newer c.readers_at-readers.result.now (c.args.version + 1) _ c.readers_at-readers.ensures.by_version
+    c.older_readers-older.ensures.within c.older_readers-older.ensures.point _ (sym first) in
     newer.2 r ((c.readers_at-readers.ensures.readers r).1 is) (omega (arith, later)) below

@@ -8,8 +8,11 @@ put_lines-requires c = joins c.args.touches.now c.args.pairs.edges.items (c.requ
 
 pub returns : goal.returns
 returns c = λ h by. by-graph _
-    (edges-are h c.args.touches.now by WriteWrite c.args.pairs.edges.items c.put_lines.new.edges.items c.args.pairs.write_write c.put_lines.ensures
+    (edges-are h c.args.touches.now by WriteWrite c.args.pairs.edges.items c.put_lines.new.edges.items
+    c.args.pairs.write_write c.put_lines.ensures
     (c.requires WriteWrite))
-    (edges-are h c.args.touches.now by WithReads c.args.pairs.edges.items c.put_lines.new.edges.items c.args.pairs.with_reads c.put_lines.ensures
+    (edges-are h c.args.touches.now by WithReads c.args.pairs.edges.items c.put_lines.new.edges.items
+    c.args.pairs.with_reads c.put_lines.ensures
     (c.requires WithReads))
-    (whole-edges h c.args.touches.now by c.args.pairs.edges.items c.put_lines.new.edges.items c.put_lines.ensures (c.requires Whole))
+    (whole-edges h c.args.touches.now by c.args.pairs.edges.items c.put_lines.new.edges.items c.put_lines.ensures
+    (c.requires Whole))

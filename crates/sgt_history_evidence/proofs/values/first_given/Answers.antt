@@ -22,5 +22,6 @@ loop-line-preserved c line lt place gives =
 
 pub returns-clause-none : goal.returns-clause-none
 returns-clause-none c line place gives =
-    let lt = line-within c.args.history.now.lines.items c.args.history.now.operations.items line gives.t gives.committed.0 in
+    let lt = line-within c.args.history.now.lines.items c.args.history.now.operations.items line gives.t
+    gives.committed.0 in
     c.loop-line.invariant line (omega (arith, lt, c.loop-line-test.false)) place gives

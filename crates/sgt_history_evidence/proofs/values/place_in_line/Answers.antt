@@ -7,7 +7,8 @@ use Rattle.sgt_history_evidence.specs.Values.{GivesIn, GivesAt, IsFirstGivenIn, 
 use Rattle.sgt_history_evidence.proofs.values.place_in_line.Goals as goal
 
 -- what the line gives, its transaction does
-in-line : (h : List (Transaction ℕ ℕ)) (x v line place : ℕ) (t : Transaction ℕ ℕ) → slice_get h line ≡ Some t → GivesAt h x v line place → GivesIn t.operations x v place
+in-line : (h : List (Transaction ℕ ℕ)) (x v line place : ℕ) (t : Transaction ℕ ℕ) → slice_get h line ≡ Some t
+    → GivesAt h x v line place → GivesIn t.operations x v place
 in-line h x v line place t at gives =
     let same : gives.t ≡ t = same_Some gives.t t (sym gives.committed.0 ∙ at) in
     subst (λ (k : Transaction ℕ ℕ). GivesIn k.operations x v place) same gives.is
@@ -19,16 +20,31 @@ none-then (Some a) P Q f p = tt
 pub returns-clause-some : goal.returns-clause-some
 returns-clause-some c =
     let h = closed_of c.args.history.now in
-    let t : Transaction ℕ ℕ = record { commits = c.transaction_of-commits.result.0; operations = c.transaction_of-commits.result.1.now } in
+    let t : Transaction ℕ ℕ = record {
+      commits = c.transaction_of-commits.result.0;
+      operations =
+          c.transaction_of-commits.result.1.now;
+    } in
     IfSome_then c.first_place.result c.first_place.ensures.some (λ place first. record {
-      gives = record { t = t; committed = (c.transaction_of-commits.ensures.is, c.if-not-commits.false); is = first.gives };
-      first = λ other gives. first.first other (in-line h c.args.item c.args.version c.args.line other t c.transaction_of-commits.ensures.is gives);
+      gives = record {
+        t = t;
+        committed = (c.transaction_of-commits.ensures.is, c.if-not-commits.false);
+        is =
+            first.gives;
+      };
+      first = λ other gives. first.first other
+          (in-line h c.args.item c.args.version c.args.line other t c.transaction_of-commits.ensures.is gives);
     })
 
 pub returns-clause-none : goal.returns-clause-none
 returns-clause-none c =
     let h = closed_of c.args.history.now in
-    let t : Transaction ℕ ℕ = record { commits = c.transaction_of-commits.result.0; operations = c.transaction_of-commits.result.1.now } in
+    let t : Transaction ℕ ℕ = record {
+      commits = c.transaction_of-commits.result.0;
+      operations =
+          c.transaction_of-commits.result.1.now;
+    } in
     none-then c.first_place.result _ _
-    (λ none place gives. none place (in-line h c.args.item c.args.version c.args.line place t c.transaction_of-commits.ensures.is gives))
+    (λ none place gives. none place
+    (in-line h c.args.item c.args.version c.args.line place t c.transaction_of-commits.ensures.is gives))
     c.first_place.ensures.none

@@ -10,9 +10,11 @@ returns-then-not-is_write_of c operations n at told =
     let o = c.args.operation.now in
     elim c.then-not-is_write_of.branch [
       | then-not-is_write_of-via-then-not-is_write_of w ↦
-          least-skip operations c.args.item c.args.version n o c.args.least at (λ writes above. absurd (cc (w.if-not-is_write_of.ensures.1 writes))) told
+          least-skip operations c.args.item c.args.version n o c.args.least at
+          (λ writes above. absurd (cc (w.if-not-is_write_of.ensures.1 writes))) told
       | then-not-is_write_of-via-else-not-is_write_of+then-operation-version w ↦
-          least-skip operations c.args.item c.args.version n o c.args.least at (λ writes above. omega (arith, above, w.if-operation-version.true)) told
+          least-skip operations c.args.item c.args.version n o c.args.least at
+          (λ writes above. omega (arith, above, w.if-operation-version.true)) told
     ]
 
 pub returns-in-Some : goal.returns-in-Some
@@ -27,7 +29,12 @@ returns-in_default c operations n at told =
     elim c.in_default.branch [
       | in_default-via-in-Some+else-other-operation w ↦
           least-take operations c.args.item c.args.version n o c.args.least at writes c.if-operation-version.false
-          (λ greater is. omega (arith, w.if-other-operation.false, same_Some greater w.in-Some.other (sym is ∙ w.in-Some.is))) told
+          (λ greater is. omega (
+            arith,
+            w.if-other-operation.false,
+            same_Some greater w.in-Some.other (sym is
+                ∙ w.in-Some.is),
+          )) told
       | in_default-via-in_default w ↦
           least-take operations c.args.item c.args.version n o c.args.least at writes c.if-operation-version.false
           (λ greater is. absurd (w.in_default.not-Some greater is)) told

@@ -9,9 +9,11 @@ use Rattle.sgt_history_faults.proofs.collecting.items_of.Goals as goal
 pub loop-operation-preserved : goal.loop-operation-preserved
 loop-operation-preserved c = record {
   all = items-next c.loop-operation.items c.greater-items.result c.loop-operation.operation-index c.args.operations.now
-      (record { version = 0; item = 0; kind = Read; value = None }) c.loop-operation-test.true c.greater-items.ensures.one c.greater-items.ensures.other c.loop-operation.invariant.all;
+      (record { version = 0; item = 0; kind = Read; value = None }) c.loop-operation-test.true
+      c.greater-items.ensures.one c.greater-items.ensures.other c.loop-operation.invariant.all;
 }
 
 pub returns : goal.returns
-returns c = All-whole (IsItemBelow c.loop-operation.items) c.args.operations.now c.loop-operation.operation-index (omega arith)
+returns c = All-whole (IsItemBelow c.loop-operation.items) c.args.operations.now c.loop-operation.operation-index
+    (omega arith)
     c.loop-operation.invariant.all

@@ -10,13 +10,17 @@ judged_by-requires c =
     let h = cut 0 c.args.history.now.lines.items c.args.history.now.operations.items in
     let size = length-cut 0 c.args.history.now.lines.items c.args.history.now.operations.items in (
       h,
-      ready h (length c.args.history.now.lines.items) _ _ _ _ _ size c.in_ok-collected.ensures.1 c.in_ok-values.ensures.real
-          c.in_ok-values.ensures.covered c.earlier-first.ensures.one c.earlier-first.ensures.other c.earlier-first.ensures.real,
+      ready h (length c.args.history.now.lines.items) _ _ _ _ _ size c.in_ok-collected.ensures.1
+          c.in_ok-values.ensures.real
+          c.in_ok-values.ensures.covered c.earlier-first.ensures.one c.earlier-first.ensures.other
+          c.earlier-first.ensures.real,
     )
 
 pub returns : goal.returns
 returns c =
     let h = cut 0 c.args.history.now.lines.items c.args.history.now.operations.items in
     let size = length-cut 0 c.args.history.now.lines.items c.args.history.now.operations.items in
-    c.judged_by.ensures h (ready h (length c.args.history.now.lines.items) _ _ _ _ _ size c.in_ok-collected.ensures.1 c.in_ok-values.ensures.real
-    c.in_ok-values.ensures.covered c.earlier-first.ensures.one c.earlier-first.ensures.other c.earlier-first.ensures.real)
+    c.judged_by.ensures h (ready h (length c.args.history.now.lines.items) _ _ _ _ _ size c.in_ok-collected.ensures.1
+    c.in_ok-values.ensures.real
+    c.in_ok-values.ensures.covered c.earlier-first.ensures.one c.earlier-first.ensures.other
+    c.earlier-first.ensures.real)

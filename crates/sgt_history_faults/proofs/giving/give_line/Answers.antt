@@ -17,7 +17,9 @@ returns c =
     let l = c.line_at-end.result in
     let lines = c.args.history.now.lines.items in
     let ops = c.args.history.now.operations.items in
-    let in_line = line-is lines c.args.line l c.args.begin ops c.as_slice.result.now c.line_at-end.ensures.is c.requires.begin
+    let in_line = line-is lines c.args.line l c.args.begin ops c.as_slice.result.now c.line_at-end.ensures.is
+    c.requires.begin
     c.as_slice.ensures.value in
-    given-line (cut 0 lines ops) c.args.line _ c.args.given.now.items c.take_given.new.given.items in_line c.if-not-commits.false c.requires.given
+    given-line (cut 0 lines ops) c.args.line _ c.args.given.now.items c.take_given.new.given.items in_line
+    c.if-not-commits.false c.requires.given
     c.in_ok-take_given.ensures

@@ -11,11 +11,14 @@ returns-then-write-clause-exact c = λ e flaw read above other.
 pub returns-else-write-clause-exact : goal.returns-else-write-clause-exact
 returns-else-write-clause-exact c = λ e flaw read above other.
     let first = subst (IsWriter c.args.writes.now) c.in-Some.is c.requires.writer in
-    none-writes c.args.writes.now e flaw None refl read (alike-not c.args.writes.now c.in-Some.write c.requires.alike first c.if-write.false)
+    none-writes c.args.writes.now e flaw None refl read
+    (alike-not c.args.writes.now c.in-Some.write c.requires.alike first c.if-write.false)
     (c.in-Some.write, first.is) other
 
 pub returns-then-is_empty-clause-exact : goal.returns-then-is_empty-clause-exact
-returns-then-is_empty-clause-exact c = λ e flaw read above other. unwritten-is c.args.writes.now e flaw (empty-none c.args.writes.now (sym c.is_empty.ensures ∙ c.if-is_empty.true)) read above other
+returns-then-is_empty-clause-exact c =
+    λ e flaw read above other. unwritten-is c.args.writes.now e flaw
+    (empty-none c.args.writes.now (sym c.is_empty.ensures ∙ c.if-is_empty.true)) read above other
 
 pub returns-else-is_empty-clause-exact : goal.returns-else-is_empty-clause-exact
 returns-else-is_empty-clause-exact c = λ e flaw read above other.

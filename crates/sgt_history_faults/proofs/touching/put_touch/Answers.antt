@@ -5,7 +5,8 @@ use Rattle.sgt_history_faults.proofs.touching.put_touch.Goals as goal
 pub returns-then-not-is_touched : goal.returns-then-not-is_touched
 returns-then-not-is_touched c = λ done before at is taken.
     taken-skip c.args.whose done c.args.place before c.args.touches.now.items c.args.operation.now at
-    (λ to. let e = sym c.if-not-is_touched.true ∙ (c.is_touched.ensures done c.args.place c.args.operation.now refl is).1 to in cc) taken
+    (λ to. let e = sym c.if-not-is_touched.true
+    ∙ (c.is_touched.ensures done c.args.place c.args.operation.now refl is).1 to in cc) taken
 
 pub returns : goal.returns
 returns c = λ done before at is taken.

@@ -16,24 +16,32 @@ loop-place-init c = record {
 
 pub loop-place-preserved : goal.loop-place-preserved
 loop-place-preserved c =
-    let s = step (c.args.whose.line + 1) c.args.operations.now c.loop-place.place (length c.args.mine.now) c.loop-place.mine
+    let s = step (c.args.whose.line + 1) c.args.operations.now c.loop-place.place (length c.args.mine.now)
+    c.loop-place.mine
     (record { version = 0; item = 0; kind = Read; value = None }) (record { last = 0; greatest = 0; stamp = 0 })
     c.take_up-owned.new.self c.take_up-owned.result c.loop-place-test.true c.loop-place.invariant.size c.requires.items
-    c.loop-place.invariant.mine c.loop-place.invariant.stamped c.take_up-owned.ensures.stamp c.take_up-owned.ensures.owned in
+    c.loop-place.invariant.mine c.loop-place.invariant.stamped c.take_up-owned.ensures.stamp
+    c.take_up-owned.ensures.owned in
     record {
       size = s.size_is;
       mine = s.mine_is;
       stamped = s.stamped;
-      touches = c.in_ok-put_touch.ensures c.args.operations.now c.args.touches.now.items s.at s.owned_is c.loop-place.invariant.touches;
-      contradiction = c.first_contradicted-contradicted.ensures c.args.operations.now _ s.at s.owned_is c.loop-place.invariant.contradiction;
+      touches =
+          c.in_ok-put_touch.ensures c.args.operations.now c.args.touches.now.items s.at s.owned_is
+          c.loop-place.invariant.touches;
+      contradiction =
+          c.first_contradicted-contradicted.ensures c.args.operations.now _ s.at s.owned_is
+          c.loop-place.invariant.contradiction;
     }
 
 pub returns-clause-mine : goal.returns-clause-mine
 returns-clause-mine c =
     let end : c.loop-place.place ≡ length c.args.operations.now = omega arith in
-    subst (λ n. AreMine (c.args.whose.line + 1) c.args.operations.now n c.loop-place.mine) end c.loop-place.invariant.mine
+    subst (λ n. AreMine (c.args.whose.line + 1) c.args.operations.now n c.loop-place.mine) end
+    c.loop-place.invariant.mine
 
 pub returns-clause-contradiction : goal.returns-clause-contradiction
 returns-clause-contradiction c =
     let end : c.loop-place.place ≡ length c.args.operations.now = omega arith in
-    subst (λ n. TellsContradiction c.args.operations.now n c.loop-place.contradicted) end c.loop-place.invariant.contradiction
+    subst (λ n. TellsContradiction c.args.operations.now n c.loop-place.contradicted) end
+    c.loop-place.invariant.contradiction

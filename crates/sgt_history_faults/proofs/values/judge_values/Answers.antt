@@ -10,8 +10,10 @@ loop-k-preserved c =
     let lt = c.loop-k-test.true in
     record {
       kept = λ l r p h. c.judge_value-first.ensures.kept l r p (c.loop-k.invariant.kept l r p h);
-      covered = others-next c.args.given.now c.loop-k.k d c.loop-k.first c.judge_value-first.result c.loop-k.auto.k lt c.loop-k.invariant.covered
+      covered = others-next c.args.given.now c.loop-k.k d c.loop-k.first c.judge_value-first.result c.loop-k.auto.k lt
+          c.loop-k.invariant.covered
           c.judge_value-first.ensures.kept c.judge_value-first.ensures.covered;
-      real = λ h all before. c.judge_value-first.ensures.real h (faulty-at h c.args.given.now c.loop-k.k d c.loop-k.auto.k lt all)
+      real = λ h all before. c.judge_value-first.ensures.real h
+          (faulty-at h c.args.given.now c.loop-k.k d c.loop-k.auto.k lt all)
           (c.loop-k.invariant.real h all before);
     }

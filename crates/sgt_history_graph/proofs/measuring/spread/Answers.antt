@@ -31,27 +31,35 @@ loop-edge-preserved c =
           record {
             size = ap length w.distances-is ∙ length-set ds e.from (round + 1) ∙ inv.size;
             spread = λ v so. subst (AreSpread edges FAR v round (i + 1) (round + 1)) (sym w.distances-is)
-                (spread-hits edges FAR v round i ds d (inv.spread v so) lt c.requires.round to_is from_is to_in from_in);
+                (spread-hits edges FAR v round i ds d (inv.spread v so) lt c.requires.round to_is from_is to_in
+                from_in);
             same = λ f. let g = sym w.found-is ∙ f in absurd cc;
-            fewer = λ _. subst (λ (xs : List ℕ). far_of FAR xs < far_of FAR old) (sym w.distances-is) (elim (cases_Bool c.loop-edge.found) [
-              | inl t ↦ omega (arith, less, inv.fewer t)
-              | inr f ↦ omega (arith, less, ap (far_of FAR) (inv.same f))
-            ]);
+            fewer = λ _. subst (λ (xs : List ℕ). far_of FAR xs < far_of FAR old) (sym w.distances-is)
+                (elim (cases_Bool c.loop-edge.found) [
+                  | inl t ↦ omega (arith, less, inv.fewer t)
+                  | inr f ↦ omega (arith, less, ap (far_of FAR) (inv.same f))
+                ]);
           }
       | else-distances-edge w ↦ record {
         size = ap length w.distances-is ∙ inv.size;
         spread = λ v so. subst (AreSpread edges FAR v round (i + 1) (round + 1)) (sym w.distances-is)
             (spread-misses edges FAR v round i ds d (inv.spread v so) lt (λ a b. elim w.else-distances-edge.branch [
-              | else-distances-edge-via-then-distances-edge+else-distances-edge-2 v' ↦ omega (arith, b, v'.if-distances-edge-2.false)
+              | else-distances-edge-via-then-distances-edge+else-distances-edge-2 v' ↦ omega (
+                arith,
+                b,
+                v'.if-distances-edge-2.false,
+              )
               | else-distances-edge-via-else-distances-edge v' ↦ omega (arith, a, v'.if-distances-edge.false)
             ]));
         same = λ f. w.distances-is ∙ inv.same (sym w.found-is ∙ f);
-        fewer = λ t. subst (λ (xs : List ℕ). far_of FAR xs < far_of FAR old) (sym w.distances-is) (inv.fewer (sym w.found-is ∙ t));
+        fewer = λ t. subst (λ (xs : List ℕ). far_of FAR xs < far_of FAR old) (sym w.distances-is)
+            (inv.fewer (sym w.found-is ∙ t));
       }
     ]
 
 pub returns-clause-spread : goal.returns-clause-spread
 returns-clause-spread c = λ v so.
     let inv = c.loop-edge.invariant in
-    spread-told c.args.edges.now FAR v c.args.round c.loop-edge.edge-index c.args.distances.now c.loop-edge.distances c.loop-edge.found (inv.spread v so) c.loop-edge-test.false
+    spread-told c.args.edges.now FAR v c.args.round c.loop-edge.edge-index c.args.distances.now c.loop-edge.distances
+    c.loop-edge.found (inv.spread v so) c.loop-edge-test.false
     c.requires.round so inv.same (subst (λ (n : ℕ). All (JoinsNodes n) c.args.edges.now) (sym inv.size) c.requires.ends)

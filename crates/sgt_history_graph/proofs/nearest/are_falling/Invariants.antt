@@ -4,4 +4,5 @@ use Rattle.sgt_history_graph.specs.declared.edge.Edge.{Edge}
 use Rattle.sgt_history_graph.proofs.nearest.are_falling.Given as goal
 
 abbrev pub invariant-loop-edge : goal.invariant-loop-edge
-invariant-loop-edge l = (k : ℕ) (e : Edge) → k < l.edge-index → slice_get l.edges k ≡ Some e → slice_index l.ranks e.to ≤ slice_index l.ranks e.from
+invariant-loop-edge l = (k : ℕ) (e : Edge) → k < l.edge-index → slice_get l.edges k ≡ Some e
+    → slice_index l.ranks e.to ≤ slice_index l.ranks e.from

@@ -4,7 +4,9 @@ use Rattle.sgt_history_graph.proofs.Placing.{counted-none, counted-next, count-b
 use Rattle.sgt_history_graph.proofs.sorting.counts_of.Goals as goal
 
 pub counting-init : goal.counting-init
-counting-init c = counted-none c.args.nodes c.in_ok-counts.counts.items (c.in_ok-counts.ensures.items_if_clones_equal (λ y same. same))
+counting-init c =
+    counted-none c.args.nodes c.in_ok-counts.counts.items
+    (c.in_ok-counts.ensures.items_if_clones_equal (λ y same. same))
 
 pub overflow_add-index_mut : goal.overflow_add-index_mut
 overflow_add-index_mut c =
@@ -18,5 +20,6 @@ overflow_add-index_mut c =
 
 pub counting-preserved : goal.counting-preserved
 counting-preserved c =
-    counted-next c.args.nodes c.args.edges.now c.counting.edge-index c.counting.counts.items (record { from = 0; to = 0 }) c.index_mut.result.now c.counting.invariant c.counting-test.true
+    counted-next c.args.nodes c.args.edges.now c.counting.edge-index c.counting.counts.items
+    (record { from = 0; to = 0 }) c.index_mut.result.now c.counting.invariant c.counting-test.true
     (c.requires c.counting.edge-index (record { from = 0; to = 0 }) c.counting-test.true).1 c.index_mut.ensures.value

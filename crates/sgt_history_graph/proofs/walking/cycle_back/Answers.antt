@@ -19,7 +19,8 @@ back-preserved c =
       length-set c.back.met.items here true ∙ inv.0,
       c.requires.closed here inv.1,
       met-more c.back.met.items c.back.walk.items c.push.new.self.items here inv.2 pushed within,
-      subst (λ (xs : List ℕ). IsTrail R xs (slice_index sources here)) (sym pushed) (trail-push R c.back.walk.items here (slice_index sources here) inv.3 (inv.1, refl)),
+      subst (λ (xs : List ℕ). IsTrail R xs (slice_index sources here)) (sym pushed)
+          (trail-push R c.back.walk.items here (slice_index sources here) inv.3 (inv.1, refl)),
     )
 
 pub turned-requires : goal.turned-requires
@@ -28,7 +29,10 @@ turned-requires c =
     let inv = c.back.invariant in
     let within : here < length c.back.met.items = omega (arith, waiting-within c.args.waits.now here inv.1, inv.0) in
     let read = get_or_read c.back.met.items here c.index.result.now within c.index.ensures false in
-    record { met = subst (λ (xs : List ℕ). Contains xs here) (sym c.as_slice.ensures.value) (inv.2 here (sym read ∙ c.back-test.false)) }
+    record {
+      met = subst (λ (xs : List ℕ). Contains xs here) (sym c.as_slice.ensures.value)
+          (inv.2 here (sym read ∙ c.back-test.false));
+    }
 
 pub returns : goal.returns
 returns c =
@@ -36,8 +40,11 @@ returns c =
     let here = c.back.here in
     let waits = c.args.waits.now in
     let sources = c.args.sources.now in
-    let trail = subst (λ (xs : List ℕ). IsTrail (λ x y. IsSource waits sources y x) xs here) (sym c.as_slice.ensures.value) c.back.invariant.3 in
-    IfOk-weaker c.turned.result (λ (part : Vec ℕ Global). (at : ℕ) × (slice_get walk at ≡ Some here) × (part.items ≡ reverse (drop at walk)))
+    let trail = subst (λ (xs : List ℕ). IsTrail (λ x y. IsSource waits sources y x) xs here)
+    (sym c.as_slice.ensures.value) c.back.invariant.3 in
+    IfOk-weaker c.turned.result (λ (part : Vec ℕ Global). (at : ℕ) × (slice_get walk at ≡ Some here)
+    × (part.items ≡ reverse (drop at walk)))
     (λ (cycle : Vec ℕ Global). IsCycle (IsSource waits sources) cycle.items)
-    (λ part (at, there, is). subst (IsCycle (IsSource waits sources)) (sym is) (turned-cycle (IsSource waits sources) walk at here trail there))
+    (λ part (at, there, is). subst (IsCycle (IsSource waits sources)) (sym is)
+    (turned-cycle (IsSource waits sources) walk at here trail there))
     c.turned.ensures

@@ -13,6 +13,7 @@ returns-clause-some c =
     let goes : (a b : ℕ) → R a b → Goes edges a b = λ a b (some, is).
     let from = c.requires.led b some in
     let led = c.in_ok-sources.ensures.sources from.0 b from.1 from.2 in
-    let same : slice_index c.in_ok-sources.sources.items b ≡ a = ap (λ (xs : List ℕ). slice_index xs b) (sym c.as_slice.ensures.value) ∙ is in
+    let same : slice_index c.in_ok-sources.sources.items b ≡ a =
+    ap (λ (xs : List ℕ). slice_index xs b) (sym c.as_slice.ensures.value) ∙ is in
     subst (λ (x : ℕ). Goes edges x b) same led.0 in
     cycle-weaker R (Goes edges) goes c.in_ok-cycle.cycle.items c.in_ok-cycle.ensures

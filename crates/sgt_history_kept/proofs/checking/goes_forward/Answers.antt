@@ -17,8 +17,10 @@ returns c =
     let edges = c.args.edges.now in
     let places = c.in-Some.places.items in
     let are = rw c.in-Some.is at c.in_ok-places.ensures in
-    let onward = subst (λ (ps : List (Option ℕ)). All (LeadsOn ps) edges) c.as_slice.ensures.value (c.all_lead_on.ensures c.if-not-all_lead_on.false) in
-    let in_time = subst (λ (ts : List (Option Times)). KeepsRealTime order ts) c.as_slice-2.ensures.value (c.keeps_real_time.ensures.0 c.if-not-keeps_real_time.false) in
+    let onward = subst (λ (ps : List (Option ℕ)). All (LeadsOn ps) edges) c.as_slice.ensures.value
+    (c.all_lead_on.ensures c.if-not-all_lead_on.false) in
+    let in_time = subst (λ (ts : List (Option Times)). KeepsRealTime order ts) c.as_slice-2.ensures.value
+    (c.keeps_real_time.ensures.0 c.if-not-keeps_real_time.false) in
     IfOk-weaker c.keeps_sessions.result (λ (keeps : Bool). IsTrue keeps ↔ KeepsSessions order c.as_slice-3.result.now)
     (λ (yes : Bool). IsTrue yes → (h : List (Transaction ℕ ℕ)) → IsKeptFrom h n edges a → GoesForward h a order)
     (λ keeps exact yes h from. checked-forward h n edges a from order places are onward in_time

@@ -10,7 +10,10 @@ loop-at-preserved c =
     let d : Edge = record { from = 0; to = 0 } in
     let edges = c.args.edges.now in
     let at = c.loop-at.at in
-    All-next (LeadsOn c.args.places.now) edges at (get_or edges at d) (slice_get-get_or edges at d c.loop-at-test.true) (c.leads_on.ensures c.if-not-leads_on.false) c.loop-at.invariant
+    All-next (LeadsOn c.args.places.now) edges at (get_or edges at d)
+    (slice_get-get_or edges at d c.loop-at-test.true) (c.leads_on.ensures c.if-not-leads_on.false)
+    c.loop-at.invariant
 
 pub returns : goal.returns
-returns c = λ yes. All-whole (LeadsOn c.args.places.now) c.args.edges.now c.loop-at.at c.loop-at-test.false c.loop-at.invariant
+returns c = λ yes. All-whole (LeadsOn c.args.places.now) c.args.edges.now c.loop-at.at c.loop-at-test.false
+    c.loop-at.invariant

@@ -5,5 +5,8 @@ use Rattle.sgt_history_kept.proofs.places.places_of.Goals as goal
 
 pub returns : goal.returns
 returns c =
-    let all = subst (λ (l : List (Option ℕ)). AllPlaced l) c.as_slice.ensures.value (c.all_placed.ensures c.if-not-all_placed.false) in
-    places-whole c.args.order.now c.loop-at.places.items c.args.lines c.loop-at.at c.loop-at-test.false c.loop-at.invariant.size all c.loop-at.invariant.kept
+    let all =
+    subst (λ (l : List (Option ℕ)). AllPlaced l) c.as_slice.ensures.value
+    (c.all_placed.ensures c.if-not-all_placed.false) in
+    places-whole c.args.order.now c.loop-at.places.items c.args.lines c.loop-at.at c.loop-at-test.false
+    c.loop-at.invariant.size all c.loop-at.invariant.kept

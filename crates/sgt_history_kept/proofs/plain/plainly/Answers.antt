@@ -11,7 +11,8 @@ pub order-requires-clause-ends : goal.order-requires-clause-ends
 order-requires-clause-ends c =
     let base = subst (All (JoinsNodes c.args.lines)) (sym c.in_ok-all.ensures.items) c.requires.ends in
     subst (All (JoinsNodes c.args.lines)) (sym c.as_slice.ensures.value)
-    (rows-join c.args.asked.now c.args.lines c.in_ok-all.all.items c.push_rows.new.edges.items c.in_ok-push_rows.ensures base)
+    (rows-join c.args.asked.now c.args.lines c.in_ok-all.all.items c.push_rows.new.edges.items
+    c.in_ok-push_rows.ensures base)
 
 pub returns-in-Order : goal.returns-in-Order
 returns-in-Order c = λ h from.
@@ -20,9 +21,11 @@ returns-in-Order c = λ h from.
     let edges = c.args.edges.now in
     let all = c.as_slice.result.now in
     let adds = subst (λ (old : List Edge). Adds (IsInRows a n n) old all) c.in_ok-all.ensures.items
-    (subst (λ (new : List Edge). Adds (IsInRows a n n) c.in_ok-all.all.items new) (sym c.as_slice.ensures.value) c.in_ok-push_rows.ensures) in
+    (subst (λ (new : List Edge). Adds (IsInRows a n n) c.in_ok-all.all.items new) (sym c.as_slice.ensures.value)
+    c.in_ok-push_rows.ensures) in
     let o = subst (IsOrdered n all) c.in-Order.is c.in_ok-order.ensures in
-    forward-serves h n edges a from c.in-Order.order.items (plain-forward h n edges a from all adds c.in-Order.order.items o)
+    forward-serves h n edges a from c.in-Order.order.items
+    (plain-forward h n edges a from all adds c.in-Order.order.items o)
 
 pub returns : goal.returns
 returns c = λ h from.
@@ -31,6 +34,7 @@ returns c = λ h from.
     let edges = c.args.edges.now in
     let all = c.as_slice.result.now in
     let adds = subst (λ (old : List Edge). Adds (IsInRows a n n) old all) c.in_ok-all.ensures.items
-    (subst (λ (new : List Edge). Adds (IsInRows a n n) c.in_ok-all.all.items new) (sym c.as_slice.ensures.value) c.in_ok-push_rows.ensures) in
+    (subst (λ (new : List Edge). Adds (IsInRows a n n) c.in_ok-all.all.items new) (sym c.as_slice.ensures.value)
+    c.in_ok-push_rows.ensures) in
     let is = subst (IsOrdered n all) c.in-Cycle.is c.in_ok-order.ensures in
     plain-cycle h n edges a from all adds c.in-Cycle.cycle.items is

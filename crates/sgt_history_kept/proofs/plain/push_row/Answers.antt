@@ -12,4 +12,5 @@ loop-to-preserved c = c.in_ok-push_asked.ensures c.args.edges.now.items c.loop-t
 pub returns : goal.returns
 returns c =
     let same : c.loop-to.to ≡ c.args.lines = omega (arith, c.loop-to-test.false, c.loop-to.auto.to-end) in
-    subst (λ (n : ℕ). Adds (IsInRow c.args.asked.now c.args.from n) c.args.edges.now.items c.loop-to.edges.items) same c.loop-to.invariant
+    subst (λ (n : ℕ). Adds (IsInRow c.args.asked.now c.args.from n) c.args.edges.now.items c.loop-to.edges.items) same
+    c.loop-to.invariant

@@ -10,7 +10,8 @@ use Rattle.sgt_history_kept.proofs.round.is_round.Goals as goal
 
 not-empty : (n : ℕ) (r : Bool) → r ≡ (n == 0) → r ≡ false → 0 < n
 not-empty n r is unlike = elim (cases_eq n 0) [
-  | inl e ↦ let f : (n == 0) ≡ false = sym is ∙ unlike in let t : (n == 0) ≡ true = ap (λ k. k == 0) e in let g = sym t ∙ f in cc
+  | inl e ↦ let f : (n == 0) ≡ false = sym is ∙ unlike in let t : (n == 0) ≡ true = ap (λ k. k == 0) e in let g =
+      sym t ∙ f in cc
   | inr other ↦ omega (arith, other)
 ]
 
@@ -20,9 +21,12 @@ loop-place-preserved c =
     let cycle = c.args.cycle.now in
     let a = c.args.asked.now in
     let place = c.loop-place.place in
-    let joined = subst (λ (l : List (Option ℕ)). AreJoined edges l) (sym c.as_slice-in-loop-place.ensures.value) c.in_ok-joined.ensures in
-    leads-next (λ x y. Goes edges x y ⊎ IsAskedBefore a x y) cycle place (get_or cycle place 0) c.line_behind-next.result c.loop-place.invariant
-    (slice_get-get_or cycle place 0 c.loop-place-test.true) c.line_behind-next.ensures (c.leads.ensures c.if-not-leads.false edges joined)
+    let joined = subst (λ (l : List (Option ℕ)). AreJoined edges l) (sym c.as_slice-in-loop-place.ensures.value)
+    c.in_ok-joined.ensures in
+    leads-next (λ x y. Goes edges x y ⊎ IsAskedBefore a x y) cycle place (get_or cycle place 0)
+    c.line_behind-next.result c.loop-place.invariant
+    (slice_get-get_or cycle place 0 c.loop-place-test.true) c.line_behind-next.ensures
+    (c.leads.ensures c.if-not-leads.false edges joined)
 
 pub returns : goal.returns
 returns c = λ yes h lines from.

@@ -12,4 +12,6 @@ loop-at-preserved c =
     let d : Edge = record { from = 0; to = 0 } in
     let edges = c.args.edges.now in
     let at = c.loop-at.at in
-    c.note.ensures edges (Contains-from_at edges at (get_or edges at d) (slice_get-get_or edges at d c.loop-at-test.true)) c.loop-at.invariant
+    c.note.ensures edges
+    (Contains-from_at edges at (get_or edges at d) (slice_get-get_or edges at d c.loop-at-test.true))
+    c.loop-at.invariant

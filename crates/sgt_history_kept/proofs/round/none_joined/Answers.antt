@@ -7,4 +7,6 @@ pub lines-init : goal.lines-init
 lines-init c edges = subst (AreJoined edges) (sym c.in_ok-joined.ensures.items) (joined-nil edges)
 
 pub lines-preserved : goal.lines-preserved
-lines-preserved c edges = subst (AreJoined edges) (sym c.in_ok-push.ensures.items) (joined-push edges c.lines.joined.items (c.lines.invariant edges))
+lines-preserved c edges =
+    subst (AreJoined edges) (sym c.in_ok-push.ensures.items)
+    (joined-push edges c.lines.joined.items (c.lines.invariant edges))

@@ -11,7 +11,13 @@ push_plain-requires c = c.requires c.loop-operation.operation-index _ c.loop-ope
 
 pub loop-operation-preserved : goal.loop-operation-preserved
 loop-operation-preserved c = λ ids h ps built each.
-    let none : TextOperation = record { version = 0; item = record { ref_ptr = (0, 0); now = [] }; kind = Read; value = None } in
+    let none : TextOperation = record {
+      version = 0;
+      item = record { ref_ptr = (0, 0); now = [] };
+      kind =
+          Read;
+      value = None;
+    } in
     let os = c.args.operations.now in
     let n = c.loop-operation.operation-index in
     let at = means_at os ps each n _ (slice_get-get_or os n none c.loop-operation-test.true) in
@@ -20,5 +26,6 @@ loop-operation-preserved c = λ ids h ps built each.
 
 pub returns : goal.returns
 returns c = λ ids h ps built each.
-    subst (λ l. IsBuilt c.loop-operation.builder ids h l) (means_all c.args.operations.now ps each c.loop-operation.operation-index c.loop-operation-test.false)
+    subst (λ l. IsBuilt c.loop-operation.builder ids h l)
+    (means_all c.args.operations.now ps each c.loop-operation.operation-index c.loop-operation-test.false)
     (c.loop-operation.invariant ids h ps built each)

@@ -7,5 +7,6 @@ use Rattle.sgt_history_text.specs.Plain.{MeanEach}
 use Rattle.sgt_history_text.proofs.building.push_all_plain.Given as goal
 
 abbrev pub invariant-loop-operation : goal.invariant-loop-operation
-invariant-loop-operation l = (ids : List Json) (h : List (Transaction Json Json)) (ps : List (Operation Json Json)) → IsBuilt l.initial.builder ids h []
+invariant-loop-operation l = (ids : List Json) (h : List (Transaction Json Json)) (ps : List (Operation Json Json))
+    → IsBuilt l.initial.builder ids h []
     → MeanEach l.operations ps → IsBuilt l.builder ids h (take l.operation-index ps)

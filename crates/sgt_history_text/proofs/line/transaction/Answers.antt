@@ -9,5 +9,6 @@ pub returns-in_default-2 : goal.returns-in_default-2
 returns-in_default-2 c = λ id t is.
     let none = rw c.in_default-2.is at c.in_ok-operations.ensures in
     none t.operations is.each
-    (same_elements (seen c.in-Some-get-2.ops) _ (map value_view c.in-Some-elements.list.now) (map operation_json t.operations)
+    (same_elements (seen c.in-Some-get-2.ops) _ (map value_view c.in-Some-elements.list.now)
+    (map operation_json t.operations)
     c.in-Some-elements.ensures c.in-Some-get-2.ensures is.ops)

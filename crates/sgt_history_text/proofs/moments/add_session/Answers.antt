@@ -10,6 +10,8 @@ pub returns : goal.returns
 returns c = λ entries s.
     let texts = c.number_given.new.names in
     let entry = renamed_value seen c.args.entry in
-    subst (λ (b : Bool). AreSessions texts c.push.new.self.items (with_entry b entries entry)) (sym c.if-not-wanted.false)
+    subst (λ (b : Bool). AreSessions texts c.push.new.self.items (with_entry b entries entry))
+    (sym c.if-not-wanted.false)
     (subst (λ (ns : List (Option ℕ)). AreSessions texts ns (entries ++ entry ∷ [])) (sym c.in_ok-push.ensures.items)
-    (sessions-push c.args.names.now texts c.args.sessions.now.items entries c.in_ok-number.number entry s (c.in_ok-number.ensures s.names s.kept)))
+    (sessions-push c.args.names.now texts c.args.sessions.now.items entries c.in_ok-number.number entry s
+    (c.in_ok-number.ensures s.names s.kept)))

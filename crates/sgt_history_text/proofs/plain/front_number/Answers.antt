@@ -7,5 +7,9 @@ use Rattle.sgt_history_text.proofs.plain.front_number.Goals.{then-n-gt1, else-n-
 pub returns : goal.returns
 returns c =
     let read = c.read_digits-n.ensures in
-    fronts.front_number c.args.bytes.now _ _ _ (omega (arith, read.end)) read.value (omega arith) c.if-n-gt19.false read.within
-    (elim c.if-n-gt1.branch [ then-n-gt1 w ↦ λ z. absurd (eqb-false _ 48 (sym w.value-is ∙ c.if-bytes-eq48.false) z) | else-n-gt1 w ↦ λ _. w.if-n-gt1.false ])
+    fronts.front_number c.args.bytes.now _ _ _ (omega (arith, read.end)) read.value (omega arith) c.if-n-gt19.false
+    read.within
+    (elim c.if-n-gt1.branch [
+      | then-n-gt1 w ↦ λ z. absurd (eqb-false _ 48 (sym w.value-is ∙ c.if-bytes-eq48.false) z)
+      | else-n-gt1 w ↦ λ _. w.if-n-gt1.false
+    ])

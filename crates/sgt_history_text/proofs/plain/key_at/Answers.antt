@@ -3,7 +3,8 @@ use Rattle.sgt_history_text.proofs.plain.key_at.Goals as goal
 
 pub returns-in-Some : goal.returns-in-Some
 returns-in-Some c =
-    written_key c.args.bytes.now _ c.args.from c.in-Some.to c.in_ok-between.ensures c.args.least c.args.most c.in-Some.length
+    written_key c.args.bytes.now _ c.args.from c.in-Some.to c.in_ok-between.ensures c.args.least c.args.most
+    c.in-Some.length
     (c.is_within.ensures.0 c.if-not-is_within.false) c.in-Some.ensures
 
 pub returns : goal.returns

@@ -8,7 +8,8 @@ use Rattle.sgt_history_text.proofs.reading.read_lines.Goals as goal
 
 pub lines-init : goal.lines-init
 lines-init g c = (
-  goes-none _ _ c.args.lines.now _ _ c.requires.none c.requires.no_moments (ap (λ (a : Ahead). a.held) c.requires.fresh),
+  goes-none _ _ c.args.lines.now _ _ c.requires.none c.requires.no_moments
+      (ap (λ (a : Ahead). a.held) c.requires.fresh),
   refl,
   spends-none _ _ _ (ap (λ (a : Ahead). a.reads) c.requires.fresh),
   omega (arith, ap (λ (a : Ahead). a.reads) c.requires.fresh),
@@ -61,7 +62,8 @@ pub returns-in-Ok-TooLong-clause-stops : goal.returns-in-Ok-TooLong-clause-stops
 returns-in-Ok-TooLong-clause-stops g c =
     let gave = rw c.in-Ok-TooLong.field-0-is at c.in-Ok-TooLong.ensures.ok in
     let goes = c.lines.invariant.0 in
-    stops-long _ _ _ c.lines.builder c.lines.moments _ goes (c.next_line-number.ensures goes.ids goes.h goes.built) _ _ gave.gives
+    stops-long _ _ _ c.lines.builder c.lines.moments _ goes (c.next_line-number.ensures goes.ids goes.h goes.built) _
+    _ gave.gives
 
 pub returns-in-Ok-End-clause-stops : goal.returns-in-Ok-End-clause-stops
 returns-in-Ok-End-clause-stops g c =

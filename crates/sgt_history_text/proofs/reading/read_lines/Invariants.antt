@@ -5,7 +5,8 @@ use Rattle.sgt_history_text.proofs.reading.read_lines.Given as goal
 
 abbrev pub invariant-lines : goal.invariant-lines
 invariant-lines g l =
-    Goes l.initial.moments.wanted (g.R.Source.tells l.initial.reader) (coming l.lines (g.R.Source.tells l.reader)) l.builder l.moments
+    Goes l.initial.moments.wanted (g.R.Source.tells l.initial.reader) (coming l.lines (g.R.Source.tells l.reader))
+    l.builder l.moments
     × (g.R.Source.failures l.reader ≡ g.R.Source.failures l.initial.reader)
     × Spends 4294967295 (g.R.Source.tells l.initial.reader) l.lines.reads (g.R.Source.tells l.reader)
     × (g.R.Source.asked l.reader + l.lines.reads ≡ g.R.Source.asked l.initial.reader + 4294967295)

@@ -19,7 +19,9 @@ pub returns-in_default-2 : goal.returns-in_default-2
 returns-in_default-2 c = λ w lines ids h built moments id t is.
     let text = rw c.in-Some.is at c.in_ok-value.ensures in
     let none = rw c.in_default-2.is at c.in_ok-lent.ensures in
-    none id t (subst (λ j. IsTransaction j id t) (sym text.2) (transaction_back text.0 id t (line_back c.args.line.now (object text.0) id t text.1 is.line_is)))
+    none id t
+    (subst (λ j. IsTransaction j id t) (sym text.2)
+    (transaction_back text.0 id t (line_back c.args.line.now (object text.0) id t text.1 is.line_is)))
 
 pub returns-in_default-moment : goal.returns-in_default-moment
 returns-in_default-moment c = λ w lines ids h built moments id t is.
@@ -29,7 +31,8 @@ returns-in_default-moment c = λ w lines ids h built moments id t is.
     let found : LacksMoment w commits (object (read_members text.0)) =
     subst (λ v. LacksMoment v commits (object (read_members text.0))) moments.wanted_is
     (subst (λ j. LacksMoment c.args.moments.now.wanted commits j) text.2 c.in_default-moment.ensures) in
-    let same = same_commits (object (read_members text.0)) id (seen c.in-Some-2.lent.id) t (seen_transaction c.in-Some-2.lent)
+    let same = same_commits (object (read_members text.0)) id (seen c.in-Some-2.lent.id) t
+    (seen_transaction c.in-Some-2.lent)
     (transaction_back text.0 id t (line_back c.args.line.now (object text.0) id t text.1 is.line_is))
     (subst (λ j. IsTransaction j (seen c.in-Some-2.lent.id) (seen_transaction c.in-Some-2.lent)) text.2 lent) in
     lacks c.args.line.now text.0 text.1 w id t commits same found is
@@ -46,17 +49,21 @@ returns-then-branch c = λ w lines ids h built moments.
     let id = seen c.in-Some-2.lent.id in
     let t = seen_transaction c.in-Some-2.lent in
     let m = c.in-Some-moment.moment in
-    let line = line_from c.args.line.now (object text.0) id t text.1 (transaction_on text.0 id t (subst (λ j. IsTransaction j id t) text.2 is)) in
+    let line =
+    line_from c.args.line.now (object text.0) id t text.1
+    (transaction_on text.0 id t (subst (λ j. IsTransaction j id t) text.2 is)) in
     let found : IsMoment w t.commits (object (read_members text.0)) m =
     subst (λ v. IsMoment v t.commits (object (read_members text.0)) m) moments.wanted_is
     (subst (λ j. IsMoment c.args.moments.now.wanted t.commits j m) text.2 c.in-Some-moment.ensures) in
-    let added = subst (λ b. IsAdded ids h id t c.add.new.builder b) c.if-branch.true (c.in_ok-add.ensures ids h built) in (
+    let added =
+    subst (λ b. IsAdded ids h id t c.add.new.builder b) c.if-branch.true (c.in_ok-add.ensures ids h built) in (
       id,
       t,
       line,
       added.0,
       added.1,
-      c.in_ok-add_moment.ensures w lines h c.args.line.now t moments (entry_times c.args.line.now text.0 text.1 w t.commits m found)
+      c.in_ok-add_moment.ensures w lines h c.args.line.now t moments
+          (entry_times c.args.line.now text.0 text.1 w t.commits m found)
           (entry_session c.args.line.now text.0 text.1 w t.commits m found),
     )
 
@@ -67,9 +74,12 @@ returns c = λ w lines ids h built moments.
     let id = seen c.in-Some-2.lent.id in
     let t = seen_transaction c.in-Some-2.lent in
     let m = c.in-Some-moment.moment in
-    let line = line_from c.args.line.now (object text.0) id t text.1 (transaction_on text.0 id t (subst (λ j. IsTransaction j id t) text.2 is)) in
+    let line =
+    line_from c.args.line.now (object text.0) id t text.1
+    (transaction_on text.0 id t (subst (λ j. IsTransaction j id t) text.2 is)) in
     let found : IsMoment w t.commits (object (read_members text.0)) m =
     subst (λ v. IsMoment v t.commits (object (read_members text.0)) m) moments.wanted_is
     (subst (λ j. IsMoment c.args.moments.now.wanted t.commits j m) text.2 c.in-Some-moment.ensures) in
-    let added = subst (λ b. IsAdded ids h id t c.add.new.builder b) c.if-branch.false (c.in_ok-add.ensures ids h built) in
+    let added =
+    subst (λ b. IsAdded ids h id t c.add.new.builder b) c.if-branch.false (c.in_ok-add.ensures ids h built) in
     (id, t, line_with c.args.line.now text.0 text.1 w t.commits m found id t refl line, added)

@@ -14,12 +14,14 @@ returns-in_err-token-clause-first c =
 pub returns-in-EndObject-clause-first : goal.returns-in-EndObject-clause-first
 returns-in-EndObject-clause-first c =
     let first : c.args.reader.now ≡ token_of c.in_ok-token.token ∷ c.next.new.self = grind arith in
-    no_value_at c.args.reader.now c.next.new.self end_object (first ∙ ap (λ k. token_of k ∷ c.next.new.self) c.in-EndObject.is) tt
+    no_value_at c.args.reader.now c.next.new.self end_object (first
+    ∙ ap (λ k. token_of k ∷ c.next.new.self) c.in-EndObject.is) tt
 
 pub returns-in-EndArray-clause-first : goal.returns-in-EndArray-clause-first
 returns-in-EndArray-clause-first c =
     let first : c.args.reader.now ≡ token_of c.in_ok-token.token ∷ c.next.new.self = grind arith in
-    no_value_at c.args.reader.now c.next.new.self end_array (first ∙ ap (λ k. token_of k ∷ c.next.new.self) c.in-EndArray.is) tt
+    no_value_at c.args.reader.now c.next.new.self end_array (first
+    ∙ ap (λ k. token_of k ∷ c.next.new.self) c.in-EndArray.is) tt
 
 pub returns-in-Bad-clause-first : goal.returns-in-Bad-clause-first
 returns-in-Bad-clause-first c =
@@ -29,4 +31,5 @@ returns-in-Bad-clause-first c =
 pub returns-in-Key-clause-first : goal.returns-in-Key-clause-first
 returns-in-Key-clause-first c =
     let first : c.args.reader.now ≡ token_of c.in_ok-token.token ∷ c.next.new.self = grind arith in
-    no_value_at c.args.reader.now c.next.new.self (key c.in-Key.field-0.now) (first ∙ ap (λ k. token_of k ∷ c.next.new.self) c.in-Key.is) tt
+    no_value_at c.args.reader.now c.next.new.self (key c.in-Key.field-0.now) (first
+    ∙ ap (λ k. token_of k ∷ c.next.new.self) c.in-Key.is) tt

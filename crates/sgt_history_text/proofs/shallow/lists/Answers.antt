@@ -6,24 +6,28 @@ use Rattle.sgt_history_text.proofs.shallow.lists.Goals as goal
 
 pub items-init : goal.items-init
 items-init c = (
-  subst (λ vs. Gathers (arrays leaf) c.args.reader.now c.args.reader.now vs) (sym c.new-found.ensures.items) (gathers_none (arrays leaf) c.args.reader.now),
+  subst (λ vs. Gathers (arrays leaf) c.args.reader.now c.args.reader.now vs) (sym c.new-found.ensures.items)
+      (gathers_none (arrays leaf) c.args.reader.now),
   omega arith,
 )
 
 pub returns-in_default-clause-read : goal.returns-in_default-clause-read
 returns-in_default-clause-read c =
     let fails = rw c.in_default.is at c.in_ok-value.ensures.read in
-    gathers_fails (arrays leaf) c.args.reader.now c.items.reader c.items.found.items c.items.invariant.0 c.take_end_array.new.self c.items-test.ensures fails
+    gathers_fails (arrays leaf) c.args.reader.now c.items.reader c.items.found.items c.items.invariant.0
+    c.take_end_array.new.self c.items-test.ensures fails
 
 pub items-preserved : goal.items-preserved
 items-preserved c =
     let reads = rw c.in-Some.is at c.in_ok-value.ensures.read in (
       subst (λ vs. Gathers (arrays leaf) c.args.reader.now c.list.new.reader vs) (sym c.in_ok-push.ensures.items)
-          (gathers_next (arrays leaf) c.args.reader.now c.items.reader c.items.found.items c.items.invariant.0 c.take_end_array.new.self c.list.new.reader c.in-Some.value
+          (gathers_next (arrays leaf) c.args.reader.now c.items.reader c.items.found.items c.items.invariant.0
+          c.take_end_array.new.self c.list.new.reader c.in-Some.value
           c.items-test.ensures reads),
       omega (arith, c.list.ensures.fewer, ap length c.items-test.ensures.1, c.items.invariant.1),
     )
 
 pub returns-clause-read : goal.returns-clause-read
 returns-clause-read c =
-    gathers_end (arrays leaf) c.args.reader.now c.items.reader c.items.found.items c.items.invariant.0 c.take_end_array.new.self _ c.items-test.ensures (view-Array c.items.found)
+    gathers_end (arrays leaf) c.args.reader.now c.items.reader c.items.found.items c.items.invariant.0
+    c.take_end_array.new.self _ c.items-test.ensures (view-Array c.items.found)

@@ -15,12 +15,14 @@ returns-in_err-token-clause-opened c =
 pub returns-in-EndObject-clause-opened : goal.returns-in-EndObject-clause-opened
 returns-in-EndObject-clause-opened c =
     let first : c.args.reader.now ≡ token_of c.in_ok-token.token ∷ c.next.new.self = grind arith in
-    no_value_at c.args.reader.now c.next.new.self end_object (first ∙ ap (λ k. token_of k ∷ c.next.new.self) c.in-EndObject.is) tt
+    no_value_at c.args.reader.now c.next.new.self end_object (first
+    ∙ ap (λ k. token_of k ∷ c.next.new.self) c.in-EndObject.is) tt
 
 pub returns-in-EndArray-clause-opened : goal.returns-in-EndArray-clause-opened
 returns-in-EndArray-clause-opened c =
     let first : c.args.reader.now ≡ token_of c.in_ok-token.token ∷ c.next.new.self = grind arith in
-    no_value_at c.args.reader.now c.next.new.self end_array (first ∙ ap (λ k. token_of k ∷ c.next.new.self) c.in-EndArray.is) tt
+    no_value_at c.args.reader.now c.next.new.self end_array (first
+    ∙ ap (λ k. token_of k ∷ c.next.new.self) c.in-EndArray.is) tt
 
 pub returns-in-Bad-clause-opened : goal.returns-in-Bad-clause-opened
 returns-in-Bad-clause-opened c =
@@ -30,7 +32,8 @@ returns-in-Bad-clause-opened c =
 pub returns-in-Key-clause-opened : goal.returns-in-Key-clause-opened
 returns-in-Key-clause-opened c =
     let first : c.args.reader.now ≡ token_of c.in_ok-token.token ∷ c.next.new.self = grind arith in
-    no_value_at c.args.reader.now c.next.new.self (key c.in-Key.field-0.now) (first ∙ ap (λ k. token_of k ∷ c.next.new.self) c.in-Key.is) tt
+    no_value_at c.args.reader.now c.next.new.self (key c.in-Key.field-0.now) (first
+    ∙ ap (λ k. token_of k ∷ c.next.new.self) c.in-Key.is) tt
 
 pub returns-in-String-clause-opened : goal.returns-in-String-clause-opened
 returns-in-String-clause-opened c =

@@ -7,9 +7,12 @@ use Rattle.sgt_history_text.proofs.shallow.table.Goals as goal
 pub returns-in-Some-Object-clause-read : goal.returns-in-Some-Object-clause-read
 returns-in-Some-Object-clause-read c =
     let first = rw c.in-Some-Object.field-0-is at c.in-Some-Object.ensures.first in
-    IfOk-weaker c.passed.result _ _ (λ found h. found_object c.args.reader.now c.first_of.new.reader c.passed.new.reader (arrays (arrays leaf)) (λ ms. refl) first found h) c.passed.ensures.passes
+    IfOk-weaker c.passed.result _ _
+    (λ found h. found_object c.args.reader.now c.first_of.new.reader c.passed.new.reader (arrays (arrays leaf))
+    (λ ms. refl) first found h) c.passed.ensures.passes
 
 pub returns-in-Some-Array-clause-read : goal.returns-in-Some-Array-clause-read
 returns-in-Some-Array-clause-read c =
     let first = rw c.in-Some-Array.field-0-is at c.in-Some-Array.ensures.first in
-    IfOk-weaker c.lists.result _ _ (λ found h. found_items c.args.reader.now c.first_of.new.reader c.lists.new.reader (arrays leaf) first found h) c.lists.ensures.read
+    IfOk-weaker c.lists.result _ _ (λ found h. found_items c.args.reader.now c.first_of.new.reader c.lists.new.reader
+    (arrays leaf) first found h) c.lists.ensures.read

@@ -33,4 +33,5 @@ loop-tried-preserved c =
     below_more _ _ c.loop-tried.invariant
     (passed_here c.args.names.now slots c.args.text.now c.loop-tried.tried _ c.requires.known
     (probe_is slots c.args.text.now c.hash.result c.loop-tried.tried c.hash.ensures)
-    (slot-within slots _ c.requires.some) c.if-taken-eq0.false (λ e. false≢true (sym c.if-is_at.false ∙ c.is_at.ensures.1 e)))
+    (slot-within slots _ c.requires.some) c.if-taken-eq0.false (λ e. false≢true (sym c.if-is_at.false
+    ∙ c.is_at.ensures.1 e)))

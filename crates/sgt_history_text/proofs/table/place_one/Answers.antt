@@ -9,11 +9,14 @@ returns-in-At-clause-found c =
 pub returns-in-Free-clause-found : goal.returns-in-Free-clause-found
 returns-in-Free-clause-found c =
     rw c.occupy.ensures
-    (found-with_slot c.args.number c.args.names.now c.args.slots.now c.args.more.now c.get-text.result.now c.in-Free.slot
+    (found-with_slot c.args.number c.args.names.now c.args.slots.now c.args.more.now c.get-text.result.now
+    c.in-Free.slot
     c.get-text.ensures c.requires.found c.in-Free.ensures)
 
 pub returns-in_ok-insert_besides-in-Crowded-clause-found : goal.returns-in_ok-insert_besides-in-Crowded-clause-found
 returns-in_ok-insert_besides-in-Crowded-clause-found c =
-    found-with_besides c.args.number c.args.names.now c.args.slots.now c.args.more.now c.insert_besides.new.more c.get-text.result.now
-    c.requires.once c.get-text.ensures c.in_ok-insert_besides-in-Crowded.ensures.others c.requires.found c.in-Crowded.ensures
+    found-with_besides c.args.number c.args.names.now c.args.slots.now c.args.more.now c.insert_besides.new.more
+    c.get-text.result.now
+    c.requires.once c.get-text.ensures c.in_ok-insert_besides-in-Crowded.ensures.others c.requires.found
+    c.in-Crowded.ensures
     c.in_ok-insert_besides-in-Crowded.ensures.ok

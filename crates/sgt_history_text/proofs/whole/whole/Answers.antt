@@ -6,7 +6,8 @@ use Rattle.sgt_history_text.proofs.whole.whole.Goals as goal
 
 pub returns-in_default : goal.returns-in_default
 returns-in_default c = λ (n, fits, e).
-    c.in_default.not-Ok n (parse-decimal 64 n c.args.text.now c.parse.result (omega arith) fits e c.parse.ensures.value.0)
+    c.in_default.not-Ok n
+    (parse-decimal 64 n c.args.text.now c.parse.result (omega arith) fits e c.parse.ensures.value.0)
 
 pub returns-else-eq : goal.returns-else-eq
 returns-else-eq c = λ (n, fits, e).

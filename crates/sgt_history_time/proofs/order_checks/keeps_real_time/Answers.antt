@@ -18,7 +18,12 @@ loop-at-preserved c =
     let order = c.args.order.now in
     let at = c.loop-at.at in
     let passes = rw c.in-Some.is at c.latest_with.ensures.some in
-    in_time-next order c.args.times.now at c.loop-at.latest (get_or order at 0) c.in-Some.next c.loop-at.invariant (slice_get-get_or order at 0 c.loop-at-test.true) passes
+    in_time-next order c.args.times.now at c.loop-at.latest (get_or order at 0) c.in-Some.next c.loop-at.invariant
+    (slice_get-get_or order at 0 c.loop-at-test.true) passes
 
 pub returns : goal.returns
-returns c = (λ yes. in_time-whole c.args.order.now c.args.times.now c.loop-at.at c.loop-at.latest c.loop-at-test.false c.loop-at.invariant, λ keeps. refl)
+returns c = (
+  λ yes. in_time-whole c.args.order.now c.args.times.now c.loop-at.at c.loop-at.latest c.loop-at-test.false
+      c.loop-at.invariant,
+  λ keeps. refl,
+)

@@ -9,7 +9,8 @@ returns-then-not-note c =
     let at = c.loop-at.at in
     let ahead = c.note.ensures.no (λ yes. let f = sym c.if-not-note.true ∙ yes in cc) in (
       λ yes. absurd cc,
-      λ keeps. absurd (in_sessions-ahead order c.args.sessions.now c.loop-at.last.items at (get_or order at 0) c.loop-at.invariant
+      λ keeps. absurd (in_sessions-ahead order c.args.sessions.now c.loop-at.last.items at (get_or order at 0)
+          c.loop-at.invariant
           (slice_get-get_or order at 0 c.loop-at-test.true) ahead keeps),
     )
 
@@ -18,8 +19,13 @@ loop-at-preserved c =
     let order = c.args.order.now in
     let at = c.loop-at.at in
     let noted = c.note.ensures.yes c.if-not-note.false in
-    in_sessions-next order c.args.sessions.now c.loop-at.last.items c.note.new.last.items at (get_or order at 0) c.loop-at.invariant
+    in_sessions-next order c.args.sessions.now c.loop-at.last.items c.note.new.last.items at (get_or order at 0)
+    c.loop-at.invariant
     (slice_get-get_or order at 0 c.loop-at-test.true) noted.0 noted.1
 
 pub returns : goal.returns
-returns c = (λ yes. in_sessions-whole c.args.order.now c.args.sessions.now c.loop-at.last.items c.loop-at.at c.loop-at-test.false c.loop-at.invariant, λ keeps. refl)
+returns c = (
+  λ yes. in_sessions-whole c.args.order.now c.args.sessions.now c.loop-at.last.items c.loop-at.at
+      c.loop-at-test.false c.loop-at.invariant,
+  λ keeps. refl,
+)

@@ -19,10 +19,12 @@ loop-pair-preserved c =
     let step = c.step_of-step.result in
     elim c.if-step-from.branch [
       | then-step-from+then-step-to w ↦ subst (IsBest touches pairs ranks (λ s. Leads s a b) (i + 1)) (sym w.best-is)
-          (best-hits touches pairs ranks (λ s. Leads s a b) i (get_or pairs i d) step at c.step_of-step.ensures c.loop-pair.best w.least.result c.loop-pair.invariant
+          (best-hits touches pairs ranks (λ s. Leads s a b) i (get_or pairs i d) step at c.step_of-step.ensures
+          c.loop-pair.best w.least.result c.loop-pair.invariant
           (w.if-step-from.true, w.if-step-to.true) w.least.ensures.one w.least.ensures.here w.least.ensures.old)
       | else-step-from w ↦ subst (IsBest touches pairs ranks (λ s. Leads s a b) (i + 1)) (sym w.best-is)
-          (best-misses touches pairs ranks (λ s. Leads s a b) i (get_or pairs i d) step at c.step_of-step.ensures c.loop-pair.best c.loop-pair.invariant
+          (best-misses touches pairs ranks (λ s. Leads s a b) i (get_or pairs i d) step at c.step_of-step.ensures
+          c.loop-pair.best c.loop-pair.invariant
           (λ leads. elim w.else-step-from.branch [
             | else-step-from-via-then-step-from+else-step-to v ↦ omega (arith, leads.1, v.if-step-to.false)
             | else-step-from-via-else-step-from v ↦ omega (arith, leads.0, v.if-step-from.false)
@@ -32,5 +34,7 @@ loop-pair-preserved c =
 pub returns : goal.returns
 returns c =
     let pairs = c.args.pairs.now in
-    let all : c.loop-pair.pair-index ≡ length pairs = omega (arith, c.loop-pair-test.false, c.loop-pair.auto.pair-index-end) in
-    subst (λ n. IsBest c.args.touches.now pairs c.args.ranks.now (λ s. Leads s c.args.lines.0 c.args.lines.1) n c.loop-pair.best) all c.loop-pair.invariant
+    let all : c.loop-pair.pair-index ≡ length pairs =
+    omega (arith, c.loop-pair-test.false, c.loop-pair.auto.pair-index-end) in
+    subst (λ n. IsBest c.args.touches.now pairs c.args.ranks.now (λ s. Leads s c.args.lines.0 c.args.lines.1) n
+    c.loop-pair.best) all c.loop-pair.invariant

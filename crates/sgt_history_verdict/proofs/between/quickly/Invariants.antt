@@ -6,5 +6,6 @@ use Rattle.sgt_history_verdict.proofs.LeastAlong.{AreBestTo}
 use Rattle.sgt_history_verdict.proofs.between.quickly.Given as goal
 
 abbrev pub invariant-loop-place : goal.invariant-loop-place
-invariant-loop-place l = (touches : List Touch) (pairs : List Edge) (ranks : List ℕ) → AreBest touches pairs ranks l.behind (length pairs) l.best
+invariant-loop-place l = (touches : List Touch) (pairs : List Edge) (ranks : List ℕ)
+    → AreBest touches pairs ranks l.behind (length pairs) l.best
     → AreBestTo touches pairs ranks l.lines l.place l.steps.items

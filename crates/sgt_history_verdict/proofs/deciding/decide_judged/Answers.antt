@@ -10,8 +10,11 @@ decide_faultless-requires-clause-from c =
     let lines = c.args.history.lines in
     let ops = c.args.history.operations.items in
     let h = cut 0 lines.items ops in
-    let touches = c.args.touches.items in
-    (h, subst (λ n. IsDecidedFrom h n touches) (sym (c.len.ensures ∙ lines.ok.0)) (decided-from lines.items ops touches c.args.history.positive c.requires))
+    let touches = c.args.touches.items in (
+      h,
+      subst (λ n. IsDecidedFrom h n touches) (sym (c.len.ensures ∙ lines.ok.0))
+          (decided-from lines.items ops touches c.args.history.positive c.requires),
+    )
 
 pub returns-clause-verdict : goal.returns-clause-verdict
 returns-clause-verdict c =
@@ -20,8 +23,10 @@ returns-clause-verdict c =
     let h = cut 0 lines.items ops in
     let touches = c.args.touches.items in
     c.in_ok-verdict.ensures h
-    (subst (λ n. IsDecidedFrom h n touches) (sym (c.len.ensures ∙ lines.ok.0)) (decided-from lines.items ops touches c.args.history.positive c.requires))
+    (subst (λ n. IsDecidedFrom h n touches) (sym (c.len.ensures ∙ lines.ok.0))
+    (decided-from lines.items ops touches c.args.history.positive c.requires))
 
 pub returns-clause-exact : goal.returns-clause-exact
 returns-clause-exact c =
-    exact (cut 0 c.args.history.lines.items c.args.history.operations.items) c.in_ok-verdict.verdict (returns-clause-verdict c)
+    exact (cut 0 c.args.history.lines.items c.args.history.operations.items) c.in_ok-verdict.verdict
+    (returns-clause-verdict c)

@@ -6,5 +6,6 @@ use Rattle.sgt_history_verdict.proofs.Stepping.{AreAlongTo}
 use Rattle.sgt_history_verdict.proofs.quick.kept_along.Given as goal
 
 abbrev pub invariant-loop-place : goal.invariant-loop-place
-invariant-loop-place l = (touches : List Touch) (pairs : List Edge) (ranks : List ℕ) (behind : List (Option ℕ)) → AreBest touches pairs ranks behind (length pairs) l.best
+invariant-loop-place l = (touches : List Touch) (pairs : List Edge) (ranks : List ℕ) (behind : List (Option ℕ))
+    → AreBest touches pairs ranks behind (length pairs) l.best
     → AreAlongTo touches pairs ranks l.lines l.place l.steps.items

@@ -6,7 +6,7 @@ use Rattle.sgt_input.proofs.reading.read_lines.Given as goal
 abbrev pub invariant-lines : goal.invariant-lines
 invariant-lines g l =
     Goes g.T.Taker.begins (g.T.Taker.took l.taker) (g.R.Source.tells l.initial.reader)
-        (coming l.lines (g.R.Source.tells l.reader)) l.number
+    (coming l.lines (g.R.Source.tells l.reader)) l.number
     × (g.R.Source.failures l.reader ≡ g.R.Source.failures l.initial.reader)
     × Spends 4294967295 (g.R.Source.tells l.initial.reader) l.lines.reads (g.R.Source.tells l.reader)
     × (l.number + most_left l.lines ≤ 281474976710656)

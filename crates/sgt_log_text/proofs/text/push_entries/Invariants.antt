@@ -7,4 +7,4 @@ use Rattle.sgt_log_text.proofs.text.push_entries.Given as goal
 abbrev pub invariant-loop-entry : goal.invariant-loop-entry
 invariant-loop-entry l =
     l.out.items ++ text_of_lines (map line_text (map Logged (drop l.entry-index l.entries))) ≡ l.fn.out.items
-        ++ text_of_lines (map line_text (map Logged l.entries))
+    ++ text_of_lines (map line_text (map Logged l.entries))

@@ -7,4 +7,4 @@ use Rattle.sgt_log_text.proofs.text.push_finals.Given as goal
 abbrev pub invariant-loop-item : goal.invariant-loop-item
 invariant-loop-item l =
     l.out.items ++ text_of_lines (map line_text (map Final (drop l.item-index l.finals))) ≡ l.fn.out.items
-        ++ text_of_lines (map line_text (map Final l.finals))
+    ++ text_of_lines (map line_text (map Final l.finals))

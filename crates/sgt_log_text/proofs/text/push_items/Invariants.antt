@@ -7,4 +7,4 @@ use Rattle.sgt_log_text.proofs.text.push_items.Given as goal
 abbrev pub invariant-loop-item : goal.invariant-loop-item
 invariant-loop-item l =
     l.out.items ++ text_of_lines (map line_text (map Initial (drop l.item-index l.items))) ≡ l.fn.out.items
-        ++ text_of_lines (map line_text (map Initial l.items))
+    ++ text_of_lines (map line_text (map Initial l.items))

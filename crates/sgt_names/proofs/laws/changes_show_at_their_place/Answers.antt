@@ -8,4 +8,6 @@ returns-clause-there c old new t rising changes = shown_there t changes.rest new
 
 pub returns-clause-others : goal.returns-clause-others
 returns-clause-others c old new t p apart changes =
-    ap (λ ts. touched_at ts p) changes.is ∙ shown_elsewhere t changes.rest p apart changes.front changes.there changes.place ∙ ap (λ ts. touched_at ts p) (sym changes.was)
+    ap (λ ts. touched_at ts p) changes.is
+    ∙ shown_elsewhere t changes.rest p apart changes.front changes.there changes.place
+    ∙ ap (λ ts. touched_at ts p) (sym changes.was)

@@ -7,5 +7,8 @@ use Rattle.sgt_names.proofs.touch_list.count_below.Goals as goal
 
 pub returns-clause-point : goal.returns-clause-point
 returns-clause-point c =
-    IsPartitionPoint-from_clause (λ (t : Touch). nat_lt t.site c.args.site) c.args.touched.now c.partition_point.result c.partition_point.ensures.partitioned
-    (IsPartitionedBy-ltb (λ (t : Touch). t.site) c.args.touched.now c.args.site (nondecreasing (λ (t : Touch). t.site) _ (sites-rise _ c.requires))) (λ a r g called. (search rules, search rules))
+    IsPartitionPoint-from_clause (λ (t : Touch). nat_lt t.site c.args.site) c.args.touched.now
+    c.partition_point.result c.partition_point.ensures.partitioned
+    (IsPartitionedBy-ltb (λ (t : Touch). t.site) c.args.touched.now c.args.site
+    (nondecreasing (λ (t : Touch). t.site) _ (sites-rise _ c.requires)))
+    (λ a r g called. (search rules, search rules))

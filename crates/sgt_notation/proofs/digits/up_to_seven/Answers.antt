@@ -5,5 +5,6 @@ use Rattle.sgt_notation.proofs.digits.up_to_seven.Goals as goal
 pub returns-clause-read : goal.returns-clause-read
 returns-clause-read c xs eight is few =
     let first = first_other xs _ eight is _ c.flags_from_ten-others.ensures (omega (arith, c.if-others-eq0.false)) in
-    let s = shifted_is xs _ c.keep_first.result eight (omega arith) (omega arith) (c.keep_first.ensures ∙ rw (lanes_are xs _ eight is)) in
+    let s = shifted_is xs _ c.keep_first.result eight (omega arith) (omega arith) (c.keep_first.ensures
+    ∙ rw (lanes_are xs _ eight is)) in
     (sym first.0, c.value_of_eight.ensures s.0 s.1 s.2 ∙ s.3)

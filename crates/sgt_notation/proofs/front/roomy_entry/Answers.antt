@@ -5,4 +5,6 @@ use Rattle.sgt_notation.proofs.Fronts.{room_found}
 use Rattle.sgt_notation.proofs.front.roomy_entry.Goals as goal
 
 pub returns-in-Some : goal.returns-in-Some
-returns-in-Some c = room_found IsLine (λ l. line_text l ++ ending c.args.wants_lf) c.args.bytes.now _ 64 c.front_entry.result c.in-Some.ensures.cases c.front_entry.ensures
+returns-in-Some c =
+    room_found IsLine (λ l. line_text l ++ ending c.args.wants_lf) c.args.bytes.now _ 64 c.front_entry.result
+    c.in-Some.ensures.cases c.front_entry.ensures

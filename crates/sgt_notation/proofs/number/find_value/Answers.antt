@@ -15,4 +15,6 @@ pub returns-else-bytes-eq1 : goal.returns-else-bytes-eq1
 returns-else-bytes-eq1 c = not_zeros c.args.bytes.now c.if-first-eq48.true (search rules)
 
 pub returns : goal.returns
-returns c = rw c.ok.ensures.value (parsed_or_not c.args.bytes.now c.parse_u64.result c.parse_u64.ensures c.if-first-eq43.false c.if-first-eq48.false)
+returns c =
+    rw c.ok.ensures.value (parsed_or_not c.args.bytes.now c.parse_u64.result c.parse_u64.ensures c.if-first-eq43.false
+    c.if-first-eq48.false)

@@ -7,6 +7,10 @@ use Rattle.sgt_notation.proofs.number.short_value.Goals.{then-n-gt1, else-n-gt1}
 pub returns : goal.returns
 returns c =
     let read = c.read_digits-n.ensures in
-    let found = front_number c.args.bytes.now _ _ _ (omega (arith, read.end)) read.value (omega arith) c.if-n-gt19.false read.within
-    (elim c.if-n-gt1.branch [ then-n-gt1 w ↦ λ z. absurd (eqb-false _ 48 (sym w.value-is ∙ c.if-bytes-eq48.false) z) | else-n-gt1 w ↦ λ _. w.if-n-gt1.false ]) in
+    let found = front_number c.args.bytes.now _ _ _ (omega (arith, read.end)) read.value
+    (omega arith) c.if-n-gt19.false read.within
+    (elim c.if-n-gt1.branch [
+      | then-n-gt1 w ↦ λ z. absurd (eqb-false _ 48 (sym w.value-is ∙ c.if-bytes-eq48.false) z)
+      | else-n-gt1 w ↦ λ _. w.if-n-gt1.false
+    ]) in
     (found.0, spans_whole c.args.bytes.now _ _ (omega arith) found.1)

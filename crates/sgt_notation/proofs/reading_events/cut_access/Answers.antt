@@ -8,7 +8,8 @@ returns-in_err-number c = rw c.from_residual.ensures (access-unopened _ c.in_err
 
 pub returns-in_err-inside : goal.returns-in_err-inside
 returns-in_err-inside c =
-    rw c.from_residual-in_err-inside.ensures (access-unclosed _ _ _ c.in_ok-number.ensures.some c.in_err-inside.ensures.none)
+    rw c.from_residual-in_err-inside.ensures
+    (access-unclosed _ _ _ c.in_ok-number.ensures.some c.in_err-inside.ensures.none)
 
 pub returns-then-not-is_empty : goal.returns-then-not-is_empty
 returns-then-not-is_empty c =
@@ -16,7 +17,8 @@ returns-then-not-is_empty c =
     (λ none. eqb-false _ 0 (sym c.is_empty.ensures ∙ c.if-not-is_empty.true) (ap length none))
 
 pub returns-in_err-tx : goal.returns-in_err-tx
-returns-in_err-tx c = rw c.from_residual-in_err-tx.ensures (access-not_tx _ _ _ c.in_ok-number.ensures.some c.in_err-tx.ensures)
+returns-in_err-tx c =
+    rw c.from_residual-in_err-tx.ensures (access-not_tx _ _ _ c.in_ok-number.ensures.some c.in_err-tx.ensures)
 
 pub returns-in_err-place : goal.returns-in_err-place
 returns-in_err-place c =

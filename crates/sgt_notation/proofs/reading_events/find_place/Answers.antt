@@ -7,7 +7,8 @@ use Rattle.sgt_notation.proofs.Pairs.{not_first, not_second, uncut}
 use Rattle.sgt_notation.proofs.reading_events.find_place.Goals as goal
 
 pub returns-in_err-number : goal.returns-in_err-number
-returns-in_err-number c = rw c.from_residual.ensures (uncut IsSite decimal 46 IsName (λ x. x) site-plain _ c.in_err-number.ensures.none)
+returns-in_err-number c =
+    rw c.from_residual.ensures (uncut IsSite decimal 46 IsName (λ x. x) site-plain _ c.in_err-number.ensures.none)
 
 pub returns-in_err-site : goal.returns-in_err-site
 returns-in_err-site c =

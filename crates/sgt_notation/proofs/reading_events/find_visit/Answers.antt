@@ -5,7 +5,8 @@ use Rattle.sgt_notation.proofs.Pairs.{not_first, not_second, uncut}
 use Rattle.sgt_notation.proofs.reading_events.find_visit.Goals as goal
 
 pub returns-in_err-number : goal.returns-in_err-number
-returns-in_err-number c = rw c.from_residual.ensures (uncut IsTx decimal 64 IsSite decimal visit-plain _ c.in_err-number.ensures.none)
+returns-in_err-number c =
+    rw c.from_residual.ensures (uncut IsTx decimal 64 IsSite decimal visit-plain _ c.in_err-number.ensures.none)
 
 pub returns-in_err-tx : goal.returns-in_err-tx
 returns-in_err-tx c =

@@ -15,10 +15,12 @@ pub returns-in_err-place : goal.returns-in_err-place
 returns-in_err-place c =
     rw c.from_residual-in_err-place.ensures
     (aim-inside _ _ _ c.in_ok-bracket.ensures.cases.0
-    (not_first IsPlace place_text 93 IsTail tail_text closed-plain _ _ _ c.in_ok-front.ensures.some c.in_err-place.ensures))
+    (not_first IsPlace place_text 93 IsTail tail_text closed-plain _ _ _ c.in_ok-front.ensures.some
+    c.in_err-place.ensures))
 
 pub returns-in_err-tail : goal.returns-in_err-tail
 returns-in_err-tail c =
     rw c.from_residual-in_err-tail.ensures
     (aim-inside _ _ _ c.in_ok-bracket.ensures.cases.0
-    (not_second IsPlace place_text 93 IsTail tail_text closed-plain _ _ _ c.in_ok-front.ensures.some c.in_err-tail.ensures))
+    (not_second IsPlace place_text 93 IsTail tail_text closed-plain _ _ _ c.in_ok-front.ensures.some
+    c.in_err-tail.ensures))

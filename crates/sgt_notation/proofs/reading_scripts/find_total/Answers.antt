@@ -12,9 +12,11 @@ returns-in_err-source c =
 pub returns-in_err-place : goal.returns-in_err-place
 returns-in_err-place c =
     rw c.from_residual-in_err-place.ensures
-    (not_first IsPlace place_text 43 IsValue decimal total-plain _ _ _ c.in_ok-source.ensures.some c.in_err-place.ensures)
+    (not_first IsPlace place_text 43 IsValue decimal total-plain _ _ _ c.in_ok-source.ensures.some
+    c.in_err-place.ensures)
 
 pub returns-in_err-value : goal.returns-in_err-value
 returns-in_err-value c =
     rw c.from_residual-in_err-value.ensures
-    (not_second IsPlace place_text 43 IsValue decimal total-plain _ _ _ c.in_ok-source.ensures.some c.in_err-value.ensures)
+    (not_second IsPlace place_text 43 IsValue decimal total-plain _ _ _ c.in_ok-source.ensures.some
+    c.in_err-value.ensures)

@@ -12,7 +12,8 @@ returns-in_err-holding-clause-none c =
 pub returns-then-not-may_follow-clause-none : goal.returns-then-not-may_follow-clause-none
 returns-then-not-may_follow-clause-none c =
     let left = behind-some _ _ c.in-Some.is ∙ c.first_word.ensures.words in
-    partly-no_more c.words.invariant _ _ left c.in_ok-holding.holding c.in_ok-holding.ensures.0 c.in_ok-holding.ensures.1
+    partly-no_more c.words.invariant _ _ left c.in_ok-holding.holding c.in_ok-holding.ensures.0
+    c.in_ok-holding.ensures.1
     (λ may. let t = c.may_follow.ensures.1 may in let f = c.if-not-may_follow.true in cc)
 
 pub words-smaller : goal.words-smaller
@@ -22,7 +23,8 @@ pub words-preserved : goal.words-preserved
 words-preserved c =
     let left = behind-some _ _ c.in-Some.is ∙ c.first_word.ensures.words in
     let may = c.may_follow.ensures.0 c.if-not-may_follow.false in
-    partly-next c.words.invariant _ _ left c.in_ok-holding.holding c.in_ok-holding.ensures.0 c.in_ok-holding.ensures.1 _ _ may (λ all.
+    partly-next c.words.invariant _ _ left c.in_ok-holding.holding c.in_ok-holding.ensures.0 c.in_ok-holding.ensures.1
+    _ _ may (λ all.
     elim c.if-is_err.branch [
       | then-is_err w ↦ let f = w.kept-is in absurd cc
       | else-is_err w ↦

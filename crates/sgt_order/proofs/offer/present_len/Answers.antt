@@ -15,13 +15,26 @@ overflow_add-count c =
 
 pub loop-edge-preserved : goal.loop-edge-preserved
 loop-edge-preserved c =
-    let here = element_at c.args.offered.now c.loop-edge.edge-index c.edge-item.result c.loop-edge-test.true c.edge-item.is in
+    let here = element_at c.args.offered.now c.loop-edge.edge-index c.edge-item.result c.loop-edge-test.true
+    c.edge-item.is in
     elim c.if-is_present.branch [
       | then-is_present w ↦
           let hit = sym c.is_present.ensures ∙ w.if-is_present.true in
-          let more = ap length (filter_hit (is_present c.args.generation) c.args.offered.now c.loop-edge.edge-index c.edge-item.result here hit) in
-          rw w.count-is (omega (arith, c.loop-edge.invariant, more, length_push (filter (is_present c.args.generation) (take c.loop-edge.edge-index c.args.offered.now)) c.edge-item.result))
+          let more =
+          ap length (filter_hit (is_present c.args.generation) c.args.offered.now c.loop-edge.edge-index
+          c.edge-item.result here hit) in
+          rw w.count-is
+          (omega (
+            arith,
+            c.loop-edge.invariant,
+            more,
+            length_push (filter (is_present c.args.generation) (take c.loop-edge.edge-index c.args.offered.now))
+                c.edge-item.result,
+          ))
       | else-is_present w ↦
           let miss = sym c.is_present.ensures ∙ w.if-is_present.false in
-          rw w.count-is (c.loop-edge.invariant ∙ ap length (sym (filter_miss (is_present c.args.generation) c.args.offered.now c.loop-edge.edge-index c.edge-item.result here miss)))
+          rw w.count-is (c.loop-edge.invariant
+          ∙ ap length
+          (sym (filter_miss (is_present c.args.generation) c.args.offered.now c.loop-edge.edge-index
+          c.edge-item.result here miss)))
     ]

@@ -9,7 +9,9 @@ returns-then-from-rows c over was =
     let rows = c.args.rows.now in
     let from = c.args.edge.now.from.index in
     let old : Row = get_or rows from c.index-rows-from.result in
-    rows_change rows from old c.add.new.row over c.args.edge.now (slice_get-get_or rows from c.index-rows-from.result (omega arith)) refl c.add.ensures.kept c.add.ensures.set was
+    rows_change rows from old c.add.new.row over c.args.edge.now
+    (slice_get-get_or rows from c.index-rows-from.result (omega arith)) refl c.add.ensures.kept c.add.ensures.set
+    was
 
 pub returns-else-from-rows : goal.returns-else-from-rows
 returns-else-from-rows c over was = rows_past c.args.rows.now over c.args.edge.now (omega arith) was

@@ -18,9 +18,11 @@ loop-edge-preserved c =
       | then-is_present w ↦
           let hit = sym c.is_present.ensures ∙ w.if-is_present.true in
           rw w.rows-is (λ over was.
-          subst (RowsCover w.add_edge.new.rows) (append_assoc over (filter p (take n offered)) (e ∷ []) ∙ ap (λ z. over ++ z) (sym (filter_hit p offered n e at hit)))
+          subst (RowsCover w.add_edge.new.rows) (append_assoc over (filter p (take n offered)) (e ∷ [])
+          ∙ ap (λ z. over ++ z) (sym (filter_hit p offered n e at hit)))
           (w.add_edge.ensures (over ++ filter p (take n offered)) (c.loop-edge.invariant over was)))
       | else-is_present w ↦
           let miss = sym c.is_present.ensures ∙ w.if-is_present.false in
-          rw w.rows-is (λ over was. subst (λ es. RowsCover c.loop-edge.rows (over ++ es)) (sym (filter_miss p offered n e at miss)) (c.loop-edge.invariant over was))
+          rw w.rows-is (λ over was. subst (λ es. RowsCover c.loop-edge.rows (over ++ es))
+          (sym (filter_miss p offered n e at miss)) (c.loop-edge.invariant over was))
     ]

@@ -6,4 +6,5 @@ use Rattle.sgt_order.specs.private.Rows.{RowsCover}
 use Rattle.sgt_order.proofs.rows.add_edges.Given as goal
 
 abbrev pub invariant-loop-edge : goal.invariant-loop-edge
-invariant-loop-edge l = (over : List Edge) → RowsCover l.initial.rows over → RowsCover l.rows (over ++ filter (is_present l.generation) (take l.edge-index l.offered))
+invariant-loop-edge l = (over : List Edge) → RowsCover l.initial.rows over
+    → RowsCover l.rows (over ++ filter (is_present l.generation) (take l.edge-index l.offered))

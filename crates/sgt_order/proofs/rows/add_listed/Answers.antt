@@ -10,5 +10,7 @@ loop-number-preserved c =
     let number = get_or c.args.listed.now c.loop-number.number-index 0 in
     let at = slice_get-get_or c.args.listed.now c.loop-number.number-index 0 c.loop-number-test.true in
     let edge : Edge = get_or edges number c.index-edges-number.result in
-    let is = slice_get-get_or edges number c.index-edges-number.result (c.requires c.loop-number.number-index number at) in
-    listed_set edges c.args.listed.now c.loop-number.number-index number edge c.loop-number.row c.add.new.row at is c.add.ensures.kept c.add.ensures.set c.loop-number.invariant
+    let is = slice_get-get_or edges number c.index-edges-number.result
+    (c.requires c.loop-number.number-index number at) in
+    listed_set edges c.args.listed.now c.loop-number.number-index number edge c.loop-number.row c.add.new.row at is
+    c.add.ensures.kept c.add.ensures.set c.loop-number.invariant

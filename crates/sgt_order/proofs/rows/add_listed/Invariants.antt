@@ -5,4 +5,5 @@ use Rattle.sgt_order.specs.private.Search.{IsListed}
 use Rattle.sgt_order.proofs.rows.add_listed.Given as goal
 
 abbrev pub invariant-loop-number : goal.invariant-loop-number
-invariant-loop-number l = IsOpenRow l.row → (e : Edge) → IsListed l.edges (take l.number-index l.listed) e → HasBit l.row.words.items e.to.index
+invariant-loop-number l = IsOpenRow l.row → (e : Edge) → IsListed l.edges (take l.number-index l.listed) e
+    → HasBit l.row.words.items e.to.index

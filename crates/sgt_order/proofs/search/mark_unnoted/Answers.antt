@@ -11,7 +11,9 @@ loop-at-init c = record {
 
 pub loop-at-preserved : goal.loop-at-preserved
 loop-at-preserved c =
-    let then = subst (λ es. MarkedSome (IsFrom c.args.from es) c.loop-at.marks c.mark_hinted.new.marks) c.as_slice-in-loop-at.ensures.value c.mark_hinted.ensures.marked in
+    let then =
+    subst (λ es. MarkedSome (IsFrom c.args.from es) c.loop-at.marks c.mark_hinted.new.marks)
+    c.as_slice-in-loop-at.ensures.value c.mark_hinted.ensures.marked in
     record {
       marked = some_on _ _ _ _ c.loop-at.invariant.marked then;
       met = c.mark_hinted.ensures.met;

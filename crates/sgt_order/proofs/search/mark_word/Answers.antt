@@ -14,7 +14,9 @@ pub loop-bit-preserved : goal.loop-bit-preserved
 loop-bit-preserved c =
     elim c.if-bits-bit-eq1.branch [
       | then-bits-bit-eq1+in-Some w ↦
-          let then = subst (λ es. MarkedSome (IsFrom c.args.from es) c.loop-bit.marks w.mark_hinted.new.marks) w.as_slice-in-Some.ensures.value w.mark_hinted.ensures.marked in
+          let then =
+          subst (λ es. MarkedSome (IsFrom c.args.from es) c.loop-bit.marks w.mark_hinted.new.marks)
+          w.as_slice-in-Some.ensures.value w.mark_hinted.ensures.marked in
           rw (w.marks-is, w.met-is) (record {
             marked = some_on _ _ _ _ c.loop-bit.invariant.marked then;
             met = w.mark_hinted.ensures.met;

@@ -10,7 +10,8 @@ use Rattle.sgt_names.proofs.Elements.{is_some-some}
 pub loop-handle-preserved : goal.loop-handle-preserved
 loop-handle-preserved c =
     let h : Handle = get_or c.args.members.now c.loop-handle.handle-index (record { index = 0; generation = 0 }) in
-    let at = slice_get-get_or c.args.members.now c.loop-handle.handle-index (record { index = 0; generation = 0 }) c.loop-handle-test.true in
+    let at = slice_get-get_or c.args.members.now c.loop-handle.handle-index (record { index = 0; generation = 0 })
+    c.loop-handle-test.true in
     let within = c.requires.within c.loop-handle.handle-index h at in
     elim c.if-is_some.branch [
       | then-is_some w ↦

@@ -10,7 +10,8 @@ pub mark_listed-requires : goal.mark_listed-requires
 mark_listed-requires c =
     let dag = c.args.dag.now in
     let long = length c.args.marks.now in
-    let targets = targets_in dag.nodes dag.order.items dag.edges.items dag.nodes.generation long _ c.in-Some.node.now c.requires.sound.holds c.requires.sound.forward c.requires.long (sym c.in-Some.ensures) in
+    let targets = targets_in dag.nodes dag.order.items dag.edges.items dag.nodes.generation long _ c.in-Some.node.now
+    c.requires.sound.holds c.requires.sound.forward c.requires.long (sym c.in-Some.ensures) in
     subst (λ es. AreTargets es long c.as_slice-in-Some.result.now) (sym c.as_slice-in-Some-2.ensures.value)
     (subst (λ ls. AreTargets dag.edges.items long ls) (sym c.as_slice-in-Some.ensures) targets)
 
@@ -18,7 +19,9 @@ pub note_listed-requires : goal.note_listed-requires
 note_listed-requires c j n at =
     let dag = c.args.dag.now in
     let there = subst (λ ls. slice_get ls j ≡ Some n) c.as_slice-in-Some-3.ensures at in
-    subst (λ es. n < length es) (sym c.as_slice-in-Some-4.ensures.value) (numbers_within dag.nodes dag.edges.items c.args.handle c.in-Some.node.now c.requires.sound.holds.lists (sym c.in-Some.ensures) j n there)
+    subst (λ es. n < length es) (sym c.as_slice-in-Some-4.ensures.value)
+    (numbers_within dag.nodes dag.edges.items c.args.handle c.in-Some.node.now c.requires.sound.holds.lists
+    (sym c.in-Some.ensures) j n there)
 
 pub returns-clause-marked : goal.returns-clause-marked
 returns-clause-marked c =
@@ -26,9 +29,14 @@ returns-clause-marked c =
     let node = c.in-Some.node.now in
     let old = c.args.marks.now in
     let new = c.mark_listed.new.marks in
-    let lists = are_numbers dag.edges.items c.args.handle node.out.items (c.requires.sound.holds.lists c.args.handle node (sym c.in-Some.ensures)).is in
-    let marked = subst (λ es. Marked (IsListed es c.as_slice-in-Some.result.now) old new) c.as_slice-in-Some-2.ensures.value c.mark_listed.ensures in
-    from_listed dag.edges.items c.args.handle node.out.items old new lists (subst (λ ls. Marked (IsListed dag.edges.items ls) old new) c.as_slice-in-Some.ensures marked)
+    let lists =
+    are_numbers dag.edges.items c.args.handle node.out.items
+    (c.requires.sound.holds.lists c.args.handle node (sym c.in-Some.ensures)).is in
+    let marked =
+    subst (λ es. Marked (IsListed es c.as_slice-in-Some.result.now) old new) c.as_slice-in-Some-2.ensures.value
+    c.mark_listed.ensures in
+    from_listed dag.edges.items c.args.handle node.out.items old new lists
+    (subst (λ ls. Marked (IsListed dag.edges.items ls) old new) c.as_slice-in-Some.ensures marked)
 
 pub returns-clause-met : goal.returns-clause-met
 returns-clause-met c i has =
@@ -38,5 +46,7 @@ returns-clause-met c i has =
           let edges = c.as_slice-in-Some-4.ensures.value ∙ sym c.as_slice-in-Some-2.ensures.value in
           let numbers = c.as_slice-in-Some-3.ensures ∙ sym c.as_slice-in-Some.ensures in
           let listed = subst (λ es. IsListed es c.as_slice-in-Some-3.result.now new.0) edges new.1 in
-          subst (IsMarked c.mark_listed.new.marks) new.2 (c.mark_listed.ensures.done new.0 (subst (λ ls. IsListed c.as_slice-in-Some-2.result.now ls new.0) numbers listed))
+          subst (IsMarked c.mark_listed.new.marks) new.2
+          (c.mark_listed.ensures.done new.0
+          (subst (λ ls. IsListed c.as_slice-in-Some-2.result.now ls new.0) numbers listed))
     ]

@@ -14,6 +14,6 @@ loop-number-preserved c =
     let site = OkIff-at_ok c.new.result (n < max_sites) n c.unwrap-site.result c.new.ensures c.unwrap-site.ensures in
     let at = element_at sites n log (omega arith) c.index-sites-number.is in
     site_more (λ s o. map (final_at s) (finals_at o)) sites n log at c.loop-number.finals.items
-        c.add_finals.new.finals.items c.loop-number.invariant c.unwrap-site.result site.1
+    c.add_finals.new.finals.items c.loop-number.invariant c.unwrap-site.result site.1
     (c.in_ok-add_finals.ensures
-        ∙ ap (λ hs. c.loop-number.finals.items ++ map (final_at c.unwrap-site.result) hs) c.as_slice.ensures)
+    ∙ ap (λ hs. c.loop-number.finals.items ++ map (final_at c.unwrap-site.result) hs) c.as_slice.ensures)

@@ -11,19 +11,19 @@ name-short (c ∷ cs) is = let short = is.2 in omega (arith, short)
 pub write_digits-requires : goal.write_digits-requires
 write_digits-requires c =
     let name : length c.as_bytes.result.now ≤ 16 =
-        subst (λ (x : Name). length x ≤ 16) (sym c.as_bytes.ensures.bytes)
-        (name-short c.args.value.now.item c.as_bytes.ensures.name) in
+    subst (λ (x : Name). length x ≤ 16) (sym c.as_bytes.ensures.bytes)
+    (name-short c.args.value.now.item c.as_bytes.ensures.name) in
     let small : c.from.result < 100 = omega (arith, c.from.ensures, c.number.ensures.is, c.number.ensures.in_range) in
     let short : length (decimal c.from.result) ≤ 2 =
-        length-decimal-le 2 c.from.result (omega arith) small (omega (arith, small)) in
+    length-decimal-le 2 c.from.result (omega arith) small (omega (arith, small)) in
     (omega (arith, short, name, c.put_bytes-at.ensures.start), omega arith)
 
 pub returns-clause-start : goal.returns-clause-start
 returns-clause-start c =
     let name : length c.as_bytes.result.now ≤ 16 =
-        subst (λ (x : Name). length x ≤ 16) (sym c.as_bytes.ensures.bytes)
-        (name-short c.args.value.now.item c.as_bytes.ensures.name) in
+    subst (λ (x : Name). length x ≤ 16) (sym c.as_bytes.ensures.bytes)
+    (name-short c.args.value.now.item c.as_bytes.ensures.name) in
     let small : c.from.result < 100 = omega (arith, c.from.ensures, c.number.ensures.is, c.number.ensures.in_range) in
     let short : length (decimal c.from.result) ≤ 2 =
-        length-decimal-le 2 c.from.result (omega arith) small (omega (arith, small)) in
+    length-decimal-le 2 c.from.result (omega arith) small (omega (arith, small)) in
     (omega (arith, short, name, c.put_bytes-at.ensures.start), omega (arith, c.put_bytes-at.ensures.start))

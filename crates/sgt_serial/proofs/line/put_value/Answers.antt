@@ -16,4 +16,4 @@ pub returns-clause-put : goal.returns-clause-put
 returns-clause-put c =
     let whole : length c.args.line.now ≤ 64 = omega arith in
     c.write_digits.ensures.written ∙ ap (λ xs. decimal c.args.value ++ xs) (c.put_byte-at.ensures.put
-        ∙ ap (λ xs. 10 ∷ xs) (drop_of_length-le c.args.line.now whole))
+    ∙ ap (λ xs. 10 ∷ xs) (drop_of_length-le c.args.line.now whole))

@@ -14,10 +14,10 @@ returns c =
     let ys = c.sort_by_key.new.self.items in
     let facts = c.in_ok-sort_by_key.ensures in
     let rising =
-        IsNonDecreasingBy-from_sort rank ys
-        (facts.sorted rank (always_returns_same _ _ _ (λ a r g called. (search rules, search rules)))) in
+    IsNonDecreasingBy-from_sort rank ys
+    (facts.sorted rank (always_returns_same _ _ _ (λ a r g called. (search rules, search rules)))) in
     let stable = facts.stable rank (always_returns_same _ _ _ (λ a r g called. (search rules, search rules))) in
     IfOk-weaker c.transactions.result _ _ (λ v items decisions from.
     items ∙ ap (map (λ (r : Ranked). r.tx)) c.as_slice.ensures.value
     ∙ by_rank-sorted decisions ys (subst (λ (xs : List Ranked). IsPermutation xs ys) from facts.permutation) rising
-        (subst (λ (xs : List Ranked). IsStableByKey rank nat_cmp xs ys) from stable)) c.transactions.ensures
+    (subst (λ (xs : List Ranked). IsStableByKey rank nat_cmp xs ys) from stable)) c.transactions.ensures

@@ -8,4 +8,4 @@ pub returns-clause-order : goal.returns-clause-order
 returns-clause-order c =
     c.in_ok-order.ensures c.args.bundle.certificate.decisions
     (c.in_ok-ranked.ensures
-        ∙ ap (filter_map ranked_in) (c.decisions.ensures ∙ ap (λ (k : Certificate). k.decisions) c.certificate.ensures))
+    ∙ ap (filter_map ranked_in) (c.decisions.ensures ∙ ap (λ (k : Certificate). k.decisions) c.certificate.ensures))

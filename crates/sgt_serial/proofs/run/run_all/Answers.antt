@@ -22,8 +22,8 @@ returns-in_err-run_one-clause-differs c tx s x e =
     let own : c.in_ok-run.run' ≡ run_of sites t = c.in_ok-run.ensures in
     let passed = err_from_is_err_and c.from_residual-in_err-run_one.result c.from_residual-in_err-run_one.ensures.1 in
     let here =
-        c.in_err-run_one.ensures.differs tx s x (same-fail c.in_err-run_one.field-0.0 (Differs tx s x)
-        (ap Err (sym passed.2) ∙ sym passed.1 ∙ e)) in (
+    c.in_err-run_one.ensures.differs tx s x (same-fail c.in_err-run_one.field-0.0 (Differs tx s x)
+    (ap Err (sym passed.2) ∙ sym passed.1 ∙ e)) in (
       t,
       here.0 ∙ ap (λ (r : SerialTx). Some r.tx) own,
       (

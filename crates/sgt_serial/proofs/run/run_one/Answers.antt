@@ -12,11 +12,13 @@ returns-in-Some-clause-differs c tx s x e =
     let store = store_of c.args.store.now in
     let a = c.in-Some.read in
     let first =
-        subst (λ (rs : List SiteValue). IsFirstWithout (Has store) rs a) c.as_slice.ensures c.in-Some.ensures in (
+    subst (λ (rs : List SiteValue). IsFirstWithout (Has store) rs a) c.as_slice.ensures c.in-Some.ensures in (
       sym (same-tx (Some run.tx) tx a.site s a.item x e),
-      inl (a.value,
-          at_value (IsFirstWithout (Has store) run.reads) a s x (same-site (Some run.tx) tx a.site s a.item x e)
-          (same-item (Some run.tx) tx a.site s a.item x e) first),
+      inl (
+        a.value,
+        at_value (IsFirstWithout (Has store) run.reads) a s x (same-site (Some run.tx) tx a.site s a.item x e)
+            (same-item (Some run.tx) tx a.site s a.item x e) first,
+      ),
     )
 
 pub returns-in-Some-change_all-clause-differs : goal.returns-in-Some-change_all-clause-differs
@@ -26,11 +28,15 @@ returns-in-Some-change_all-clause-differs c tx s x e =
     let w = c.in-Some-change_all.write in
     let reads = subst (All (Has store)) c.as_slice.ensures c.in_default.ensures in
     let first =
-        subst (λ (ws : List SiteChange). IsFirstWithout (Knows store) ws w) c.as_slice-2.ensures
-        c.in-Some-change_all.ensures.known in (
+    subst (λ (ws : List SiteChange). IsFirstWithout (Knows store) ws w) c.as_slice-2.ensures
+    c.in-Some-change_all.ensures.known in (
       sym (same-tx (Some run.tx) tx w.site s w.item x e),
-      inr (reads,
-          (w.change,
+      inr (
+        reads,
+        (
+          w.change,
           at_change (IsFirstWithout (Knows store) run.writes) w s x (same-site (Some run.tx) tx w.site s w.item x e)
-          (same-item (Some run.tx) tx w.site s w.item x e) first)),
+              (same-item (Some run.tx) tx w.site s w.item x e) first,
+        ),
+      ),
     )

@@ -39,9 +39,9 @@ loop-place-preserved g c =
       passed = passes-more (holds c.args.writer.now) (holds c.loop-place.writer) (holds c.write_change.new.writer)
           c.args.out.now.items c.loop-place.out.items c.write_change.new.out.items
           (picked_text line (by line write_at logs o) (own ∷ [])) (text_in line write_at logs o place to)
-              (text_in line write_at logs o (place + 1) to)
+          (text_in line write_at logs o (place + 1) to)
           (text_of_lines (map line (picked_of write_at logs c.args.tx)))
-              (text-next line write_at logs o place to own within (c.at-own.ensures place start)) so_far.passed call.ok;
+          (text-next line write_at logs o place to own within (c.at-own.ensures place start)) so_far.passed call.ok;
       capacity = omega (arith, so_far.capacity, call.capacity);
       quiet = call.fails ∙ so_far.quiet;
     }
@@ -59,12 +59,12 @@ returns-in_err-write_change-clause-err g c =
     let start : place ≤ place = omega arith in
     on-err c.from_residual.result
     (passes-front (holds c.args.writer.now) (holds c.loop-place.writer) (holds c.write_change.new.writer)
-        c.args.out.now.items c.loop-place.out.items
+    c.args.out.now.items c.loop-place.out.items
     (picked_text line (by line write_at logs o) (own ∷ [])) (text_in line write_at logs o place to)
-        (text_in line write_at logs o (place + 1) to)
+    (text_in line write_at logs o (place + 1) to)
     (text_of_lines (map line (picked_of write_at logs c.args.tx)))
-        (text-next line write_at logs o place to own within (c.at-own.ensures place start))
-        c.loop-place.invariant.passed
+    (text-next line write_at logs o place to own within (c.at-own.ensures place start))
+    c.loop-place.invariant.passed
     c.in_err-write_change.ensures.err)
 
 pub returns-clause-ok : goal.returns-clause-ok
@@ -77,6 +77,6 @@ returns-clause-ok g c =
     let to = c.span-span.result.to in
     let end : place ≡ to = omega arith in
     passes-all (holds c.args.writer.now) (holds c.loop-place.writer) c.args.out.now.items c.loop-place.out.items
-        (text_in line write_at logs o place to)
+    (text_in line write_at logs o place to)
     (text_of_lines (map line (picked_of write_at logs c.args.tx))) (text-none line write_at logs o place to end)
-        c.loop-place.invariant.passed
+    c.loop-place.invariant.passed

@@ -30,8 +30,8 @@ loop-value-preserved g c =
       passed = passes-more (holds c.args.writer.now) (holds c.loop-value.writer) (holds c.write_final.new.writer)
           c.args.out.now.items c.loop-value.out.items c.write_final.new.out.items
           (with_lf (final_line x)) (text_of_lines (map final_line (drop i xs)))
-              (text_of_lines (map final_line (drop (i + 1) xs))) (text_of_lines (map final_line xs))
-              (ap (λ ys. text_of_lines (map final_line ys)) (drop_next xs i x at)) so_far.passed call.ok;
+          (text_of_lines (map final_line (drop (i + 1) xs))) (text_of_lines (map final_line xs))
+          (ap (λ ys. text_of_lines (map final_line ys)) (drop_next xs i x at)) so_far.passed call.ok;
       capacity = omega (arith, so_far.capacity, call.capacity);
       quiet = call.fails ∙ so_far.quiet;
     }
@@ -45,11 +45,11 @@ returns-in_err-write_final-clause-err g c =
     let at = element_at xs i x (omega arith) c.value-item.is in
     on-err c.from_residual.result
     (passes-front (holds c.args.writer.now) (holds c.loop-value.writer) (holds c.write_final.new.writer)
-        c.args.out.now.items c.loop-value.out.items
+    c.args.out.now.items c.loop-value.out.items
     (with_lf (final_line x)) (text_of_lines (map final_line (drop i xs)))
-        (text_of_lines (map final_line (drop (i + 1) xs))) (text_of_lines (map final_line xs))
-        (ap (λ ys. text_of_lines (map final_line ys)) (drop_next xs i x at)) c.loop-value.invariant.passed
-        c.in_err-write_final.ensures.err)
+    (text_of_lines (map final_line (drop (i + 1) xs))) (text_of_lines (map final_line xs))
+    (ap (λ ys. text_of_lines (map final_line ys)) (drop_next xs i x at)) c.loop-value.invariant.passed
+    c.in_err-write_final.ensures.err)
 
 pub returns-clause-ok : goal.returns-clause-ok
 returns-clause-ok g c =
@@ -59,4 +59,4 @@ returns-clause-ok g c =
     let end : length xs ≤ i = omega arith in
     passes-all (holds c.args.writer.now) (holds c.loop-value.writer) c.args.out.now.items c.loop-value.out.items
     (text_of_lines (map final_line (drop i xs))) (text_of_lines (map final_line xs))
-        (ap (λ ys. text_of_lines (map final_line ys)) (drop_of_length-le xs end)) c.loop-value.invariant.passed
+    (ap (λ ys. text_of_lines (map final_line ys)) (drop_of_length-le xs end)) c.loop-value.invariant.passed

@@ -40,9 +40,9 @@ loop-place-preserved g c =
       passed = passes-more (holds c.args.writer.now) (holds c.loop-place.writer) (holds c.write_read.new.writer)
           c.args.out.now.items c.loop-place.out.items c.write_read.new.out.items
           (picked_text line (by line read_at logs o) (own ∷ [])) (text_in line read_at logs o place to)
-              (text_in line read_at logs o (place + 1) to)
+          (text_in line read_at logs o (place + 1) to)
           (text_of_lines (map line (picked_of read_at logs c.args.tx)))
-              (text-next line read_at logs o place to own within (c.at-own.ensures place start)) so_far.passed call.ok;
+          (text-next line read_at logs o place to own within (c.at-own.ensures place start)) so_far.passed call.ok;
       capacity = omega (arith, so_far.capacity, call.capacity);
       quiet = call.fails ∙ so_far.quiet;
     }
@@ -60,11 +60,11 @@ returns-in_err-write_read-clause-err g c =
     let start : place ≤ place = omega arith in
     on-err c.from_residual.result
     (passes-front (holds c.args.writer.now) (holds c.loop-place.writer) (holds c.write_read.new.writer)
-        c.args.out.now.items c.loop-place.out.items
+    c.args.out.now.items c.loop-place.out.items
     (picked_text line (by line read_at logs o) (own ∷ [])) (text_in line read_at logs o place to)
-        (text_in line read_at logs o (place + 1) to)
+    (text_in line read_at logs o (place + 1) to)
     (text_of_lines (map line (picked_of read_at logs c.args.tx)))
-        (text-next line read_at logs o place to own within (c.at-own.ensures place start)) c.loop-place.invariant.passed
+    (text-next line read_at logs o place to own within (c.at-own.ensures place start)) c.loop-place.invariant.passed
     c.in_err-write_read.ensures.err)
 
 pub returns-clause-ok : goal.returns-clause-ok
@@ -77,6 +77,6 @@ returns-clause-ok g c =
     let to = c.span-span.result.to in
     let end : place ≡ to = omega arith in
     passes-all (holds c.args.writer.now) (holds c.loop-place.writer) c.args.out.now.items c.loop-place.out.items
-        (text_in line read_at logs o place to)
+    (text_in line read_at logs o place to)
     (text_of_lines (map line (picked_of read_at logs c.args.tx))) (text-none line read_at logs o place to end)
-        c.loop-place.invariant.passed
+    c.loop-place.invariant.passed

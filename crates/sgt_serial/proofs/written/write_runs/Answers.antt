@@ -35,12 +35,12 @@ loop-tx-preserved g c =
       passed = passes-more (holds c.args.writer.now) (holds c.loop-tx.writer) (holds c.write_run.new.writer)
           c.args.out.now.items c.loop-tx.out.items c.write_run.new.out.items
           (text_of_lines (run_lines (run_of logs x)))
-              (text_of_lines (flat_map run_lines (map (run_of logs) (drop i xs))))
-              (text_of_lines (flat_map run_lines (map (run_of logs) (drop (i + 1) xs))))
-              (text_of_lines (flat_map run_lines (map (run_of logs) xs)))
-              (ap (λ ys. text_of_lines (flat_map run_lines (map (run_of logs) ys))) (drop_next xs i x at)
-              ∙ text-append (run_lines (run_of logs x)) (flat_map run_lines (map (run_of logs) (drop (i + 1) xs))))
-              so_far.passed call.ok;
+          (text_of_lines (flat_map run_lines (map (run_of logs) (drop i xs))))
+          (text_of_lines (flat_map run_lines (map (run_of logs) (drop (i + 1) xs))))
+          (text_of_lines (flat_map run_lines (map (run_of logs) xs)))
+          (ap (λ ys. text_of_lines (flat_map run_lines (map (run_of logs) ys))) (drop_next xs i x at)
+          ∙ text-append (run_lines (run_of logs x)) (flat_map run_lines (map (run_of logs) (drop (i + 1) xs))))
+          so_far.passed call.ok;
       capacity = omega (arith, so_far.capacity, call.capacity);
       quiet = call.fails ∙ so_far.quiet;
     }
@@ -55,13 +55,13 @@ returns-in_err-write_run-clause-err g c =
     let at = element_at xs i x (omega arith) c.tx-item.is in
     on-err c.from_residual.result
     (passes-front (holds c.args.writer.now) (holds c.loop-tx.writer) (holds c.write_run.new.writer)
-        c.args.out.now.items c.loop-tx.out.items
+    c.args.out.now.items c.loop-tx.out.items
     (text_of_lines (run_lines (run_of logs x))) (text_of_lines (flat_map run_lines (map (run_of logs) (drop i xs))))
-        (text_of_lines (flat_map run_lines (map (run_of logs) (drop (i + 1) xs))))
-        (text_of_lines (flat_map run_lines (map (run_of logs) xs)))
-        (ap (λ ys. text_of_lines (flat_map run_lines (map (run_of logs) ys))) (drop_next xs i x at)
-        ∙ text-append (run_lines (run_of logs x)) (flat_map run_lines (map (run_of logs) (drop (i + 1) xs))))
-        c.loop-tx.invariant.passed c.in_err-write_run.ensures.err)
+    (text_of_lines (flat_map run_lines (map (run_of logs) (drop (i + 1) xs))))
+    (text_of_lines (flat_map run_lines (map (run_of logs) xs)))
+    (ap (λ ys. text_of_lines (flat_map run_lines (map (run_of logs) ys))) (drop_next xs i x at)
+    ∙ text-append (run_lines (run_of logs x)) (flat_map run_lines (map (run_of logs) (drop (i + 1) xs))))
+    c.loop-tx.invariant.passed c.in_err-write_run.ensures.err)
 
 pub returns-clause-ok : goal.returns-clause-ok
 returns-clause-ok g c =
@@ -72,6 +72,6 @@ returns-clause-ok g c =
     let end : length xs ≤ i = omega arith in
     passes-all (holds c.args.writer.now) (holds c.loop-tx.writer) c.args.out.now.items c.loop-tx.out.items
     (text_of_lines (flat_map run_lines (map (run_of logs) (drop i xs))))
-        (text_of_lines (flat_map run_lines (map (run_of logs) xs)))
-        (ap (λ ys. text_of_lines (flat_map run_lines (map (run_of logs) ys))) (drop_of_length-le xs end))
-        c.loop-tx.invariant.passed
+    (text_of_lines (flat_map run_lines (map (run_of logs) xs)))
+    (ap (λ ys. text_of_lines (flat_map run_lines (map (run_of logs) ys))) (drop_of_length-le xs end))
+    c.loop-tx.invariant.passed

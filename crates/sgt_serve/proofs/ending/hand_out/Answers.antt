@@ -5,5 +5,5 @@ use Rattle.sgt_serve.proofs.ending.hand_out.Goals as goal
 pub returns-in-Ok-keep : goal.returns-in-Ok-keep
 returns-in-Ok-keep g c =
     handed_out c.args.core c.in-Ok.bundle c.as_slice.result.now c.in-Ok-keep.field-0 _ _ c.in-Ok.ensures.ok
-        c.in-Ok.ensures.idle
+    c.in-Ok.ensures.idle
     (c.as_slice.ensures.value ∙ c.in-Ok-into_text.ensures.text) c.in-Ok-keep.ensures.handed c.in-Ok-keep.ensures.answers

@@ -11,7 +11,7 @@ loop-number-init c = asked_none c.args.core.now
 pub loop-number-preserved : goal.loop-number-preserved
 loop-number-preserved c =
     subst (λ (es : List Event). Asked c.args.core.now es c.step-installed.new.self)
-        (sym (map-range_with_len_more (Install c.args.tx) 0 c.loop-number.number c.in-Ok.site
-        (omega (arith, c.in-Ok.ensures.1))))
+    (sym (map-range_with_len_more (Install c.args.tx) 0 c.loop-number.number c.in-Ok.site
+    (omega (arith, c.in-Ok.ensures.1))))
     (asked_more c.args.core.now c.loop-number.core c.step-installed.new.self _ _ _ c.loop-number.invariant
-        c.step-installed.ensures)
+    c.step-installed.ensures)

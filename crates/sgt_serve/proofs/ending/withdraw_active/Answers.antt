@@ -11,6 +11,6 @@ loop-number-init c = asked_none c.args.core.now
 pub loop-number-preserved : goal.loop-number-preserved
 loop-number-preserved c =
     subst (λ (es : List Event). Asked c.args.core.now es c.step-withdrawn.new.self)
-        (sym (map-range_with_len_more Withdraw 1 c.loop-number.number c.in-Ok.tx (omega (arith, c.in-Ok.ensures.1))))
+    (sym (map-range_with_len_more Withdraw 1 c.loop-number.number c.in-Ok.tx (omega (arith, c.in-Ok.ensures.1))))
     (asked_more c.args.core.now c.loop-number.core c.step-withdrawn.new.self _ _ _ c.loop-number.invariant
-        c.step-withdrawn.ensures)
+    c.step-withdrawn.ensures)

@@ -13,7 +13,7 @@ pub returns-in_default-clause-served : goal.returns-in_default-clause-served
 returns-in_default-clause-served g c =
     let history = c.args.pipe.now.history in
     served_memory _ [] history [] (g.B.Bundles.handed c.args.bundles.now)
-        (no_sites [] history [] refl refl c.requires.given c.requires.written c.requires.waits)
+    (no_sites [] history [] refl refl c.requires.given c.requires.written c.requires.waits)
 
 pub returns-in_default-clause-reader : goal.returns-in_default-clause-reader
 returns-in_default-clause-reader g c = (_, deaf_as _ _ _ _ _ _ refl refl refl, refl)
@@ -21,10 +21,10 @@ returns-in_default-clause-reader g c = (_, deaf_as _ _ _ _ _ _ refl refl refl, r
 pub returns-in-Begun-clause-served : goal.returns-in-Begun-clause-served
 returns-in-Begun-clause-served g c =
     let p = subst (λ (o : Opened). OpensSo (Ok o) (g.R.Source.tells c.read_sites.new.pipe.reader)
-        c.read_sites.new.sites.items c.read_sites.new.pipe.history c.read_sites.new.inbox.held) c.in-Begun.is
-        c.in-Ok-read_sites.ensures.opens in
+    c.read_sites.new.sites.items c.read_sites.new.pipe.history c.read_sites.new.inbox.held) c.in-Begun.is
+    c.in-Ok-read_sites.ensures.opens in
     served_memory _ c.read_sites.new.sites.items c.read_sites.new.pipe.history c.read_sites.new.inbox.held
-        (g.B.Bundles.handed c.args.bundles.now) p.0
+    (g.B.Bundles.handed c.args.bundles.now) p.0
 
 pub returns-in-Begun-clause-reader : goal.returns-in-Begun-clause-reader
 returns-in-Begun-clause-reader g c = (
@@ -36,21 +36,21 @@ returns-in-Begun-clause-reader g c = (
 pub returns-in-Ok-server_of-clause-served : goal.returns-in-Ok-server_of-clause-served
 returns-in-Ok-server_of-clause-served g c =
     let p = subst (λ (o : Opened). OpensSo (Ok o) (g.R.Source.tells c.read_sites.new.pipe.reader)
-        c.read_sites.new.sites.items c.read_sites.new.pipe.history c.read_sites.new.inbox.held) c.in-Begun.is
-        c.in-Ok-read_sites.ensures.opens in
+    c.read_sites.new.sites.items c.read_sites.new.pipe.history c.read_sites.new.inbox.held) c.in-Begun.is
+    c.in-Ok-read_sites.ensures.opens in
     (c.serve_talk.ensures.serves c.read_sites.new.sites.items (g.B.Bundles.handed c.args.bundles.now)
     (has_opened c.read_sites.new.sites.items (g.B.Bundles.handed c.args.bundles.now) c.in-Ok-server_of.server.core
-        c.read_sites.new.pipe.history c.in-Ok-server_of.server.answers.items
+    c.read_sites.new.pipe.history c.in-Ok-server_of.server.answers.items
     c.read_sites.new.inbox.held p.0 p.1 c.in-Ok-server_of.ensures.stands c.in-Ok-server_of.ensures.none) p.3).0
 
 pub returns-in-Ok-server_of-clause-flushed : goal.returns-in-Ok-server_of-clause-flushed
 returns-in-Ok-server_of-clause-flushed g c =
     let p = subst (λ (o : Opened). OpensSo (Ok o) (g.R.Source.tells c.read_sites.new.pipe.reader)
-        c.read_sites.new.sites.items c.read_sites.new.pipe.history c.read_sites.new.inbox.held) c.in-Begun.is
-        c.in-Ok-read_sites.ensures.opens in
+    c.read_sites.new.sites.items c.read_sites.new.pipe.history c.read_sites.new.inbox.held) c.in-Begun.is
+    c.in-Ok-read_sites.ensures.opens in
     (c.serve_talk.ensures.serves c.read_sites.new.sites.items (g.B.Bundles.handed c.args.bundles.now)
     (has_opened c.read_sites.new.sites.items (g.B.Bundles.handed c.args.bundles.now) c.in-Ok-server_of.server.core
-        c.read_sites.new.pipe.history c.in-Ok-server_of.server.answers.items
+    c.read_sites.new.pipe.history c.in-Ok-server_of.server.answers.items
     c.read_sites.new.inbox.held p.0 p.1 c.in-Ok-server_of.ensures.stands c.in-Ok-server_of.ensures.none) p.3).1
 
 pub returns-in-Ok-server_of-clause-reader : goal.returns-in-Ok-server_of-clause-reader
@@ -65,10 +65,10 @@ returns-in-Ok-server_of-clause-reader g c = (
 pub returns-in-Ended-clause-served : goal.returns-in-Ended-clause-served
 returns-in-Ended-clause-served g c =
     let p = subst (λ (o : Opened). OpensSo (Ok o) (g.R.Source.tells c.read_sites.new.pipe.reader)
-        c.read_sites.new.sites.items c.read_sites.new.pipe.history c.read_sites.new.inbox.held) c.in-Ended.is
-        c.in-Ok-read_sites.ensures.opens in
+    c.read_sites.new.sites.items c.read_sites.new.pipe.history c.read_sites.new.inbox.held) c.in-Ended.is
+    c.in-Ok-read_sites.ensures.opens in
     served_ended _ c.read_sites.new.sites.items c.read_sites.new.pipe.history c.read_sites.new.inbox.held
-        (g.B.Bundles.handed c.args.bundles.now) p.0 p.1 p.2 p.3
+    (g.B.Bundles.handed c.args.bundles.now) p.0 p.1 p.2 p.3
 
 pub returns-in-Ended-clause-reader : goal.returns-in-Ended-clause-reader
 returns-in-Ended-clause-reader g c = (
@@ -80,15 +80,15 @@ returns-in-Ended-clause-reader g c = (
 pub returns-in-Ok-read_sites-clause-served : goal.returns-in-Ok-read_sites-clause-served
 returns-in-Ok-read_sites-clause-served g c =
     let p = subst (λ (o : Opened). OpensSo (Ok o) (g.R.Source.tells c.read_sites.new.pipe.reader)
-        c.read_sites.new.sites.items c.read_sites.new.pipe.history c.read_sites.new.inbox.held) c.in-Unreadable.is
-        c.in-Ok-read_sites.ensures.opens in
+    c.read_sites.new.sites.items c.read_sites.new.pipe.history c.read_sites.new.inbox.held) c.in-Unreadable.is
+    c.in-Ok-read_sites.ensures.opens in
     (served_told c.tell_unreadable.result _ c.read_sites.new.sites.items c.read_sites.new.pipe.history
-        c.tell_unreadable.new.pipe.history c.read_sites.new.inbox.held c.in-Unreadable.fault
+    c.tell_unreadable.new.pipe.history c.read_sites.new.inbox.held c.in-Unreadable.fault
     (g.B.Bundles.handed c.args.bundles.now) p.0
     (subst (λ (left : Option (List ℕ)). IsUnreadable c.read_sites.new.sites.items left c.read_sites.new.inbox.held
-        c.in-Unreadable.fault) (sym (ap g.R.Source.tells c.tell_unreadable.ensures.reader)) p.1)
+    c.in-Unreadable.fault) (sym (ap g.R.Source.tells c.tell_unreadable.ensures.reader)) p.1)
     (subst (λ (n : ℕ). TellsFront c.tell_unreadable.result (n + 1) c.in-Unreadable.fault c.read_sites.new.pipe.history
-        c.tell_unreadable.new.pipe.history)
+    c.tell_unreadable.new.pipe.history)
     (c.len.ensures ∙ c.read_sites.new.sites.ok.0) c.tell_unreadable.ensures.tells)).0
 
 pub returns-in-Ok-read_sites-clause-reader : goal.returns-in-Ok-read_sites-clause-reader
@@ -96,14 +96,14 @@ returns-in-Ok-read_sites-clause-reader g c = (
   c.read_sites.new.inbox.reads,
   leaves_then c.tell_unreadable.result _ _ _ _ _ _ _ _ _ _ c.in-Ok-read_sites.ensures.hears
       (deaf_told c.tell_unreadable.result _ _ _ _ _ _ _ _ _ c.tell_unreadable.ensures.tells
-          (ap g.R.Source.tells c.tell_unreadable.ensures.reader)
-          (ap g.R.Source.failures c.tell_unreadable.ensures.reader)),
+      (ap g.R.Source.tells c.tell_unreadable.ensures.reader)
+      (ap g.R.Source.failures c.tell_unreadable.ensures.reader)),
   ap (λ (n : ℕ). n + c.read_sites.new.inbox.reads) (ap g.R.Source.asked c.tell_unreadable.ensures.reader)
       ∙ (c.read_sites.ensures.asks
-          ∙ ap (λ (i : Held). g.R.Source.asked c.args.pipe.now.reader + i.reads) c.in-Ok.ensures),
+      ∙ ap (λ (i : Held). g.R.Source.asked c.args.pipe.now.reader + i.reads) c.in-Ok.ensures),
 )
 
 pub returns-clause-served : goal.returns-clause-served
 returns-clause-served g c =
     (served_err c.in-Err.fault _ c.read_sites.new.sites.items c.read_sites.new.pipe.history
-        c.read_sites.new.inbox.held (g.B.Bundles.handed c.args.bundles.now) c.in-Err.ensures.opens).0
+    c.read_sites.new.inbox.held (g.B.Bundles.handed c.args.bundles.now) c.in-Err.ensures.opens).0

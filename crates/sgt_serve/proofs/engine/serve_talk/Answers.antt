@@ -6,9 +6,9 @@ use Rattle.sgt_serve.proofs.engine.serve_talk.Goals as goal
 pub returns-clause-serves : goal.returns-clause-serves
 returns-clause-serves g c sites before opened asks =
     is_served c.talk-stop.result c.close-last.result c.ended.result _ sites before
-        (g.B.Bundles.handed c.close-last.new.bundles)
+    (g.B.Bundles.handed c.close-last.new.bundles)
     (desk (g.B.Bundles.handed c.talk-stop.new.bundles) c.talk-stop.new.server.core c.talk-stop.new.pipe.history
-        c.talk-stop.new.server.answers.items c.talk-stop.new.inbox.held)
+    c.talk-stop.new.server.answers.items c.talk-stop.new.inbox.held)
     c.ended.ensures c.talk-stop.ensures.ends (c.talk-stop.ensures.stops sites before opened asks) c.close-last.ensures
 
 pub returns-clause-hears : goal.returns-clause-hears

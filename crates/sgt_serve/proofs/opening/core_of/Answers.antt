@@ -7,4 +7,4 @@ pub unreachable-requires : goal.unreachable-requires
 unreachable-requires c =
     only-memory c.args.sites.items c.in-Err.fault c.requires.each
     (subst (λ items. RefusesSites items c.in-Err.fault) (c.as_slice.ensures.value
-        ∙ c.in_ok-items.ensures) c.in-Err.ensures.refused) c.in_default.not-Memory
+    ∙ c.in_ok-items.ensures) c.in-Err.ensures.refused) c.in_default.not-Memory

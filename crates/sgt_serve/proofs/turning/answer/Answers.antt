@@ -6,7 +6,7 @@ use Rattle.sgt_serve.proofs.turning.answer.Goals as goal
 pub returns-then-asks_cut : goal.returns-then-asks_cut
 returns-then-asks_cut g c =
     subst (λ (line : List ℕ). Takes c.args.core.now line c.cut.result (g.B.Bundles.handed c.args.bundles.now)
-        (g.B.Bundles.handed c.cut.new.bundles) c.cut.new.core)
+    (g.B.Bundles.handed c.cut.new.bundles) c.cut.new.core)
     (sym (c.asks_cut.ensures.0 c.if-asks_cut.true)) c.cut.ensures
 
 pub returns-in-Ok : goal.returns-in-Ok

@@ -9,5 +9,6 @@ returns-then-place-gt0 c = λ hit.
     let last = c.index-readers-place.result in
     let same = ap (λ (r : Reader). r.version) c.index-readers-place.is in
     let le = leb-true _ _ hit in
-    upto-end (λ (r : Reader). r.version) _ _ _ last c.requires.sorted (omega (arith, c.if-place-gt0.true)) c.requires.within c.index-readers-place.is
+    upto-end (λ (r : Reader). r.version) _ _ _ last c.requires.sorted (omega (arith, c.if-place-gt0.true))
+    c.requires.within c.index-readers-place.is
     (omega (arith, same, le))

@@ -6,5 +6,7 @@ use Rattle.sgt_site.proofs.cell.behind_all.Goals as goal
 
 pub returns-clause-point : goal.returns-clause-point
 returns-clause-point c =
-    IsPartitionPoint-from_clause (λ (r : Reader). leb r.version c.args.version) c.args.readers.now c.partition_point.result c.partition_point.ensures.partitioned
-    (IsPartitionedBy-leb (λ (r : Reader). r.version) c.args.readers.now c.args.version (nondecreasing (λ (r : Reader). r.version) _ c.requires)) (λ a r q k. search rules)
+    IsPartitionPoint-from_clause (λ (r : Reader). leb r.version c.args.version) c.args.readers.now
+    c.partition_point.result c.partition_point.ensures.partitioned
+    (IsPartitionedBy-leb (λ (r : Reader). r.version) c.args.readers.now c.args.version
+    (nondecreasing (λ (r : Reader). r.version) _ c.requires)) (λ a r q k. search rules)

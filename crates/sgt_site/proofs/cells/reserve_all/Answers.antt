@@ -13,7 +13,8 @@ pub returns-then-not-reserve_for-clause-same : goal.returns-then-not-reserve_for
 returns-then-not-reserve_for-clause-same c = room-twice _ _ _ _ _ c.loop-t.invariant c.if-not-reserve_for.ensures.same
 
 pub loop-t-preserved : goal.loop-t-preserved
-loop-t-preserved c = room-next _ _ _ _ _ _ c.loop-t.invariant (element_at _ _ _ c.loop-t-test.true c.t-item.is) c.if-not-reserve_for.ensures.same (c.if-not-reserve_for.ensures.room refl)
+loop-t-preserved c = room-next _ _ _ _ _ _ c.loop-t.invariant (element_at _ _ _ c.loop-t-test.true c.t-item.is)
+    c.if-not-reserve_for.ensures.same (c.if-not-reserve_for.ensures.room refl)
 
 pub returns-clause-same : goal.returns-clause-same
 returns-clause-same c = c.loop-t.invariant.same

@@ -14,7 +14,9 @@ pub returns-else-is_free-clause-may : goal.returns-else-is_free-clause-may
 returns-else-is_free-clause-may c = λ hit. inr (c.is_of.ensures.0 hit)
 
 pub returns-else-is_free-clause-free : goal.returns-else-is_free-clause-free
-returns-else-is_free-clause-free c = λ hit none. absurd (false≢true (c.if-is_free.ensures.1 (sym (own-slot c.args.slot.now c.args.tx (c.is_of.ensures.0 hit)) ∙ none)))
+returns-else-is_free-clause-free c =
+    λ hit none. absurd
+    (false≢true (c.if-is_free.ensures.1 (sym (own-slot c.args.slot.now c.args.tx (c.is_of.ensures.0 hit)) ∙ none)))
 
 pub returns-else-is_free-clause-not : goal.returns-else-is_free-clause-not
 returns-else-is_free-clause-not c = elim (cases_Bool c.is_of.result) [

@@ -8,7 +8,9 @@ use Rattle.sgt_site.proofs.Inserts.{Contains-insert}
 use Rattle.sgt_site.proofs.site.add_ended.Goals as goal
 
 pub returns-in-Err-clause-rising : goal.returns-in-Err-clause-rising
-returns-in-Err-clause-rising c = rw c.insert.ensures.items (rising-insert (λ (t : ℕ). t) nat_cmp nat_cmp_total _ _ _ (rw c.as_slice.ensures.value at c.in-Err.ensures.absent) c.requires.rising)
+returns-in-Err-clause-rising c =
+    rw c.insert.ensures.items (rising-insert (λ (t : ℕ). t) nat_cmp nat_cmp_total _ _ _
+    (rw c.as_slice.ensures.value at c.in-Err.ensures.absent) c.requires.rising)
 
 pub returns-in-Err-clause-each : goal.returns-in-Err-clause-each
 returns-in-Err-clause-each c = rw c.insert.ensures.items (λ t. Contains-insert _ _ _ t)

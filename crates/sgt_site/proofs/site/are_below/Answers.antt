@@ -7,5 +7,6 @@ pub returns-then-place-gt0 : goal.returns-then-place-gt0
 returns-then-place-gt0 c = λ hit.
     let last = c.index-ended-place.result in
     let less = ltb-true _ _ hit in
-    below-end (λ (t : ℕ). t) _ _ _ last c.requires.rising (omega (arith, c.if-place-gt0.true)) c.requires.within c.index-ended-place.is
+    below-end (λ (t : ℕ). t) _ _ _ last c.requires.rising (omega (arith, c.if-place-gt0.true)) c.requires.within
+    c.index-ended-place.is
     (omega (arith, less, c.number.ensures.is, c.number-then-place-gt0.ensures.is))

@@ -5,7 +5,8 @@ use Rattle.sgt_arena.proofs.block.Block.get.Goals as goal
 
 pub get-requires : goal.get-requires
 get-requires g c =
-    let b = c.self.inside in let h = c.self.invariant in let i = c.args.index in let count = h.count.0 in let within = c.if-index-self.false in
+    let b = c.self.inside in let h = c.self.invariant in let i = c.args.index in let count = h.count.0 in let within =
+    c.if-index-self.false in
     let x = value_of (somes b.cells.slots) i (omega arith) in
     (sym h.memory.0, (x.0, place_shows b h i ∙ x.1))
 

@@ -16,7 +16,12 @@ invariant_of-self-lent g c =
 
 pub returns : goal.returns
 returns g c =
-    let b = c.self.inside in let h = c.self.invariant in let i = c.args.index in let long = ap length c.self.view_is in let lt = c.requires in (
+    let b = c.self.inside in let h = c.self.invariant in let i = c.args.index in let long =
+    ap length c.self.view_is in let lt = c.requires in (
       (refl, λ w. (item_written b h i w (omega arith)).1 ∙ ap (λ l. set l i w) c.self.view_is),
-      record { writes_back = tt; value = ap (λ l. slice_get l i) (sym c.self.view_is) ∙ sym (place_shows b h i) ∙ c.get_mut.ensures.value },
+      record {
+        writes_back = tt;
+        value = ap (λ l. slice_get l i) (sym c.self.view_is) ∙ sym (place_shows b h i)
+            ∙ c.get_mut.ensures.value;
+      },
     )

@@ -1,4 +1,5 @@
--- `allocate` makes the room that the allocator gives a row of empty places, and keeps what gives it back as the deed. Assumes `Logic`.
+-- `allocate` makes the room that the allocator gives a row of empty places, and keeps what gives it back as the deed.
+-- Assumes `Logic`.
 use mathlib.Core.Path.{refl, sym, ap, subst}
 use mathlib.Core.Bool.{true, false}
 use Prim.Native.Nat.{ℕ, ◌*◌, ◌<◌, ◌^◌}
@@ -78,7 +79,10 @@ module _ (E : El) (Z : Al) where
   clauses 𝓛 = F.clauses E.row Z.row Z.g Z.d Z.drops 𝓛
 
   abbrev stayed : Stays ended.signature.params ended.kept
-  stayed = (stay_dropped (RefOf (0 ∷ []) tt (plain (λ _. P E Z)) (λ _. tt)) yes, (stay_dropped (plain (λ _. usize)) yes, tt))
+  stayed = (
+    stay_dropped (RefOf (0 ∷ []) tt (plain (λ _. P E Z)) (λ _. tt)) yes,
+    (stay_dropped (plain (λ _. usize)) yes, tt),
+  )
 
   abbrev Dd : RattleType
   Dd = deeds.the_row (R E) (P E Z) Z.g
@@ -99,11 +103,14 @@ module _ (E : El) (Z : Al) where
 abbrev refused : Val
 refused = live 1 (vcons (vstruct vnil) vnil)
 
-module _ (E : El) (Z : Al) {M : Type 1} {𝓤 : Ura M} (𝓛 : Logic 𝓤) (at_mem : Memory → SProp 𝓤) (run : Routine → Fun 𝓤) where
+module _ (E : El) (Z : Al) {M : Type 1} {𝓤 : Ura M} (𝓛 : Logic 𝓤) (at_mem : Memory → SProp 𝓤) (run : Routine
+    → Fun 𝓤) where
   open 𝓛 use {H}
 
-  module _ (C : Calls 𝓤 H) (Λ : Loops 𝓤 H) (fm : FmC 𝓤 H 𝓛.laws C) (takes : Triple 𝓤 (C (takes_key Z)) (Takes Z 𝓛 at_mem run))
-      (κ κ₁ κ₂ : Lft) (q q₁ q₂ : Share) (short : κ ⊑ κ₂) (lives : κ₂ ⊑ Z.row.lives) (rb ro : ℕ) (a : Z.row.Denot) (n : ℕ) (us0 us1 : List Val) where
+  module _ (C : Calls 𝓤 H) (Λ : Loops 𝓤 H) (fm : FmC 𝓤 H 𝓛.laws C)
+      (takes : Triple 𝓤 (C (takes_key Z)) (Takes Z 𝓛 at_mem run))
+      (κ κ₁ κ₂ : Lft) (q q₁ q₂ : Share) (short : κ ⊑ κ₂) (lives : κ₂ ⊑ Z.row.lives) (rb ro : ℕ) (a : Z.row.Denot)
+      (n : ℕ) (us0 us1 : List Val) where
     abbrev alloc : Bor Z.row.Denot
     alloc = record { ref_ptr = (rb, ro); now = a }
 
@@ -117,27 +124,42 @@ module _ (E : El) (Z : Al) {M : Type 1} {𝓤 : Ura M} (𝓛 : Logic 𝓤) (at_m
     abbrev types_live : Item 𝓤
     types_live = ‵ (flft κ₁ q₁) ⊛ ‵ (flft κ₂ q₂) ⊛ ‵ ftrue
 
-    exits : (r : (Answer E Z).Denot) (v : Val) → Gives E Z a n r → ent 𝓤 (⋆ 𝓛 (‵ ((Answer E Z).own_val r (v ∷ [])) ∷ ‵ (flft κ q) ∷ types_live ∷ [])) (Post v)
+    exits : (r : (Answer E Z).Denot) (v : Val) → Gives E Z a n r
+        → ent 𝓤 (⋆ 𝓛 (‵ ((Answer E Z).own_val r (v ∷ [])) ∷ ‵ (flft κ q) ∷ types_live ∷ [])) (Post v)
     exits r v gives =
         qed 𝓛 (‵ ((Answer E Z).own_val r (v ∷ [])) ∷ ‵ (flft κ q) ∷ types_live ∷ []) ∵
-        suffices ! _ (ends_at 𝓛 (ended E Z) (stayed E Z) (clauses E Z 𝓛 at_mem run) bound v r (tt, (tt, tt)) (tt, (tt, tt))) $ says ! gives $
+        suffices ! _ (ends_at 𝓛 (ended E Z) (stayed E Z) (clauses E Z 𝓛 at_mem run) bound v r (tt, (tt, tt)) (
+          tt,
+          (tt, tt),
+        )) $ says ! gives $
         move ! (1 ∷ 2 ∷ []) $ join ! $ frame ! $ nothing ! $ nothing ! $ fjoin ! $ nothing ! $ fjoin ! $ done !
 
     abbrev Had : List (Item 𝓤)
     Had = ‵ (hidden_shr (P E Z) κ a rb ro) ∷ ‵ (flft κ q) ∷ types_live ∷ []
 
-    walk : FitsInBlock (R E) n → n < 2 ^ 64 → ent 𝓤 (⋆ 𝓛 Had) (WpFn 𝓤 H C Λ (function E Z) (vptr rb ro ∷ vint w64 n ∷ []) Post)
+    walk : FitsInBlock (R E) n → n < 2 ^ 64
+        → ent 𝓤 (⋆ 𝓛 Had) (WpFn 𝓤 H C Λ (function E Z) (vptr rb ro ∷ vint w64 n ∷ []) Post)
     walk asked fits =
-        let s = sz E in let small : n * s < 2 ^ 63 = asked.0 in let bytes : n * s < 2 ^ 64 = omega arith in let al : ℕ = capped (align (elτ E)) in
-        qed 𝓛 Had ∵ enter ! C Λ (function E Z) (vptr rb ro ∷ vint w64 n ∷ []) _ $ alloc_all ! (λ l. pass_all ! refl ((tt, tt), ((tt, record { fits = fits }), tt)) $
+        let s = sz E in let small : n * s < 2 ^ 63 = asked.0 in let bytes : n * s < 2 ^ 64 = omega arith in
+        let al : ℕ = capped (align (elτ E)) in
+        qed 𝓛 Had ∵ enter ! C Λ (function E Z) (vptr rb ro ∷ vint w64 n ∷ []) _ $ alloc_all !
+        (λ l. pass_all ! refl ((tt, tt), ((tt, record { fits = fits }), tt)) $
         let En : Env 𝓤 H = env (function E Z).locals l in
-        let Chosen : After 𝓤 H = any_q (after_seq 𝓤 H (Wp 𝓤 H C Λ En (after 3 (function E Z).body) (at_return 𝓤 H En Post)) (at_return 𝓤 H En Post)) in
+        let Chosen : After 𝓤 H =
+        any_q (after_seq 𝓤 H (Wp 𝓤 H C Λ En (after 3 (function E Z).body) (at_return 𝓤 H En Post))
+        (at_return 𝓤 H En Post)) in
         let y : (Takes Z 𝓛 at_mem run).Ghost = at_takes Z 𝓛 at_mem run κ q (rb, ro) a (n * s) al (block_ty E n) in
-        sets ! (is ! (bin ! (get ! refl) (size_word !) (record { fits = subst (λ (k : ℕ). k < 2 ^ 64) (sym (uncapped n s bytes)) bytes })) (ap (vint w64) (uncapped n s bytes))) refl (tt, record { fits = bytes }) $
+        sets ! (is !
+        (bin ! (get ! refl) (size_word !)
+        (record { fits = subst (λ (k : ℕ). k < 2 ^ 64) (sym (uncapped n s bytes)) bytes }))
+        (ap (vint w64) (uncapped n s bytes))) refl (tt, record { fits = bytes }) $
         use2 𝓛 (raw ((Takes Z 𝓛 at_mem run).pre y))
-        (Takes-goes Z 𝓛 at_mem run κ q (rb, ro) a (Incl-trans short lives) (n * s) al (block_ty E n) (block_size E n bytes) (block_align E n) bytes (capped_fits (align (elτ E)))) $
-        calls_at ! fm (Takes Z 𝓛 at_mem run) takes y (and_then ! (get ! refl) (and_then ! (get ! refl) (and_then ! (align_word !) (no_more !)))) (λ v.
-        use1 𝓛 (later (raw (Answered Z 𝓛 at_mem run a (block_ty E n) v) ⊛ ‵ (flft κ q))) (Takes-gives Z 𝓛 at_mem run κ q (rb, ro) a (n * s) al (block_ty E n) v) $ await ! tt $ split ! $
+        (Takes-goes Z 𝓛 at_mem run κ q (rb, ro) a (Incl-trans short lives) (n * s) al (block_ty E n)
+        (block_size E n bytes) (block_align E n) bytes (capped_fits (align (elτ E)))) $
+        calls_at ! fm (Takes Z 𝓛 at_mem run) takes y
+        (and_then ! (get ! refl) (and_then ! (get ! refl) (and_then ! (align_word !) (no_more !)))) (λ v.
+        use1 𝓛 (later (raw (Answered Z 𝓛 at_mem run a (block_ty E n) v) ⊛ ‵ (flft κ q)))
+        (Takes-gives Z 𝓛 at_mem run κ q (rb, ro) a (n * s) al (block_ty E n) v) $ await ! tt $ split ! $
         answers Z ! at_mem run a (block_ty E n) v
         (λ b o e.
         let p : Ptr = block_ptr b o in
@@ -147,47 +169,92 @@ module _ (E : El) (Z : Al) {M : Type 1} {𝓤 : Ura M} (𝓛 : Logic 𝓤) (at_m
         let made : Val = three_val (word p) mark mark in
         let typed : Good (layout (Parts E Z)) made = (tt, ((tt, tt), ((tt, tt), ((tt, tt), tt)))) in
         let ok = first_Good (layout (Parts E Z)) made typed in
-        lands_as ! e refl (Answer-typed true b o) $ first ! $ switches_on ! (get_tag ! (vrt ! refl (fld ! refl (stop !))) (whole !)) $ exec ! C Λ En (arm_body 0 (choice E Z)) Chosen $
-        sets ! (of_opd ! (get_in ! (vrt ! refl (fld ! refl (stop !))) (in_variant ! 0 0 refl refl (whole !)))) refl (tt, tt) $ sets ! (of_opd ! (get ! refl)) refl (tt, tt) $
+        lands_as ! e refl (Answer-typed true b o) $ first ! $ switches_on !
+        (get_tag ! (vrt ! refl (fld ! refl (stop !))) (whole !)) $ exec ! C Λ En (arm_body 0 (choice E Z)) Chosen $
+        sets ! (of_opd ! (get_in ! (vrt ! refl (fld ! refl (stop !))) (in_variant ! 0 0 refl refl (whole !)))) refl
+        (tt, tt) $ sets ! (of_opd ! (get ! refl)) refl (tt, tt) $
         -- the base, the cells, the deed, the three of them, and the answer
         sets ! (agg ! (and_then ! (get ! refl) (no_more !))) refl (word-Good [] p) $
-        sets ! (agg ! (no_more !)) refl (tt, tt) $ sets ! (agg ! (and_then ! (get ! refl) (no_more !))) refl (tt, (tt, tt)) $
-        sets ! (agg ! (no_more !)) refl (tt, tt) $ sets ! (agg ! (and_then ! (get ! refl) (no_more !))) refl (tt, (tt, tt)) $
-        sets ! (agg ! (and_then ! (get ! refl) (and_then ! (get ! refl) (and_then ! (get ! refl) (no_more !))))) refl typed $
+        sets ! (agg ! (no_more !)) refl (tt, tt) $ sets ! (agg ! (and_then ! (get ! refl) (no_more !))) refl (
+          tt,
+          (tt, tt),
+        ) $
+        sets ! (agg ! (no_more !)) refl (tt, tt) $ sets ! (agg ! (and_then ! (get ! refl) (no_more !))) refl (
+          tt,
+          (tt, tt),
+        ) $
+        sets ! (agg ! (and_then ! (get ! refl) (and_then ! (get ! refl) (and_then ! (get ! refl) (no_more !))))) refl
+        typed $
         sets_last ! (agg ! (and_then ! (lit ! tt) (and_then ! (get ! refl) (no_more !)))) refl ok $
         exec ! C Λ En (after 3 (function E Z).body) (at_ret En Post) $ sets ! (of_opd ! (get ! refl)) refl ok $
         -- [the room; its deed; the token; the types' tokens]
-        move ! (1 ∷ []) $ use0 𝓛 (‵ ((Mark E).own_val (tt, tt) (mark ∷ []))) (mark_made 𝓛 E) $ fjoin ! $ move ! (1 ∷ []) $
+        move ! (1 ∷ []) $ use0 𝓛 (‵ ((Mark E).own_val (tt, tt) (mark ∷ []))) (mark_made 𝓛 E) $ fjoin ! $ move !
+        (1 ∷ []) $
         as_written ! (ty_array (elτ E) n) b o $ use1 𝓛 (‵ (row_owned (R E) b o cells.slots)) (row_of_room E 𝓛 b n o) $
-        flt_i ! (length cells.slots * s) (2 ^ 63) (subst (λ k. k * s < 2 ^ 63) (sym (length-replicate n None)) small) $ fjoin ! $
-        use0 𝓛 (‵ ((Mark E).own_val (tt, tt) (mark ∷ []))) (mark_made 𝓛 E) $ fjoin ! $ use0 𝓛 (‵ ((Bs E).own_val base (word p ∷ []))) (base_made 𝓛 E base) $
-        use3 𝓛 (‵ ((Parts E Z).own_val (base, cells, deed) (made ∷ []))) (three_made 𝓛 (Bs E) (Cr E) (Dd E Z) base cells deed (word p) mark mark) $
-        use1 𝓛 (‵ ((Answer E Z).own_val (Ok (base, cells, deed)) (live 0 (vcons made vnil) ∷ []))) (ok_of 𝓛 (Parts E Z) errors.the_row (base, cells, deed) made) $
-        returns ! (look_at ! 0 refl) $ free_all ! refl $ keep ! (0 ∷ 1 ∷ 2 ∷ []) $ by ! (exits (Ok (base, cells, deed)) (live 0 (vcons made vnil)) (refl, refl, refl, refl, refl)))
+        flt_i ! (length cells.slots * s) (2 ^ 63) (subst (λ k. k * s < 2 ^ 63) (sym (length-replicate n None)) small)
+        $ fjoin ! $
+        use0 𝓛 (‵ ((Mark E).own_val (tt, tt) (mark ∷ []))) (mark_made 𝓛 E) $ fjoin ! $ use0 𝓛
+        (‵ ((Bs E).own_val base (word p ∷ []))) (base_made 𝓛 E base) $
+        use3 𝓛 (‵ ((Parts E Z).own_val (base, cells, deed) (made ∷ [])))
+        (three_made 𝓛 (Bs E) (Cr E) (Dd E Z) base cells deed (word p) mark mark) $
+        use1 𝓛 (‵ ((Answer E Z).own_val (Ok (base, cells, deed)) (live 0 (vcons made vnil) ∷ [])))
+        (ok_of 𝓛 (Parts E Z) errors.the_row (base, cells, deed) made) $
+        returns ! (look_at ! 0 refl) $ free_all ! refl $ keep ! (0 ∷ 1 ∷ 2 ∷ []) $ by !
+        (exits (Ok (base, cells, deed)) (live 0 (vcons made vnil)) (refl, refl, refl, refl, refl)))
         (λ e.
         let Refusal : RattleType = Struct (Declared.shape errors.the_type) in
-        lands_as ! e refl (Answer-typed false 0 0) $ first ! $ switches_on ! (get_tag ! (vrt ! refl (fld ! refl (stop !))) (whole !)) $ exec ! C Λ En (arm_body 1 (choice E Z)) Chosen $
-        sets ! (of_opd ! (get_in ! (vrt ! refl (fld ! refl (stop !))) (in_variant ! 1 0 refl refl (whole !)))) refl (tt, tt) $
-        sets_last ! (agg ! (and_then ! (lit ! tt) (and_then ! (get ! refl) (no_more !)))) refl (tt, (record { fits = lit< tt }, (tt, tt))) $
-        exec ! C Λ En (after 3 (function E Z).body) (at_ret En Post) $ sets ! (of_opd ! (get ! refl)) refl (tt, (record { fits = lit< tt }, (tt, tt))) $
-        owned ! Refusal (Is Refusal) (Struct-Makes 𝓛 (Declared.shape errors.the_type) tt) tt (vstruct vnil ∷ []) (tt, (refl, tt)) $
-        use1 𝓛 (‵ ((Answer E Z).own_val (Err (record {})) (refused ∷ []))) (err_of 𝓛 (Parts E Z) errors.the_row (record {}) (vstruct vnil)) $
-        returns ! (look_at ! 0 refl) $ free_all ! refl $ keep ! (0 ∷ 1 ∷ 2 ∷ []) $ by ! (exits (Err (record {})) refused tt))))
+        lands_as ! e refl (Answer-typed false 0 0) $ first ! $ switches_on !
+        (get_tag ! (vrt ! refl (fld ! refl (stop !))) (whole !)) $ exec ! C Λ En (arm_body 1 (choice E Z)) Chosen $
+        sets ! (of_opd ! (get_in ! (vrt ! refl (fld ! refl (stop !))) (in_variant ! 1 0 refl refl (whole !)))) refl
+        (tt, tt) $
+        sets_last ! (agg ! (and_then ! (lit ! tt) (and_then ! (get ! refl) (no_more !)))) refl (
+          tt,
+          (record { fits = lit< tt }, (tt, tt)),
+        ) $
+        exec ! C Λ En (after 3 (function E Z).body) (at_ret En Post) $ sets ! (of_opd ! (get ! refl)) refl (
+          tt,
+          (record { fits = lit< tt }, (tt, tt)),
+        ) $
+        owned ! Refusal (Is Refusal) (Struct-Makes 𝓛 (Declared.shape errors.the_type) tt) tt (vstruct vnil ∷ []) (
+          tt,
+          (refl, tt),
+        ) $
+        use1 𝓛 (‵ ((Answer E Z).own_val (Err (record {})) (refused ∷ [])))
+        (err_of 𝓛 (Parts E Z) errors.the_row (record {}) (vstruct vnil)) $
+        returns ! (look_at ! 0 refl) $ free_all ! refl $ keep ! (0 ∷ 1 ∷ 2 ∷ []) $ by !
+        (exits (Err (record {})) refused tt))))
 
-    entry : FitsInBlock (R E) n → ent 𝓤 (on_entry 𝓛 (ended E Z).signature (κ, (κ₁, (κ₂, tt))) (q, (q₁, (q₂, tt))) (alloc, (n, tt)) (us0, (us1, tt))) (WpFn 𝓤 H C Λ (function E Z) (us0 ++ (us1 ++ [])) Post)
+    entry : FitsInBlock (R E) n
+        → ent 𝓤 (on_entry 𝓛 (ended E Z).signature (κ, (κ₁, (κ₂, tt))) (q, (q₁, (q₂, tt))) (alloc, (n, tt)) (
+          us0,
+          (us1, tt),
+        )) (WpFn 𝓤 H C Λ (function E Z) (us0 ++ (us1 ++ [])) Post)
     entry asked =
-        qed 𝓛 ((‵ (flft κ q) ⊛ types_live) ∷ ‵ (owns (ShrRef (named 0) κ (P E Z) ∷ usize ∷ []) (alloc, (n, tt)) (us0, (us1, tt))) ∷ []) ∵
-        split ! $ move ! (2 ∷ []) $ fsplit3 ! $ fsplit ! $ feq_l ! (λ e0. move ! (1 ∷ []) $ fsplit ! $ feq_l ! (λ e1. flt_l ! (λ fits. keep ! (0 ∷ 2 ∷ 3 ∷ []) $
-        by ! (subst (λ (ws : List Val × List Val). ent 𝓤 (⋆ 𝓛 Had) (WpFn 𝓤 H C Λ (function E Z) (ws.0 ++ (ws.1 ++ [])) Post)) (λ j. (sym e0 j, sym e1 j)) (walk asked fits)))))
+        qed 𝓛 ((‵ (flft κ q) ⊛ types_live) ∷ ‵ (owns (ShrRef (named 0) κ (P E Z) ∷ usize ∷ []) (alloc, (n, tt)) (
+          us0,
+          (us1, tt),
+        )) ∷ []) ∵
+        split ! $ move ! (2 ∷ []) $ fsplit3 ! $ fsplit ! $ feq_l !
+        (λ e0. move ! (1 ∷ []) $ fsplit ! $ feq_l ! (λ e1. flt_l ! (λ fits. keep ! (0 ∷ 2 ∷ 3 ∷ []) $
+        by ! (subst
+        (λ (ws : List Val × List Val). ent 𝓤 (⋆ 𝓛 Had) (WpFn 𝓤 H C Λ (function E Z) (ws.0 ++ (ws.1 ++ [])) Post))
+        (λ j. (sym e0 j, sym e1 j)) (walk asked fits)))))
 
-  meets : (𝓣 : Tables 𝓤 H) → Triple 𝓤 (𝓣.C (takes_key Z)) (Takes Z 𝓛 at_mem run) → Meets 𝓛 (ended E Z).signature (WpFn 𝓤 H 𝓣.C 𝓣.Λ (function E Z)) (closing 𝓛 (ended E Z) (clauses E Z 𝓛 at_mem run))
+  meets : (𝓣 : Tables 𝓤 H) → Triple 𝓤 (𝓣.C (takes_key Z)) (Takes Z 𝓛 at_mem run)
+      → Meets 𝓛 (ended E Z).signature (WpFn 𝓤 H 𝓣.C 𝓣.Λ (function E Z))
+      (closing 𝓛 (ended E Z) (clauses E Z 𝓛 at_mem run))
   meets 𝓣 takes =
-      walk_Meets 𝓛 (ended E Z) (stayed E Z) (Goes-dropped 𝓛 3 (RefOf (0 ∷ []) tt (plain (λ _. P E Z)) (λ _. tt)) yes (λ κs y f. refl), (Goes-dropped 𝓛 3 (plain (λ _. usize)) yes (λ κs y f. refl), tt))
+      walk_Meets 𝓛 (ended E Z) (stayed E Z) (
+        Goes-dropped 𝓛 3 (RefOf (0 ∷ []) tt (plain (λ _. P E Z)) (λ _. tt)) yes
+            (λ κs y f. refl),
+        (Goes-dropped 𝓛 3 (plain (λ _. usize)) yes (λ κs y f. refl), tt),
+      )
       (clauses E Z 𝓛 at_mem run) (WpFn 𝓤 H 𝓣.C 𝓣.Λ (function E Z)) (WpFn-mono 𝓤 H 𝓛.laws 𝓣 (function E Z))
       (λ z. let κs = z.0.0 in let qs = z.0.1 in let a = z.0.3 in let vss = z.0.4 in
       let Entry : SProp 𝓤 = on_entry 𝓛 (ended E Z).signature κs qs a vss in let asks = FitsInBlock (R E) a.1.0 in
       second 𝓤 (κs.1.0 ⊑ E.row.lives) (κs.1.1.0 ⊑ Z.row.lives) Entry (fact 𝓤 asks) (λ lives. needs 𝓤 asks Entry
-      (entry 𝓣.C 𝓣.Λ (fm_of 𝓤 H 𝓛.laws 𝓣) takes κs.0 κs.1.0 κs.1.1.0 qs.0 qs.1.0 qs.1.1.0 z.0.2.0 lives a.0.ref_ptr.0 a.0.ref_ptr.1 a.0.now a.1.0 vss.0 vss.1.0)))
+      (entry 𝓣.C 𝓣.Λ (fm_of 𝓤 H 𝓛.laws 𝓣) takes κs.0 κs.1.0 κs.1.1.0 qs.0 qs.1.0 qs.1.1.0 z.0.2.0 lives a.0.ref_ptr.0
+      a.0.ref_ptr.1 a.0.now a.1.0 vss.0 vss.1.0)))
 
 pub allocate_spec : {M : Type 1} → stated.statement M
 unfolding tables_of
@@ -195,5 +262,6 @@ allocate_spec 𝓤 𝓛 𝓜 𝓡 wired X W LX LW g d dd met md =
     let E : El = record { row = X; laws = LX } in
     let Z : Al = record { row = W; laws = LW; g = g; d = d; drops = dd } in
     let 𝓣 : Tables 𝓤 𝓛.H = tables_of 𝓤 𝓛.H 𝓜 (tables 𝓤 𝓛.H 𝓜 𝓡 𝓡.env) in
-    entered 𝓤 𝓛.H (triple_of 𝓛 (ended E Z).signature (F.spec X W g d dd 𝓛 𝓜.mem 𝓡.returns)) 𝓣.C 𝓣.Λ (#self (args E Z)) (function E Z) (code.unfolded 𝓤 𝓛.H 𝓜 𝓡 wired (X, (W, tt)) d dd)
+    entered 𝓤 𝓛.H (triple_of 𝓛 (ended E Z).signature (F.spec X W g d dd 𝓛 𝓜.mem 𝓡.returns)) 𝓣.C 𝓣.Λ (#self (args E Z))
+    (function E Z) (code.unfolded 𝓤 𝓛.H 𝓜 𝓡 wired (X, (W, tt)) d dd)
     (meets E Z 𝓛 𝓜.mem 𝓡.returns 𝓣 (met.allocate dd))

@@ -70,21 +70,43 @@ module _ (E : El) (Z : Al) where
   Dd = deeds.the_row (R E) (P E Z) Z.g
 
   abbrev stayed : Stays ended.signature.params ended.kept
-  stayed = (stay_dropped (RefOf (0 ∷ []) tt (plain (λ _. P E Z)) (λ _. tt)) yes, (stay_dropped (plain (λ _. Bs E)) no, (stay_dropped (plain (λ _. usize)) yes, (stay_dropped (plain (λ _. Cr E)) no, (stay_dropped (plain (λ _. Dd)) no, tt)))))
+  stayed = (
+    stay_dropped (RefOf (0 ∷ []) tt (plain (λ _. P E Z)) (λ _. tt)) yes,
+    (
+      stay_dropped (plain (λ _. Bs E)) no,
+      (
+        stay_dropped (plain (λ _. usize)) yes,
+        (stay_dropped (plain (λ _. Cr E)) no, (stay_dropped (plain (λ _. Dd)) no, tt)),
+      ),
+    ),
+  )
 
   abbrev Asks : Z.row.Denot → (Bs E).Denot → ℕ → (Cr E).Denot → Dd.Denot → Type 0
   Asks a base n cells deed = IsEmptyBlock base cells deed n a
 
-module _ (E : El) (Z : Al) {M : Type 1} {𝓤 : Ura M} (𝓛 : Logic 𝓤) (at_mem : Memory → SProp 𝓤) (run : Routine → Fun 𝓤) where
+module _ (E : El) (Z : Al) {M : Type 1} {𝓤 : Ura M} (𝓛 : Logic 𝓤) (at_mem : Memory → SProp 𝓤) (run : Routine
+    → Fun 𝓤) where
   open 𝓛 use {H}
 
-  module _ (C : Calls 𝓤 H) (Λ : Loops 𝓤 H) (fm : FmC 𝓤 H 𝓛.laws C) (frees : Triple 𝓤 (C (gives_key Z)) (Gives Z 𝓛 at_mem run))
-      (κ κ₁ κ₂ : Lft) (q q₁ q₂ : Share) (short : κ ⊑ κ₂) (lives : κ₂ ⊑ Z.row.lives) (rb ro : ℕ) (a : Z.row.Denot) (base : (Bs E).Denot) (n : ℕ) (cells : (Cr E).Denot) (deed : (Dd E Z).Denot) (us0 us1 us2 us3 us4 : List Val) where
+  module _ (C : Calls 𝓤 H) (Λ : Loops 𝓤 H) (fm : FmC 𝓤 H 𝓛.laws C)
+      (frees : Triple 𝓤 (C (gives_key Z)) (Gives Z 𝓛 at_mem run))
+      (κ κ₁ κ₂ : Lft) (q q₁ q₂ : Share) (short : κ ⊑ κ₂) (lives : κ₂ ⊑ Z.row.lives) (rb ro : ℕ) (a : Z.row.Denot)
+      (base : (Bs E).Denot) (n : ℕ) (cells : (Cr E).Denot) (deed : (Dd E Z).Denot)
+      (us0 us1 us2 us3 us4 : List Val) where
     abbrev alloc : Bor Z.row.Denot
     alloc = record { ref_ptr = (rb, ro); now = a }
 
     abbrev bound : (walk_of 𝓛 (ended E Z) (stayed E Z) (clauses E Z 𝓛 at_mem run)).Ghost
-    bound = (((κ, (κ₁, (κ₂, tt))), (q, (q₁, (q₂, tt))), (short, tt), (alloc, (base, (n, (cells, (deed, tt))))), (us0, (us1, (us2, (us3, (us4, tt)))))), tt)
+    bound = (
+      (
+        (κ, (κ₁, (κ₂, tt))),
+        (q, (q₁, (q₂, tt))),
+        (short, tt),
+        (alloc, (base, (n, (cells, (deed, tt))))),
+        (us0, (us1, (us2, (us3, (us4, tt))))),
+      ),
+      tt,
+    )
 
     abbrev Post : Val → SProp 𝓤
     Post = (walk_of 𝓛 (ended E Z) (stayed E Z) (clauses E Z 𝓛 at_mem run)).post bound
@@ -95,45 +117,83 @@ module _ (E : El) (Z : Al) {M : Type 1} {𝓤 : Ura M} (𝓛 : Logic 𝓤) (at_m
 
     exits : ent 𝓤 (⋆ 𝓛 (‵ (flft κ q) ∷ types_live ∷ [])) (Post vunit)
     exits =
-        qed 𝓛 (‵ (flft κ q) ∷ types_live ∷ []) ∵ suffices ! _ (ends_at 𝓛 (ended E Z) (stayed E Z) (clauses E Z 𝓛 at_mem run) bound vunit tt (tt, (tt, (tt, (tt, (tt, tt))))) (tt, (tt, (tt, (tt, (tt, tt)))))) $
-        join ! $ feq_i ! (List Val) (vunit ∷ []) (vunit ∷ []) refl $ nothing ! $ nothing ! $ fjoin ! $ nothing ! $ fjoin ! $ nothing ! $ fjoin ! $ nothing ! $ fjoin ! $ nothing ! $ fjoin ! $ join ! $
+        qed 𝓛 (‵ (flft κ q) ∷ types_live ∷ []) ∵ suffices ! _
+        (ends_at 𝓛 (ended E Z) (stayed E Z) (clauses E Z 𝓛 at_mem run) bound vunit tt (
+          tt,
+          (tt, (tt, (tt, (tt, tt)))),
+        ) (tt, (tt, (tt, (tt, (tt, tt)))))) $
+        join ! $ feq_i ! (List Val) (vunit ∷ []) (vunit ∷ []) refl $ nothing ! $ nothing ! $ fjoin ! $ nothing !
+        $ fjoin ! $ nothing ! $ fjoin ! $ nothing ! $ fjoin ! $ nothing ! $ fjoin ! $ join ! $
         move ! (1 ∷ 0 ∷ []) $ join ! $ nothing ! $ move ! (1 ∷ 0 ∷ []) $ done !
 
     abbrev Had : List (Item 𝓤)
-    Had = ‵ (cells_owned (R E) cells.at cells.slots) ∷ ‵ (deed_owned (R E) (token Z deed.alloc) deed.at deed.len) ∷ ‵ (hidden_shr (P E Z) κ a rb ro) ∷ ‵ (flft κ q) ∷ types_live ∷ []
+    Had = ‵ (cells_owned (R E) cells.at cells.slots) ∷ ‵ (deed_owned (R E) (token Z deed.alloc) deed.at deed.len) ∷ ‵
+        (hidden_shr (P E Z) κ a rb ro) ∷ ‵ (flft κ q) ∷ types_live ∷ []
 
-    walk : Asks E Z a base n cells deed → n < 2 ^ 64 → ent 𝓤 (⋆ 𝓛 Had) (WpFn 𝓤 H C Λ (function E Z) (vptr rb ro ∷ word base.ptr ∷ vint w64 n ∷ mark ∷ mark ∷ []) Post)
+    walk : Asks E Z a base n cells deed → n < 2 ^ 64
+        → ent 𝓤 (⋆ 𝓛 Had) (WpFn 𝓤 H C Λ (function E Z) (vptr rb ro ∷ word base.ptr ∷ vint w64 n ∷ mark ∷ mark ∷ [])
+        Post)
     walk asked fits =
         let s = sz E in let al : ℕ = capped (align (elτ E)) in
         qed 𝓛 Had ∵ enter ! C Λ (function E Z) (vptr rb ro ∷ word base.ptr ∷ vint w64 n ∷ mark ∷ mark ∷ []) _ $
-        alloc_all ! (λ l. pass_all ! refl ((tt, tt), (word-Good [] base.ptr, ((tt, record { fits = fits }), ((tt, (tt, tt)), ((tt, (tt, tt)), tt))))) $
+        alloc_all !
+        (λ l. pass_all ! refl (
+          (tt, tt),
+          (word-Good [] base.ptr, ((tt, record { fits = fits }), ((tt, (tt, tt)), ((tt, (tt, tt)), tt)))),
+        ) $
         let En : Env 𝓤 H = env (function E Z).locals l in
         rewrite ! 0 (λ (c : Ptr × List (Slot E)). ‵ (cells_owned (R E) c.0 c.1)) (λ j. (asked.0 j, asked.1 j)) refl $
-        in_a_block ! base.ptr (λ p. cells_owned (R E) p (replicate n None)) (id⊢ 𝓤 (never 𝓤)) (λ b o e. fsplit ! $ flt_l ! (λ small.
-        let bytes : n * s < 2 ^ 64 = let all = subst (λ k. k * s < 2 ^ 63) (length-replicate n None) small in omega arith in
+        in_a_block ! base.ptr (λ p. cells_owned (R E) p (replicate n None)) (id⊢ 𝓤 (never 𝓤))
+        (λ b o e. fsplit ! $ flt_l ! (λ small.
+        let bytes : n * s < 2 ^ 64 = let all = subst (λ k. k * s < 2 ^ 63) (length-replicate n None) small in
+        omega arith in
         let y : (Gives Z 𝓛 at_mem run).Ghost = at_gives Z 𝓛 at_mem run κ q (rb, ro) a b o (n * s) al (block_ty E n) in
-        rewrite ! 1 (λ (d : Z.row.Denot × Ptr × ℕ). ‵ (deed_owned (R E) (token Z d.0) d.1 d.2)) (λ j. (asked.4 j, (asked.2 ∙ e) j, asked.3 j)) refl $
-        use1 𝓛 (‵ (froom (ty_array (elτ E) n) b o)) (room_of_row E 𝓛 b n o) $ as_raw ! (ty_array (elτ E) n) b o $ first ! $ blocks ! $
-        sets ! (is ! (of_opd ! (get_in ! (fld ! refl (stop !)) (sub ! 0 refl (whole !)))) (ap ptr_val e)) refl (tt, tt) $
-        sets ! (is ! (bin ! (get ! refl) (size_word !) (record { fits = subst (λ (k : ℕ). k < 2 ^ 64) (sym (uncapped n s bytes)) bytes })) (ap (vint w64) (uncapped n s bytes))) refl (tt, record { fits = bytes }) $
+        rewrite ! 1 (λ (d : Z.row.Denot × Ptr × ℕ). ‵ (deed_owned (R E) (token Z d.0) d.1 d.2))
+        (λ j. (asked.4 j, (asked.2 ∙ e) j, asked.3 j)) refl $
+        use1 𝓛 (‵ (froom (ty_array (elτ E) n) b o)) (room_of_row E 𝓛 b n o) $ as_raw ! (ty_array (elτ E) n) b o
+        $ first ! $ blocks ! $
+        sets ! (is ! (of_opd ! (get_in ! (fld ! refl (stop !)) (sub ! 0 refl (whole !)))) (ap ptr_val e)) refl (
+          tt,
+          tt,
+        ) $
+        sets ! (is !
+        (bin ! (get ! refl) (size_word !)
+        (record { fits = subst (λ (k : ℕ). k < 2 ^ 64) (sym (uncapped n s bytes)) bytes }))
+        (ap (vint w64) (uncapped n s bytes))) refl (tt, record { fits = bytes }) $
         -- [the room; its deed; the allocator, behind a `&`; the token; the types' tokens]
         group ! 4 $ use1 𝓛 (raw ((Gives Z 𝓛 at_mem run).pre y))
-        (Gives-goes Z 𝓛 at_mem run κ q (rb, ro) a (Incl-trans short lives) b o (n * s) al (block_ty E n) (block_size E n bytes) (block_align E n) bytes (capped_fits (align (elτ E)))) $
-        calls_at_last ! fm (Gives Z 𝓛 at_mem run) frees y (and_then ! (get ! refl) (and_then ! (get ! refl) (and_then ! (get ! refl) (and_then ! (align_word !) (no_more !))))) (λ v.
-        use1 𝓛 (later (given (v ≡ vunit) (‵ (flft κ q)))) (Gives-Gives Z 𝓛 at_mem run κ q (rb, ro) a b o (n * s) al (block_ty E n) v) $ await ! tt $ learn ! (λ unit.
-        lands_last ! refl (subst (λ (u : Val). T (has_ty ty_unit u) × WT u) (sym unit) (tt, tt)) $ exec ! C Λ En (after 1 (function E Z).body) (at_ret En Post) $
+        (Gives-goes Z 𝓛 at_mem run κ q (rb, ro) a (Incl-trans short lives) b o (n * s) al (block_ty E n)
+        (block_size E n bytes) (block_align E n) bytes (capped_fits (align (elτ E)))) $
+        calls_at_last ! fm (Gives Z 𝓛 at_mem run) frees y
+        (and_then ! (get ! refl)
+        (and_then ! (get ! refl) (and_then ! (get ! refl) (and_then ! (align_word !) (no_more !))))) (λ v.
+        use1 𝓛 (later (given (v ≡ vunit) (‵ (flft κ q)))) (Gives-Gives Z 𝓛 at_mem run κ q (rb, ro) a b o (n * s) al
+        (block_ty E n) v) $ await ! tt $ learn ! (λ unit.
+        lands_last ! refl (subst (λ (u : Val). T (has_ty ty_unit u) × WT u) (sym unit) (tt, tt)) $ exec ! C Λ En
+        (after 1 (function E Z).body) (at_ret En Post) $
         sets ! (of_opd ! (unit_lit !)) refl (tt, tt) $ returns ! (look_at ! 0 refl) $ free_all ! refl $ by ! exits)))))
 
     entry : Asks E Z a base n cells deed
-        → ent 𝓤 (on_entry 𝓛 (ended E Z).signature (κ, (κ₁, (κ₂, tt))) (q, (q₁, (q₂, tt))) (alloc, (base, (n, (cells, (deed, tt))))) (us0, (us1, (us2, (us3, (us4, tt)))))) (WpFn 𝓤 H C Λ (function E Z) (us0 ++ (us1 ++ (us2 ++ (us3 ++ (us4 ++ []))))) Post)
+        → ent 𝓤 (on_entry 𝓛 (ended E Z).signature (κ, (κ₁, (κ₂, tt))) (q, (q₁, (q₂, tt))) (
+          alloc,
+          (base, (n, (cells, (deed, tt)))),
+        ) (us0, (us1, (us2, (us3, (us4, tt))))))
+        (WpFn 𝓤 H C Λ (function E Z) (us0 ++ (us1 ++ (us2 ++ (us3 ++ (us4 ++ []))))) Post)
     entry asked =
-        qed 𝓛 ((‵ (flft κ q) ⊛ types_live) ∷ ‵ (owns (ShrRef (named 0) κ (P E Z) ∷ Bs E ∷ usize ∷ Cr E ∷ Dd E Z ∷ []) (alloc, (base, (n, (cells, (deed, tt))))) (us0, (us1, (us2, (us3, (us4, tt)))))) ∷ []) ∵
-        split ! $ move ! (2 ∷ []) $ fsplit3 ! $ fsplit ! $ feq_l ! (λ e0. move ! (1 ∷ []) $ base_had E ! base us1 (λ e1. move ! (1 ∷ []) $ fsplit3 ! $ fsplit ! $ feq_l ! (λ e2. flt_l ! (λ fits.
-        fsplit ! $ mark_had E ! us3 (λ e3. move ! (1 ∷ []) $ fsplit ! $ fsplit ! $ mark_had E ! us4 (λ e4. keep ! (2 ∷ 0 ∷ 3 ∷ 4 ∷ 5 ∷ []) $
-        by ! (subst (λ (ws : List Val × List Val × List Val × List Val × List Val). ent 𝓤 (⋆ 𝓛 Had) (WpFn 𝓤 H C Λ (function E Z) (ws.0 ++ (ws.1 ++ (ws.2 ++ (ws.3 ++ (ws.4 ++ []))))) Post))
+        qed 𝓛 ((‵ (flft κ q) ⊛ types_live) ∷ ‵ (owns (ShrRef (named 0) κ (P E Z) ∷ Bs E ∷ usize ∷ Cr E ∷ Dd E Z ∷ [])
+        (alloc, (base, (n, (cells, (deed, tt))))) (us0, (us1, (us2, (us3, (us4, tt)))))) ∷ []) ∵
+        split ! $ move ! (2 ∷ []) $ fsplit3 ! $ fsplit ! $ feq_l !
+        (λ e0. move ! (1 ∷ []) $ base_had E ! base us1 (λ e1. move ! (1 ∷ []) $ fsplit3 ! $ fsplit ! $ feq_l !
+        (λ e2. flt_l ! (λ fits.
+        fsplit ! $ mark_had E ! us3 (λ e3. move ! (1 ∷ []) $ fsplit ! $ fsplit ! $ mark_had E ! us4
+        (λ e4. keep ! (2 ∷ 0 ∷ 3 ∷ 4 ∷ 5 ∷ []) $
+        by ! (subst (λ (ws : List Val × List Val × List Val × List Val × List Val). ent 𝓤 (⋆ 𝓛 Had)
+        (WpFn 𝓤 H C Λ (function E Z) (ws.0 ++ (ws.1 ++ (ws.2 ++ (ws.3 ++ (ws.4 ++ []))))) Post))
         (λ j. (sym e0 j, sym e1 j, sym e2 j, sym e3 j, sym e4 j)) (walk asked fits))))))))
 
-  meets : (𝓣 : Tables 𝓤 H) → Triple 𝓤 (𝓣.C (gives_key Z)) (Gives Z 𝓛 at_mem run) → Meets 𝓛 (ended E Z).signature (WpFn 𝓤 H 𝓣.C 𝓣.Λ (function E Z)) (closing 𝓛 (ended E Z) (clauses E Z 𝓛 at_mem run))
+  meets : (𝓣 : Tables 𝓤 H) → Triple 𝓤 (𝓣.C (gives_key Z)) (Gives Z 𝓛 at_mem run)
+      → Meets 𝓛 (ended E Z).signature (WpFn 𝓤 H 𝓣.C 𝓣.Λ (function E Z))
+      (closing 𝓛 (ended E Z) (clauses E Z 𝓛 at_mem run))
   meets 𝓣 frees =
       walk_Meets 𝓛 (ended E Z) (stayed E Z) (
         Goes-dropped 𝓛 3 (RefOf (0 ∷ []) tt (plain (λ _. P E Z)) (λ _. tt)) yes (λ κs y f. refl),
@@ -141,15 +201,20 @@ module _ (E : El) (Z : Al) {M : Type 1} {𝓤 : Ura M} (𝓛 : Logic 𝓤) (at_m
           Goes-dropped 𝓛 3 (plain (λ _. Bs E)) no (λ κs y f. refl),
           (
             Goes-dropped 𝓛 3 (plain (λ _. usize)) yes (λ κs y f. refl),
-            (Goes-blank 𝓛 3 (plain (λ _. Cr E)) no (λ κs y f. tt), (Goes-blank 𝓛 3 (plain (λ _. Dd E Z)) no (λ κs y f. tt), tt)),
+            (
+              Goes-blank 𝓛 3 (plain (λ _. Cr E)) no (λ κs y f. tt),
+              (Goes-blank 𝓛 3 (plain (λ _. Dd E Z)) no (λ κs y f. tt), tt),
+            ),
           ),
         ),
       )
       (clauses E Z 𝓛 at_mem run) (WpFn 𝓤 H 𝓣.C 𝓣.Λ (function E Z)) (WpFn-mono 𝓤 H 𝓛.laws 𝓣 (function E Z))
       (λ z. let κs = z.0.0 in let qs = z.0.1 in let a = z.0.3 in let vss = z.0.4 in
-      let Entry : SProp 𝓤 = on_entry 𝓛 (ended E Z).signature κs qs a vss in let asks = Asks E Z a.0.now a.1.0 a.1.1.0 a.1.1.1.0 a.1.1.1.1.0 in
+      let Entry : SProp 𝓤 = on_entry 𝓛 (ended E Z).signature κs qs a vss in let asks =
+      Asks E Z a.0.now a.1.0 a.1.1.0 a.1.1.1.0 a.1.1.1.1.0 in
       second 𝓤 (κs.1.0 ⊑ E.row.lives) (κs.1.1.0 ⊑ Z.row.lives) Entry (fact 𝓤 asks) (λ lives. needs 𝓤 asks Entry
-      (entry 𝓣.C 𝓣.Λ (fm_of 𝓤 H 𝓛.laws 𝓣) frees κs.0 κs.1.0 κs.1.1.0 qs.0 qs.1.0 qs.1.1.0 z.0.2.0 lives a.0.ref_ptr.0 a.0.ref_ptr.1 a.0.now a.1.0 a.1.1.0 a.1.1.1.0 a.1.1.1.1.0
+      (entry 𝓣.C 𝓣.Λ (fm_of 𝓤 H 𝓛.laws 𝓣) frees κs.0 κs.1.0 κs.1.1.0 qs.0 qs.1.0 qs.1.1.0 z.0.2.0 lives a.0.ref_ptr.0
+      a.0.ref_ptr.1 a.0.now a.1.0 a.1.1.0 a.1.1.1.0 a.1.1.1.1.0
       vss.0 vss.1.0 vss.1.1.0 vss.1.1.1.0 vss.1.1.1.1.0)))
 
 pub deallocate_spec : {M : Type 1} → stated.statement M
@@ -158,5 +223,6 @@ deallocate_spec 𝓤 𝓛 𝓜 𝓡 wired X W LX LW g d dd met md =
     let E : El = record { row = X; laws = LX } in
     let Z : Al = record { row = W; laws = LW; g = g; d = d; drops = dd } in
     let 𝓣 : Tables 𝓤 𝓛.H = tables_of 𝓤 𝓛.H 𝓜 (tables 𝓤 𝓛.H 𝓜 𝓡 𝓡.env) in
-    entered 𝓤 𝓛.H (triple_of 𝓛 (ended E Z).signature (F.spec X W g d dd 𝓛 𝓜.mem 𝓡.returns)) 𝓣.C 𝓣.Λ (#self (args E Z)) (function E Z) (code.unfolded 𝓤 𝓛.H 𝓜 𝓡 wired (X, (W, tt)) d dd)
+    entered 𝓤 𝓛.H (triple_of 𝓛 (ended E Z).signature (F.spec X W g d dd 𝓛 𝓜.mem 𝓡.returns)) 𝓣.C 𝓣.Λ (#self (args E Z))
+    (function E Z) (code.unfolded 𝓤 𝓛.H 𝓜 𝓡 wired (X, (W, tt)) d dd)
     (meets E Z 𝓛 𝓜.mem 𝓡.returns 𝓣 (met.deallocate dd))

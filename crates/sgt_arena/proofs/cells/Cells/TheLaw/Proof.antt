@@ -16,5 +16,8 @@ use Rattle.sgt_arena.proofs.Lent.{cells_laws, of_cells}
 pub shares : (R : RattleType) (L : Laws R) → statement R L
 shares R L =
     let shorter = Incl-trans (meet_⊑_left (R.lives ++ []) _) (meet_⊑_left R.lives []) in
-    of_Lends (cells.struct R) (cells.the_codes R.Denot R.coded (marker.the_row RawPtr).coded) (cells.the_heap R) (cells.the_lent R) (λ d p. cells_laws R L.shr_laws d.at d.slots)
-    (copy_shared (marker.the_field RawPtr) (field_copy (marker.the_type RawPtr) tt), tt) (λ M 𝓤 𝓛 d p. of_cells 𝓛 (cells.the_row R).lives R L shorter d.at d.slots)
+    of_Lends (cells.struct R) (cells.the_codes R.Denot R.coded (marker.the_row RawPtr).coded) (cells.the_heap R)
+    (cells.the_lent R) (λ d p. cells_laws R L.shr_laws d.at d.slots) (
+      copy_shared (marker.the_field RawPtr) (field_copy (marker.the_type RawPtr) tt),
+      tt,
+    ) (λ M 𝓤 𝓛 d p. of_cells 𝓛 (cells.the_row R).lives R L shorter d.at d.slots)

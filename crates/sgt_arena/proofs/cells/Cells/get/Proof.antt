@@ -62,7 +62,10 @@ module _ (E : El) where
   clauses 𝓛 = F.clauses E.row 𝓛
 
   abbrev stayed : Stays ended.signature.params ended.kept
-  stayed = (stay_dropped (RefOf (0 ∷ []) tt (plain (λ _. Cr E)) (λ _. tt)) yes, (stay_dropped (plain (λ _. Bs E)) no, (stay_dropped (plain (λ _. usize)) yes, tt)))
+  stayed = (
+    stay_dropped (RefOf (0 ∷ []) tt (plain (λ _. Cr E)) (λ _. tt)) yes,
+    (stay_dropped (plain (λ _. Bs E)) no, (stay_dropped (plain (λ _. usize)) yes, tt)),
+  )
 
   abbrev Asks : (Cr E).Denot → (Bs E).Denot → ℕ → Type 0
   Asks d base i = (base.ptr ≡ d.at) × IsFilled d.slots i
@@ -70,7 +73,8 @@ module _ (E : El) where
 module _ (E : El) {M : Type 1} {𝓤 : Ura M} (𝓛 : Logic 𝓤) (at_mem : Memory → SProp 𝓤) (run : Routine → Fun 𝓤) where
   open 𝓛 use {H}
 
-  module _ (C : Calls 𝓤 H) (Λ : Loops 𝓤 H) (κ κ₁ : Lft) (q q₁ : Share) (short : κ ⊑ κ₁) (rb ro : ℕ) (d : (Cr E).Denot) (base : (Bs E).Denot) (i : ℕ) (us0 us1 us2 : List Val) where
+  module _ (C : Calls 𝓤 H) (Λ : Loops 𝓤 H) (κ κ₁ : Lft) (q q₁ : Share) (short : κ ⊑ κ₁) (rb ro : ℕ) (d : (Cr E).Denot)
+      (base : (Bs E).Denot) (i : ℕ) (us0 us1 us2 : List Val) where
     abbrev self : Bor (Cr E).Denot
     self = record { ref_ptr = (rb, ro); now = d }
 
@@ -85,48 +89,78 @@ module _ (E : El) {M : Type 1} {𝓤 : Ura M} (𝓛 : Logic 𝓤) (at_mem : Memo
 
     exits : (r : Bor (el_x E)) (v : Val) → get_or d.slots i None ≡ Some r.now → ent 𝓤 (⋆ 𝓛 (Shown r v)) (Post v)
     exits r v is =
-        qed 𝓛 (Shown r v) ∵ suffices ! _ (ends_at 𝓛 (ended E) (stayed E) (clauses E 𝓛 at_mem run) bound v r (tt, (tt, (tt, tt))) (tt, (tt, (tt, tt)))) $ says ! is $
-        nothing ! $ move ! (2 ∷ 0 ∷ []) $ join ! $ move ! (1 ∷ 0 ∷ []) $ join ! $ frame ! $ nothing ! $ nothing ! $ fjoin ! $ nothing ! $ fjoin ! $ nothing ! $ fjoin ! $ done !
+        qed 𝓛 (Shown r v) ∵ suffices ! _ (ends_at 𝓛 (ended E) (stayed E) (clauses E 𝓛 at_mem run) bound v r (
+          tt,
+          (tt, (tt, tt)),
+        ) (tt, (tt, (tt, tt)))) $ says ! is $
+        nothing ! $ move ! (2 ∷ 0 ∷ []) $ join ! $ move ! (1 ∷ 0 ∷ []) $ join ! $ frame ! $ nothing ! $ nothing !
+        $ fjoin ! $ nothing ! $ fjoin ! $ nothing ! $ fjoin ! $ done !
 
     abbrev Had : List (Item 𝓤)
     Had = ‵ (hidden_shr (Cr E) κ d rb ro) ∷ ‵ (flft κ q) ∷ ‵ (flft κ₁ q₁) ∷ []
 
-    walk : Asks E d base i → i < 2 ^ 64 → ent 𝓤 (⋆ 𝓛 Had) (WpFn 𝓤 H C Λ (function E) (vptr rb ro ∷ word base.ptr ∷ vint w64 i ∷ []) Post)
+    walk : Asks E d base i → i < 2 ^ 64
+        → ent 𝓤 (⋆ 𝓛 Had) (WpFn 𝓤 H C Λ (function E) (vptr rb ro ∷ word base.ptr ∷ vint w64 i ∷ []) Post)
     walk asked fits =
         let s = sz E in let x = asked.1.0 in let within = holds_within d.slots i x asked.1.1 in
-        qed 𝓛 Had ∵ enter ! C Λ (function E) (vptr rb ro ∷ word base.ptr ∷ vint w64 i ∷ []) _ $ alloc_all ! (λ l. pass_all ! refl ((tt, tt), (word-Good [] base.ptr, ((tt, record { fits = fits }), tt))) $
+        qed 𝓛 Had ∵ enter ! C Λ (function E) (vptr rb ro ∷ word base.ptr ∷ vint w64 i ∷ []) _ $ alloc_all !
+        (λ l. pass_all ! refl ((tt, tt), (word-Good [] base.ptr, ((tt, record { fits = fits }), tt))) $
         let En : Env 𝓤 H = env (function E).locals l in
-        unhide ! $ fsplit ! $ drop ! $ in_a_block ! d.at (λ p. cells_lent (R E) p d.slots κ) (id⊢ 𝓤 (never 𝓤)) (λ b o e. fsplit ! $ flt_l ! (λ small.
+        unhide ! $ fsplit ! $ drop ! $ in_a_block ! d.at (λ p. cells_lent (R E) p d.slots κ) (id⊢ 𝓤 (never 𝓤))
+        (λ b o e. fsplit ! $ flt_l ! (λ small.
         let word_fits = offset_fits (length d.slots) s i within small in let at = i * s + o in
-        take_at ! 2 $ rewrite ! 0 (λ (p : Ptr). ‵ (fat full_share (layout (Bs E)) (l 2) 0 (word p))) (asked.0 ∙ e) refl $ give_at ! 2 $ first ! $ blocks ! $
-        sets ! (bin ! (get ! refl) (size_lit ! (record { fits = word_fits.0 })) (record { fits = word_fits.1 })) refl (tt, record { fits = word_fits.1 }) $
+        take_at ! 2 $ rewrite ! 0 (λ (p : Ptr). ‵ (fat full_share (layout (Bs E)) (l 2) 0 (word p))) (asked.0
+        ∙ e) refl $ give_at ! 2 $ first ! $ blocks ! $
+        sets ! (bin ! (get ! refl) (size_lit ! (record { fits = word_fits.0 })) (record { fits = word_fits.1 })) refl
+        (tt, record { fits = word_fits.1 }) $
         sets ! (bin ! (get_in ! (fld ! refl (stop !)) (sub ! 0 refl (whole !))) (get ! refl) tt) refl (tt, tt) $
         use1 𝓛 (‵ (slot_lent (R E) b at (get_or d.slots i None) κ)) (slot_seen E 𝓛 b κ o d.slots i within) $
         rewrite ! 0 (λ (c : Slot E). ‵ (slot_lent (R E) b at c κ)) asked.1.1 refl $ hide ! $
         -- [the value, behind a `&`; the two tokens]
-        sets_last ! (addr ! (through ! refl (stop !))) refl (tt, tt) $ exec ! C Λ En (after 1 (function E).body) (at_ret En Post) $ sets ! (of_opd ! (get ! refl)) refl (tt, tt) $
+        sets_last ! (addr ! (through ! refl (stop !))) refl (tt, tt) $ exec ! C Λ En (after 1 (function E).body)
+        (at_ret En Post) $ sets ! (of_opd ! (get ! refl)) refl (tt, tt) $
         feq_i ! (List Val) (vptr b at ∷ []) (vptr b at ∷ []) refl $ fjoin ! $
-        returns ! (look_at ! 0 refl) $ free_all ! refl $ move ! (1 ∷ 2 ∷ 0 ∷ []) $ by ! (exits (record { ref_ptr = (b, at); now = x }) (vptr b at) asked.1.1))))
+        returns ! (look_at ! 0 refl) $ free_all ! refl $ move ! (1 ∷ 2 ∷ 0 ∷ []) $ by !
+        (exits (record { ref_ptr = (b, at); now = x }) (vptr b at) asked.1.1))))
 
-    entry : Asks E d base i → ent 𝓤 (on_entry 𝓛 (ended E).signature (κ, (κ₁, tt)) (q, (q₁, tt)) (self, (base, (i, tt))) (us0, (us1, (us2, tt)))) (WpFn 𝓤 H C Λ (function E) (us0 ++ (us1 ++ (us2 ++ []))) Post)
+    entry : Asks E d base i
+        → ent 𝓤 (on_entry 𝓛 (ended E).signature (κ, (κ₁, tt)) (q, (q₁, tt)) (self, (base, (i, tt))) (
+          us0,
+          (us1, (us2, tt)),
+        )) (WpFn 𝓤 H C Λ (function E) (us0 ++ (us1 ++ (us2 ++ []))) Post)
     entry asked =
-        qed 𝓛 ((‵ (flft κ q) ⊛ ‵ (flft κ₁ q₁) ⊛ ‵ ftrue) ∷ ‵ (owns (ShrRef (named 0) κ (Cr E) ∷ Bs E ∷ usize ∷ []) (self, (base, (i, tt))) (us0, (us1, (us2, tt)))) ∷ []) ∵
-        split ! $ move ! (2 ∷ []) $ fsplit ! $ fsplit ! $ feq_l ! (λ e0. move ! (1 ∷ []) $ fsplit ! $ base_had E ! base us1 (λ e1. fsplit ! $ fsplit ! $ feq_l ! (λ e2. flt_l ! (λ fits.
+        qed 𝓛 ((‵ (flft κ q) ⊛ ‵ (flft κ₁ q₁) ⊛ ‵ ftrue) ∷ ‵
+        (owns (ShrRef (named 0) κ (Cr E) ∷ Bs E ∷ usize ∷ []) (self, (base, (i, tt))) (us0, (us1, (us2, tt)))) ∷
+        []) ∵
+        split ! $ move ! (2 ∷ []) $ fsplit ! $ fsplit ! $ feq_l !
+        (λ e0. move ! (1 ∷ []) $ fsplit ! $ base_had E ! base us1
+        (λ e1. fsplit ! $ fsplit ! $ feq_l ! (λ e2. flt_l ! (λ fits.
         move ! (3 ∷ []) $ split ! $ keep ! (3 ∷ 4 ∷ 0 ∷ []) $
-        by ! (subst (λ (ws : List Val × List Val × List Val). ent 𝓤 (⋆ 𝓛 Had) (WpFn 𝓤 H C Λ (function E) (ws.0 ++ (ws.1 ++ (ws.2 ++ []))) Post)) (λ j. (sym e0 j, sym e1 j, sym e2 j)) (walk asked fits))))))
+        by ! (subst (λ (ws : List Val × List Val × List Val). ent 𝓤 (⋆ 𝓛 Had)
+        (WpFn 𝓤 H C Λ (function E) (ws.0 ++ (ws.1 ++ (ws.2 ++ []))) Post)) (λ j. (sym e0 j, sym e1 j, sym e2 j))
+        (walk asked fits))))))
 
-  meets : (𝓣 : Tables 𝓤 H) → Meets 𝓛 (ended E).signature (WpFn 𝓤 H 𝓣.C 𝓣.Λ (function E)) (closing 𝓛 (ended E) (clauses E 𝓛 at_mem run))
+  meets : (𝓣 : Tables 𝓤 H)
+      → Meets 𝓛 (ended E).signature (WpFn 𝓤 H 𝓣.C 𝓣.Λ (function E)) (closing 𝓛 (ended E) (clauses E 𝓛 at_mem run))
   meets 𝓣 =
-      walk_Meets 𝓛 (ended E) (stayed E)
-      (Goes-dropped 𝓛 2 (RefOf (0 ∷ []) tt (plain (λ _. Cr E)) (λ _. tt)) yes (λ κs y f. refl), (Goes-dropped 𝓛 2 (plain (λ _. Bs E)) no (λ κs y f. refl), (Goes-dropped 𝓛 2 (plain (λ _. usize)) yes (λ κs y f. refl), tt)))
+      walk_Meets 𝓛 (ended E) (stayed E) (
+        Goes-dropped 𝓛 2 (RefOf (0 ∷ []) tt (plain (λ _. Cr E)) (λ _. tt)) yes (λ κs y f. refl),
+        (
+          Goes-dropped 𝓛 2 (plain (λ _. Bs E)) no (λ κs y f. refl),
+          (Goes-dropped 𝓛 2 (plain (λ _. usize)) yes (λ κs y f. refl), tt),
+        ),
+      )
       (clauses E 𝓛 at_mem run) (WpFn 𝓤 H 𝓣.C 𝓣.Λ (function E)) (WpFn-mono 𝓤 H 𝓛.laws 𝓣 (function E))
       (λ z. let κs = z.0.0 in let qs = z.0.1 in let a = z.0.3 in let vss = z.0.4 in
-      both_heard 𝓤 (κs.1.0 ⊑ E.row.lives) (Asks E a.0.now a.1.0 a.1.1.0) (on_entry 𝓛 (ended E).signature κs qs a vss) (λ lives.
-      entry 𝓣.C 𝓣.Λ κs.0 κs.1.0 qs.0 qs.1.0 z.0.2.0 a.0.ref_ptr.0 a.0.ref_ptr.1 a.0.now a.1.0 a.1.1.0 vss.0 vss.1.0 vss.1.1.0))
+      both_heard 𝓤 (κs.1.0 ⊑ E.row.lives) (Asks E a.0.now a.1.0 a.1.1.0) (on_entry 𝓛 (ended E).signature κs qs a vss)
+      (λ lives.
+      entry 𝓣.C 𝓣.Λ κs.0 κs.1.0 qs.0 qs.1.0 z.0.2.0 a.0.ref_ptr.0 a.0.ref_ptr.1 a.0.now a.1.0 a.1.1.0 vss.0 vss.1.0
+      vss.1.1.0))
 
 pub get_spec : {M : Type 1} → stated.statement M
 unfolding tables_of
 get_spec 𝓤 𝓛 𝓜 𝓡 wired X LX =
     let E : El = record { row = X; laws = LX } in
     let 𝓣 : Tables 𝓤 𝓛.H = tables_of 𝓤 𝓛.H 𝓜 (tables 𝓤 𝓛.H 𝓜 𝓡 𝓡.env) in
-    entered 𝓤 𝓛.H (triple_of 𝓛 (ended E).signature (F.spec X 𝓛 𝓜.mem 𝓡.returns)) 𝓣.C 𝓣.Λ (#self (args E)) (function E) (code.unfolded 𝓤 𝓛.H 𝓜 𝓡 wired (X, tt)) (meets E 𝓛 𝓜.mem 𝓡.returns 𝓣)
+    entered 𝓤 𝓛.H (triple_of 𝓛 (ended E).signature (F.spec X 𝓛 𝓜.mem 𝓡.returns)) 𝓣.C 𝓣.Λ (#self (args E)) (function E)
+    (code.unfolded 𝓤 𝓛.H 𝓜 𝓡 wired (X, tt)) (meets E 𝓛 𝓜.mem 𝓡.returns 𝓣)

@@ -13,5 +13,8 @@ use Rattle.sgt_arena.proofs.cells.Deed.TheLaw.Statement.{statement}
 
 pub shares : (R A : RattleType) (g : Ghosts A.Denot) (L : Laws R) (P : Laws A) → statement R A g L P
 shares R A g L P =
-    of_Lends (deed.struct R A g) (deed.the_codes R.Denot A.Denot R.coded A.coded (marker.the_row RawPtr).coded) (deed.the_heap R A g) (deed.the_lent R A g) (λ d p. nothing_shr_laws)
-    (copy_shared (marker.the_field RawPtr) (field_copy (marker.the_type RawPtr) tt), tt) (λ M 𝓤 𝓛 d p. Lends-nothing 𝓛 (deed.the_heap R A g d) (deed.the_row R A g).lives)
+    of_Lends (deed.struct R A g) (deed.the_codes R.Denot A.Denot R.coded A.coded (marker.the_row RawPtr).coded)
+    (deed.the_heap R A g) (deed.the_lent R A g) (λ d p. nothing_shr_laws) (
+      copy_shared (marker.the_field RawPtr) (field_copy (marker.the_type RawPtr) tt),
+      tt,
+    ) (λ M 𝓤 𝓛 d p. Lends-nothing 𝓛 (deed.the_heap R A g d) (deed.the_row R A g).lives)

@@ -19,8 +19,13 @@ pub returns-clause-follows : goal.returns-clause-follows
 returns-clause-follows c is b s =
     let cert = c.args.certificate.now in
     let old = c.args.self.now in
-    let new : Alone = record { second = old.second; place = c.enter.new.self; state = c.enter_line.new.state; met =
-        c.meets_steps-self.result } in
+    let new : Alone = record {
+      second = old.second;
+      place = c.enter.new.self;
+      state = c.enter_line.new.state;
+      met =
+          c.meets_steps-self.result;
+    } in
     let begins = (c.may_go_on.ensures b s.begun s.place).0 c.if-not-may_go_on.false in
     let kept = c.in_default.ensures.judged cert b s c.look_up-known.ensures begins in (
       c.args.line.now,

@@ -12,8 +12,8 @@ returns-in-Some-clause-judged k c b s known begins =
     let a = k.args.self.now in
     let at = open-log b a.place s.begun s.place _ k.in-Some.is in
     k.judge_inside.ensures c (lines_read b) at.0 s.once s.ranked at.2 known
-        (open-tracked c.decisions b a.state at.0 at.1 s.open_site) (has_open b at.0 at.1)
-        (fits-open b at.0 _ at.1 begins) (subst (λ n. Begins n (lines_read b ++ k.args.line.now ∷ [])) s.sites begins)
+    (open-tracked c.decisions b a.state at.0 at.1 s.open_site) (has_open b at.0 at.1)
+    (fits-open b at.0 _ at.1 begins) (subst (λ n. Begins n (lines_read b ++ k.args.line.now ∷ [])) s.sites begins)
 
 pub returns-in-None-clause-judged : goal.returns-in-None-clause-judged
 returns-in-None-clause-judged k c b s known begins =
@@ -27,5 +27,5 @@ returns-in-Some-clause-not_walks k c b s known begins =
     let fits = fits-open b at.0 _ at.1 begins in
     not-walk c.decisions at.0 is k.args.line.now _ fits
     (k.judge_inside.ensures (two c.decisions at.0 is) (lines_read (first c.decisions at.0 is)) at.0 s.once s.ranked
-        at.2 known (open-tracked c.decisions b a.state at.0 at.1 s.open_site) (first-open c.decisions at.0 is) fits
-        (first-begins c.decisions at.0 is k.args.line.now fits))
+    at.2 known (open-tracked c.decisions b a.state at.0 at.1 s.open_site) (first-open c.decisions at.0 is) fits
+    (first-begins c.decisions at.0 is k.args.line.now fits))

@@ -9,20 +9,20 @@ use Rattle.sgt_audit.proofs.alone.Alone.next_entry.Goals as goal
 pub returns-in-Read-clause-follows : goal.returns-in-Read-clause-follows
 returns-in-Read-clause-follows c =
     subst (λ e. IsLine (Logged e) → (b : Begun) → StandsAlone c.args.certificate.now b c.args.self.now
-        → IfOk c.follow_entry.result (FollowsAlone c.args.certificate.now c.args.edges.now b (line_text (Logged e))
-        c.follow_entry.new.self)) (sym c.in-Read.is)
+    → IfOk c.follow_entry.result (FollowsAlone c.args.certificate.now c.args.edges.now b (line_text (Logged e))
+    c.follow_entry.new.self)) (sym c.in-Read.is)
     (λ is. c.follow_entry.ensures.follows (is, λ no. absurd (false≢true no)))
 
 pub returns-in-Write-clause-follows : goal.returns-in-Write-clause-follows
 returns-in-Write-clause-follows c =
     subst (λ e. IsLine (Logged e) → (b : Begun) → StandsAlone c.args.certificate.now b c.args.self.now
-        → IfOk c.follow_entry-in-Write.result (FollowsAlone c.args.certificate.now c.args.edges.now b
-        (line_text (Logged e)) c.follow_entry-in-Write.new.self)) (sym c.in-Write.is)
+    → IfOk c.follow_entry-in-Write.result (FollowsAlone c.args.certificate.now c.args.edges.now b
+    (line_text (Logged e)) c.follow_entry-in-Write.new.self)) (sym c.in-Write.is)
     (λ is. c.follow_entry-in-Write.ensures.follows (is, λ no. absurd (false≢true no)))
 
 pub returns-in-Commit-clause-follows : goal.returns-in-Commit-clause-follows
 returns-in-Commit-clause-follows c =
     subst (λ e. IsLine (Logged e) → (b : Begun) → StandsAlone c.args.certificate.now b c.args.self.now
-        → IfOk c.follow_entry-in-Commit.result (FollowsAlone c.args.certificate.now c.args.edges.now b
-        (line_text (Logged e)) c.follow_entry-in-Commit.new.self)) (sym c.in-Commit.is)
+    → IfOk c.follow_entry-in-Commit.result (FollowsAlone c.args.certificate.now c.args.edges.now b
+    (line_text (Logged e)) c.follow_entry-in-Commit.new.self)) (sym c.in-Commit.is)
     (λ is. c.follow_entry-in-Commit.ensures.follows (is, λ no. absurd (false≢true no)))

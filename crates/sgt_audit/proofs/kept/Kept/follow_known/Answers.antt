@@ -23,53 +23,53 @@ returns-in-Some-clause-follows k known f s (b, before, h, stage) =
     let c = k.args.self.now.certificate in
     let m = h.means in
     let open_yet =
-        refuted k.is_complete.result (k.is_complete.ensures b m.begun h.tracks.place) k.if-is_complete.false in
+    refuted k.is_complete.result (k.is_complete.ensures b m.begun h.tracks.place) k.if-is_complete.false in
     line-breaks _ _ _ before _ _ _ m open_yet f refl
-        (k.in-Some.ensures.judged c b (sym m.sites) (m.kept.itself fault.DecidedTwice) (m.kept.itself fault.Ranks)
-        m.begun known h.tracks) s stage
+    (k.in-Some.ensures.judged c b (sym m.sites) (m.kept.itself fault.DecidedTwice) (m.kept.itself fault.Ranks)
+    m.begun known h.tracks) s stage
 
 pub returns-then-not-self-clause-follows : goal.returns-then-not-self-clause-follows
 returns-then-not-self-clause-follows k known f s (b, before, h, stage) =
     let c = k.args.self.now.certificate in
     let m = h.means in
     let open_yet =
-        refuted k.is_complete.result (k.is_complete.ensures b m.begun h.tracks.place) k.if-is_complete.false in
+    refuted k.is_complete.result (k.is_complete.ensures b m.begun h.tracks.place) k.if-is_complete.false in
     let line = k.args.line.now in
     let begins = k.in_default.ensures.may_follow b m.begun h.tracks.place in
     let kept = k.in_default.ensures.judged c b (sym m.sites) (m.kept.itself fault.DecidedTwice)
-        (m.kept.itself fault.Ranks) m.begun known h.tracks in
+    (m.kept.itself fault.Ranks) m.begun known h.tracks in
     let next = with_next b b.current line in
     let sites = next-sites b b.current line in
     let lines = added-lines b m.begun line begins b.current refl in
     let begun = added-begun b m.begun line begins b.current refl in
     let tracks = line-tracked k.args.self.now.second c b k.args.self.now.tracked k.enter.new.self before line m kept
-        begins (k.in_ok-enter.ensures known) h.tracks in
+    begins (k.in_ok-enter.ensures known) h.tracks in
     let sections = k.in_ok-add_to.ensures.next b h.sections in
     let done = k.is_complete-2.ensures next begun tracks.place in
     let all = done.0 k.if-is_complete-2.true in
     let each = (are-sections next all).1 ∙ sites ∙ m.sites in
     let miss =
-        refuted k.enter.new.self.walks.met
-        (walks-decide c next.whole k.enter.new.self.walks m.kept.spelled each tracks.walks) k.if-not-self.true in
+    refuted k.enter.new.self.walks.met
+    (walks-decide c next.whole k.enter.new.self.walks m.kept.spelled each tracks.walks) k.if-not-self.true in
     line-breaks _ _ _ before _ _ _ m open_yet f refl (walks-broken _ _ _ next before _ m sites lines all miss kept) s
-        stage
+    stage
 
 pub returns-clause-follows : goal.returns-clause-follows
 returns-clause-follows k known f s (b, before, h, stage) =
     let c = k.args.self.now.certificate in
     let m = h.means in
     let open_yet =
-        refuted k.is_complete.result (k.is_complete.ensures b m.begun h.tracks.place) k.if-is_complete.false in
+    refuted k.is_complete.result (k.is_complete.ensures b m.begun h.tracks.place) k.if-is_complete.false in
     let line = k.args.line.now in
     let begins = k.in_default.ensures.may_follow b m.begun h.tracks.place in
     let kept = k.in_default.ensures.judged c b (sym m.sites) (m.kept.itself fault.DecidedTwice)
-        (m.kept.itself fault.Ranks) m.begun known h.tracks in
+    (m.kept.itself fault.Ranks) m.begun known h.tracks in
     let next = with_next b b.current line in
     let sites = next-sites b b.current line in
     let lines = added-lines b m.begun line begins b.current refl in
     let begun = added-begun b m.begun line begins b.current refl in
     let tracks = line-tracked k.args.self.now.second c b k.args.self.now.tracked k.enter.new.self before line m kept
-        begins (k.in_ok-enter.ensures known) h.tracks in
+    begins (k.in_ok-enter.ensures known) h.tracks in
     let sections = k.in_ok-add_to.ensures.next b h.sections in
     let new : Kept = record k.args.self.now { tracked = k.enter.new.self; sections = k.add_to.new.sections } in
     let done = k.is_complete-2.ensures next begun tracks.place in
@@ -78,14 +78,22 @@ returns-clause-follows k known f s (b, before, h, stage) =
           let all = done.0 w.if-is_complete-2.true in
           let each = (are-sections next all).1 ∙ sites ∙ m.sites in
           let walks =
-              (walks-decide c next.whole k.enter.new.self.walks m.kept.spelled each tracks.walks).0
-              w.if-not-self.false in
+          (walks-decide c next.whole k.enter.new.self.walks m.kept.spelled each tracks.walks).0
+          w.if-not-self.false in
           line-follows new next before line s
-              (record { means = added-last _ _ _ next before _ m sites lines f kept begun all walks; tracks =
-              tracks; sections = sections }) stage
+          (record {
+            means = added-last _ _ _ next before _ m sites lines f kept begun all walks;
+            tracks =
+                tracks;
+            sections = sections;
+          }) stage
       | else-is_complete-2-via-else-is_complete-2 w ↦
           let miss = refuted k.is_complete-2.result done w.if-is_complete-2.false in
           line-follows new next before line s
-              (record { means = added-open _ _ _ next before _ m sites lines f kept begun miss; tracks =
-              tracks; sections = sections }) stage
+          (record {
+            means = added-open _ _ _ next before _ m sites lines f kept begun miss;
+            tracks =
+                tracks;
+            sections = sections;
+          }) stage
     ]

@@ -15,4 +15,4 @@ returns-else-is_allowed-clause-follows c is s here =
     let line = Logged c.args.entry.now in
     c.unread.ensures (line_text line) s
     (λ l is_l same. refuted c.is_allowed.result c.is_allowed.ensures c.if-is_allowed.false
-        (subst (Allows c.args.self.now.second) (sym (line-one line l is is_l.0 same)) is_l.1)) here
+    (subst (Allows c.args.self.now.second) (sym (line-one line l is is_l.0 same)) is_l.1)) here

@@ -9,20 +9,20 @@ use Rattle.sgt_audit.proofs.kept.Kept.next_far.Goals as goal
 pub returns-in-Initial-clause-follows : goal.returns-in-Initial-clause-follows
 returns-in-Initial-clause-follows c =
     subst (λ l. IsLine l → (s : Stage) → IsAt c.args.self.now s
-        → IfOk c.follow_initial.result (Follows s (line_text l) (Reading c.follow_initial.new.self)))
-        (sym c.in-Initial.is)
+    → IfOk c.follow_initial.result (Follows s (line_text l) (Reading c.follow_initial.new.self)))
+    (sym c.in-Initial.is)
     (λ is. c.follow_initial.ensures.follows (is, tt))
 
 pub returns-in-Final-clause-follows : goal.returns-in-Final-clause-follows
 returns-in-Final-clause-follows c =
     subst (λ l. IsLine l → (s : Stage) → IsAt c.args.self.now s
-        → IfOk c.follow_final.result (Follows s (line_text l) (Reading c.follow_final.new.self))) (sym c.in-Final.is)
+    → IfOk c.follow_final.result (Follows s (line_text l) (Reading c.follow_final.new.self))) (sym c.in-Final.is)
     (λ is. c.follow_final.ensures.follows (is, tt))
 
 pub returns-in-Logged-clause-follows : goal.returns-in-Logged-clause-follows
 returns-in-Logged-clause-follows c =
     subst (λ l. IsLine l → (s : Stage) → IsAt c.args.self.now s
-        → IfOk c.next_allowed.result (Follows s (line_text l) (Reading c.next_allowed.new.self))) (sym c.in-Logged.is)
+    → IfOk c.next_allowed.result (Follows s (line_text l) (Reading c.next_allowed.new.self))) (sym c.in-Logged.is)
     (c.next_allowed.ensures.follows)
 
 pub returns-in-Site-clause-follows : goal.returns-in-Site-clause-follows

@@ -9,5 +9,5 @@ use Rattle.sgt_audit.proofs.kept.Kept.next_read.Goals as goal
 pub returns-in-Logged-clause-follows : goal.returns-in-Logged-clause-follows
 returns-in-Logged-clause-follows c =
     subst (λ l. IsLine l → (s : Stage) → IsAt c.args.self.now s
-        → IfOk c.next_entry.result (Follows s (line_text l) (Reading c.next_entry.new.self))) (sym c.in-Logged.is)
+    → IfOk c.next_entry.result (Follows s (line_text l) (Reading c.next_entry.new.self))) (sym c.in-Logged.is)
     (c.next_entry.ensures.follows)

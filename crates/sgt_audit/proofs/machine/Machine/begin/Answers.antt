@@ -17,8 +17,13 @@ returns-in-Ok-new-clause-begins k line reading =
     let itself = subst (λ (c : Certificate). (f : Fault) → KeepsItself c.decisions f) answered.0 answered.1 in
     let spelled = read.0 in
     let b : Begun = record { sites = k.in-Ok.certificate.sites; whole = []; current = None } in
-    let new : Kept = record { second = k.args.second; certificate = k.in-Ok-Ok.certificate; tracked =
-        k.in-Ok-new.tracked; sections = k.sections_of-sections.result } in
+    let new : Kept = record {
+      second = k.args.second;
+      certificate = k.in-Ok-Ok.certificate;
+      tracked =
+          k.in-Ok-new.tracked;
+      sections = k.sections_of-sections.result;
+    } in
     headed-follows new line b (read.1 ∙ ap certificate_text (sym answered.0))
     (record {
       means = subst (λ (c : Certificate). Means k.args.second c b []) (sym answered.0)

@@ -13,4 +13,4 @@ pub returns-else-is_complete : goal.returns-else-is_complete
 returns-else-is_complete k s p stands other long =
     let here = subst (λ q. Stands q s) k.in-Reading.is stands in
     long-breaks k.in-Reading.kept s p here
-        (refuted k.is_complete.result (k.is_complete.ensures s here) k.if-is_complete.false) long
+    (refuted k.is_complete.result (k.is_complete.ensures s here) k.if-is_complete.false) long

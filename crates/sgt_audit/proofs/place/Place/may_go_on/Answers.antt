@@ -17,7 +17,7 @@ returns-then-number-self c b is at =
 pub returns-else-number-self : goal.returns-else-number-self
 returns-else-number-self c b is at =
     goes-on-site b c.args.self.now is at _ _ c.in-Site.site c.in-None.is c.in-Site.is
-        (λ h. absurd (c.if-number-self.false (eqb-true _ _ h)), λ next. eq-eqb _ _ (c.number.ensures.is ∙ next.0))
+    (λ h. absurd (c.if-number-self.false (eqb-true _ _ h)), λ next. eq-eqb _ _ (c.number.ensures.is ∙ next.0))
 
 pub returns-in_default : goal.returns-in_default
 returns-in_default c b is at =

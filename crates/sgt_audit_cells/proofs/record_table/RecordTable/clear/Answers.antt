@@ -16,9 +16,9 @@ returns-clause-length c =
     let stamped = c.next_stamp-self-inside in
     let items = with_items_is t.slots stamped.new.slots (stamped.ensures.len ∙ c.as_mut_slice.ensures.len) in
     length-map (with_items t.slots stamped.new.slots).items (record_of stamped.result c.clear.new.self.items)
-        ∙ ap length items
+    ∙ ap length items
     ∙ stamped.ensures.len ∙ ap length c.as_mut_slice.ensures.value
-        ∙ sym (length-map t.slots.items (record_of t.stamp t.nodes.items)) ∙ ap length c.self.view_is
+    ∙ sym (length-map t.slots.items (record_of t.stamp t.nodes.items)) ∙ ap length c.self.view_is
 
 pub returns-clause-fresh : goal.returns-clause-fresh
 returns-clause-fresh c =
@@ -31,5 +31,5 @@ returns-clause-fresh c =
     subst (λ (ss : List Slot). All (λ (r : Record). r ≡ no_record) (map (record_of stamp nodes) ss)) (sym items)
     (All-from_map (λ (r : Record). r ≡ no_record) (record_of stamp nodes) slots
     (All-from_at (λ (s : Slot). record_of stamp nodes s ≡ no_record) slots
-        (λ k s at. record-fresh stamp nodes s
-        (All_at (λ (s : Slot). s.stamp < stamp) slots k s stamped.ensures.later at))))
+    (λ k s at. record-fresh stamp nodes s
+    (All_at (λ (s : Slot). s.stamp < stamp) slots k s stamped.ensures.later at))))

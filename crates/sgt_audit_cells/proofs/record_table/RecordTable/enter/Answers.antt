@@ -15,7 +15,7 @@ pub returns-then-number-len-clause-entered : goal.returns-then-number-len-clause
 returns-then-number-len-clause-entered c r there =
     let t = c.self.inside in
     let within = record-within t.stamp t.nodes.items t.slots.items c.args.self.now c.self.view_is c.args.number r
-        there in
+    there in
     let long = c.len.ensures ∙ t.slots.ok.0 in
     let past = c.if-number-len.true in
     absurd (omega (arith, within, long, past))
@@ -28,26 +28,32 @@ returns-clause-entered c r there =
     let nodes = t.nodes.items in
     let more = c.link.new.nodes.items in
     let found =
-        some-at t.slots.items n (record-within t.stamp nodes t.slots.items c.args.self.now c.self.view_is n r there) in
+    some-at t.slots.items n (record-within t.stamp nodes t.slots.items c.args.self.now c.self.view_is n r there) in
     let is_slot : slot ≡ found.0 = c.index.ensures ∙ get_or_from_slice_get t.slots.items n found.0 slot found.1 in
     let r_is = record-is t.stamp nodes t.slots.items c.args.self.now c.self.view_is n slot r (found.1
-        ∙ ap Some (sym is_slot)) there in
-    let next : Slot = record { stamp = t.stamp; ended = c.either-ended.result; count = c.saturating_add.result; last =
-        c.in_ok-last.last; row = c.here-here.result.row } in
+    ∙ ap Some (sym is_slot)) there in
+    let next : Slot = record {
+      stamp = t.stamp;
+      ended = c.either-ended.result;
+      count = c.saturating_add.result;
+      last =
+          c.in_ok-last.last;
+      row = c.here-here.result.row;
+    } in
     let v : Record = record_of t.stamp more next in
     let now = record-now t.stamp more next refl in (
       v,
       map-set (record_of t.stamp more) t.slots.items n next
           ∙ ap (λ (rs : List Record). set rs n v)
-              (records-same t.stamp nodes more t.slots.items c.self.invariant.1 c.in_ok-last.ensures.others
-              ∙ c.self.view_is),
+          (records-same t.stamp nodes more t.slots.items c.self.invariant.1 c.in_ok-last.ensures.others
+          ∙ c.self.view_is),
       record {
         touched = ap (λ (q : Record). q.touched) now;
         end = ap (λ (q : Record). q.ended) now ∙ c.either-ended.ensures
             ∙ ap (λ b. b || c.args.ends) (c.here-here.ensures.ended ∙ ap (λ (q : Record). q.ended) r_is);
         did = ap (λ (q : Record). q.acts) now ∙ c.in_ok-last.ensures.place.1
             ∙ ap (λ (acts : List Act). acts ++ option_to_list c.args.act) (ap (chain nodes) c.here-here.ensures.last
-                ∙ ap (λ (q : Record). q.acts) r_is);
+            ∙ ap (λ (q : Record). q.acts) r_is);
       },
       c.turn-turn.ensures.comes ∙ ap (λ (q : Record). not q.touched) r_is,
       c.turn-turn.ensures.leaves ∙ ap (λ (q : Record). c.args.ends && not q.ended) r_is,

@@ -16,15 +16,15 @@ returns c q r at_q at_r =
     let at_s = got _ _ _ _ c.deref.ensures.value c.in-Some.ensures.lookup.0 c.in-Some.ensures.lookup.1 in
     let at_u = got _ _ _ _ c.deref-2.ensures.value c.in-Some-get.ensures.lookup.0 c.in-Some-get.ensures.lookup.1 in
     let q_is = record-is t.stamp t.nodes.items t.slots.items c.args.self.now c.self.view_is c.args.numbers.0 s q at_s
-        at_q in
+    at_q in
     let r_is = record-is t.stamp t.nodes.items t.slots.items c.args.self.now c.self.view_is c.args.numbers.1 u r at_u
-        at_r in
+    at_r in
     let acts = ap (λ ns. chain ns c.last_in.result) c.as_slice.ensures.value
-        ∙ ap (chain t.nodes.items) c.last_in.ensures ∙ ap (λ (k : Record). k.acts) q_is in
+    ∙ ap (chain t.nodes.items) c.last_in.ensures ∙ ap (λ (k : Record). k.acts) q_is in
     let others = ap (λ ns. chain ns c.last_in-2.result) c.as_slice.ensures.value
-        ∙ ap (chain t.nodes.items) c.last_in-2.ensures ∙ ap (λ (k : Record). k.acts) r_is in
+    ∙ ap (chain t.nodes.items) c.last_in-2.ensures ∙ ap (λ (k : Record). k.acts) r_is in
     subst (λ (acts : List Act). IsTrue c.have_clash.result
-        ↔ Any (λ (a : Act). (a.place ≡ c.args.place) × Any (ClashesWith c.args.kind a) r.acts) acts) acts
+    ↔ Any (λ (a : Act). (a.place ≡ c.args.place) × Any (ClashesWith c.args.kind a) r.acts) acts) acts
     (subst (λ (os : List Act). IsTrue c.have_clash.result
-        ↔ Any (λ (a : Act). (a.place ≡ c.args.place) × Any (ClashesWith c.args.kind a) os)
-        (chain c.as_slice.result.now c.last_in.result)) others c.have_clash.ensures)
+    ↔ Any (λ (a : Act). (a.place ≡ c.args.place) × Any (ClashesWith c.args.kind a) os)
+    (chain c.as_slice.result.now c.last_in.result)) others c.have_clash.ensures)

@@ -21,17 +21,17 @@ returns c r ns entries x there at on is =
     let last = c.last_in-last.result in
     let at_s = got _ _ _ _ c.deref.ensures.value c.in-Some.ensures.lookup.0 c.in-Some.ensures.lookup.1 in
     let r_is = record-is t.stamp t.nodes.items t.slots.items c.args.self.now c.self.view_is c.args.number s r at_s
-        there in
+    there in
     let same = ap (λ ns. chain ns last) c.as_slice-2.ensures.value ∙ ap (chain t.nodes.items) c.last_in-last.ensures
-        ∙ ap (λ (q : Record). q.acts) r_is in
+    ∙ ap (λ (q : Record). q.acts) r_is in
     let did =
-        subst (λ d. IsTrue c.has_done.result
-        ↔ Any (IsOf c.args.place (changes d)) (chain c.as_slice-2.result.now last)) c.deed_of-deed.ensures
-        c.has_done.ensures in
+    subst (λ d. IsTrue c.has_done.result
+    ↔ Any (IsOf c.args.place (changes d)) (chain c.as_slice-2.result.now last)) c.deed_of-deed.ensures
+    c.has_done.ensures in
     not-decides c.has_done.result (Any (IsOf c.args.place (changes (deed_of e))) r.acts)
-        (All (λ (f : Entry). (y : Name) → Repeats y f e → ⊥) entries)
+    (All (λ (f : Entry). (y : Name) → Repeats y f e → ⊥) entries)
     (subst (λ (acts : List Act). IsTrue c.has_done.result ↔ Any (IsOf c.args.place (changes (deed_of e))) acts) same
-        did) (first-decides ns entries r.acts c.args.place x at e on is)
+    did) (first-decides ns entries r.acts c.args.place x at e on is)
 
 pub returns-in-Some-shown : goal.returns-in-Some-shown
 returns-in-Some-shown c r ns entries x there at on is =
@@ -41,14 +41,14 @@ returns-in-Some-shown c r ns entries x there at on is =
     let last = c.last_in-last.result in
     let at_s = got _ _ _ _ c.deref.ensures.value c.in-Some.ensures.lookup.0 c.in-Some.ensures.lookup.1 in
     let r_is = record-is t.stamp t.nodes.items t.slots.items c.args.self.now c.self.view_is c.args.number s r at_s
-        there in
+    there in
     let same = ap (chain t.nodes.items) c.last_in-last.ensures ∙ ap (λ (q : Record). q.acts) r_is in
     let are = subst (AreRows t.nodes.items) (sym c.as_slice.ensures.value) c.self.invariant.3 in
     let done = c.in-Some-shown.done in
     let did =
-        subst (λ d. IsTrue done ↔ Any (IsOf c.args.place (changes d)) (chain t.nodes.items last))
-        c.deed_of-deed.ensures (c.in-Some-shown.ensures t.nodes.items are) in
+    subst (λ d. IsTrue done ↔ Any (IsOf c.args.place (changes d)) (chain t.nodes.items last))
+    c.deed_of-deed.ensures (c.in-Some-shown.ensures t.nodes.items are) in
     not-decides done (Any (IsOf c.args.place (changes (deed_of e))) r.acts) (All (λ (f : Entry). (y : Name)
-        → Repeats y f e → ⊥) entries)
+    → Repeats y f e → ⊥) entries)
     (subst (λ (acts : List Act). IsTrue done ↔ Any (IsOf c.args.place (changes (deed_of e))) acts) same did)
-        (first-decides ns entries r.acts c.args.place x at e on is)
+    (first-decides ns entries r.acts c.args.place x at e on is)

@@ -17,4 +17,4 @@ returns c =
     let is_slot : slot ≡ found.0 = c.index.ensures ∙ get_or_from_slice_get t.slots.items n found.0 slot found.1 in
     let next : Slot = record slot { row = c.in_ok-row.row } in
     map-set of t.slots.items n next ∙ set-same _ n (of slot) (slice_get-map of t.slots.items n
-        ∙ ap (option_map of) (found.1 ∙ ap Some (sym is_slot))) ∙ c.self.view_is
+    ∙ ap (option_map of) (found.1 ∙ ap Some (sym is_slot))) ∙ c.self.view_is

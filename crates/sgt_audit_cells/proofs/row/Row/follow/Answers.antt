@@ -17,8 +17,8 @@ returns-then-add c = (
       let there = got _ _ _ _ refl c.in-Some.ensures.lookup.0 c.in-Some.ensures.lookup.1 in
       let same : c.args.self.now.upto ≡ node.before = omega (arith, c.if-self-node.false) in
       let shows = subst (λ k. Any (IsOf place change) (chain nodes k) ↔ HasMark c.args.self.now change place) same
-          (c.requires.row.1 place change) in
+      (c.requires.row.1 place change) in
       let split = any-split nodes c.requires.linked c.args.last node c.requires.some there (IsOf place change) in
       both-ways (followed shows (c.add.ensures.set c.if-add.true place change) split)
-          (renamed c.add.new.self c.args.last change place),
+      (renamed c.add.new.self c.args.last change place),
 )

@@ -22,13 +22,13 @@ returns-clause-tracks c ds items entries once apart listed among by ranked t =
     let records = entered.1 in
     let to = subst (λ o. IsTouched (option_to_list o) c.is_end.result r v) c.in_ok-act.ensures entered.2 in
     let same_cells = with_items_is old.cells c.enter_cell.new.cells (c.enter_cell.auto.cells
-        ∙ c.as_mut_slice.ensures.len) in
+    ∙ c.as_mut_slice.ensures.len) in
     let cells =
-        subst (AreCells ds items (entries ++ e ∷ [])) (sym same_cells)
-        (c.enter_cell.ensures ds items entries once apart
-        (subst (AreCells ds items entries) (sym c.as_mut_slice.ensures.value) t.cells) on ranked) in
+    subst (AreCells ds items (entries ++ e ∷ [])) (sym same_cells)
+    (c.enter_cell.ensures ds items entries once apart
+    (subst (AreCells ds items entries) (sym c.as_mut_slice.ensures.value) t.cells) on ranked) in
     let order = order-next ds items entries old old t e number by once c.note_end.new.last c.is_end.result
-        c.is_end.ensures c.note_end.ensures.end c.note_end.ensures.other in
+    c.is_end.ensures c.note_end.ensures.end c.note_end.ensures.other in
     tracks-next ds items entries old _ t e number by once c.args.place on apart c.is_end.result c.is_end.ensures r v
-        before.1 records to c.in_ok-next.ensures cells order
+    before.1 records to c.in_ok-next.ensures cells order
     c.in_ok-turn.turn.comes c.in_ok-turn.turn.leaves entered.3 entered.4 c.enter.ensures.few c.live_after-self.ensures

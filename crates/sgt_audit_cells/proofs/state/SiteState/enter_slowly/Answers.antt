@@ -6,7 +6,9 @@ use Rattle.sgt_audit_cells.proofs.state.SiteState.enter_slowly.Goals as goal
 pub returns-clause-tracks : goal.returns-clause-tracks
 returns-clause-tracks c =
     on_ok-anyway c.keep_row.result (λ ds items entries once apart listed among by ranked t.
-    subst (λ rs. TracksOpen ds items (entries ++ c.args.entry ∷ []) (record c.enter_reserved.new.self { records =
-        rs })) (sym c.keep_row.ensures)
+    subst (λ rs. TracksOpen ds items (entries ++ c.args.entry ∷ []) (record c.enter_reserved.new.self {
+      records =
+          rs;
+    })) (sym c.keep_row.ensures)
     (c.in_ok-enter_reserved.ensures.tracks ds items entries once apart listed among by ranked
     (subst (λ rs. TracksOpen ds items entries (record c.args.self.now { records = rs })) (sym c.reserve.ensures) t)))

@@ -5,7 +5,7 @@ pub returns-in-Some : goal.returns-in-Some
 returns-in-Some c ds items entries x t on =
     value-decides ds items entries c.args.self.now t c.args.place c.in-Some.cell.now x c.args.value c.has_value.result
     (got _ _ _ _ c.deref.ensures.value c.in-Some.ensures.lookup.0 c.in-Some.ensures.lookup.1) on
-        (c.has_value.ensures ds items entries)
+    (c.has_value.ensures ds items entries)
 
 pub returns-in-None : goal.returns-in-None
 returns-in-None c ds items entries x t on =

@@ -8,7 +8,7 @@ use Rattle.sgt_audit_cells.proofs.state.SiteState.is_first.Goals as goal
 pub returns-in_default : goal.returns-in_default
 returns-in_default c ds items entries x t at on number =
     let none = subst (IsNumberOf ds (tx_of c.args.entry.now)) (none-unless_some c.args.number c.in_default.not-Some)
-        number in
+    number in
     (λ h. undecided-new ds items entries c.args.self.now t c.args.entry.now none, λ all. refl)
 
 pub returns : goal.returns

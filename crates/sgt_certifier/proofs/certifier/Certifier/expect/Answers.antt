@@ -10,10 +10,11 @@ use Rattle.sgt_certifier.proofs.certifier.Certifier.expect.Goals as goal
 
 pub invariant_of-self-in_err-place_lists : goal.invariant_of-self-in_err-place_lists
 invariant_of-self-in_err-place_lists c =
-    let i = c.self.inside in
-    (c.self.invariant.0,
-        counted-wider i.counts c.place_lists.new.self i.history.items i.expected.items c.place_lists.ensures.widens
-        c.self.invariant.1)
+    let i = c.self.inside in (
+      c.self.invariant.0,
+      counted-wider i.counts c.place_lists.new.self i.history.items i.expected.items c.place_lists.ensures.widens
+          c.self.invariant.1,
+    )
 
 pub invariant_of-self-2 : goal.invariant_of-self-2
 invariant_of-self-2 c =
@@ -23,7 +24,7 @@ invariant_of-self-2 c =
       c.self.invariant.0,
       subst (AreCounted new i.history.items) (ap (λ (v : Vec Prepared Global). v.items) (sym c.replace.ensures.after))
           (counted-lists i.counts new i.history.items i.expected.items c.in_ok-lists.lists.items
-              c.place_lists.ensures.widens placed c.self.invariant.1),
+          c.place_lists.ensures.widens placed c.self.invariant.1),
     )
 
 pub returns-in_err-may_withdraw-clause-err : goal.returns-in_err-may_withdraw-clause-err
@@ -32,10 +33,10 @@ returns-in_err-may_withdraw-clause-err c =
     let xs = installs_in i.history.items in
     let old = c.args.self.now in
     let told = subst (λ (v : Kept). IsTold v.state (expect c.args.handle) c.in_err-may_withdraw.field-0.0)
-        c.self.view_is (told_with i.judge xs (expect c.args.handle) c.in_err-may_withdraw.field-0.0 tt
-        c.in_err-may_withdraw.ensures.err_expect) in
+    c.self.view_is (told_with i.judge xs (expect c.args.handle) c.in_err-may_withdraw.field-0.0 tt
+    c.in_err-may_withdraw.ensures.err_expect) in
     declines c.from_residual.result c.in_err-may_withdraw.field-0.0 old old (expect c.args.handle)
-        c.from_residual.ensures.1 told refl
+    c.from_residual.ensures.1 told refl
 
 pub returns-in_err-lists-clause-err : goal.returns-in_err-lists-clause-err
 returns-in_err-lists-clause-err c =
@@ -45,9 +46,9 @@ returns-in_err-lists-clause-err c =
     let new = view_by i.judge i.history.items i.expected.items in
     let same : new ≡ old = c.self.view_is in
     let told = subst (λ (v : Kept). IsTold v.state (expect c.args.handle) fault.Memory) c.self.view_is
-        (allowed_with i.judge xs (expect c.args.handle) tt c.in_ok-may_withdraw.ensures.expect) in
+    (allowed_with i.judge xs (expect c.args.handle) tt c.in_ok-may_withdraw.ensures.expect) in
     declines c.from_residual-in_err-lists.result fault.Memory old new (expect c.args.handle)
-        c.from_residual-in_err-lists.ensures.1 told same
+    c.from_residual-in_err-lists.ensures.1 told same
 
 pub returns-in_err-place_lists-clause-err : goal.returns-in_err-place_lists-clause-err
 returns-in_err-place_lists-clause-err c =
@@ -57,13 +58,13 @@ returns-in_err-place_lists-clause-err c =
     let new = view_by i.judge i.history.items i.expected.items in
     let same : new ≡ old = c.self.view_is in
     let told = subst (λ (v : Kept). IsTold v.state (expect c.args.handle) fault.Memory) c.self.view_is
-        (allowed_with i.judge xs (expect c.args.handle) tt c.in_ok-may_withdraw.ensures.expect) in
+    (allowed_with i.judge xs (expect c.args.handle) tt c.in_ok-may_withdraw.ensures.expect) in
     declines c.from_residual-in_err-place_lists.result fault.Memory old new (expect c.args.handle)
-        c.from_residual-in_err-place_lists.ensures.1 told same
+    c.from_residual-in_err-place_lists.ensures.1 told same
 
 pub returns-clause-allowed : goal.returns-clause-allowed
 returns-clause-allowed c =
     let i = c.self.inside in
     subst (λ (v : Kept). IsAllowed v.state (expect c.args.handle)) c.self.view_is
-        (allowed_with i.judge (installs_in i.history.items) (expect c.args.handle) tt
-        c.in_ok-may_withdraw.ensures.expect)
+    (allowed_with i.judge (installs_in i.history.items) (expect c.args.handle) tt
+    c.in_ok-may_withdraw.ensures.expect)

@@ -31,15 +31,15 @@ invariant_of-self-2 c =
     let items_is : c.in_ok-items.items ≡ items = c.in_ok-items.ensures.items ∙ c.touched_near.ensures.changed in
     let made = call.Installed c.args.tx c.args.site items in
     let longer : calls ≡ i.history.items ++ made ∷ [] = c.push_reserved.ensures.items
-        ∙ ap (λ xs. i.history.items ++ call.Installed c.args.tx c.args.site xs ∷ []) items_is in
+    ∙ ap (λ xs. i.history.items ++ call.Installed c.args.tx c.args.site xs ∷ []) items_is in
     let each = subst (λ xs. CountsEach c.args.site xs c.take_items.new.counts c.add_each.new.self) (c.as_slice.ensures
-        ∙ items_is) c.add_each.ensures in
+    ∙ items_is) c.add_each.ensures in
     let wider =
-        counted-wider i.counts c.take_items.new.counts i.history.items i.expected.items c.take_items.ensures.widens
-        c.self.invariant.1 in
+    counted-wider i.counts c.take_items.new.counts i.history.items i.expected.items c.take_items.ensures.widens
+    c.self.invariant.1 in
     let counted_before =
-        counted-fewer c.take_items.new.counts i.history.items i.expected.items c.take_items.new.expected.items
-        c.take_items.ensures.fewer wider in (
+    counted-fewer c.take_items.new.counts i.history.items i.expected.items c.take_items.new.expected.items
+    c.take_items.ensures.fewer wider in (
       notes_kept i.judge new i.history.items calls c.args.tx c.args.site items _ _ c.self.invariant.0
           c.note.ensures.notes longer c.push_reserved.ensures.capacity,
       counted-installed c.take_items.new.counts c.add_each.new.self i.history.items calls
@@ -55,35 +55,45 @@ returns-clause-ok c =
     let items_is : c.in_ok-items.items ≡ items = c.in_ok-items.ensures.items ∙ c.touched_near.ensures.changed in
     let made = call.Installed c.args.tx c.args.site items in
     let longer : calls ≡ i.history.items ++ made ∷ [] = c.push_reserved.ensures.items
-        ∙ ap (λ xs. i.history.items ++ call.Installed c.args.tx c.args.site xs ∷ []) items_is in
+    ∙ ap (λ xs. i.history.items ++ call.Installed c.args.tx c.args.site xs ∷ []) items_is in
     let all = notes_serves i.judge new i.history.items calls c.args.tx c.args.site items _ c.self.invariant.0
-        c.note.ensures.notes longer in
-    subst (λ (v : Kept). Adds v made (record { state = state_with new calls; history = calls; expected =
-        c.take_items.new.expected.items })) c.self.view_is (record { serves = all; history = longer; expected =
-        c.in_ok-items.ensures.others })
+    c.note.ensures.notes longer in
+    subst (λ (v : Kept). Adds v made (record {
+      state = state_with new calls;
+      history = calls;
+      expected =
+          c.take_items.new.expected.items;
+    })) c.self.view_is (record {
+      serves = all;
+      history = longer;
+      expected =
+          c.in_ok-items.ensures.others;
+    })
 
 pub returns-in_err-items-clause-takes_none : goal.returns-in_err-items-clause-takes_none
 returns-in_err-items-clause-takes_none c = λ e.
     let inside = subst (λ (v : Kept). IsExpected v.expected c.args.draft.now.touched c.args.site) (sym c.self.view_is)
-        e in
+    e in
     absurd (c.in_err-items.ensures.wants
     (expected_same c.args.site c.args.draft.now.touched _ c.self.inside.expected.items c.touched_near.ensures.changed
-        inside))
+    inside))
 
 pub invariant_of-self : goal.invariant_of-self
 invariant_of-self c =
     let i = c.self.inside in
     let new = c.take_items.new.counts in
     let wider =
-        counted-wider i.counts new i.history.items i.expected.items c.take_items.ensures.widens c.self.invariant.1 in
-    (c.self.invariant.0, counted-fewer new i.history.items i.expected.items c.take_items.new.expected.items
-        c.take_items.ensures.fewer wider)
+    counted-wider i.counts new i.history.items i.expected.items c.take_items.ensures.widens c.self.invariant.1 in (
+      c.self.invariant.0,
+      counted-fewer new i.history.items i.expected.items c.take_items.new.expected.items
+          c.take_items.ensures.fewer wider,
+    )
 
 pub add_each-requires-clause-once : goal.add_each-requires-clause-once
 add_each-requires-clause-once c =
     let items_is = c.as_slice.ensures ∙ c.in_ok-items.ensures.items in
     subst (AllPairs (λ a b. a ≢ b)) (sym items_is)
-        (changed-once c.args.site c.touched_near.result.now c.touched_near.ensures.rising)
+    (changed-once c.args.site c.touched_near.result.now c.touched_near.ensures.rising)
 
 pub add_each-requires-clause-small : goal.add_each-requires-clause-small
 add_each-requires-clause-small c = λ s x.
@@ -97,10 +107,10 @@ returns-in_err-may_note-clause-err c =
     let xs = installs_in i.history.items in
     let old = c.args.self.now in
     let told = subst (λ (v : Kept). IsTold v.state (installed c.args.tx c.args.site) c.in_err-may_note.field-0.0)
-        c.self.view_is (told_note i.judge i.history.items c.args.tx c.args.site _ c.in_err-may_note.field-0.0
-        c.in_err-may_note.ensures.takes_none c.self.invariant.0 c.in_err-may_note.ensures.err) in
+    c.self.view_is (told_note i.judge i.history.items c.args.tx c.args.site _ c.in_err-may_note.field-0.0
+    c.in_err-may_note.ensures.takes_none c.self.invariant.0 c.in_err-may_note.ensures.err) in
     declines c.from_residual.result c.in_err-may_note.field-0.0 old old (installed c.args.tx c.args.site)
-        c.from_residual.ensures.1 told refl
+    c.from_residual.ensures.1 told refl
 
 pub returns-in_err-items-clause-err : goal.returns-in_err-items-clause-err
 returns-in_err-items-clause-err c =
@@ -110,6 +120,6 @@ returns-in_err-items-clause-err c =
     let new = view_by i.judge i.history.items c.take_items.new.expected.items in
     let same : new ≡ old = ap (view_by i.judge i.history.items) c.in_err-items.ensures.err ∙ c.self.view_is in
     let told = subst (λ (v : Kept). IsTold v.state (installed c.args.tx c.args.site) fault.Memory) c.self.view_is
-        (allowed_note i.judge i.history.items c.args.tx c.args.site _ c.self.invariant.0 c.in_ok-may_note.ensures.ok) in
+    (allowed_note i.judge i.history.items c.args.tx c.args.site _ c.self.invariant.0 c.in_ok-may_note.ensures.ok) in
     declines c.from_residual-in_err-items.result fault.Memory old new (installed c.args.tx c.args.site)
-        c.from_residual-in_err-items.ensures.1 told same
+    c.from_residual-in_err-items.ensures.1 told same

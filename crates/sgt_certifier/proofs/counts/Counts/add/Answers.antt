@@ -18,7 +18,7 @@ add-requires-clause-place c =
     let within : c.number.result < length rows = omega (arith, place, row) in
     let at = slice_get_read rows (length rows) _ _ refl within c.index_mut.ensures.value in
     subst (λ r. IsSome (found_in r c.args.item)) (row-is c.args.self.now c.args.site c.number.result _ place at)
-        c.requires.place
+    c.requires.place
 
 pub add-requires-clause-small : goal.add-requires-clause-small
 add-requires-clause-small c =
@@ -28,7 +28,7 @@ add-requires-clause-small c =
     let within : c.number.result < length rows = omega (arith, place, row) in
     let at = slice_get_read rows (length rows) _ _ refl within c.index_mut.ensures.value in
     subst (λ r. count_in r c.args.item + 1 < 2 ^ 64) (row-is c.args.self.now c.args.site c.number.result _ place at)
-        c.requires.small
+    c.requires.small
 
 pub returns-clause-here : goal.returns-clause-here
 returns-clause-here c =

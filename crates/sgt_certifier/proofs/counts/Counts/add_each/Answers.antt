@@ -11,4 +11,4 @@ loop-item-preserved c =
     let fresh = fresh-at items _ _ c.requires.once at in
     subst (λ xs. CountsEach c.args.site xs c.args.self.now c.add.new.self) (sym (take_next items _ _ at))
     (counts-next c.args.site _ c.item-item.result c.args.self.now c.loop-item.self c.add.new.self
-        c.loop-item.invariant fresh c.add.ensures.here c.add.ensures.others)
+    c.loop-item.invariant fresh c.add.ensures.here c.add.ensures.others)

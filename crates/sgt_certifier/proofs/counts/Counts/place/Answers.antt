@@ -19,7 +19,7 @@ returns-clause-widens c =
     let at = slice_get_read mid.rows.items (length mid.rows.items) _ _ refl within c.index_mut.ensures.value in
     widens-more c.args.self.now mid _ (same-widens _ _ c.open.ensures.same)
     (placed-widens mid _ c.args.site c.number.result c.args.item _ c.place.new.self place at refl c.place.ensures.same
-        c.place.ensures.kept)
+    c.place.ensures.kept)
 
 pub returns-clause-ok : goal.returns-clause-ok
 returns-clause-ok c =
@@ -28,7 +28,7 @@ returns-clause-ok c =
     let within : c.number.result < length mid.rows.items = omega (arith, place, c.in_ok-open.ensures.ok) in
     let at = slice_get_read mid.rows.items (length mid.rows.items) _ _ refl within c.index_mut.ensures.value in
     placed-ok mid.rows.items c.args.site c.number.result c.args.item _ c.place.new.self place at c.place.result
-        c.place.ensures.ok
+    c.place.ensures.ok
 
 pub returns-clause-err : goal.returns-clause-err
 returns-clause-err c =
@@ -37,4 +37,4 @@ returns-clause-err c =
     let within : c.number.result < length mid.rows.items = omega (arith, place, c.in_ok-open.ensures.ok) in
     let at = slice_get_read mid.rows.items (length mid.rows.items) _ _ refl within c.index_mut.ensures.value in
     placed-err c.place.result c.args.self.now mid c.args.site c.number.result c.args.item _ place at
-        (same-widens _ _ c.open.ensures.same) c.place.ensures.err
+    (same-widens _ _ c.open.ensures.same) c.place.ensures.err

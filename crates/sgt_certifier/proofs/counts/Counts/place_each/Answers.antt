@@ -20,6 +20,6 @@ loop-item-preserved c =
       widens = widens-more _ _ _ c.loop-item.invariant.widens more;
       placed = All-next (HasPlace c.place.new.self c.args.site) c.args.items.now _ _ at c.in_ok-place.ensures.ok
           (All-weaken (HasPlace c.loop-item.self c.args.site) (HasPlace c.place.new.self c.args.site)
-              (take c.loop-item.item-index c.args.items.now)
+          (take c.loop-item.item-index c.args.items.now)
           (λ x has. more.kept c.args.site x has) c.loop-item.invariant.placed);
     }

@@ -14,7 +14,7 @@ loop-list-preserved c =
       placed = All-next (HavePlaces new) c.args.lists.now _ _ at
           (subst (All (HasPlace new c.list-item.result.site)) c.as_slice.ensures c.in_ok-place_each.ensures.ok)
           (places-kept c.loop-list.self new (take c.loop-list.list-index c.args.lists.now) more
-              c.loop-list.invariant.placed);
+          c.loop-list.invariant.placed);
     }
 
 pub returns-clause-ok : goal.returns-clause-ok

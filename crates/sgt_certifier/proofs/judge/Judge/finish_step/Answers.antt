@@ -12,7 +12,7 @@ pub overflow_sub-place : goal.overflow_sub-place
 overflow_sub-place c =
     let p = parts_of c.self.inside in
     let open_tx : p.step ≡ Some c.args.tx = c.in-Some.is
-        ∙ ap Some (sym c.number.ensures.is ∙ (c.if-number.false ∙ c.number-2.ensures.is)) in
+    ∙ ap Some (sym c.number.ensures.is ∙ (c.if-number.false ∙ c.number-2.ensures.is)) in
     let place = open_place p c.args.tx c.self.invariant.good open_tx in
     let at : c.number-3.result - c.self.inside.before - 1 ≡ place.0 = omega (arith, place.1, c.number-3.ensures.is) in
     omega (arith, place.1, c.number-3.ensures.is)
@@ -21,7 +21,7 @@ pub overflow_sub-place-2 : goal.overflow_sub-place-2
 overflow_sub-place-2 c =
     let p = parts_of c.self.inside in
     let open_tx : p.step ≡ Some c.args.tx = c.in-Some.is
-        ∙ ap Some (sym c.number.ensures.is ∙ (c.if-number.false ∙ c.number-2.ensures.is)) in
+    ∙ ap Some (sym c.number.ensures.is ∙ (c.if-number.false ∙ c.number-2.ensures.is)) in
     let place = open_place p c.args.tx c.self.invariant.good open_tx in
     let at : c.number-3.result - c.self.inside.before - 1 ≡ place.0 = omega (arith, place.1, c.number-3.ensures.is) in
     omega (arith, place.1, c.number-3.ensures.is)
@@ -30,7 +30,7 @@ pub index_mut-requires : goal.index_mut-requires
 index_mut-requires c =
     let p = parts_of c.self.inside in
     let open_tx : p.step ≡ Some c.args.tx = c.in-Some.is
-        ∙ ap Some (sym c.number.ensures.is ∙ (c.if-number.false ∙ c.number-2.ensures.is)) in
+    ∙ ap Some (sym c.number.ensures.is ∙ (c.if-number.false ∙ c.number-2.ensures.is)) in
     let place = open_place p c.args.tx c.self.invariant.good open_tx in
     let at : c.number-3.result - c.self.inside.before - 1 ≡ place.0 = omega (arith, place.1, c.number-3.ensures.is) in
     omega (arith, at, slice_get_within p.flags place.0 true place.2, c.self.inside.flags.ok)
@@ -39,7 +39,7 @@ pub overflow_sub-self : goal.overflow_sub-self
 overflow_sub-self c =
     let p = parts_of c.self.inside in
     let open_tx : p.step ≡ Some c.args.tx = c.in-Some.is
-        ∙ ap Some (sym c.number.ensures.is ∙ (c.if-number.false ∙ c.number-2.ensures.is)) in
+    ∙ ap Some (sym c.number.ensures.is ∙ (c.if-number.false ∙ c.number-2.ensures.is)) in
     let place = open_place p c.args.tx c.self.invariant.good open_tx in
     let at : c.number-3.result - c.self.inside.before - 1 ≡ place.0 = omega (arith, place.1, c.number-3.ensures.is) in
     omega (arith, c.self.invariant.running, flagged_less p.before p.flags place.0 place.2)
@@ -48,25 +48,31 @@ pub invariant_of-self : goal.invariant_of-self
 invariant_of-self c =
     let p = parts_of c.self.inside in
     let q : Parts =
-        record p { flags = slice_set c.self.inside.flags.items (c.number-3.result - c.self.inside.before - 1) false;
-        step = None; noted = c.clear.new.self.items } in
+    record p {
+      flags = slice_set c.self.inside.flags.items (c.number-3.result - c.self.inside.before - 1) false;
+      step = None;
+      noted = c.clear.new.self.items;
+    } in
     let open_tx : p.step ≡ Some c.args.tx = c.in-Some.is
-        ∙ ap Some (sym c.number.ensures.is ∙ (c.if-number.false ∙ c.number-2.ensures.is)) in
+    ∙ ap Some (sym c.number.ensures.is ∙ (c.if-number.false ∙ c.number-2.ensures.is)) in
     let place = open_place p c.args.tx c.self.invariant.good open_tx in
     let at : c.number-3.result - c.self.inside.before - 1 ≡ place.0 = omega (arith, place.1, c.number-3.ensures.is) in
     let flags : q.flags ≡ slice_set p.flags place.0 false = ap (λ k. slice_set c.self.inside.flags.items k false) at in
     let ends = finished_ends p q c.args.tx place.0 open_tx place.1 refl refl refl flags refl refl refl refl refl in
     finished_kept p q c.args.tx place.0 _ _ _ _ _ _ c.self.invariant ends refl flags place.2 c.clear.ensures.items
-        refl refl
+    refl refl
 
 pub returns-clause-ok : goal.returns-clause-ok
 returns-clause-ok c =
     let p = parts_of c.self.inside in
     let q : Parts =
-        record p { flags = slice_set c.self.inside.flags.items (c.number-3.result - c.self.inside.before - 1) false;
-        step = None; noted = c.clear.new.self.items } in
+    record p {
+      flags = slice_set c.self.inside.flags.items (c.number-3.result - c.self.inside.before - 1) false;
+      step = None;
+      noted = c.clear.new.self.items;
+    } in
     let open_tx : p.step ≡ Some c.args.tx = c.in-Some.is
-        ∙ ap Some (sym c.number.ensures.is ∙ (c.if-number.false ∙ c.number-2.ensures.is)) in
+    ∙ ap Some (sym c.number.ensures.is ∙ (c.if-number.false ∙ c.number-2.ensures.is)) in
     let place = open_place p c.args.tx c.self.invariant.good open_tx in
     let at : c.number-3.result - c.self.inside.before - 1 ≡ place.0 = omega (arith, place.1, c.number-3.ensures.is) in
     let flags : q.flags ≡ slice_set p.flags place.0 false = ap (λ k. slice_set c.self.inside.flags.items k false) at in

@@ -10,7 +10,7 @@ use Rattle.sgt_certifier.proofs.judge.Judge.has_unfit.Goals as goal
 pub loop-edge-preserved : goal.loop-edge-preserved
 loop-edge-preserved c n e lt at =
     let here = element_at c.args.edges.now c.loop-edge.edge-index c.edge-item.result c.loop-edge-test.true
-        c.edge-item.is in
+    c.edge-item.is in
     elim (cases_lt n c.loop-edge.edge-index) [
       | inl early ↦ c.loop-edge.invariant n e early at
       | inr late ↦
@@ -22,12 +22,18 @@ loop-edge-preserved c n e lt at =
 pub returns-then-not-fits : goal.returns-then-not-fits
 returns-then-not-fits c =
     let here = element_at c.args.edges.now c.loop-edge.edge-index c.edge-item.result c.loop-edge-test.true
-        c.edge-item.is in
+    c.edge-item.is in
     let m = Contains-from_at c.args.edges.now c.loop-edge.edge-index c.edge-item.result here in
     record {
       unfit = (
-        λ told. (m.0, c.edge-item.result, m.1, m.2, λ fit. true≢false (sym (c.fits.ensures.1 fit)
-            ∙ c.if-not-fits.true)),
+        λ told. (
+          m.0,
+          c.edge-item.result,
+          m.1,
+          m.2,
+          λ fit. true≢false (sym (c.fits.ensures.1 fit)
+              ∙ c.if-not-fits.true),
+        ),
         λ any. refl,
       );
       fit = λ f. absurd (true≢false f);
@@ -40,7 +46,7 @@ returns c = record {
     λ any.
         let m = Contains_at c.args.edges.now any.1 (any.0, any.2, any.3) in
         absurd (any.4
-            (c.loop-edge.invariant m.0 any.1 (omega (arith, slice_get_within c.args.edges.now m.0 any.1 m.1)) m.1)),
+        (c.loop-edge.invariant m.0 any.1 (omega (arith, slice_get_within c.args.edges.now m.0 any.1 m.1)) m.1)),
   );
   fit = λ f n e at. c.loop-edge.invariant n e (omega (arith, slice_get_within c.args.edges.now n e at)) at;
 }

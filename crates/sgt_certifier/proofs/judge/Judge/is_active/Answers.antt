@@ -16,10 +16,10 @@ returns-in-Some c =
     let before = c.self.inside.before in
     let k = c.args.handle.index in
     let seen =
-        element_at c.as_slice.result.now k c.in-Some.flag.now
-        (ltb-true k (length c.as_slice.result.now) (sym c.in-Some.ensures.lookup.0)) c.in-Some.ensures.lookup.1 in
+    element_at c.as_slice.result.now k c.in-Some.flag.now
+    (ltb-true k (length c.as_slice.result.now) (sym c.in-Some.ensures.lookup.0)) c.in-Some.ensures.lookup.1 in
     let at : slice_get flags k ≡ Some c.in-Some.flag.now =
-        subst (λ xs. slice_get xs k ≡ Some c.in-Some.flag.now) c.as_slice.ensures.value seen in
+    subst (λ xs. slice_get xs k ≡ Some c.in-Some.flag.now) c.as_slice.ensures.value seen in
     let s = state_of (parts_of c.self.inside) in
     let is : (c.in-Some.flag.now ≡ true) ↔ IsActive s c.args.handle = (
       λ told. (c.if-handle-generation.false ∙ c.generation.ensures, flagged_has before flags k (at ∙ ap Some told)),
@@ -34,7 +34,10 @@ returns-in-None c = (
       let mine = subst (λ (v : State). IsActive v c.args.handle) (sym c.self.view_is) active in
       let at = flag_at c.self.inside.before c.self.inside.flags.items c.args.handle.index mine.1 in
       let within = slice_get_within c.self.inside.flags.items c.args.handle.index true at in
-      absurd (omega (arith, within,
-          ltb-false c.args.handle.index (length c.as_slice.result.now) (sym c.in-None.ensures.lookup.0),
-          ap length c.as_slice.ensures.value)),
+      absurd (omega (
+        arith,
+        within,
+        ltb-false c.args.handle.index (length c.as_slice.result.now) (sym c.in-None.ensures.lookup.0),
+        ap length c.as_slice.ensures.value,
+      )),
 )

@@ -11,7 +11,7 @@ pub overflow_sub-index : goal.overflow_sub-index
 overflow_sub-index c =
     let p = parts_of c.self.inside in
     let open_tx : p.step ≡ Some c.args.tx = c.in-Some.is
-        ∙ ap Some (sym c.number.ensures.is ∙ (c.if-number.false ∙ c.number-2.ensures.is)) in
+    ∙ ap Some (sym c.number.ensures.is ∙ (c.if-number.false ∙ c.number-2.ensures.is)) in
     let place = open_place p c.args.tx c.self.invariant.good open_tx in
     omega (arith, place.1, c.number-3.ensures.is)
 
@@ -19,7 +19,7 @@ pub overflow_sub-index-2 : goal.overflow_sub-index-2
 overflow_sub-index-2 c =
     let p = parts_of c.self.inside in
     let open_tx : p.step ≡ Some c.args.tx = c.in-Some.is
-        ∙ ap Some (sym c.number.ensures.is ∙ (c.if-number.false ∙ c.number-2.ensures.is)) in
+    ∙ ap Some (sym c.number.ensures.is ∙ (c.if-number.false ∙ c.number-2.ensures.is)) in
     let place = open_place p c.args.tx c.self.invariant.good open_tx in
     omega (arith, place.1, c.number-3.ensures.is)
 
@@ -27,7 +27,7 @@ pub returns : goal.returns
 returns c =
     let p = parts_of c.self.inside in
     let open_tx : p.step ≡ Some c.args.tx = c.in-Some.is
-        ∙ ap Some (sym c.number.ensures.is ∙ (c.if-number.false ∙ c.number-2.ensures.is)) in
+    ∙ ap Some (sym c.number.ensures.is ∙ (c.if-number.false ∙ c.number-2.ensures.is)) in
     let place = open_place p c.args.tx c.self.invariant.good open_tx in
     let before = c.self.inside.before in
     let graph = c.self.inside.graph in
@@ -36,14 +36,14 @@ returns c =
     let is_tx : tx_at before h ≡ c.args.tx = omega (arith, place.1, c.number-3.ensures.is) in (
       λ told.
           let member =
-              subst (Contains (map (tx_at before) graph.order)) is_tx
-              (member_known before graph.generation graph.order h here (c.is_admitted.ensures.0 told)).1 in
+          subst (Contains (map (tx_at before) graph.order)) is_tx
+          (member_known before graph.generation graph.order h here (c.is_admitted.ensures.0 told)).1 in
           let mine : IsInstalling (state_of p) c.args.tx = (open_tx, member) in
           subst (λ (v : State). IsInstalling v c.args.tx) c.self.view_is mine,
       λ is_open.
           let mine : IsInstalling (state_of p) c.args.tx =
-              subst (λ (v : State). IsInstalling v c.args.tx) (sym c.self.view_is) is_open in
+          subst (λ (v : State). IsInstalling v c.args.tx) (sym c.self.view_is) is_open in
           c.is_admitted.ensures.1
-              (known_member before graph.generation graph.order h here c.generation-generation.ensures
-              (subst (Contains (map (tx_at before) graph.order)) (sym is_tx) mine.1)),
+          (known_member before graph.generation graph.order h here c.generation-generation.ensures
+          (subst (Contains (map (tx_at before) graph.order)) (sym is_tx) mine.1)),
     )

@@ -13,8 +13,8 @@ returns-then-is_admitted c =
     let s = state_of (parts_of c.self.inside) in
     let here = member_here graph c.order-order.ensures.ordered in
     let known : IsKnown s c.args.node =
-        inl (member_known c.self.inside.before graph.generation graph.order c.args.node here
-        (c.is_admitted.ensures.0 c.if-is_admitted.true)) in (
+    inl (member_known c.self.inside.before graph.generation graph.order c.args.node here
+    (c.is_admitted.ensures.0 c.if-is_admitted.true)) in (
       λ told. subst (λ (v : State). IsKnown v c.args.node) c.self.view_is known,
       λ k. c.if-is_admitted.true,
     )

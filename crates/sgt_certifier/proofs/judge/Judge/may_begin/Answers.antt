@@ -9,4 +9,4 @@ returns-in-Ok-clause-ok c =
     let s = state_of (parts_of c.self.inside) in
     let idle : s.step ≡ None = c.in_default.is in
     subst (λ (v : State). IsAllowed v begin) c.self.view_is
-        (begin_allowed s (omega (arith, c.self.invariant.window)) idle (omega (arith, c.in-Ok.ensures.0)))
+    (begin_allowed s (omega (arith, c.self.invariant.window)) idle (omega (arith, c.in-Ok.ensures.0)))

@@ -10,5 +10,5 @@ returns-clause-ok c =
     let idle : s.step ≡ None = c.in_default.is in
     let none : length s.active ≡ 0 = omega (arith, c.self.invariant.running, c.if-self-gt0.false) in
     let more : suc s.generation < 4294967296 =
-        omega (arith, c.generation.type_inv, c.if-generation.false, c.generation.ensures) in
+    omega (arith, c.generation.type_inv, c.if-generation.false, c.generation.ensures) in
     subst (λ (v : State). IsAllowed v close) c.self.view_is (close_allowed s idle none more)

@@ -6,4 +6,4 @@ use Rattle.sgt_certifier.proofs.judge.Judge.may_withdraw.Goals as goal
 pub returns-in-None-clause-withdraw : goal.returns-in-None-clause-withdraw
 returns-in-None-clause-withdraw c =
     withdraw_allowed c.args.self.now c.args.handle (c.is_active.ensures.0 c.if-not-is_active.false)
-        (subst (λ (v : State). v.step ≡ None) c.self.view_is c.in-None.is)
+    (subst (λ (v : State). v.step ≡ None) c.self.view_is c.in-None.is)

@@ -14,7 +14,7 @@ pub overflow_add-counted : goal.overflow_add-counted
 overflow_add-counted c =
     let found = rw c.as_slice.ensures.value at c.in-Ok.ensures.found in
     let here =
-        slice_get_read _ (length c.self.inside.counts.items) _ _ refl found.within c.index_mut-counted.ensures.value in
+    slice_get_read _ (length c.self.inside.counts.items) _ _ refl found.within c.index_mut-counted.ensures.value in
     let same = count-here _ _ _ _ c.self.invariant found here in
     let small = rw (← c.self.view_is) at c.requires.small in
     omega (arith, same, small)
@@ -23,19 +23,19 @@ pub invariant_of-self : goal.invariant_of-self
 invariant_of-self c =
     let found = rw c.as_slice.ensures.value at c.in-Ok.ensures.found in
     let here =
-        slice_get_read _ (length c.self.inside.counts.items) _ _ refl found.within c.index_mut-counted.ensures.value in
+    slice_get_read _ (length c.self.inside.counts.items) _ _ refl found.within c.index_mut-counted.ensures.value in
     more-rises _ _ _ _ c.self.invariant found here
 
 pub returns-clause-here : goal.returns-clause-here
 returns-clause-here c =
     let found = rw c.as_slice.ensures.value at c.in-Ok.ensures.found in
     let here =
-        slice_get_read _ (length c.self.inside.counts.items) _ _ refl found.within c.index_mut-counted.ensures.value in
+    slice_get_read _ (length c.self.inside.counts.items) _ _ refl found.within c.index_mut-counted.ensures.value in
     rw (← c.self.view_is) (more-found _ _ _ _ c.self.invariant found here)
 
 pub returns-clause-others : goal.returns-clause-others
 returns-clause-others c =
     let found = rw c.as_slice.ensures.value at c.in-Ok.ensures.found in
     let here =
-        slice_get_read _ (length c.self.inside.counts.items) _ _ refl found.within c.index_mut-counted.ensures.value in
+    slice_get_read _ (length c.self.inside.counts.items) _ _ refl found.within c.index_mut-counted.ensures.value in
     rw (← c.self.view_is) (more-others _ _ _ _ c.self.invariant found here)

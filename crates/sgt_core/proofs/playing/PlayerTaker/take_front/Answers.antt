@@ -14,8 +14,8 @@ returns c lines begun took =
     let p = c.args.self.now in
     let found = c.in-Some-front_event.ensures in
     let (input, have, played) =
-        subst (λ (core : Option Parts). HasPlayed p.sites.items core p.text.items lines) c.in-Some.is took in
+    subst (λ (core : Option Parts). HasPlayed p.sites.items core p.text.items lines) c.in-Some.is took in
     front-played c.in-Some-front_event.event input p.sites.items c.in-Some.core c.answer_event.new.core
-        c.args.held.now p.text.items
+    c.args.held.now p.text.items
     c.answer_event.new.text.items lines c.in-Some-front_event.n have played found.0 found.1 found.2
-        c.in_ok-answer_event.ensures
+    c.in_ok-answer_event.ensures

@@ -9,6 +9,6 @@ pub returns-clause-valid : goal.returns-clause-valid
 returns-clause-valid c =
     let s = c.self.invariant in
     let none = ap (λ (st : State). st.active) s.1.certifier.same
-        ∙ nobody c.self.inside.machine.certifier.active (omega arith) in
+    ∙ nobody c.self.inside.machine.certifier.active (omega arith) in
     all_valid c.bundle.result s.0 (reached_kept s.0 s.1.reached) none
-        (if_ok_at c.bundle.result (parts_of c.self.inside.machine) s.0 s.1 c.bundle.ensures.ok)
+    (if_ok_at c.bundle.result (parts_of c.self.inside.machine) s.0 s.1 c.bundle.ensures.ok)

@@ -27,14 +27,17 @@ returns-in-Ok-add_at c = λ d s.
     let slot = c.in-Ok.ensures.ok in
     let closed = c.in-Ok.ensures.closed d s in
     let allowed = add_allowed d c.args.tx (slot_begun m d c.args.tx _ s slot) (slot_active m d c.args.tx _ s slot)
-        c.args.site c.args.item c.args.value closed (c.in-Ok.ensures.known d s) in
+    c.args.site c.args.item c.args.value closed (c.in-Ok.ensures.known d s) in
     let ch : Option Change → Change = λ k. added_to k c.args.value in
     let new : CoreState =
-        with_change d c.args.tx c.args.site c.args.item
-        (ch (change_in (d.changes c.args.tx c.args.site) c.args.item)) in
-    let may : MayStep d event Kept new = (allowed, refl) in
-    (new, may, changed_stands m d s c.args.tx _ c.args.site c.args.item slot.0 closed ch c.add_at.new.table.items
-        c.in-Ok-add_at.ensures.ok (reached_more d event Kept new s.reached may))
+    with_change d c.args.tx c.args.site c.args.item
+    (ch (change_in (d.changes c.args.tx c.args.site) c.args.item)) in
+    let may : MayStep d event Kept new = (allowed, refl) in (
+      new,
+      may,
+      changed_stands m d s c.args.tx _ c.args.site c.args.item slot.0 closed ch c.add_at.new.table.items
+          c.in-Ok-add_at.ensures.ok (reached_more d event Kept new s.reached may),
+    )
 
 pub returns-in-Err-add_at : goal.returns-in-Err-add_at
 returns-in-Err-add_at c = λ d s.
@@ -43,7 +46,7 @@ returns-in-Err-add_at c = λ d s.
     let slot = c.in-Ok.ensures.ok in
     let closed = c.in-Ok.ensures.closed d s in
     let allowed = add_allowed d c.args.tx (slot_begun m d c.args.tx _ s slot) (slot_active m d c.args.tx _ s slot)
-        c.args.site c.args.item c.args.value closed (c.in-Ok.ensures.known d s) in (
+    c.args.site c.args.item c.args.value closed (c.in-Ok.ensures.known d s) in (
       d,
       subst (λ (r : Reply). MayStep d event r d) (sym c.refused-in-Err-add_at.ensures) (allowed, refl),
       subst (λ (t : List (Option Running)). StandsFor (record m { table = t }) d) (sym c.in-Err-add_at.ensures.err) s,

@@ -17,14 +17,14 @@ returns c = λ d s.
     let none = none_of m.step (sym c.is_some.ensures ∙ c.if-is_some.false) in
     let r : Running = record { handle = c.in-Ok.begun.1; draft = c.empty_draft-draft.result } in
     let table : c.push_reserved.new.self.items ≡ m.table ++ Some r ∷ [] = c.push_reserved.ensures.items
-        ∙ ap (λ z. z ++ Some r ∷ []) c.reserve.ensures.items in
+    ∙ ap (λ z. z ++ Some r ∷ []) c.reserve.ensures.items in
     let g = begin_goes m d s none r c.begin.new.self c.in-Ok.begun.0 c.in-Ok.ensures.ok c.empty_draft-draft.ensures in
     subst (λ (t : List (Option Running)). (x : CoreState) × MayStep d Begin (Begun c.in-Ok.begun.0) x
-        × StandsFor (record (begun_parts m c.begin.new.self r) { table = t }) x) (sym table) g
+    × StandsFor (record (begun_parts m c.begin.new.self r) { table = t }) x) (sym table) g
 
 pub returns-then-is_some : goal.returns-then-is_some
 returns-then-is_some c = λ d s.
     let m = parts_of c.args.self.now in
     refused_goes m d s Begin core_fault.StepOpen _ c.refused.ensures
-        (untimely d Begin Rattle.std.proofs.Common.refl (some_open m d m.step (sym c.is_some.ensures
-        ∙ c.if-is_some.true) s.step))
+    (untimely d Begin Rattle.std.proofs.Common.refl (some_open m d m.step (sym c.is_some.ensures
+    ∙ c.if-is_some.true) s.step))

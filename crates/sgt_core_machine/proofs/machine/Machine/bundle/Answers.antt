@@ -12,16 +12,16 @@ unreachable-requires c =
     let s = c.requires in
     let m = parts_of c.args.self.now in
     let logs = c.in-Ok-logs_of.ensures
-        ∙ ap (map (λ (p : Place). site_log p.site.items p.site.entries)) c.as_slice.ensures.value in
+    ∙ ap (map (λ (p : Place). site_log p.site.items p.site.entries)) c.as_slice.ensures.value in
     let is = bundle_is m s.0 c.in-Ok.certificate c.in-Ok-logs_of.logs.items c.len-count.result s.1 c.in-Ok.ensures
-        (omega (arith, c.len-count.ensures)) logs in
+    (omega (arith, c.len-count.ensures)) logs in
     c.in-None.ensures (subst FitTogether (sym is) (bundle_fits_there m s.0 s.1))
 
 pub returns-clause-ok : goal.returns-clause-ok
 returns-clause-ok c = λ d s.
     let m = parts_of c.args.self.now in
     let logs = c.in-Ok-logs_of.ensures
-        ∙ ap (map (λ (p : Place). site_log p.site.items p.site.entries)) c.as_slice.ensures.value in
+    ∙ ap (map (λ (p : Place). site_log p.site.items p.site.entries)) c.as_slice.ensures.value in
     let is = bundle_is m d c.in-Ok.certificate c.in-Ok-logs_of.logs.items c.len-count.result s c.in-Ok.ensures
-        (omega (arith, c.len-count.ensures)) logs in
+    (omega (arith, c.len-count.ensures)) logs in
     is_of_some _ _ _ c.in-Some.is c.new.ensures ∙ is

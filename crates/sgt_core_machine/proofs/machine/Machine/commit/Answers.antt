@@ -22,7 +22,7 @@ returns-in-Fault c =
     let sites = c.as_slice.result.now in
     committing_stops first last c.args.tx sites c.in-Fault.fault c.refused-in-Fault.result c.refused-in-Fault.ensures
     (subst (λ (r : Reply). GoesOn (λ x y. DecidesWhole x c.args.tx sites r y) first last) c.in-Fault.is
-        c.decide_whole.ensures)
+    c.decide_whole.ensures)
 
 pub returns-in_default : goal.returns-in_default
 returns-in_default c =
@@ -32,9 +32,9 @@ returns-in_default c =
     let tx = c.args.tx in
     let verdict = c.decide_whole.result in
     committing first mid last tx c.whole_sites.new.sites.items c.in-Ok.ensures.ok verdict
-        (λ f e. c.in_default.not-Fault f e)
+    (λ f e. c.in_default.not-Fault f e)
     (subst (λ (xs : List ℕ). GoesOn (λ x y. DecidesWhole x tx xs verdict y) first mid) c.as_slice.ensures.value
-        c.decide_whole.ensures)
+    c.decide_whole.ensures)
     (subst (λ (xs : List ℕ). (x : CoreState) → StandsFor mid x → AwaitsBlocks x tx xs
-        → (y : CoreState) × InstallsAll x tx xs y × StandsFor last y) c.as_slice-in_default.ensures.value
-        c.install_all.ensures)
+    → (y : CoreState) × InstallsAll x tx xs y × StandsFor last y) c.as_slice-in_default.ensures.value
+    c.install_all.ensures)

@@ -14,12 +14,12 @@ use Rattle.sgt_core_machine.proofs.machine.Machine.decide.Goals as goal
 pub returns-in-Err : goal.returns-in-Err
 returns-in-Err c = λ d s. let event = Decide c.args.tx in
     refused_goes (parts_of c.args.self.now) d s event c.in-Err.fault _ c.refused.ensures
-        (c.in-Err.ensures.err d s event refl)
+    (c.in-Err.ensures.err d s event refl)
 
 pub returns-then-other_step : goal.returns-then-other_step
 returns-then-other_step c = λ d s.
     step_open (parts_of c.args.self.now) d s c.args.tx _ c.in-Ok.ensures.ok (Decide c.args.tx) refl
-        ((c.other_step.ensures d s).0 c.if-other_step.true) _ c.refused-then-other_step.ensures
+    ((c.other_step.ensures d s).0 c.if-other_step.true) _ c.refused-then-other_step.ensures
 
 pub misses-requires : goal.misses-requires
 misses-requires c =
@@ -31,31 +31,31 @@ returns-then-misses c = λ d s.
     let runs = ap (λ t. slice_get t c.in-Ok.slot) c.as_slice-2.ensures.value ∙ c.in-Ok.ensures.ok.1.1 in
     let some = (c.misses.ensures _ runs).0 c.if-misses.true in
     decide_too_early (parts_of c.args.self.now) d s c.args.tx _ c.in-Ok.ensures.ok
-        (λ other. not_true _ c.if-other_step.false ((c.other_step.ensures d s).1 other)) _
+    (λ other. not_true _ c.if-other_step.false ((c.other_step.ensures d s).1 other)) _
     (subst (λ ps. Any (IsMissedAt ps) c.in-Ok.ensures.ok.1.0.draft.touched) c.as_slice.ensures.value some)
-        c.refused-then-misses.ensures
+    c.refused-then-misses.ensures
 
 pub returns-then-is_ruled : goal.returns-then-is_ruled
 returns-then-is_ruled c = λ d s.
     let runs = ap (λ t. slice_get t c.in-Ok.slot) c.as_slice-2.ensures.value ∙ c.in-Ok.ensures.ok.1.1 in
     let m = parts_of c.args.self.now in
     let no_other : IsOtherOpen d c.args.tx
-        → ⊥ = λ other. not_true _ c.if-other_step.false ((c.other_step.ensures d s).1 other) in
+    → ⊥ = λ other. not_true _ c.if-other_step.false ((c.other_step.ensures d s).1 other) in
     let r = ruled_step m d m.step s.step (c.is_ruled.ensures.0 c.if-is_ruled.true) in
     let own = step_own m d c.args.tx no_other m.step s.step r.0 r.1 in
     decide_again m d s c.args.tx _ c.in-Ok.ensures.ok no_other
-        (λ some. not_true _ c.if-misses.false ((c.misses.ensures _ runs).1
+    (λ some. not_true _ c.if-misses.false ((c.misses.ensures _ runs).1
     (subst (λ ps. Any (IsMissedAt ps) c.in-Ok.ensures.ok.1.0.draft.touched) (sym c.as_slice.ensures.value) some)))
-        (r.2 ∙ ap Rattle.std.proofs.Common.Some own) _ c.refused-then-is_ruled.ensures
+    (r.2 ∙ ap Rattle.std.proofs.Common.Some own) _ c.refused-then-is_ruled.ensures
 
 pub decide_gathered-requires-clause-allowed : goal.decide_gathered-requires-clause-allowed
 decide_gathered-requires-clause-allowed c = λ d s.
     let runs = ap (λ t. slice_get t c.in-Ok.slot) c.as_slice-2.ensures.value ∙ c.in-Ok.ensures.ok.1.1 in
     let m = parts_of c.args.self.now in
     let no_other : IsOtherOpen d c.args.tx
-        → ⊥ = λ other. not_true _ c.if-other_step.false ((c.other_step.ensures d s).1 other) in
+    → ⊥ = λ other. not_true _ c.if-other_step.false ((c.other_step.ensures d s).1 other) in
     let none = not_ruled m d m.step s.step (λ r. not_true _ c.if-is_ruled.false (c.is_ruled.ensures.1 r)) in
     may_decide m d s c.args.tx _ c.in-Ok.ensures.ok no_other
-        (λ some. not_true _ c.if-misses.false ((c.misses.ensures _ runs).1
+    (λ some. not_true _ c.if-misses.false ((c.misses.ensures _ runs).1
     (subst (λ ps. Any (IsMissedAt ps) c.in-Ok.ensures.ok.1.0.draft.touched) (sym c.as_slice.ensures.value) some)))
-        (λ done. let f = sym done ∙ none in cc)
+    (λ done. let f = sym done ∙ none in cc)

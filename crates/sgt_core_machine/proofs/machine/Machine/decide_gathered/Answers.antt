@@ -27,10 +27,10 @@ end-requires-clause-step c =
     let new = c.rule.new.certifier in
     let on_table : RulesAt m.certifier new m.table c.args.slot c.edges_of-edges.result c.in-Ok.decided =
     subst (λ (t : List (Option Running)). RulesAt m.certifier new t c.args.slot c.edges_of-edges.result
-        c.in-Ok.decided) c.as_slice.ensures.value c.in-Ok.ensures.ok in
+    c.in-Ok.decided) c.as_slice.ensures.value c.in-Ok.ensures.ok in
     let rules : RulesAt m.certifier new m.table c.args.slot (edges_in m.step) c.in-Ok.decided =
     subst (λ (es : List Edge). RulesAt m.certifier new m.table c.args.slot es c.in-Ok.decided)
-        (c.edges_of-edges.ensures ∙ ap edges_in c.take.ensures.value) on_table in
+    (c.edges_of-edges.ensures ∙ ap edges_in c.take.ensures.value) on_table in
     ruled_open m s.0 s.1 c.args.tx c.args.slot c.requires.slot (c.requires.allowed s.0 s.1) new c.in-Ok.decided rules
 
 pub end-requires-clause-slot : goal.end-requires-clause-slot
@@ -43,39 +43,39 @@ returns-after-is_due c = λ d s.
     let decided = c.in-Ok.decided in
     let on_table : RulesAt m.certifier new m.table c.args.slot c.edges_of-edges.result decided =
     subst (λ (t : List (Option Running)). RulesAt m.certifier new t c.args.slot c.edges_of-edges.result decided)
-        c.as_slice.ensures.value c.in-Ok.ensures.ok in
+    c.as_slice.ensures.value c.in-Ok.ensures.ok in
     let rules : RulesAt m.certifier new m.table c.args.slot (edges_in m.step) decided =
     subst (λ (es : List Edge). RulesAt m.certifier new m.table c.args.slot es decided) (c.edges_of-edges.ensures
-        ∙ ap edges_in c.take.ensures.value) on_table in
+    ∙ ap edges_in c.take.ensures.value) on_table in
     let may = c.requires.allowed d s in
     let some = λ (is : Rattle.std.specs.Prelude.IsTrue c.is_due.result). subst (Any (λ (p : Place). p.part ≡ Due))
-        c.as_slice-in-Ok.ensures.value (c.is_due.ensures.0 is) in
+    c.as_slice-in-Ok.ensures.value (c.is_due.ensures.0 is) in
     let held =
-        λ (phase : Phase). record m { certifier = new; step = Some (record { tx = c.args.tx; phase = phase }) } in
+    λ (phase : Phase). record m { certifier = new; step = Some (record { tx = c.args.tx; phase = phase }) } in
     elim c.if-is_due.branch [
       | then-is_due+in-Some+in-Gathering-1 w ↦
           rules_due m d s c.args.tx c.args.slot c.requires.slot may new decided rules (some w.if-is_due.true)
-              (parts_of c.if-is_due.self)
+          (parts_of c.if-is_due.self)
           (ap parts_of w.self-is ∙ ap held w.phase_of.ensures) c.reply_of.result c.reply_of.ensures
       | then-is_due+in-Some+in-Committed-1 w ↦
           rules_due m d s c.args.tx c.args.slot c.requires.slot may new decided rules (some w.if-is_due.true)
-              (parts_of c.if-is_due.self)
+          (parts_of c.if-is_due.self)
           (ap parts_of w.self-is ∙ ap held w.phase_of.ensures) c.reply_of.result c.reply_of.ensures
       | then-is_due+in-None-1 w ↦
           rules_due m d s c.args.tx c.args.slot c.requires.slot may new decided rules (some w.if-is_due.true)
-              (parts_of c.if-is_due.self)
+          (parts_of c.if-is_due.self)
           (ap parts_of w.self-is ∙ ap held w.phase_of.ensures) c.reply_of.result c.reply_of.ensures
       | else-is_due w ↦
           let none = λ (any : Any (λ (p : Place). p.part ≡ Due) m.places).
           not_true _ w.if-is_due.false
-              (c.is_due.ensures.1 (subst (Any (λ (p : Place). p.part ≡ Due)) (sym c.as_slice-in-Ok.ensures.value)
-              any)) in
+          (c.is_due.ensures.1 (subst (Any (λ (p : Place). p.part ≡ Due)) (sym c.as_slice-in-Ok.ensures.value)
+          any)) in
           rules_end m d s c.args.tx c.args.slot c.requires.slot may new decided rules none
-              (record m { certifier = new; step = c.take.new.self }) (parts_of c.if-is_due.self)
+          (record m { certifier = new; step = c.take.new.self }) (parts_of c.if-is_due.self)
           (ap (λ (o : Option Open). record m { certifier = new; step = o }) c.take.ensures.after)
           (subst (λ (after : Parts). Rattle.sgt_core_machine.specs.private.Decided.EndsAt
-              (record m { certifier = new; step = c.take.new.self }) after c.args.tx c.args.slot)
-              (sym (ap parts_of w.self-is)) w.end.ensures)
+          (record m { certifier = new; step = c.take.new.self }) after c.args.tx c.args.slot)
+          (sym (ap parts_of w.self-is)) w.end.ensures)
           c.reply_of.result c.reply_of.ensures
     ]
 
@@ -85,16 +85,19 @@ rule-requires-clause-may c =
     let s = c.requires.stands in
     let may = may_rule_at m s.0 s.1 c.args.tx c.args.slot c.requires.slot.0 (c.requires.allowed s.0 s.1) in
     subst (λ (es : List Edge). MayRuleAt m.certifier c.as_slice.result.now c.args.slot es)
-        (sym (c.edges_of-edges.ensures ∙ ap edges_in c.take.ensures.value))
+    (sym (c.edges_of-edges.ensures ∙ ap edges_in c.take.ensures.value))
     (subst (λ (t : List (Option Running)). MayRuleAt m.certifier t c.args.slot (edges_in m.step))
-        (sym c.as_slice.ensures.value) may)
+    (sym c.as_slice.ensures.value) may)
 
 pub returns-in-Err-Memory : goal.returns-in-Err-Memory
 returns-in-Err-Memory c = λ d s.
     let m = parts_of c.args.self.now in
     let may = c.requires.allowed d s in
     gives_up m d s c.args.tx (λ other. may fault.StepOpen other)
-        (decide_idle d c.args.tx (reached_kept d s.reached) may) (record m { certifier = c.rule.new.certifier; step =
-        c.take.new.self })
+    (decide_idle d c.args.tx (reached_kept d s.reached) may) (record m {
+      certifier = c.rule.new.certifier;
+      step =
+          c.take.new.self;
+    })
     (parts_of c.give_up.new.self) refl c.in-Err-Memory.ensures.err c.give_up.ensures.places c.give_up.ensures.rest
-        (Decide c.args.tx) c.refused.result c.refused.ensures (may, refl)
+    (Decide c.args.tx) c.refused.result c.refused.ensures (may, refl)

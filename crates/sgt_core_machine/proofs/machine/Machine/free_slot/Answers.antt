@@ -18,15 +18,15 @@ returns-then-owns_step-clause-err c = λ d s.
     let m = parts_of c.args.self.now in
     let slot = c.in-Ok.ensures.ok in
     own_refuses d c.args.tx (slot_begun m d c.args.tx _ s slot) (slot_active m d c.args.tx _ s slot) c.args.site
-        c.args.item ((c.owns_step.ensures d s).0 c.if-owns_step.true)
+    c.args.item ((c.owns_step.ensures d s).0 c.if-owns_step.true)
 
 pub returns-then-not-has_item-clause-err : goal.returns-then-not-has_item-clause-err
 returns-then-not-has_item-clause-err c = λ d s.
     let m = parts_of c.args.self.now in
     let slot = c.in-Ok.ensures.ok in
     item_refuses d c.args.tx (slot_begun m d c.args.tx _ s slot) (slot_active m d c.args.tx _ s slot) c.args.site
-        c.args.item (λ own. not_true _ c.if-owns_step.false ((c.owns_step.ensures d s).1 own))
-        (λ known. not_true _ c.if-not-has_item.true ((c.has_item.ensures d s).1 known))
+    c.args.item (λ own. not_true _ c.if-owns_step.false ((c.owns_step.ensures d s).1 own))
+    (λ known. not_true _ c.if-not-has_item.true ((c.has_item.ensures d s).1 known))
 
 pub returns-clause-closed : goal.returns-clause-closed
 returns-clause-closed c = λ d s own. not_true _ c.if-owns_step.false ((c.owns_step.ensures d s).1 own)

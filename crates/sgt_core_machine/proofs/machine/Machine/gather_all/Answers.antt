@@ -31,10 +31,10 @@ returns-in_default-clause-err c =
     let i = c.loop-site.site-index in
     let at = slice_get_read sites (length sites) i c.site-item.result refl c.loop-site-test.true c.site-item.is in
     gathering_stops (parts_of c.args.self.now) (parts_of c.loop-site.self) (parts_of c.gather.new.self) c.args.tx
-        sites c.requires.whole i c.site-item.result at c.gather.result c.loop-site.invariant.gathered c.gather.ensures
-        c.in_default.not-Gathered
+    sites c.requires.whole i c.site-item.result at c.gather.result c.loop-site.invariant.gathered c.gather.ensures
+    c.in_default.not-Gathered
 
 pub returns-clause-ok : goal.returns-clause-ok
 returns-clause-ok c =
     subst (λ xs. GoesOn (λ d e. GathersAll d c.args.tx xs e) (parts_of c.args.self.now) (parts_of c.loop-site.self))
-        (take_all c.loop-site.site-index c.args.sites.now c.loop-site-test.false) c.loop-site.invariant.gathered
+    (take_all c.loop-site.site-index c.args.sites.now c.loop-site-test.false) c.loop-site.invariant.gathered

@@ -12,9 +12,9 @@ returns c = λ d s.
     let p = c.index-place.result.now in
     let at : slice_get m.places c.args.site ≡ Some p =
     ap (slice_get m.places) (sym c.number-at.ensures.is)
-        ∙ slice_get_read m.places (length m.places) c.number-at.result p refl (omega arith) c.index-place.ensures in
+    ∙ slice_get_read m.places (length m.places) c.number-at.result p refl (omega arith) c.index-place.ensures in
     let both = ok_iff (Contains (names p.site.items) c.args.item) _ c.writers.result c.writers.ensures.allowed
-        c.writers.ensures.refused in (
+    c.writers.ensures.refused in (
       λ t. of_place m d c.args.site c.args.item p s at (both.0 (subst IsTrue c.is_ok.ensures.value t)),
       λ k. subst IsTrue (sym c.is_ok.ensures.value) (both.1 (to_place m d c.args.site c.args.item p s at k)),
     )

@@ -26,6 +26,9 @@ loop-site-preserved c =
 
 pub returns : goal.returns
 returns c = λ d s all.
-    let r = c.loop-site.invariant.written d s all in
-    (r.0, subst (λ xs. InstallsAll d c.args.tx xs r.0)
-        (take_all c.loop-site.site-index c.args.sites.now c.loop-site-test.false) r.1, r.3)
+    let r = c.loop-site.invariant.written d s all in (
+      r.0,
+      subst (λ xs. InstallsAll d c.args.tx xs r.0)
+          (take_all c.loop-site.site-index c.args.sites.now c.loop-site-test.false) r.1,
+      r.3,
+    )

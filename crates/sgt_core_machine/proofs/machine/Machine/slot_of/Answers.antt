@@ -11,10 +11,14 @@ returns-then-number-self-2-clause-err c =
 pub returns-in-Some-clause-ok : goal.returns-in-Some-clause-ok
 returns-in-Some-clause-ok c =
     let slot = c.number-number.result - c.args.self.now.before - 1 in
-    let window = c.requires.1.window in
-    (omega arith,
-        (c.in-Some.field-0, slice_get_read c.args.self.now.running.items (length c.args.self.now.running.items) slot
-        c.index.result.now refl (omega arith) c.index.ensures ∙ ap Some c.in-Some.is))
+    let window = c.requires.1.window in (
+      omega arith,
+      (
+        c.in-Some.field-0,
+        slice_get_read c.args.self.now.running.items (length c.args.self.now.running.items) slot
+            c.index.result.now refl (omega arith) c.index.ensures ∙ ap Some c.in-Some.is,
+      ),
+    )
 
 pub returns-in-None-clause-err : goal.returns-in-None-clause-err
 returns-in-None-clause-err c = λ d s e is.
@@ -22,4 +26,4 @@ returns-in-None-clause-err c = λ d s e is.
     let window = s.window in
     free_refused (parts_of c.args.self.now) d e c.args.tx slot s is (omega arith) (omega arith)
     (slice_get_read c.args.self.now.running.items (length c.args.self.now.running.items) slot c.index.result.now refl
-        (omega arith) c.index.ensures ∙ ap Some c.in-None.is)
+    (omega arith) c.index.ensures ∙ ap Some c.in-None.is)

@@ -21,7 +21,7 @@ returns-then-is_some-clause-err c = λ d s.
     let m = parts_of c.args.self.now in
     let slot = c.in-Ok.ensures.ok in
     step_refused d c.args.tx (slot_begun m d c.args.tx _ s slot) (slot_active m d c.args.tx _ s slot)
-        (Commit c.args.tx) refl
+    (Commit c.args.tx) refl
     (some_open m d m.step (sym c.is_some.ensures ∙ c.if-is_some.true) s.step)
 
 pub touched_sites-requires-clause-slot : goal.touched_sites-requires-clause-slot
@@ -42,10 +42,10 @@ returns-in-Ok-touched_sites-clause-ok c = λ d s.
     let runs = ap (λ t. slice_get t c.in-Ok.slot) c.as_slice.ensures.value ∙ slot.1.1 in
     let none = none_of m.step (sym c.is_some.ensures ∙ c.if-is_some.false) in
     let long : c.len.result ≡ length c.args.self.now.places.items =
-        omega (arith, c.len.ensures, c.args.self.now.places.ok.0) in
+    omega (arith, c.len.ensures, c.args.self.now.places.ok.0) in
     whole_sites m d s c.args.tx _ slot none c.touched_sites.new.sites.items
-        (subst (λ n. AreTouched slot.1.0.draft.touched n c.touched_sites.new.sites.items) long
-        (c.in-Ok-touched_sites.ensures _ runs))
+    (subst (λ n. AreTouched slot.1.0.draft.touched n c.touched_sites.new.sites.items) long
+    (c.in-Ok-touched_sites.ensures _ runs))
 
 pub returns-in-Err-touched_sites-clause-err : goal.returns-in-Err-touched_sites-clause-err
 returns-in-Err-touched_sites-clause-err c = λ d s.

@@ -15,10 +15,10 @@ unreachable-requires-in_default c =
     let o = c.in-Ok.ensures.ok in
     let runs = sym (ap (λ ts. slice_get ts c.args.slot) c.as_slice-table.ensures.value) ∙ o.there in
     let may = subst (λ h. IsAllowed c.args.self.now.certifier (withdraw h)) (sym o.handle_is)
-        (c.requires.allowed o.running runs) in
+    (c.requires.allowed o.running runs) in
     c.in_default.not-Memory
-        (told_memory c.args.self.now.certifier (withdraw c.in-Ok.handle) may c.in-Err-withdraw.fault
-        c.in-Err-withdraw.ensures.err.told)
+    (told_memory c.args.self.now.certifier (withdraw c.in-Ok.handle) may c.in-Err-withdraw.fault
+    c.in-Err-withdraw.ensures.err.told)
 
 pub index_mut-requires : goal.index_mut-requires
 index_mut-requires c =

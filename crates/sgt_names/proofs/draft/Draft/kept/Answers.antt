@@ -6,4 +6,5 @@ use Rattle.sgt_names.proofs.draft.Draft.kept.Goals as goal
 pub returns-clause-rising : goal.returns-clause-rising
 returns-clause-rising c =
     let ts = c.args.self.now.touched in
-    keeps-rise c.args.site (at_site c.args.site ts) (site-here c.args.site ts) (subst AreRising c.at.ensures.part c.at.ensures.rising)
+    keeps-rise c.args.site (at_site c.args.site ts) (site-here c.args.site ts)
+    (subst AreRising c.at.ensures.part c.at.ensures.rising)

@@ -12,4 +12,5 @@ loop-touch-preserved c =
     let k = c.loop-touch.touch-index in
     let at = element_at ts k c.touch-item.result c.loop-touch-test.true c.touch-item.is in
     next_kept ts c.keep.new.self.touched k c.touch-item.result c.requires.rising at
-    (subst (λ (us : List Touch). ChangesOnly us c.keep.new.self.touched c.touch-item.result) c.loop-touch.invariant c.in_ok-keep.ensures.ok) c.parts-parts.ensures.rising
+    (subst (λ (us : List Touch). ChangesOnly us c.keep.new.self.touched c.touch-item.result) c.loop-touch.invariant
+    c.in_ok-keep.ensures.ok) c.parts-parts.ensures.rising

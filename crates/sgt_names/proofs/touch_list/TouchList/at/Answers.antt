@@ -9,4 +9,6 @@ pub returns-clause-rising : goal.returns-clause-rising
 returns-clause-rising c = rw (c.part_at.ensures, c.as_slice.ensures.value) (site-rising _ _ c.self.invariant.0)
 
 pub returns-clause-used : goal.returns-clause-used
-returns-clause-used c = rw (c.part_at.ensures, c.as_slice.ensures.value) (All-filter (λ (t : Touch). t.site == c.args.site) IsUsed _ c.self.invariant.1)
+returns-clause-used c =
+    rw (c.part_at.ensures, c.as_slice.ensures.value)
+    (All-filter (λ (t : Touch). t.site == c.args.site) IsUsed _ c.self.invariant.1)

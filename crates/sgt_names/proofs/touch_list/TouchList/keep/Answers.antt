@@ -11,7 +11,8 @@ returns-in-Ok-clause-ok c =
 pub invariant_of-self-in-Err : goal.invariant_of-self-in-Err
 invariant_of-self-in-Err c =
     let gap = rw c.as_slice.ensures.value at c.in-Err.ensures.absent in
-    tried _ _ c.insert_touch.result _ _ c.in-Err.at _ c.insert_touch.ensures.ok c.insert_touch.ensures.err gap c.requires c.self.invariant
+    tried _ _ c.insert_touch.result _ _ c.in-Err.at _ c.insert_touch.ensures.ok c.insert_touch.ensures.err gap
+    c.requires c.self.invariant
 
 pub returns-in-Err-clause-succeeds : goal.returns-in-Err-clause-succeeds
 returns-in-Err-clause-succeeds c = rw (← c.self.view_is) (λ room. elim room [
@@ -20,4 +21,6 @@ returns-in-Err-clause-succeeds c = rw (← c.self.view_is) (λ room. elim room [
 ])
 
 pub returns-in-Err-clause-room : goal.returns-in-Err-clause-room
-returns-in-Err-clause-room c = rw (← c.self.view_is) (λ touched. absurd (not_touched _ _ _ (rw c.as_slice.ensures.value at c.in-Err.ensures.absent) touched))
+returns-in-Err-clause-room c =
+    rw (← c.self.view_is)
+    (λ touched. absurd (not_touched _ _ _ (rw c.as_slice.ensures.value at c.in-Err.ensures.absent) touched))

@@ -8,17 +8,20 @@ returns-in-Some-default-clause-ok g c =
     let looks = rw c.in-Some-default.is-0 at c.in_ok-next.ensures.looks in
     let left = rw c.in-Some-default.is-0 at c.in_ok-next.ensures.left in
     record {
-      gives = gives_found _ c.args.self.now c.reads.self c.look.new.self _ _ _ _ _ _ c.reads.invariant.0 c.reads.invariant.2 looks left;
+      gives = gives_found _ c.args.self.now c.reads.self c.look.new.self _ _ _ _ _ _ c.reads.invariant.0
+          c.reads.invariant.2 looks left;
       quiet = search rules;
       spends = found-spends _ _ _ _ _ _ _ _ _ _ looks (search rules);
-      falls = λ line. let less = c.in_ok-next.ensures.falls (c.in-Some-default.is-0 ∙ ap Some line) in omega (arith, less);
+      falls = λ line. let less = c.in_ok-next.ensures.falls (c.in-Some-default.is-0 ∙ ap Some line) in
+          omega (arith, less);
       ended = found-not_ended _ _ _ _ _ _ looks;
       unlimited = λ none long. c.in_ok-next.ensures.unlimited none (c.in-Some-default.is-0 ∙ ap Some long);
     }
 
 pub returns-in-Some-default-clause-line : goal.returns-in-Some-default-clause-line
 returns-in-Some-default-clause-line g c =
-    line_found _ _ _ _ _ _ c.reads.invariant.0 c.reads.invariant.1 (rw c.in-Some-default.is-0 at c.in_ok-next.ensures.looks)
+    line_found _ _ _ _ _ _ c.reads.invariant.0 c.reads.invariant.1
+    (rw c.in-Some-default.is-0 at c.in_ok-next.ensures.looks)
 
 pub returns-else-is_empty-clause-ok : goal.returns-else-is_empty-clause-ok
 returns-else-is_empty-clause-ok g c =

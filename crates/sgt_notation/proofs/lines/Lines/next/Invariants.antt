@@ -8,7 +8,8 @@ abbrev pub invariant-reads : goal.invariant-reads
 invariant-reads g l =
     HasNoLf l.line.items
     × (length l.line.items ≤ l.limit)
-    × Consumes (coming l.initial.self (g.S.Source.tells l.initial.source)) (coming l.self (g.S.Source.tells l.source)) l.line.items
+    × Consumes (coming l.initial.self (g.S.Source.tells l.initial.source)) (coming l.self (g.S.Source.tells l.source))
+    l.line.items
     × (g.S.Source.failures l.source ≡ g.S.Source.failures l.initial.source)
     × (most_left l.self ≤ most_left l.initial.self)
     × Spends l.initial.self.reads (g.S.Source.tells l.initial.source) l.self.reads (g.S.Source.tells l.source)

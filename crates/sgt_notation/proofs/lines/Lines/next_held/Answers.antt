@@ -11,5 +11,8 @@ returns-clause-some c = λ limit told failures wide.
     let found = c.in_ok-line.ensures in
     let short = line-short line found.0 in
     let within : n ≤ length c.args.self.now.held = subst (λ (h : List ℕ). n ≤ length h) c.held.ensures found.1 in
-    let front = ap (take n) (sym c.held.ensures) ∙ found.2 in
-    (found.0, rw c.pass.ensures (passed-next limit n c.args.self.now told failures (line_text line) (line-no_lf line found.0) (omega arith) within front))
+    let front = ap (take n) (sym c.held.ensures) ∙ found.2 in (
+      found.0,
+      rw c.pass.ensures (passed-next limit n c.args.self.now told failures (line_text line)
+          (line-no_lf line found.0) (omega arith) within front),
+    )

@@ -11,9 +11,9 @@ writes-preserved g c =
     let bytes = c.args.bytes.now in
     let e = c.in_ok-at.ensures in
     let wrote =
-        subst (λ t. WritesAll (take n t) (g.W.Sink.holds c.writes.self.writer)
-        (g.W.Sink.holds c.write.new.self.writer) c.writes.self.history.written c.write.new.self.history.written)
-        (tail_whole bytes c.writes.at) e.wrote in
+    subst (λ t. WritesAll (take n t) (g.W.Sink.holds c.writes.self.writer)
+    (g.W.Sink.holds c.write.new.self.writer) c.writes.self.history.written c.write.new.self.history.written)
+    (tail_whole bytes c.writes.at) e.wrote in
     let was = c.writes.invariant.wrote in
     let first = c.args.self.now.history.written in
     record {

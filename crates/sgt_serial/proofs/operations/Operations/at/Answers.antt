@@ -8,5 +8,5 @@ returns-in-Sorted c from le =
     let logs = c.args.logs.now in
     let place = c.args.place in
     subst (λ (o : Operations). entries_in logs o from (place + 1) ≡ entries_in logs o from place
-        ++ c.at-in-Sorted.result ∷ []) (sym c.in-Sorted.is)
+    ++ c.at-in-Sorted.result ∷ []) (sym c.in-Sorted.is)
     (c.at-in-Sorted.ensures logs from le)

@@ -6,7 +6,7 @@ use Rattle.sgt_serial.proofs.operations.Operations.of.Goals as goal
 pub loop-place-init : goal.loop-place-init
 loop-place-init c =
     ap (λ es. es ++ entries_in c.args.logs.now c.args.self.now c.span-span.result.from c.span-span.result.to)
-        c.new-own.ensures.items
+    c.new-own.ensures.items
     ∙ c.span-span.ensures.entries c.args.logs.now c.requires
 
 pub loop-place-preserved : goal.loop-place-preserved
@@ -20,7 +20,7 @@ loop-place-preserved c =
     let within : place < to = omega arith in
     let start : place ≤ place = omega arith in
     ap (λ es. es ++ entries_in logs o (place + 1) to) c.in_ok-push.ensures.items
-        ∙ append_assoc own (e ∷ []) (entries_in logs o (place + 1) to)
+    ∙ append_assoc own (e ∷ []) (entries_in logs o (place + 1) to)
     ∙ ap (λ es. own ++ es) (sym (next-in logs o place to e within (c.at.ensures place start))) ∙ c.loop-place.invariant
 
 pub returns : goal.returns
@@ -32,4 +32,4 @@ returns c =
     let own = c.loop-place.own.items in
     let end : place ≡ to = omega arith in
     sym (append-nil own) ∙ ap (λ es. own ++ es) (sym (ap (λ n. entries_in logs o n to) end ∙ none-in logs o to))
-        ∙ c.loop-place.invariant
+    ∙ c.loop-place.invariant

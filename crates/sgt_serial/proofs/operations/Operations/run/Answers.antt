@@ -11,10 +11,10 @@ returns c =
     let tx = c.args.tx in
     let reads : c.new.result ≡ reads_of logs tx =
     c.new.ensures ∙ c.in_ok-reads.ensures
-        ∙ ap (filter_map (λ (e : SiteEntry). read_at e.site e.entry)) (c.as_slice.ensures.value ∙ c.in_ok-own.ensures)
-        ∙ of_all read_at tx logs in
+    ∙ ap (filter_map (λ (e : SiteEntry). read_at e.site e.entry)) (c.as_slice.ensures.value ∙ c.in_ok-own.ensures)
+    ∙ of_all read_at tx logs in
     let writes : c.new-2.result ≡ writes_of logs tx =
     c.new-2.ensures ∙ c.in_ok-writes.ensures
-        ∙ ap (filter_map (λ (e : SiteEntry). write_at e.site e.entry)) (c.as_slice-2.ensures.value
-        ∙ c.in_ok-own.ensures) ∙ of_all write_at tx logs in
+    ∙ ap (filter_map (λ (e : SiteEntry). write_at e.site e.entry)) (c.as_slice-2.ensures.value
+    ∙ c.in_ok-own.ensures) ∙ of_all write_at tx logs in
     λ i. record { tx = tx; reads = reads i; writes = writes i }

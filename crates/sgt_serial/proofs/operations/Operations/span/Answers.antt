@@ -10,5 +10,5 @@ returns-in-Sorted-clause-entries c logs of =
     let tx = c.args.tx in
     let span = c.span-in-Sorted.result in
     subst (λ (o : Operations). entries_in logs o span.from span.to ≡ filter (is_by tx) (all_entries logs))
-        (sym c.in-Sorted.is)
+    (sym c.in-Sorted.is)
     (c.span-in-Sorted.ensures.entries logs ∙ (subst (AreOperationsOf logs) c.in-Sorted.is of) tx)

@@ -10,7 +10,7 @@ returns c logs from le =
     let place = c.args.place in
     let e = c.index.result.now in
     let within : place < length xs =
-        subst (λ (ys : List SiteEntry). place < length ys) (sym c.self.view_is) c.requires in
+    subst (λ (ys : List SiteEntry). place < length ys) (sym c.self.view_is) c.requires in
     subst (λ (ys : List SiteEntry). take (place + 1 - from) (drop from ys) ≡ take (place - from) (drop from ys) ++ e ∷
-        []) c.self.view_is
+    []) c.self.view_is
     (window-next xs from place e le (element_at xs place e within c.index.ensures))

@@ -21,10 +21,10 @@ returns-clause-entries c logs =
     let later = take_rest ys from in
     let low = subst (λ t. Splits ys t from) number c.count_below-from.ensures.point in
     let high =
-        subst (λ t. Splits (drop from ys) (t + 1) long) number
-        (subst (λ (zs : List SiteEntry). Splits zs (c.from-number.result + 1) long) later
-        c.count_below-long.ensures.point) in
+    subst (λ t. Splits (drop from ys) (t + 1) long) number
+    (subst (λ (zs : List SiteEntry). Splits zs (c.from-number.result + 1) long) later
+    c.count_below-long.ensures.point) in
     let same : from + long - from ≡ long = omega arith in
     subst (λ (zs : List SiteEntry). take (from + long - from) (drop from zs) ≡ filter (is_by tx) zs)
-        (c.as_slice-entries.ensures.value ∙ c.self.view_is)
+    (c.as_slice-entries.ensures.value ∙ c.self.view_is)
     (ap (λ n. take n (drop from ys)) same ∙ of_number-between owner ys tx from long low high)

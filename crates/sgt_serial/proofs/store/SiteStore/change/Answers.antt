@@ -15,7 +15,7 @@ invariant_of-self c =
     let h = c.index_mut-holding.result.now in
     let there = ap (λ gs. slice_get gs place) c.self.view_is ∙ c.in-Some.ensures.1 in
     let at = read_at hs place (record { item = c.args.item.now; value = c.in-Some.ensures.0 }) h there
-        c.index_mut-holding.ensures.value in
+    c.index_mut-holding.ensures.value in
     subst (AllPairs ComesBefore) (sym (names-set hs place h c.apply-holding.result at)) c.self.invariant
 
 pub returns-in-Some-clause-after : goal.returns-in-Some-clause-after
@@ -30,7 +30,7 @@ returns-in-Some-clause-after c x =
     let at = read_at hs place (record { item = item; value = v }) h there c.index_mut-holding.ensures.value in
     let same = same_Some h (record { item = item; value = v }) (sym at ∙ there) in
     let after = ap (λ (g : Holding). value_with (Some g.value) c.args.change) (sym same)
-        ∙ sym c.apply-holding.ensures in
+    ∙ sym c.apply-holding.ensures in
     value_in-set hs c.self.invariant place h w at x
     ∙ ap (λ (g : Holding). cond (bytes_eq g.item x) (Some w) (value_in hs x)) same
     ∙ ap (λ gs. cond (bytes_eq item x) (Some w) (value_in gs x)) c.self.view_is

@@ -32,11 +32,11 @@ loop-write-preserved c =
     let at = element_at writes i w (omega arith) c.write-item.is in
     let keeps = with_all-keeps (take i writes) first so_far.known w.site w.item in
     let known : Knows first w = sym keeps ∙ ap is_some (sym (so_far.after w.site w.item))
-        ∙ sym c.if-not-change.ensures.known in
+    ∙ sym c.if-not-change.ensures.known in
     record {
       known = All-next (Knows first) writes i w at known so_far.known;
       after = λ s x.
           c.if-not-change.ensures.after s x ∙ ap (λ o. cond (is_of s x w) (value_with o w.change) o) (so_far.after s x)
           ∙ sym (with_all-next (take i writes) w first s x)
-              ∙ ap (λ ws. with_all ws first s x) (sym (take_next writes i w at));
+          ∙ ap (λ ws. with_all ws first s x) (sym (take_next writes i w at));
     }

@@ -6,14 +6,14 @@ use Rattle.sgt_serve.proofs.talking.Server.take.Goals as goal
 pub returns-in-Ok-clause-takes : goal.returns-in-Ok-clause-takes
 returns-in-Ok-clause-takes g c =
     took_front ℕ c.args.n c.answer-answer.result _ _ c.args.self.now.core c.answer-answer.new.core
-        c.args.self.now.answers.items c.write_answer.new.out.items c.args.inbox.now.held
+    c.args.self.now.answers.items c.write_answer.new.out.items c.args.inbox.now.held
     c.pass.new.self.held (take c.args.n c.held.result.now) (ap (λ (t : List ℕ). take c.args.n t) c.held.ensures)
-        c.answer-answer.ensures c.in-Ok.ensures.ok
+    c.answer-answer.ensures c.in-Ok.ensures.ok
     (ap (λ (i : Held). i.held) c.pass.ensures)
 
 pub returns-in-Err-clause-takes : goal.returns-in-Err-clause-takes
 returns-in-Err-clause-takes g c =
     took_none {E = ℕ} 0 c.args.n c.answer-answer.result _ _ c.args.self.now.core c.answer-answer.new.core
-        c.args.self.now.answers.items c.write_answer.new.out.items c.args.inbox.now.held
+    c.args.self.now.answers.items c.write_answer.new.out.items c.args.inbox.now.held
     c.args.inbox.now.held (take c.args.n c.held.result.now) (ap (λ (t : List ℕ). take c.args.n t) c.held.ensures)
-        c.answer-answer.ensures c.in-Err.ensures.err refl
+    c.answer-answer.ensures c.in-Err.ensures.err refl

@@ -5,10 +5,16 @@ use Rattle.sgt_site.proofs.Versions.{answer-item, answer-keeps, answered-rises, 
 use Rattle.sgt_site.proofs.cells.Cells.answer.Goals as goal
 
 pub answer-requires : goal.answer-requires
-answer-requires c = (rw (← c.self.view_is) at c.requires.first) c.index_mut.result.now (slice_get_read _ (length c.self.inside.cells.items) _ _ refl (rw (← c.self.view_is) at c.requires.within) c.index_mut.ensures.value)
+answer-requires c =
+    (rw (← c.self.view_is) at c.requires.first) c.index_mut.result.now
+    (slice_get_read _ (length c.self.inside.cells.items) _ _ refl (rw (← c.self.view_is) at c.requires.within)
+    c.index_mut.ensures.value)
 
 pub returns-clause-ok : goal.returns-clause-ok
-returns-clause-ok c = rw (← c.self.view_is) (answers_at _ _ _ _ c.answer.result (slice_get_read _ (length c.self.inside.cells.items) _ _ refl (rw (← c.self.view_is) at c.requires.within) c.index_mut.ensures.value) c.answer.ensures.value c.answer.ensures.ok)
+returns-clause-ok c =
+    rw (← c.self.view_is)
+    (answers_at _ _ _ _ c.answer.result (slice_get_read _ (length c.self.inside.cells.items) _ _ refl
+    (rw (← c.self.view_is) at c.requires.within) c.index_mut.ensures.value) c.answer.ensures.value c.answer.ensures.ok)
 
 pub invariant_of-self : goal.invariant_of-self
 invariant_of-self c =

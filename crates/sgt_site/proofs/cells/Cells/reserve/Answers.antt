@@ -6,7 +6,10 @@ use Rattle.sgt_site.proofs.cells.Cells.reserve.Goals as goal
 
 pub invariant_of-self : goal.invariant_of-self
 invariant_of-self c = record {
-  rising = items-rise _ _ (changed-items _ (λ d e room. ap (λ (f : Contents). f.item) room.0) _ _ c.reserve_all.ensures.same) c.self.invariant.rising;
+  rising = items-rise _ _
+      (changed-items _ (λ d e room. ap (λ (f : Contents). f.item) room.0) _ _ c.reserve_all.ensures.same)
+      c.self.invariant.rising;
   counted = c.self.invariant.counted
-      ∙ sym (versions-changed _ (λ d e room. ap (λ (f : Contents). length f.writers) room.0) _ _ c.reserve_all.ensures.same);
+      ∙ sym (versions-changed _ (λ d e room. ap (λ (f : Contents). length f.writers) room.0) _ _
+      c.reserve_all.ensures.same);
 }

@@ -17,5 +17,8 @@ returns-then-may_add-clause-ok c =
     let free = rw (c.as_slice.ensures.value, c.place_of-at.ensures) at (c.if-may_add.ensures.free refl) in
     ok-then c.add_at.result c.add_at.ensures.ok (λ pushed.
     let now = rw c.place_of-at.ensures at pushed in
-    parts-added self (record self { slots = c.add_at.new.slots }) c.args.tx c.add_at.ensures.others (λ t other. refl) c.args.item
-    (ap (λ xs. or_else xs others) now ∙ or_else-push own others c.args.item (λ none. ap or_nothing (none-get self.reads c.args.tx (c.is_empty.ensures.0 (free none))))))
+    parts-added self (record self { slots = c.add_at.new.slots }) c.args.tx c.add_at.ensures.others
+    (λ t other. refl) c.args.item
+    (ap (λ xs. or_else xs others) now
+    ∙ or_else-push own others c.args.item
+    (λ none. ap or_nothing (none-get self.reads c.args.tx (c.is_empty.ensures.0 (free none))))))

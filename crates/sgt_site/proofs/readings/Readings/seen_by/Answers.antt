@@ -11,7 +11,8 @@ pub returns-in-Ok : goal.returns-in-Ok
 returns-in-Ok c =
     let at = rw c.as_slice.ensures.value at c.in-Ok.ensures.found in
     rw (← c.self.view_is, c.seen.ensures) (seen-front _ c.self.inside.late c.self.invariant _ _ (found_reading _ _ _ at)
-    (seen-found _ _ _ _ c.self.invariant.rising at (slice_get_read _ (length c.self.inside.readings.items) _ _ refl at.within c.index.ensures)))
+    (seen-found _ _ _ _ c.self.invariant.rising at
+    (slice_get_read _ (length c.self.inside.readings.items) _ _ refl at.within c.index.ensures)))
 
 pub returns-in-Err : goal.returns-in-Err
 returns-in-Err c = rw (← c.self.view_is) (seen-late _ c.self.inside.late c.self.invariant _ _ c.late_by.ensures

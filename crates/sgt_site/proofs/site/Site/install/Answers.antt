@@ -11,54 +11,69 @@ use Rattle.sgt_site.proofs.site.Site.install.Goals as goal
 
 pub log_changes-requires : goal.log_changes-requires
 log_changes-requires c =
-    let pledge = pledged_is c.self.inside.pledged c.self.inside.part.items c.args.tx (c.if-not-is_pledged.ensures.0 refl) in
+    let pledge =
+    pledged_is c.self.inside.pledged c.self.inside.part.items c.args.tx (c.if-not-is_pledged.ensures.0 refl) in
     let room = (c.self.invariant.0.room _ pledge).log in
     let same = ap length c.as_slice-2.ensures.value in
     omega (arith, room, same)
 
 pub push_reserved-requires : goal.push_reserved-requires
 push_reserved-requires c =
-    let pledge = pledged_is c.self.inside.pledged c.self.inside.part.items c.args.tx (c.if-not-is_pledged.ensures.0 refl) in
+    let pledge =
+    pledged_is c.self.inside.pledged c.self.inside.part.items c.args.tx (c.if-not-is_pledged.ensures.0 refl) in
     let room = (c.self.invariant.0.room _ pledge).log in
     let same = ap length c.as_slice-2.ensures.value in
     omega (arith, room, same, c.log_changes.ensures.len, c.log_changes.ensures.capacity)
 
 pub note-requires-clause-once : goal.note-requires-clause-once
 note-requires-clause-once c =
-    let pledge = pledged_is c.self.inside.pledged c.self.inside.part.items c.args.tx (c.if-not-is_pledged.ensures.0 refl) in
+    let pledge =
+    pledged_is c.self.inside.pledged c.self.inside.part.items c.args.tx (c.if-not-is_pledged.ensures.0 refl) in
     let covered = c.self.invariant.0.site.pledged _ pledge in
     rw c.as_slice-3.ensures.value (part-rises _ _ covered.here covered.rising)
 
 pub note-requires-clause-room : goal.note-requires-clause-room
 note-requires-clause-room c =
-    let pledge = pledged_is c.self.inside.pledged c.self.inside.part.items c.args.tx (c.if-not-is_pledged.ensures.0 refl) in
+    let pledge =
+    pledged_is c.self.inside.pledged c.self.inside.part.items c.args.tx (c.if-not-is_pledged.ensures.0 refl) in
     rw c.as_slice-3.ensures.value (c.self.invariant.0.room _ pledge).touched
 
 pub push_reserved-requires-2 : goal.push_reserved-requires-2
 push_reserved-requires-2 c =
-    let pledge = pledged_is c.self.inside.pledged c.self.inside.part.items c.args.tx (c.if-not-is_pledged.ensures.0 refl) in
+    let pledge =
+    pledged_is c.self.inside.pledged c.self.inside.part.items c.args.tx (c.if-not-is_pledged.ensures.0 refl) in
     let room = (c.self.invariant.0.room _ pledge).installed in
     omega (arith, room)
 
 pub add_ended-requires-clause-first : goal.add_ended-requires-clause-first
 add_ended-requires-clause-first c = λ has.
-    let pledge = pledged_is c.self.inside.pledged c.self.inside.part.items c.args.tx (c.if-not-is_pledged.ensures.0 refl) in
+    let pledge =
+    pledged_is c.self.inside.pledged c.self.inside.part.items c.args.tx (c.if-not-is_pledged.ensures.0 refl) in
     (c.self.invariant.0.site.pledged _ pledge).active ((c.self.invariant.0.ends c.args.tx).0 has)
 
 pub add_ended-requires-clause-room : goal.add_ended-requires-clause-room
 add_ended-requires-clause-room c =
-    let pledge = pledged_is c.self.inside.pledged c.self.inside.part.items c.args.tx (c.if-not-is_pledged.ensures.0 refl) in
+    let pledge =
+    pledged_is c.self.inside.pledged c.self.inside.part.items c.args.tx (c.if-not-is_pledged.ensures.0 refl) in
     let room = (c.self.invariant.0.room _ pledge).ended in
     omega (arith, room)
 
 pub invariant_of-self : goal.invariant_of-self
 invariant_of-self c =
-    let pledge = pledged_is c.self.inside.pledged c.self.inside.part.items c.args.tx (c.if-not-is_pledged.ensures.0 refl) in
+    let pledge =
+    pledged_is c.self.inside.pledged c.self.inside.part.items c.args.tx (c.if-not-is_pledged.ensures.0 refl) in
     let covered = c.self.invariant.0.site.pledged _ pledge in
     let noted = rw c.as_slice-3.ensures.value at c.note.ensures in
     let changes = writing_in c.self.inside.part.items in
-    rw (c.push_reserved-2.ensures.items, c.push_reserved.ensures.items, c.log_changes.ensures.entries, append_assoc, c.as_slice-2.ensures.value) (
-      kept-install _ _ c.args.handle c.self.invariant.0.site covered c.self.inside.cells _ _ _ _ _ c.self.invariant.0 noted record { rising = c.add_ended.ensures.rising; each = c.add_ended.ensures.each },
+    rw (
+      c.push_reserved-2.ensures.items,
+      c.push_reserved.ensures.items,
+      c.log_changes.ensures.entries,
+      append_assoc,
+      c.as_slice-2.ensures.value,
+    ) (
+      kept-install _ _ c.args.handle c.self.invariant.0.site covered c.self.inside.cells _ _ _ _ _ c.self.invariant.0
+          noted record { rising = c.add_ended.ensures.rising; each = c.add_ended.ensures.each },
       pending-ended c.self.inside.pending c.drop_reads.new.self _ _ c.args.tx c.self.invariant.1
           (block_ends change_entry Commit commits-blocks c.args.tx changes)
           (block_alone change_entry Commit commits-blocks c.args.tx changes)
@@ -69,4 +84,12 @@ invariant_of-self c =
 pub returns-clause-ok : goal.returns-clause-ok
 returns-clause-ok c =
     let part = rw (c.as_slice.ensures.value, c.at.ensures.part) at (c.if-not-are_same.ensures.0 refl) in
-    rw (← c.self.view_is, c.push_reserved-2.ensures.items, c.push_reserved.ensures.items, c.log_changes.ensures.entries, append_assoc, c.as_slice-2.ensures.value, ← part) refl
+    rw (
+      ← c.self.view_is,
+      c.push_reserved-2.ensures.items,
+      c.push_reserved.ensures.items,
+      c.log_changes.ensures.entries,
+      append_assoc,
+      c.as_slice-2.ensures.value,
+      ← part,
+    ) refl

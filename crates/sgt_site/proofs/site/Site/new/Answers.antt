@@ -6,6 +6,7 @@ use Rattle.sgt_site.proofs.site.Site.new.Goals as goal
 pub invariant_of-result : goal.invariant_of-result
 invariant_of-result c =
     rw (c.in-Ok.ensures, c.new-2.ensures.items, c.new-3.ensures.items, c.new-4.ensures.items) (
-      kept-fresh c.args.number c.args.items.now c.in-Ok-new.cells _ (c.if-not-are_items.ensures.0 refl) c.in-Ok-new.ensures.items c.in-Ok-new.ensures.fresh,
+      kept-fresh c.args.number c.args.items.now c.in-Ok-new.cells _ (c.if-not-are_items.ensures.0 refl)
+          c.in-Ok-new.ensures.items c.in-Ok-new.ensures.fresh,
       pending-fresh c.new-6.result c.new-6.ensures,
     )

@@ -6,7 +6,8 @@ use Rattle.sgt_site.proofs.site.blocks.log_changes.Given as goal
 -- what is logged, and what is left to log
 abbrev pub invariant-loop-t : goal.invariant-loop-t
 invariant-loop-t l = record {
-  logged : l.log.items ++ map (λ w. change_entry l.tx w.0 w.1) (writing_in (drop l.t-index l.part)) ≡ l.fn.log.items ++ map (λ w. change_entry l.tx w.0 w.1) (writing_in l.part);
+  logged : l.log.items ++ map (λ w. change_entry l.tx w.0 w.1) (writing_in (drop l.t-index l.part)) ≡ l.fn.log.items
+      ++ map (λ w. change_entry l.tx w.0 w.1) (writing_in l.part);
   len : vec_len l.log ≤ vec_len l.fn.log + l.t-index;
   capacity : vec_capacity l.log ≡ vec_capacity l.fn.log;
 }

@@ -5,4 +5,5 @@ use Rattle.sgt_site.proofs.site.pledges.all_kept.Given as goal
 
 -- what is left is kept exactly where the whole is
 abbrev pub invariant-loop-item : goal.invariant-loop-item
-invariant-loop-item l = All (KeepsItem l.touched l.number) (drop l.item-index l.own) ↔ All (KeepsItem l.touched l.number) l.own
+invariant-loop-item l = All (KeepsItem l.touched l.number) (drop l.item-index l.own)
+    ↔ All (KeepsItem l.touched l.number) l.own
