@@ -304,8 +304,8 @@ def history(rng, with_asked, with_against):
         options = rng.choice([["--real-time"], ["--sessions"], ["--sessions", "--real-time"]])
     if rng.random() < 0.3:
         options = options + ["--order"]
-    alone = with_against and not options
-    order = order_of(rng, speller, lines) if alone and rng.random() < 0.25 else None
+    is_free = with_against and "--order" not in options
+    order = order_of(rng, speller, lines) if is_free and rng.random() < 0.25 else None
     with_times = bool(set(options) & {"--real-time", "--sessions"}) and rng.random() < 0.95 or rng.random() < 0.1
     spelled = [speller.line(line, with_times) for line in lines]
     if rng.random() < 0.15:

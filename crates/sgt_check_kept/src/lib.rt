@@ -11,3 +11,5 @@ mod text;
 
 pub use engine::check_kept;
 pub use link::Link;
+pub use setting::Setting;
+pub use text::push_link;

@@ -154,7 +154,7 @@ fn push_time(
 }
 
 /// Puts the line of a step.
-fn push_link(out: &mut Vec<u8>, setting: &Setting, link: &Link) -> Result<(), AllocError>
+pub fn push_link(out: &mut Vec<u8>, setting: &Setting, link: &Link) -> Result<(), AllocError>
     ensures { OnOk result (out.new.items ≡ out.old.items ++ link_text (spelled setting.now.naming) (text_at setting.now.sessions) link.now) }
 {
     match link {

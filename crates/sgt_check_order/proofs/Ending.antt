@@ -1,16 +1,15 @@
 -- What is told, whether or not the readers tell their bytes.
-use Rattle.std.proofs.Common.{◌≡◌, ℕ, ◌+◌, length, true, List, Option, Some, None, sym, subst, inl, inr}
+use Rattle.std.proofs.Common.{◌≡◌, ℕ, ◌+◌, length, true, List, Option, Some, None, inr}
 use Rattle.std.specs.Prelude.{IfSome, slice_get}
 use Rattle.json.specs.Json.{Json}
 use Rattle.sgt_names.specs.declared.outcome.Outcome.{Outcome}
 use Rattle.sgt_names.specs.declared.outcome.Outcome.TheVariants.{Yes, No, Unreadable}
 use Rattle.sgt_history.specs.Serial.{IsCommitted}
 use Rattle.sgt_history.specs.Transaction.{Transaction}
-use Rattle.sgt_check.specs.Answer.{IsUnreadable, neither}
-use Rattle.sgt_check.specs.Told.{IsFaultyTold, spelled}
-use Rattle.sgt_check.specs.declared.naming.Naming.{Naming}
-use Rattle.sgt_check_order.specs.Answer.{IsAnswer, IsJudged}
-use Rattle.sgt_check_order.specs.Told.{IsNamed, IsRead, IsTold}
+use Rattle.sgt_check.specs.Told.{spelled}
+use Rattle.sgt_check_kept.specs.declared.setting.Setting.{Setting}
+use Rattle.sgt_check_order.specs.Answer.{IsJudged}
+use Rattle.sgt_check_order.specs.Told.{IsNamed, IsRead, IsTold, kept_of}
 use Rattle.sgt_check_order.specs.declared.order.Named.{Named}
 use Rattle.sgt_check_order.specs.declared.order.Named.TheVariants.{Each, Stray}
 use Rattle.sgt_check_order.specs.declared.roll.Roll.{Roll}
@@ -29,15 +28,15 @@ pub stray-if : (told : Option (List ℕ)) (h : List (Transaction ℕ ℕ)) (js :
 stray-if None h js roll n number read missing = tt
 stray-if (Some bytes) h js roll n number read missing = named-stray h js bytes roll n number read missing
 
-judged-told : (lines : List ℕ) (js : List Json) (n : Naming) (h : List (Transaction ℕ ℕ)) (outcome : Outcome) (text : List ℕ)
-    → IsJudged lines js (spelled n) h outcome text → IsTold lines js n h outcome text
-judged-told lines js n h Yes text a = a
-judged-told lines js n h No text a = inr a
-judged-told lines js n h Unreadable text a = a
+judged-told : (lines : List ℕ) (js : List Json) (s : Setting) (h : List (Transaction ℕ ℕ)) (outcome : Outcome) (text : List ℕ)
+    → IsJudged lines js (spelled s.naming) (kept_of s) h outcome text → IsTold lines js s h outcome text
+judged-told lines js s h Yes text a = a
+judged-told lines js s h No text a = inr a
+judged-told lines js s h Unreadable text a = a
 
-pub judged-if : (told : Option (List ℕ)) (js : List Json) (n : Naming) (h : List (Transaction ℕ ℕ)) (named : Named) (outcome : Outcome) (text : List ℕ)
+pub judged-if : (told : Option (List ℕ)) (js : List Json) (s : Setting) (h : List (Transaction ℕ ℕ)) (named : Named) (outcome : Outcome) (text : List ℕ)
     → IfSome told (λ bytes. IsNamed h js bytes named)
-    → ((ks : List Json) (bytes : List ℕ) → IsNamed h ks bytes named → IsJudged bytes ks (spelled n) h outcome text)
-    → IfSome told (λ lines. IsTold lines js n h outcome text)
-judged-if None js n h named outcome text is judged = tt
-judged-if (Some lines) js n h named outcome text is judged = judged-told lines js n h outcome text (judged js lines is)
+    → ((ks : List Json) (bytes : List ℕ) → IsNamed h ks bytes named → IsJudged bytes ks (spelled s.naming) (kept_of s) h outcome text)
+    → IfSome told (λ lines. IsTold lines js s h outcome text)
+judged-if None js s h named outcome text is judged = tt
+judged-if (Some lines) js s h named outcome text is judged = judged-told lines js s h outcome text (judged js lines is)

@@ -1,4 +1,4 @@
--- What excludes that an order serves.
+-- What excludes that an order serves, or keeps what it is to.
 use Rattle.std.proofs.Common.{◌≡◌, ℕ, List, Option, Some, None, length, take, sym, ap, ◌∙◌, subst, arith, inl, inr}
 use Rattle.std.specs.Prelude.{slice_get, Contains}
 use Rattle.std.proofs.lemmas.List.{take_all}
@@ -8,6 +8,11 @@ use Rattle.sgt_names.proofs.Places.{Contains_at, Contains-from_at, slice_get-non
 use Rattle.sgt_history.specs.Serial.{Serves, StandOnce}
 use Rattle.sgt_history.specs.Transaction.{Transaction}
 use Rattle.sgt_history.specs.declared.history.Operation.{Operation}
+use Rattle.sgt_history_kept.specs.declared.passed.Reason.{Reason}
+use Rattle.sgt_history_kept.specs.declared.passed.Reason.TheVariants.{Session, Time}
+use Rattle.sgt_history_kept.specs.declared.passed.Unkept.{Unkept}
+use Rattle.sgt_history_time.specs.Serializable.{ServesKeeping}
+use Rattle.sgt_check_order.specs.Kept.{IsFirstStep, IsReason, Kept}
 use Rattle.sgt_check_order.specs.Order.{IsFirstStray, IsStray, NameEach, lines_of}
 use Rattle.sgt_check_order.specs.Run.{IsFirstBreak}
 use Rattle.sgt_check_order.proofs.Lines.{each-at, each-front, each-length, each-one}
@@ -43,3 +48,35 @@ module _ {I V : Type 0} (h : List (Transaction I V)) (ids : List Json) (bytes : 
 pub break-none : {I V : Type 0} (h : List (Transaction I V)) (order : List ℕ) (line : ℕ) (o : Operation I V) (found : ℕ)
     → IsFirstBreak h order line o found → Serves h order → ⊥
 break-none h order line o found b serves = b.breaks.breaks (serves.right _ o b.breaks.there)
+
+step-none : {I V S : Type 0} (h : List (Transaction I V)) (k : Kept S) (order : List ℕ) (place line other : ℕ) → slice_get order place ≡ Some line
+    → ServesKeeping h k.times k.sessions order → (reason : Reason) → IsReason k order place line other reason → ⊥
+step-none h k order place line other at keeps (Session n) g =
+    let a = g.among in
+    omega (
+      arith,
+      a.1,
+      keeps.in_sessions place a.0 line other at a.2 (record {
+        session = k.session n;
+        first_at = g.of_session.first_at;
+        second_at = g.of_session.second_at;
+        earlier = g.of_session.earlier;
+      }),
+    )
+step-none h k order place line other at keeps (Time done begin) (none, l) =
+    let a = l.among in
+    omega (
+      arith,
+      a.1,
+      keeps.in_time place a.0 line other at a.2 (record {
+        a = l.timed.a;
+        b = l.timed.b;
+        first_at = l.timed.first_at;
+        second_at = l.timed.second_at;
+        before = omega (arith, l.timed.done_is, l.timed.begin_is, l.timed.before);
+      }),
+    )
+
+pub back-none : {I V S : Type 0} (h : List (Transaction I V)) (k : Kept S) (order : List ℕ) (u : Unkept) → IsFirstStep k order u
+    → ServesKeeping h k.times k.sessions order → ⊥
+back-none h k order u first keeps = step-none h k order u.place u.line u.other first.at keeps u.reason first.reason

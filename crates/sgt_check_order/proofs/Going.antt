@@ -1,23 +1,20 @@
 -- How far an order was read, against all that its reader told.
-use Rattle.std.proofs.Common.{◌≡◌, ◌≢◌, ℕ, ◌+◌, ◌<◌, ◌≤◌, Bool, true, false, List, [], ◌∷◌, ◌++◌, length, take, Option, Some, None, sym, ap, ◌∙◌, subst, arith, inl, inr, append_assoc, append-nil}
+use Rattle.std.proofs.Common.{◌≡◌, ℕ, ◌+◌, ◌<◌, Bool, true, false, List, [], ◌∷◌, ◌++◌, length, take, Option, Some, None, sym, ap, ◌∙◌, subst, arith, append_assoc, append-nil}
 use Rattle.std.specs.Prelude.{IfSome, slice_get, ⊤, if◌then◌else◌}
 use Rattle.std.proofs.Math.Seq.{take-append_seam, take-length}
-use Rattle.std.proofs.lemmas.List.Elements.{recursion_from_All}
 use Rattle.std.proofs.lemmas.Option.{slice_get_past}
 use Rattle.json.specs.Json.{Json}
 use Rattle.sgt_names.proofs.Lists.{middle_at}
 use Rattle.sgt_notation.specs.Spelling.{HasNoLf}
-use Rattle.sgt_names.specs.Limits.{most_reads}
-use Rattle.sgt_notation.specs.Lines.{Ahead, Gives, MetReadFault, ReadFaultIsDue, Spends, Stream, coming}
+use Rattle.sgt_notation.specs.Lines.{Ahead, Gives, coming}
 use Rattle.sgt_notation.specs.declared.lines.Next.TheVariants.{Line, Cut, End}
-use Rattle.sgt_notation.proofs.OneSpelling.{HasNot}
 use Rattle.sgt_history.specs.Serial.{IsCommitted, IsOrder}
 use Rattle.sgt_history.specs.Transaction.{Transaction}
 use Rattle.sgt_check_order.specs.Order.{IsFirstStray, IsStray, NameEach, Names, lines_of}
 use Rattle.sgt_check_order.specs.Told.{IsRead, IsRoll, IsTaken}
 use Rattle.sgt_check_order.specs.declared.roll.Roll.{Roll}
 use Rattle.sgt_check_order.proofs.Lines.{each-length, each-push, lines-first, lines-last}
-use Rattle.sgt_notation.proofs.Texts.{has_no_lf, all-spent, spends-none, spends_on, fault-met}
+use Rattle.sgt_notation.proofs.Texts.{has_no_lf}
 use Rattle.sgt_history_text.proofs.Going.{some_byte}
 
 -- the text has these lines, and behind them those of what comes

@@ -1,41 +1,129 @@
 -- What is told of an order that breaks.
-use Rattle.std.proofs.Common.{◌≡◌, ℕ, List, Option, sym, ap, ◌∙◌}
+use Rattle.std.proofs.Common.{◌≡◌, ℕ, ◌+◌, List, Option, Some, sym, ap, ◌∙◌, refl, subst, arith, inl, inr}
 use Rattle.std.specs.Prelude.{slice_get}
+use Rattle.std.proofs.lemmas.Bool.{cases_lt}
+use Rattle.std.proofs.lemmas.Option.{same_Some}
 use Rattle.json.specs.Json.{Json}
 use Rattle.sgt_names.proofs.Places.{Contains-from_at}
+use Rattle.sgt_names.specs.declared.outcome.Outcome.TheVariants.{No}
 use Rattle.sgt_history.specs.Flaws.{IsFaultless}
 use Rattle.sgt_history.specs.Serial.{IsOrder, operations_in}
 use Rattle.sgt_history.specs.Transaction.{Transaction}
-use Rattle.sgt_check.specs.Text.{Spelling}
-use Rattle.sgt_check_order.specs.Answer.{IsBreakTold}
+use Rattle.sgt_history_kept.specs.declared.passed.Reason.{Reason}
+use Rattle.sgt_history_kept.specs.declared.passed.Unkept.{Unkept}
+use Rattle.sgt_history_kept.specs.Unkept.{IsFirstUnkept, KeepsTo, PassesInSession, PassesInTime, StandsAmong}
+use Rattle.sgt_history_time.specs.declared.times.Times.{Times}
+use Rattle.sgt_history_time.specs.Kept.{IsBefore, IsEarlier}
+use Rattle.sgt_check.specs.Told.{spelled}
+use Rattle.sgt_check_kept.specs.declared.setting.Setting.{Setting}
+use Rattle.sgt_check_order.specs.Answer.{IsBreakTold, IsJudged}
+use Rattle.sgt_check_order.specs.Kept.{IsFirstStep, IsGreatest, IsLatest, IsReason}
 use Rattle.sgt_check_order.specs.Order.{NameEach, lines_of}
 use Rattle.sgt_check_order.specs.Text.{break_text}
-use Rattle.sgt_check_order.specs.Told.{IsBroken}
+use Rattle.sgt_check_order.specs.Told.{AreRuns, IsBroken, IsFirstBroken, first_text, kept_of}
+use Rattle.sgt_check_order.specs.declared.breaking.FirstBreak.{FirstBreak}
+use Rattle.sgt_check_order.specs.declared.breaking.FirstBreak.TheVariants.{Operation as Operates, Step}
 use Rattle.sgt_check_order.specs.declared.run.Broken.{Broken}
 
-pub broken-judged : (bytes : List ℕ) (js : List Json) (s : Spelling ℕ ℕ) (h : List (Transaction ℕ ℕ)) → IsFaultless h → (order : List ℕ) → IsOrder h order
-    → NameEach js (lines_of bytes) order → (broken : Broken) → IsBroken h order broken → (text : List ℕ)
-    → text ≡ break_text s broken.line broken.operation broken.found → IsBreakTold bytes js s h text
-broken-judged bytes js s h faultless order ordered names broken b text is =
-    let c = ordered.committed broken.line (Contains-from_at order b.place broken.line b.in_order) in
-    record {
-      faultless = faultless;
-      order = order;
-      names = names;
-      ordered = ordered;
-      line = broken.line;
-      o = broken.operation;
-      found = broken.found;
-      first = record {
-        place = b.place;
-        in_order = b.in_order;
-        at = b.at;
-        t = c.0;
-        is = record {
-          committed = c.1;
-          there = sym (ap (λ (t : Option (Transaction ℕ ℕ)). slice_get (operations_in t) b.at) c.1.0) ∙ b.there;
+-- ---- a step
+
+-- one that isn't the line itself stands before it
+among-before : (order : List ℕ) (place line x : ℕ) → slice_get order place ≡ Some line → (line ≡ x → ⊥) → StandsAmong order (place + 1) x → StandsAmong order place x
+among-before order place line x at apart a = elim (cases_lt a.0 place) [
+  | inl less ↦ (a.0, less, a.2)
+  | inr ge ↦
+      let same : place ≡ a.0 = omega (arith, a.1, ge) in
+      absurd (apart (same_Some line x (sym at ∙ ap (slice_get order) same ∙ a.2)))
+]
+
+among-up : (order : List ℕ) (place x : ℕ) → StandsAmong order place x → StandsAmong order (place + 1) x
+among-up order place x a = (a.0, omega (arith, a.1), a.2)
+
+module _ (s : Setting) (order : List ℕ) (right : AreRuns s.asked.times.items) (u : Unkept) (at : slice_get order u.place ≡ Some u.line) where
+  by-session : PassesInSession s.asked.sessions.items order u → IsReason (kept_of s) order u.place u.line u.other u.reason
+  by-session p =
+      let greatest : IsGreatest s.asked.sessions.items order u.place u.line u.other p.session = record {
+        of_session = record { first_at = p.own; second_at = p.of_other; earlier = p.earlier };
+        among = among-before order u.place u.line u.other at (λ same. omega (arith, same, p.earlier)) p.among;
+        greatest = λ x among e. p.greatest x (among-up order u.place x among) e;
+      } in
+      subst (λ (r : Reason). IsReason (kept_of s) order u.place u.line u.other r) (sym p.reason_is) greatest
+
+  by-time : ((x : ℕ) → StandsAmong order (u.place + 1) x → IsEarlier s.asked.sessions.items u.line x → ⊥) → PassesInTime s.asked.times.items order u
+      → IsReason (kept_of s) order u.place u.line u.other u.reason
+  by-time none p =
+      let apart : u.line ≡ u.other → ⊥ = λ same.
+      let ran : p.ran ≡ p.other_ran = same_Some p.ran p.other_ran
+      (same_Some (Some p.ran) (Some p.other_ran) (sym p.own ∙ ap (slice_get s.asked.times.items) same ∙ p.of_other)) in
+      omega (arith, p.before, ap (λ (x : Times). x.begin) ran, right u.line p.ran p.own) in
+      let latest : IsLatest s.asked.times.items order u.place u.line u.other p.ran.done p.other_ran.begin = record {
+        timed = record {
+          a = p.ran;
+          b = p.other_ran;
+          first_at = p.own;
+          second_at = p.of_other;
+          done_is = refl;
+          begin_is = refl;
+          before = p.before;
         };
-        breaks = b.breaks;
-      };
-      text_is = is;
-    }
+        among = among-before order u.place u.line u.other at apart p.among;
+        latest = λ x ran among there. p.greatest x ran (among-up order u.place x among) there;
+      } in
+      subst (λ (r : Reason). IsReason (kept_of s) order u.place u.line u.other r) (sym p.reason_is)
+      (λ x among e. none x (among-up order u.place x among) e, latest)
+
+  pub first-step : IsFirstUnkept order s.asked u → IsFirstStep (kept_of s) order u
+  first-step first = record {
+    at = at;
+    before = record { in_time = first.in_time; in_sessions = first.in_sessions };
+    reason = elim (first.passes) [
+      | inl session ↦ by-session session
+      | inr time ↦ by-time time.0 time.1
+    ];
+  }
+
+-- ---- what is told
+
+module _ (bytes : List ℕ) (js : List Json) (s : Setting) (h : List (Transaction ℕ ℕ)) (faultless : IsFaultless h) (order : List ℕ) (ordered : IsOrder h order)
+    (names : NameEach js (lines_of bytes) order) (text : List ℕ) where
+  broken-judged : (broken : Broken) → IsBroken h order broken → KeepsTo (IsBefore s.asked.times.items) order broken.place
+      → KeepsTo (IsEarlier s.asked.sessions.items) order broken.place
+      → text ≡ break_text (spelled s.naming) broken.line broken.operation broken.found → IsBreakTold bytes js (spelled s.naming) (kept_of s) h text
+  broken-judged broken b in_time in_sessions is =
+      let c = ordered.committed broken.line (Contains-from_at order broken.place broken.line b.in_order) in
+      record {
+        faultless = faultless;
+        order = order;
+        names = names;
+        ordered = ordered;
+        line = broken.line;
+        o = broken.operation;
+        found = broken.found;
+        first = record {
+          place = broken.place;
+          in_order = b.in_order;
+          at = b.at;
+          t = c.0;
+          is = record {
+            committed = c.1;
+            there = sym (ap (λ (t : Option (Transaction ℕ ℕ)). slice_get (operations_in t) b.at) c.1.0) ∙ b.there;
+          };
+          breaks = b.breaks;
+        };
+        before = record { in_time = in_time; in_sessions = in_sessions };
+        text_is = is;
+      }
+
+  pub first-judged : AreRuns s.asked.times.items → (found : FirstBreak) → IsFirstBroken h s.asked order (Some found)
+      → text ≡ first_text (spelled s.naming) (kept_of s).name found → IsJudged bytes js (spelled s.naming) (kept_of s) h No text
+  first-judged right (Operates broken) (b, (in_time, in_sessions)) is = inr (inl (broken-judged broken b in_time in_sessions is))
+  first-judged right (Step u) (first, runs) is = inr (inr (record {
+    faultless = faultless;
+    order = order;
+    names = names;
+    ordered = ordered;
+    u = u;
+    first = first-step s order right u first.at first;
+    right = runs;
+    text_is = is;
+  }))

@@ -3,6 +3,7 @@ pub mod Excluding
 pub mod Rolls
 pub mod Going
 pub mod Running
+pub mod Earlier
 pub mod Values
 pub mod Counted
 pub mod Judged

@@ -58,7 +58,7 @@ module _ (run more : List Op) (p : ℕ) (le : p ≤ length run) where
     write = λ e. let b = f.write e in (b.0, has-front o.item b.0 b.1, b.2);
   }
 
-  follows-back : (o : Op) → Follows (run ++ more) p o → Follows run p o
+  pub follows-back : (o : Op) → Follows (run ++ more) p o → Follows run p o
   follows-back o f = record {
     read = λ e. has-back o.item o.version (f.read e);
     write = λ e. let b = f.write e in (b.0, has-back o.item b.0 b.1, b.2);
@@ -236,7 +236,7 @@ ran-all run ops k versions le ran = (
 -- ---- many transactions
 
 module _ (h : List (Transaction ℕ ℕ)) where
-  run-append : (xs ys : List ℕ) → run_of h (xs ++ ys) ≡ run_of h xs ++ run_of h ys
+  pub run-append : (xs ys : List ℕ) → run_of h (xs ++ ys) ≡ run_of h xs ++ run_of h ys
   run-append [] ys = refl
   run-append (x ∷ xs) ys =
       ap (λ (l : List Op). operations_in (slice_get h x) ++ l) (run-append xs ys) ∙ sym (append_assoc (operations_in (slice_get h x)) (run_of h xs) (run_of h ys))
@@ -266,18 +266,18 @@ module _ (h : List (Transaction ℕ ℕ)) where
         ∙ sym (append_assoc (run_of h (take k order)) ops (run_of h (drop (suc k) order)))
 
     pub order-break : (versions : List ℕ) (j found : ℕ) (broken : Broken) → AreRun (run_of h (take k order)) ops versions (Some (j, found))
-        → broken.line ≡ line → slice_get ops j ≡ Some broken.operation → broken.found ≡ found → IsBroken h order broken
-    order-break versions j found broken (o, there, breaks) line_is op_is found_is =
+        → broken.place ≡ k → broken.line ≡ line → slice_get ops j ≡ Some broken.operation → broken.found ≡ found → IsBroken h order broken
+    order-break versions j found broken (o, there, breaks) place_is line_is op_is found_is =
         let same : o ≡ broken.operation = same_Some o broken.operation (sym there ∙ op_is) in
         record {
-          place = k;
-          in_order = at ∙ ap Some (sym line_is);
+          in_order = ap (slice_get order) place_is ∙ at ∙ ap Some (sym line_is);
           at = j;
           there = ap (λ n. slice_get (operations_in (slice_get h n)) j) line_is ∙ ap (λ (l : List Op). slice_get l j) (sym are) ∙ op_is;
-          breaks = subst (λ (l : List Op). IsBreak l (length (run_of h (take k order)) + j) broken.operation broken.found) (sym whole-run)
+          breaks = subst (λ (n : ℕ). IsBreak (run_of h order) (length (run_of h (take n order)) + j) broken.operation broken.found) (sym place_is)
+              (subst (λ (l : List Op). IsBreak l (length (run_of h (take k order)) + j) broken.operation broken.found) (sym whole-run)
               (break-more (run_of h (take k order) ++ ops) (run_of h (drop (suc k) order)) (length (run_of h (take k order)) + j) broken.operation broken.found
               (subst (λ n. IsBreak (run_of h (take k order) ++ ops) (length (run_of h (take k order)) + j) broken.operation n) (sym found_is)
-              (subst (λ (u : Op). IsBreak (run_of h (take k order) ++ ops) (length (run_of h (take k order)) + j) u found) same breaks)));
+              (subst (λ (u : Op). IsBreak (run_of h (take k order) ++ ops) (length (run_of h (take k order)) + j) u found) same breaks))));
         }
 
   pub order-all : (order : List ℕ) (k : ℕ) (versions : List ℕ) → length order ≤ k → RanOrder order k versions → IsRunOf h order None

@@ -8,20 +8,22 @@ ghost use Rattle.sgt_history.specs.History.{closed_of};
 ghost use Rattle.sgt_history.specs.Serial.{IsOrder};
 ghost use Rattle.sgt_history_text.specs.Ids.{AreIds};
 ghost use Rattle.sgt_history_text.specs.Reading.{IsReading, IsToldOf};
-ghost use Rattle.sgt_check.specs.Answer.{neither};
+ghost use Rattle.sgt_history_text.specs.declared.wanted.Wanted.{Wanted};
 ghost use Rattle.sgt_check.specs.Text.{aborted_of, committed_of, counts_text};
 ghost use Rattle.sgt_check.specs.Told.{IsFaultyTold, spelled};
 ghost use Rattle.sgt_check_order.specs.Answer.{IsAnswer, IsJudged};
 ghost use Rattle.sgt_check_order.specs.Order.{NameEach, lines_of};
-ghost use Rattle.sgt_check_order.specs.Told.{IsNamed, IsTold};
+ghost use Rattle.sgt_check_order.specs.Told.{AreRuns, IsNamed, IsTold, kept_of};
 ghost use Rattle.sgt_names.specs.declared.outcome.Outcome.TheVariants.{No, Yes};
 
+use crate::breaking::first_break;
 use crate::order::{Named, read_order};
-use crate::run::run_order;
-use crate::texts::{broken_line, stray_line};
+use crate::texts::{break_lines, stray_line};
 use sgt_check::{Naming, push_counts, push_fault, unread_text};
+use sgt_check_kept::Setting;
 use sgt_history::History;
 use sgt_history_faults::{Fault, Judged, judge};
+use sgt_history_kept::Asked;
 use sgt_history_text::{HistoryText, Ids, Reading};
 use sgt_names::{EngineFail, Outcome, Source};
 use std::alloc::{AllocError, Global};
@@ -51,7 +53,7 @@ fn faulty_answer(
     })
 }
 
-/// The answer where an order serves.
+/// The answer where an order serves and keeps what it is to.
 fn served_answer(alloc: Global, history: &History) -> Result<Answer, AllocError>
     ensures { IfOk result (λ a. (a.outcome ≡ Yes) × (a.text.items ≡ counts_text (committed_of (closed_of history.now)) (aborted_of (closed_of history.now)))) }
 {
@@ -66,20 +68,20 @@ fn served_answer(alloc: Global, history: &History) -> Result<Answer, AllocError>
 /// The answer to an order of all committed transactions, of a history without faults.
 fn order_answer(
     alloc: Global,
-    naming: &Naming,
+    setting: &Setting,
     history: &History,
     order: &[u32],
 ) -> Result<Answer, AllocError>
     requires { IsFaultless (closed_of history.now) }
     ensures { IfOk result (λ a. (js : List Json) (bytes : List ℕ) → IsOrder (closed_of history.now) order.now → NameEach js (lines_of bytes) order.now
-        → IsJudged bytes js (spelled naming.now) (closed_of history.now) a.outcome a.text.items) }
+        → AreRuns setting.now.asked.times.items
+        → IsJudged bytes js (spelled setting.now.naming) (kept_of setting.now) (closed_of history.now) a.outcome a.text.items) }
 {
-    let items = naming.items.len();
-    let told = run_order(alloc, history, order, items)?;
+    let told = first_break(alloc, setting, history, order)?;
     match told {
         None => served_answer(alloc, history),
-        Some(broken) => {
-            let text = broken_line(alloc, naming, &broken)?;
+        Some(found) => {
+            let text = break_lines(alloc, setting, &found)?;
             Ok(Answer {
                 outcome: Outcome::No,
                 text,
@@ -91,16 +93,16 @@ fn order_answer(
 /// The answer to what an order names, of a history without faults.
 fn named_answer(
     alloc: Global,
-    naming: &Naming,
+    setting: &Setting,
     history: &History,
     named: Named,
 ) -> Result<Answer, AllocError>
     requires { IsFaultless (closed_of history.now) }
-    ensures { IfOk result (λ a. (js : List Json) (bytes : List ℕ) → IsNamed (closed_of history.now) js bytes named
-        → IsJudged bytes js (spelled naming.now) (closed_of history.now) a.outcome a.text.items) }
+    ensures { IfOk result (λ a. (js : List Json) (bytes : List ℕ) → IsNamed (closed_of history.now) js bytes named → AreRuns setting.now.asked.times.items
+        → IsJudged bytes js (spelled setting.now.naming) (kept_of setting.now) (closed_of history.now) a.outcome a.text.items) }
 {
     match named {
-        Named::Each(order) => order_answer(alloc, naming, history, order.as_slice()),
+        Named::Each(order) => order_answer(alloc, setting, history, order.as_slice()),
         Named::Stray(number) => {
             let text = stray_line(alloc, number)?;
             Ok(Answer {
@@ -116,11 +118,11 @@ fn history_answer<R: Source>(
     alloc: Global,
     reader: &mut R,
     ids: &Ids,
-    naming: &Naming,
+    setting: &Setting,
     history: &History,
 ) -> Result<Answer, EngineFail>
-    ensures answer { IfOk result (λ a. (js : List Json) → AreIds ids.now js
-        → IfSome (R.tells reader.old) (λ lines. IsTold lines js naming.now (closed_of history.now) a.outcome a.text.items)) }
+    ensures answer { IfOk result (λ a. (js : List Json) → AreIds ids.now js → AreRuns setting.now.asked.times.items
+        → IfSome (R.tells reader.old) (λ lines. IsTold lines js setting.now (closed_of history.now) a.outcome a.text.items)) }
     ensures quiet { result ≢ Err EngineFail.ReadFault
         → R.failures reader.new ≡ R.failures reader.old }
     ensures read_fault { IsErrOf result EngineFail.ReadFault → ReadFaultIsDue (R.tells reader.old)
@@ -130,13 +132,13 @@ fn history_answer<R: Source>(
     let judged = judge(alloc, history)?;
     match judged {
         Judged::Faulty(fault) => {
-            let answer = faulty_answer(alloc, naming, history, fault)?;
+            let answer = faulty_answer(alloc, &setting.naming, history, fault)?;
             Ok(answer)
         }
         Judged::Faultless(touches) => {
             drop(touches);
             let named = read_order(alloc, reader, ids, history)?;
-            let answer = named_answer(alloc, naming, history, named)?;
+            let answer = named_answer(alloc, setting, history, named)?;
             Ok(answer)
         }
     }
@@ -148,8 +150,8 @@ fn reading_answer<R: Source>(
     reader: &mut R,
     reading: Reading,
 ) -> Result<Answer, EngineFail>
-    ensures answer { IfOk result (λ a. (bytes : List ℕ) → IsReading neither bytes reading
-        → IfSome (R.tells reader.old) (λ lines. IsAnswer lines bytes a.outcome a.text.items)) }
+    ensures answer { IfOk result (λ a. (wanted : Wanted) (bytes : List ℕ) → IsReading wanted bytes reading
+        → IfSome (R.tells reader.old) (λ lines. IsAnswer wanted lines bytes a.outcome a.text.items)) }
     ensures quiet { result ≢ Err EngineFail.ReadFault
         → R.failures reader.new ≡ R.failures reader.old }
     ensures read_fault { IsErrOf result EngineFail.ReadFault → ReadFaultIsDue (R.tells reader.old)
@@ -161,13 +163,17 @@ fn reading_answer<R: Source>(
         ids,
         items,
         values,
-        times: _,
-        sessions: _,
-        session_names: _,
+        times,
+        sessions,
+        session_names,
     } = reading;
     let found = Ids::new(alloc, &ids)?;
-    let naming = Naming { ids, items, values };
-    history_answer(alloc, reader, &found, &naming, &history)
+    let setting = Setting {
+        naming: Naming { ids, items, values },
+        sessions: session_names,
+        asked: Asked { times, sessions },
+    };
+    history_answer(alloc, reader, &found, &setting, &history)
 }
 
 /// The answer to the text of a history, and to the order that the reader gives.
@@ -176,8 +182,8 @@ pub(crate) fn answer_against<R: Source>(
     reader: &mut R,
     text: HistoryText,
 ) -> Result<Answer, EngineFail>
-    ensures answer { IfOk result (λ a. (bytes : List ℕ) → IsToldOf neither bytes text
-        → IfSome (R.tells reader.old) (λ lines. IsAnswer lines bytes a.outcome a.text.items)) }
+    ensures answer { IfOk result (λ a. (wanted : Wanted) (bytes : List ℕ) → IsToldOf wanted bytes text
+        → IfSome (R.tells reader.old) (λ lines. IsAnswer wanted lines bytes a.outcome a.text.items)) }
     ensures quiet { result ≢ Err EngineFail.ReadFault
         → R.failures reader.new ≡ R.failures reader.old }
     ensures read_fault { IsErrOf result EngineFail.ReadFault → ReadFaultIsDue (R.tells reader.old)

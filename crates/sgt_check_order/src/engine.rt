@@ -10,10 +10,11 @@ use sgt_names::{EngineFail, Outcome, Sink, Source, write_all};
 use std::alloc::Global;
 
 /// Reads a history, a transaction a line, and then an order, an id of a transaction a line, and writes what the order is: `yes` and how
-/// many transactions commit and abort, where it explains the history; the first fault of the history, as `check` writes it; `no order`
-/// and the order's first line that is wrong, or the first operation that does something else in that order; or the history's first line
-/// that can't be read. No line of the order behind its first wrong one is read, and none at all where the history has a fault. What is
-/// needed is read before anything is written.
+/// many transactions commit and abort, where it explains the history and keeps what is wanted; the first fault of the history, as `check`
+/// writes it; `no order` and the order's first line that is wrong, or of the first transaction that breaks the order the operation that
+/// does something else in it, or the step to one before it; or the history's first line that can't be read or doesn't tell what is wanted.
+/// No line of the order behind its first wrong one is read, and none at all where the history has a fault. What is needed is read before
+/// anything is written.
 ///
 /// ReadFault where a reader failed, or no read of it is left, and Memory where a growth was refused: nothing was written.
 /// WriteFault where the writer failed: a front of the answer may have been written.
@@ -22,14 +23,15 @@ pub fn check_against<O: Source, R: Source, W: Sink>(
     order: &mut O,
     reader: &mut R,
     writer: &mut W,
+    wanted: Wanted,
 ) -> Result<Outcome, EngineFail>
     ensures answer { IfOk result
-        (λ outcome. WroteAnswer (O.tells order.old) (R.tells reader.old) outcome (W.holds writer.old) (W.holds writer.new)) }
+        (λ outcome. WroteAnswer wanted (O.tells order.old) (R.tells reader.old) outcome (W.holds writer.old) (W.holds writer.new)) }
     ensures exact { IfOk result
         (λ outcome. IfSome (R.tells reader.old) (λ bytes. IfSome (O.tells order.old)
-        (λ lines. outcome ≡ Outcome.Yes ↔ SpellsServed lines bytes))) }
+        (λ lines. outcome ≡ Outcome.Yes ↔ SpellsServed wanted lines bytes))) }
     ensures front { OnErr result
-        (WroteAnswerFront (O.tells order.old) (R.tells reader.old) (W.holds writer.old) (W.holds writer.new)) }
+        (WroteAnswerFront wanted (O.tells order.old) (R.tells reader.old) (W.holds writer.old) (W.holds writer.new)) }
     ensures unwritten { IsErrOf result EngineFail.ReadFault → writer.new ≡ writer.old }
     ensures untouched { IsErrOf result EngineFail.Memory → writer.new ≡ writer.old }
 
@@ -46,11 +48,7 @@ pub fn check_against<O: Source, R: Source, W: Sink>(
     ensures quiet_writer { result ≢ Err EngineFail.WriteFault
         → W.failures writer.new ≡ W.failures writer.old }
 {
-    let neither = Wanted {
-        real_time: false,
-        sessions: false,
-    };
-    let text = read_history(alloc, reader, neither)?;
+    let text = read_history(alloc, reader, wanted)?;
     let answer = answer_against(alloc, order, text)?;
     match write_all(writer, answer.text.as_slice()) {
         Ok(()) => Ok(answer.outcome),

@@ -10,9 +10,10 @@ use sgt_history::{History, Kind, Operation};
 use sgt_history_evidence::transaction_of;
 use std::alloc::{AllocError, Global};
 
-/// The first operation that doesn't follow: that of the line's transaction. Its item has another version.
+/// The first operation that doesn't follow: that of the line's transaction, at this place of the order. Its item has another version.
 #[derive(Clone, Copy, Debug, PartialEq, Eq)]
 pub struct Broken {
+    pub place: usize,
     pub line: u32,
     pub operation: Operation<u32, u32>,
     pub found: u64,
@@ -134,6 +135,7 @@ pub(crate) fn run_order(
         let told = run_all(&mut versions, operations)?;
         if let Some((at, found)) = told {
             return Ok(Some(Broken {
+                place,
                 line,
                 operation: operations[at],
                 found,

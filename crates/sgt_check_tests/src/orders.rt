@@ -1,11 +1,42 @@
 //! Small histories, orders and their answers.
 
 use sgt_check_order::check_against;
+use sgt_history_text::Wanted;
 use sgt_names::{EngineFail, MemSink, MemSource, Outcome};
 use std::alloc::{AllocError, Global};
 use std::test::Fail;
 
-/// Whether the order and the history are answered so, over readers that give a few bytes at a time.
+/// An order keeps nothing.
+const NEITHER: Wanted = Wanted {
+    real_time: false,
+    sessions: false,
+};
+
+/// It keeps both.
+const BOTH: Wanted = Wanted {
+    real_time: true,
+    sessions: true,
+};
+
+/// What is written of the order and the history, over readers that give a few bytes at a time; nothing where the outcome is another one.
+fn answer_to(
+    alloc: Global,
+    order: &[u8],
+    history: &[u8],
+    wanted: Wanted,
+    outcome: Outcome,
+) -> Result<Vec<u8>, AllocError> {
+    let mut lines = MemSource::new(order, 3, None);
+    let mut reader = MemSource::new(history, 5, None);
+    let mut writer = MemSink::new(alloc, 1_000)?;
+    if check_against(alloc, &mut lines, &mut reader, &mut writer, wanted) == Ok(outcome) {
+        Vec::from_slice(alloc, writer.bytes())
+    } else {
+        Ok(Vec::new(alloc))
+    }
+}
+
+/// Whether they are answered so, where an order keeps nothing.
 fn is_answered(
     alloc: Global,
     order: &[u8],
@@ -13,11 +44,8 @@ fn is_answered(
     outcome: Outcome,
     answer: &[u8],
 ) -> Result<bool, AllocError> {
-    let mut lines = MemSource::new(order, 3, None);
-    let mut reader = MemSource::new(history, 5, None);
-    let mut writer = MemSink::new(alloc, 1_000)?;
-    let ended = check_against(alloc, &mut lines, &mut reader, &mut writer);
-    Ok(ended == Ok(outcome) && writer.bytes() == answer)
+    let told = answer_to(alloc, order, history, NEITHER, outcome)?;
+    Ok(told.as_slice() == answer)
 }
 
 const LATE_AND_EARLY: &[u8] =
@@ -49,6 +77,28 @@ fn tells_where_an_order_breaks(rt: HostRuntime) -> Result<(), Fail> {
         b"{\"tx\":\"a\",\"end\":\"commit\",\"ops\":[[\"w\",\"x\",1]]}\n{\"tx\":\"b\",\"end\":\"commit\",\"ops\":[[\"r\",\"y\",0],[\"w\",\"x\",2]]}\n";
     let answer = b"no order\nline 1 \"a\" w \"x\" 1 finds 2\n";
     assert!(rt; is_answered(rt.alloc(), b"\"b\"\n\"a\"\n", history, Outcome::No, answer)?);
+    Ok(())
+}
+
+const TIMED: &[u8] =
+    b"{\"tx\":1,\"end\":\"commit\",\"ops\":[],\"begin\":1,\"done\":2,\"session\":\"s\"}\n{\"tx\":2,\"end\":\"commit\",\"ops\":[[\"r\",\"x\",1]],\"begin\":3,\"done\":4,\"session\":\"s\"}\n{\"tx\":3,\"end\":\"commit\",\"ops\":[[\"w\",\"x\",1]],\"begin\":3,\"done\":9,\"session\":0}\n";
+
+#[test]
+fn tells_what_an_order_does_not_keep(rt: HostRuntime) -> Result<(), Fail> {
+    for (order, answer) in [
+        ("2\n1\n3\n", "no order\nline 2 2 r \"x\" 1 finds 0\n"),
+        ("3\n1\n2\n", "no order\n1 rt 3 done 2 begin 3 lines 1 3\n"),
+        ("3\n2\n1\n", "no order\n1 po 2 session \"s\" lines 1 2\n"),
+        ("3\n2\n", "no order\norder line 3\n"),
+    ] {
+        let told = answer_to(rt.alloc(), order.as_bytes(), TIMED, BOTH, Outcome::No)?;
+        assert_eq!(rt; told.as_slice(), answer.as_bytes());
+    }
+    let served = b"yes 3 committed 0 aborted\n".as_slice();
+    let told = answer_to(rt.alloc(), b"1\n3\n2\n", TIMED, BOTH, Outcome::Yes)?;
+    assert_eq!(rt; told.as_slice(), served);
+    let told = answer_to(rt.alloc(), b"3\n2\n1\n", TIMED, NEITHER, Outcome::Yes)?;
+    assert_eq!(rt; told.as_slice(), served);
     Ok(())
 }
 
@@ -115,7 +165,7 @@ fn tells_of_devices(rt: HostRuntime) -> Result<(), Fail> {
         let mut lines = MemSource::new(order, 3, order_fails);
         let mut reader = MemSource::new(LATE_AND_EARLY, 5, history_fails);
         let mut writer = MemSink::new(rt.alloc(), room)?;
-        let ended = check_against(rt.alloc(), &mut lines, &mut reader, &mut writer);
+        let ended = check_against(rt.alloc(), &mut lines, &mut reader, &mut writer, NEITHER);
         assert!(rt; ended == Err(fail));
         assert!(rt; (fail == EngineFail::WriteFault) == !writer.bytes().is_empty());
     }
@@ -132,7 +182,7 @@ fn answer_of(
     let mut lines = MemSource::new(order, 2, Some(fails));
     let mut reader = MemSource::new(history, 65_536, None);
     let mut writer = MemSink::new(alloc, 1_000)?;
-    match check_against(alloc, &mut lines, &mut reader, &mut writer) {
+    match check_against(alloc, &mut lines, &mut reader, &mut writer, NEITHER) {
         Ok(_) => Vec::from_slice(alloc, writer.bytes()),
         Err(_) => Ok(Vec::new(alloc)),
     }

@@ -1,14 +1,14 @@
 -- A picture that grows by steps.
-use Rattle.std.proofs.Common.{◌≡◌, ◌<◌, ◌≤◌, ℕ, ◌+◌, List, [], ◌∷◌, ◌++◌, get_or, length, take, map, refl, sym, ap, ◌∙◌, subst, append_assoc, append-nil}
+use Rattle.std.proofs.Common.{◌≡◌, ◌<◌, ◌≤◌, ℕ, ◌+◌, List, [], ◌∷◌, ◌++◌, get_or, length, take, map, codes, refl, sym, ap, ◌∙◌, subst, append_assoc, append-nil}
 use Rattle.std.proofs.lemmas.List.{map_push, take_all}
 use Rattle.std.proofs.lemmas.Option.{slice_get-get_or}
 use Rattle.sgt_names.proofs.Lists.{take_next}
-use Rattle.sgt_history_picture.specs.Drawn.{AreDrawn}
-use Rattle.sgt_history_picture.specs.Label.{box_text, title_text, words_text}
+use Rattle.sgt_history_picture.specs.Drawn.{AreDrawn, IsHeaded}
+use Rattle.sgt_history_picture.specs.Label.{box_text, headline_text, title_text, words_text}
 use Rattle.sgt_history_picture.specs.Private.{ArePut, Grows, IsPut, IsQuiet}
 use Rattle.sgt_history_picture.specs.Told.{Step, step_of}
 use Rattle.sgt_history_picture.specs.declared.told.Told.{Told}
-use Rattle.sgt_history_picture.proofs.Quiet.{no-title, quiet-append}
+use Rattle.sgt_history_picture.proofs.Quiet.{no-title, quiet-append, quiet-name}
 
 pub grown : (old new rest : List ℕ) → new ≡ old ++ rest → IsQuiet rest → Grows old new
 grown old new rest is quiet = (rest, is, quiet)
@@ -108,3 +108,21 @@ drawn-behind (s ∷ steps) old new (between, p, more) =
 
 pub drawn : (steps : List Step) (text : List ℕ) → ArePut steps [] text → AreDrawn text steps
 drawn steps text are = let h = drawn-behind steps [] text are in subst (λ (t : List ℕ). AreDrawn t steps) (sym h.1) h.2
+
+-- ---- the headline
+
+pub headline-grows : (name old new : List ℕ) → new ≡ old ++ headline_text name → Grows old new
+headline-grows name old new is = grown old new (headline_text name) is (quiet-name name (codes ": each stands before the next in every order</text>\n"))
+
+pub headed : (steps : List Step) (name old titled told drawn_to text foot : List ℕ) → titled ≡ old ++ headline_text name → Grows titled told
+    → ArePut steps told drawn_to → text ≡ drawn_to ++ foot → IsHeaded name text
+headed steps name old titled told drawn_to text foot is (kinds, is', quiet) are whole =
+    let h = drawn-behind steps told drawn_to are in (
+      old,
+      (kinds ++ (h.0 ++ foot)),
+      whole ∙ ap (λ (t : List ℕ). t ++ foot) (h.1 ∙ ap (λ (t : List ℕ). t ++ h.0) (is' ∙ ap (λ (t : List ℕ). t ++ kinds) is))
+          ∙ regroup old (headline_text name) kinds h.0 foot,
+    )
+  where
+    regroup : (a b c d e : List ℕ) → (((a ++ b) ++ c) ++ d) ++ e ≡ a ++ (b ++ (c ++ (d ++ e)))
+    regroup a b c d e = simp append_assoc

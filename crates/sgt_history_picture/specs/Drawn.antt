@@ -1,7 +1,7 @@
 -- What is drawn of a cycle.
 use Rattle.std.specs.Prelude.{◌≡◌, ◌≢◌, ℕ, List, [], ◌∷◌, ◌++◌, codes}
 use Rattle.sgt_draw.specs.Picture.{IsPicture}
-use Rattle.sgt_history_picture.specs.Label.{box_text, title_text, words_text}
+use Rattle.sgt_history_picture.specs.Label.{box_text, headline_text, title_text, words_text}
 use Rattle.sgt_history_picture.specs.Told.{IsCycleTold, Step}
 
 -- no title begins in the text
@@ -15,10 +15,15 @@ AreDrawn text (s ∷ steps) = (front : List ℕ) × (arrow : List ℕ) × (gap :
     × (text ≡ front ++ (box_text s.from ++ (arrow ++ (title_text s ++ (gap ++ (words_text s ++ behind))))))
     × HasNoTitle front × HasNoTitle arrow × HasNoTitle gap × AreDrawn behind steps
 
--- a picture of the cycle that the answer tells: each of its steps is drawn once, in this order, and no other
+-- the headline stands there
+abbrev pub IsHeaded : (name text : List ℕ) → Type 0
+IsHeaded name text = (front : List ℕ) × (behind : List ℕ) × (text ≡ front ++ (headline_text name ++ behind))
+
+-- a picture of the cycle that the answer tells: its name stands there, and each of its steps is drawn once, in this order, and no other
 pub record IsPictureOf (answer text : List ℕ) : Type 0 where
   pub name : List ℕ
   pub steps : List Step
   pub told : IsCycleTold answer name steps
   pub picture : IsPicture text
+  pub headed : IsHeaded name text
   pub drawn : AreDrawn text steps

@@ -7,6 +7,10 @@ use Rattle.sgt_history_picture.specs.Told.{Step, kind_text}
 abbrev pub label_text : Step → List ℕ
 label_text s = escaped s.from ++ (codes " " ++ (kind_text s.kind ++ (codes " " ++ (escaped s.to ++ (codes " " ++ escaped s.about)))))
 
+-- the headline: the name of the cycle, and what it is
+abbrev pub headline_text : List ℕ → List ℕ
+headline_text name = codes ">" ++ (escaped name ++ codes ": each stands before the next in every order</text>\n")
+
 -- the name in the box of its first transaction
 abbrev pub box_text : List ℕ → List ℕ
 box_text name = codes ">" ++ (escaped name ++ codes "</text>")

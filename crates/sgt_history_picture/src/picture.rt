@@ -2,8 +2,8 @@
 
 ghost use Rattle.std.specs.Prelude.{◌≡◌, ◌++◌, List, ℕ, IfNone, IfOk, IfSome, OnOk, map};
 ghost use Rattle.sgt_draw.specs.Picture.{IsPicture};
-ghost use Rattle.sgt_history_picture.specs.Drawn.{AreDrawn, IsPictureOf};
-ghost use Rattle.sgt_history_picture.specs.Label.{box_text, title_text, words_text};
+ghost use Rattle.sgt_history_picture.specs.Drawn.{AreDrawn, IsHeaded, IsPictureOf};
+ghost use Rattle.sgt_history_picture.specs.Label.{box_text, headline_text, title_text, words_text};
 ghost use Rattle.sgt_history_picture.specs.Private.{ArePut, Grows, IsPut, IsQuiet};
 ghost use Rattle.sgt_history_picture.specs.Told.{IsCycleTold, Step, kind_text, step_of};
 
@@ -39,7 +39,7 @@ fn kind_word(kind: Kind) -> &'static str
     }
 }
 
-/// The size, the tip of an arrow, and a white ground.
+/// The size, the tip of an arrow, a white ground, and where the headline is.
 fn put_head(canvas: &mut Canvas, size: (u64, u64)) -> Result<(), AllocError>
     ensures { OnOk result (Grows canvas.old canvas.new) }
 {
@@ -61,17 +61,26 @@ fn put_head(canvas: &mut Canvas, size: (u64, u64)) -> Result<(), AllocError>
             "markerWidth=\"11\" markerHeight=\"11\" orient=\"auto\"><path d=\"M0 0L10 5L0 10z\"/></marker></defs>\n",
         ),
         Part::Markup("<rect width=\"100%\" height=\"100%\" fill=\"#ffffff\"/>\n"),
+        Part::Markup("<text x=\"20\" y=\"22\""),
     ])
 }
 
-/// The name of the cycle, and what the kinds are.
+/// The name of the cycle.
 fn put_headline(canvas: &mut Canvas, name: &[u8]) -> Result<(), AllocError>
+    ensures { OnOk result (canvas.new ≡ canvas.old ++ headline_text name.now) }
+{
+    canvas.put(&[
+        Part::Markup(">"),
+        Part::Name(name),
+        Part::Markup(": each stands before the next in every order</text>\n"),
+    ])
+}
+
+/// What the kinds are.
+fn put_kinds(canvas: &mut Canvas) -> Result<(), AllocError>
     ensures { OnOk result (Grows canvas.old canvas.new) }
 {
     canvas.put(&[
-        Part::Markup("<text x=\"20\" y=\"22\">"),
-        Part::Name(name),
-        Part::Markup(": each stands before the next in every order</text>\n"),
         Part::Markup("<text x=\"20\" y=\"42\">ww: write, next write; wr: write, read; "),
         Part::Markup(
             "rw: read, next write; po: one session; rt: done before the other begins</text>",
@@ -220,6 +229,7 @@ fn put_steps(canvas: &mut Canvas, steps: &[Told<'_>], boxes: u64) -> Result<(), 
 /// The picture of a cycle.
 fn picture(alloc: Global, cycle: &Cycle<'_>) -> Result<Vec<u8>, AllocError>
     ensures picture { IfOk result (λ text. IsPicture text.items) }
+    ensures headed { IfOk result (λ text. IsHeaded cycle.now.name.now text.items) }
     ensures drawn { IfOk result (λ text. AreDrawn text.items (map step_of cycle.now.steps.items)) }
 {
     let mut canvas = Canvas::new(alloc, false)?;
@@ -227,12 +237,13 @@ fn picture(alloc: Global, cycle: &Cycle<'_>) -> Result<Vec<u8>, AllocError>
     let boxes = box_width(steps);
     put_head(&mut canvas, (width(steps, boxes), height(steps)))?;
     put_headline(&mut canvas, cycle.name)?;
+    put_kinds(&mut canvas)?;
     put_steps(&mut canvas, steps, boxes)?;
     canvas.into_text()
 }
 
-/// The picture of the cycle that an answer of `sgt check` tells, as SVG: each of its steps is drawn once, in the order in which it is
-/// told, and no other. None where it tells no cycle.
+/// The picture of the cycle that an answer of `sgt check` tells, as SVG: its name stands there, and each of its steps is drawn once, in the
+/// order in which it is told, and no other. None where it tells no cycle.
 pub fn picture_of(alloc: Global, answer: &[u8]) -> Result<Option<Vec<u8>>, AllocError>
     ensures some { IfOk result (λ r. IfSome r (λ text. IsPictureOf answer.now text.items)) }
     ensures none { IfOk result

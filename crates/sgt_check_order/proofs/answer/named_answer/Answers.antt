@@ -10,7 +10,7 @@ use Rattle.sgt_check_order.proofs.answer.named_answer.Goals as goal
 pub returns-in-Each : goal.returns-in-Each
 returns-in-Each c =
     let h = closed_of c.args.history.now in
-    IfOk-weaker c.order_answer.result _ _ (λ a judged js bytes named.
+    IfOk-weaker c.order_answer.result _ _ (λ a judged js bytes named right.
     let each = subst (λ (n : Named). IsNamed h js bytes n) c.in-Each.is named in
     judged js bytes (subst (λ (o : List ℕ). IsOrder h o) (sym c.as_slice.ensures.value) each.0)
-    (subst (λ (o : List ℕ). NameEach js (lines_of bytes) o) (sym c.as_slice.ensures.value) each.1)) c.order_answer.ensures
+    (subst (λ (o : List ℕ). NameEach js (lines_of bytes) o) (sym c.as_slice.ensures.value) each.1) right) c.order_answer.ensures

@@ -36,9 +36,9 @@ returns-in-Some c =
     let ran = c.loop-place.invariant in
     let within = subst (λ (r : Option (ℕ × ℕ)). IfSome r (λ b. b.0 < length ops)) c.in-Some.is c.in_ok-told.ensures.within in
     order-break h order k (get_or order k 0) (slice_get-get_or order k 0 c.loop-place-test.true) ops c.operations_of-operations.ensures c.run_all.new.versions.items
-    c.in-Some.at c.in-Some.found (record { line = get_or order k 0; operation = get_or ops c.in-Some.at nothing; found = c.in-Some.found })
+    c.in-Some.at c.in-Some.found (record { place = k; line = get_or order k 0; operation = get_or ops c.in-Some.at nothing; found = c.in-Some.found })
     (subst (λ (r : Option (ℕ × ℕ)). AreRun (run_of h (take k order)) ops c.run_all.new.versions.items r) c.in-Some.is (c.in_ok-told.ensures.run (run_of h (take k order)) ran.right ran.tells))
-    refl (slice_get-get_or ops c.in-Some.at nothing within) refl
+    refl refl (slice_get-get_or ops c.in-Some.at nothing within) refl
 
 pub returns : goal.returns
 returns c = order-all (closed_of c.args.history.now) c.args.order.now c.loop-place.place c.loop-place.versions.items (omega (arith, c.loop-place-test.false)) c.loop-place.invariant
