@@ -6,6 +6,7 @@ use crate::unreadable::{Fronted, tell_unreadable};
 use sgt_line::Line;
 use sgt_names::{FromRead, Sink, ToWrite};
 use sgt_program::check_order;
+use sgt_words::CheckWanted;
 use std::fs::File;
 
 // The reader of the order; the status, where it can't be opened. Standard input gives one text, so not this one and the history too.
@@ -25,7 +26,13 @@ fn open_order<'a, H>(host: &Host<'a, H>, order: &str, name: &str) -> Result<Stea
 }
 
 // The status of the order in the file of this name, by the history in the other.
-fn judged<H, W: Sink>(host: &Host<'_, H>, order: &str, name: &str, writer: &mut W) -> u8 {
+fn judged<H, W: Sink>(
+    host: &Host<'_, H>,
+    wanted: CheckWanted,
+    order: &str,
+    name: &str,
+    writer: &mut W,
+) -> u8 {
     let mut given = match open_order(host, order, name) {
         Ok(given) => given,
         Err(status) => return status,
@@ -41,6 +48,7 @@ fn judged<H, W: Sink>(host: &Host<'_, H>, order: &str, name: &str, writer: &mut 
         let mut reader = FromRead::new(&mut steady);
         check_order(
             host.rt.alloc(),
+            wanted,
             &mut lines,
             &mut reader,
             &mut fronted,
@@ -53,10 +61,16 @@ fn judged<H, W: Sink>(host: &Host<'_, H>, order: &str, name: &str, writer: &mut 
 }
 
 /// Judges the order in the file; quietly by the status alone.
-pub(crate) fn judge_order<H>(host: &Host<'_, H>, line: &Line, order: &str, name: &str) -> u8 {
+pub(crate) fn judge_order<H>(
+    host: &Host<'_, H>,
+    line: &Line,
+    wanted: CheckWanted,
+    order: &str,
+    name: &str,
+) -> u8 {
     if line.is_quiet {
-        return judged(host, order, name, &mut Held::new(host.rt.alloc()));
+        return judged(host, wanted, order, name, &mut Held::new(host.rt.alloc()));
     }
     let mut output = ToWrite::new(Retrying::new(host.rt.stdout(), host.hush));
-    judged(host, order, name, &mut output)
+    judged(host, wanted, order, name, &mut output)
 }

@@ -41,8 +41,7 @@ fn has_word(line: &Line, option: &str) -> bool {
     false
 }
 
-// A word that a check doesn't take, where its words ask for what it can't do: beside an order that is given another one, a picture, or
-// what an order is to keep.
+// A word that a check doesn't take, where its words ask for what it can't do: beside an order that is given another one, or a picture.
 fn unknown(line: &Line) -> Option<&'static str> {
     let is_check = line
         .words
@@ -56,12 +55,6 @@ fn unknown(line: &Line) -> Option<&'static str> {
     }
     if line.against.is_some() && has_word(line, "--order") {
         return Some("--order (with --against)");
-    }
-    if line.against.is_some() && has_word(line, "--real-time") {
-        return Some("--real-time (with --against)");
-    }
-    if line.against.is_some() && has_word(line, "--sessions") {
-        return Some("--sessions (with --against)");
     }
     None
 }
@@ -135,8 +128,8 @@ fn run<H: Threads + Wait + Sync>(
     if is_talk(line) {
         return Ok(serve_events(host, line, name));
     }
-    if let (Ok(Choice::Check(_)), Some(order)) = (choice, &line.against) {
-        return Ok(judge_order(host, line, order.as_str(), name));
+    if let (Ok(Choice::Check(wanted)), Some(order)) = (choice, &line.against) {
+        return Ok(judge_order(host, line, *wanted, order.as_str(), name));
     }
     if let (Ok(Choice::Check(_)), Some(place)) = (choice, &line.place) {
         return check_drawn(host, line, name, place.as_str());

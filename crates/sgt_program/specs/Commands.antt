@@ -122,12 +122,12 @@ pub record AnswersCheck (wanted : CheckWanted) (status : ℕ) (told written writ
   pub kept : AsksKept wanted → ByStatus (λ outcome. keeping.WroteKeptAnswer (kept_of wanted) (options_of wanted) told outcome written written')
       (keeping.WroteKeptAnswerFront (kept_of wanted) (options_of wanted) told written written') status
 
--- the verdict on an order that is given: a yes at 0; at 1 the history's first fault, or where the order
--- breaks; at 2 the line of the history that can't be read
-abbrev pub AnswersOrder : (status : ℕ) (order told written written' : Option (List ℕ)) → Type 0
-AnswersOrder status order told written written' =
-    ByStatus (λ outcome. against.WroteAnswer order told outcome written written')
-    (against.WroteAnswerFront order told written written') status
+-- the verdict on an order that is given, which is to keep what is wanted: a yes at 0; at 1 the history's first
+-- fault, or where the order breaks; at 2 the line of the history that can't be read
+abbrev pub AnswersOrder : (wanted : Wanted) (status : ℕ) (order told written written' : Option (List ℕ)) → Type 0
+AnswersOrder wanted status order told written written' =
+    ByStatus (λ outcome. against.WroteAnswer wanted order told outcome written written')
+    (against.WroteAnswerFront wanted order told written written') status
 
 -- the explanation: the line of the verdict, a yes at 0 and a no at 1, and what it means, with what
 -- this transaction did, or no transaction

@@ -44,7 +44,7 @@ fn options_of(wanted: CheckWanted) -> Options
     }
 }
 
-fn kept_of(wanted: CheckWanted) -> KeptWanted
+pub(crate) fn kept_of(wanted: CheckWanted) -> KeptWanted
     ensures { result ≡ kept_of wanted }
 {
     KeptWanted {

@@ -8,7 +8,7 @@ use sgt_line::{Line, cut, strict_status};
 use sgt_names::{MemSink, MemSource, Outcome, write_all};
 use sgt_program::{audit_next, check_order, end_chain, program};
 use sgt_serve::{MemBundles, Pipe, serve};
-use sgt_words::asks_talk;
+use sgt_words::{CheckWanted, Choice, asks_talk, choose};
 use std::alloc::{AllocError, Global};
 use std::sync::Wait;
 use std::thread::Threads;
@@ -143,6 +143,7 @@ fn talk(alloc: Global, given: &Given, per_read: usize) -> Result<Answer, AllocEr
 fn judge_order(
     alloc: Global,
     given: &Given,
+    wanted: CheckWanted,
     order: &str,
     per_read: usize,
 ) -> Result<Answer, AllocError>
@@ -152,7 +153,14 @@ fn judge_order(
     let mut history = source_of(given, per_read);
     let mut output = MemSink::new(alloc, ROOM)?;
     let mut errors = MemSink::new(alloc, ROOM)?;
-    let status = check_order(alloc, &mut lines, &mut history, &mut output, &mut errors);
+    let status = check_order(
+        alloc,
+        wanted,
+        &mut lines,
+        &mut history,
+        &mut output,
+        &mut errors,
+    );
     Ok(Answer {
         status,
         output,
@@ -176,7 +184,9 @@ fn answered<H: Threads + Wait + Sync>(
         return talk(alloc, given, per_read);
     }
     if let Some(order) = &given.order {
-        return judge_order(alloc, given, order.as_str(), per_read);
+        if let Ok(Choice::Check(wanted)) = choose(alloc, line.words.as_slice()) {
+            return judge_order(alloc, given, wanted, order.as_str(), per_read);
+        }
     }
     if line.is_chain && !line.files.is_empty() {
         let mut output = MemSink::new(alloc, ROOM)?;

@@ -1,5 +1,10 @@
+use Rattle.std.proofs.Common.{subst}
+use Rattle.std.specs.Prelude.{◌≡◌, ◌↔◌, IfOk, IfSome, OnErr}
 use Rattle.sgt_check_order.specs.Answer as against
 use Rattle.sgt_check_order.specs.Answer.{SpellsServed}
+use Rattle.sgt_history_text.specs.declared.wanted.Wanted.{Wanted}
+use Rattle.sgt_names.specs.declared.outcome.Outcome.TheVariants.{Yes}
+use Rattle.sgt_program.specs.Commands.{kept_of}
 use Rattle.sgt_program.proofs.Answered.{exact_status, status-answers}
 use Rattle.sgt_program.proofs.Told.{due_of_two, leaves, tells-errors}
 use Rattle.sgt_program.specs.declared.ending.Ending.TheVariants.{Ran}
@@ -11,13 +16,20 @@ returns-clause-answers g c =
     let told = g.R.Source.tells c.args.reader.now in
     let old = g.W.Sink.holds c.args.writer.now in
     let new = g.W.Sink.holds c.check_against-told.new.writer in
-    rw c.finish.ensures.status (status-answers (λ outcome. against.WroteAnswer lines told outcome old new) (against.WroteAnswerFront lines told old new)
-    c.check_against-told.result c.check_against-told.ensures.answer c.check_against-told.ensures.front)
+    let w = kept_of c.args.wanted in
+    let r = c.check_against-told.result in
+    rw c.finish.ensures.status (status-answers (λ outcome. against.WroteAnswer w lines told outcome old new) (against.WroteAnswerFront w lines told old new) r
+    (subst (λ (k : Wanted). IfOk r (λ outcome. against.WroteAnswer k lines told outcome old new)) c.kept_of.ensures c.check_against-told.ensures.answer)
+    (subst (λ (k : Wanted). OnErr r (against.WroteAnswerFront k lines told old new)) c.kept_of.ensures c.check_against-told.ensures.front))
 
 pub returns-clause-exact : goal.returns-clause-exact
 returns-clause-exact g c =
-    exact_status c.check_against-told.result c.finish.result (g.R.Source.tells c.args.reader.now) (g.O.Source.tells c.args.order.now) SpellsServed
-    c.finish.ensures.status c.check_against-told.ensures.exact
+    let lines = g.O.Source.tells c.args.order.now in
+    let told = g.R.Source.tells c.args.reader.now in
+    let r = c.check_against-told.result in
+    exact_status r c.finish.result told lines (SpellsServed (kept_of c.args.wanted)) c.finish.ensures.status
+    (subst (λ (k : Wanted). IfOk r (λ outcome. IfSome told (λ bytes. IfSome lines (λ ls. (outcome ≡ Yes) ↔ SpellsServed k ls bytes)))) c.kept_of.ensures
+    c.check_against-told.ensures.exact)
 
 pub returns-clause-ends : goal.returns-clause-ends
 returns-clause-ends g c =
