@@ -8,3 +8,4 @@ pub mod Heads
 pub mod OpenSection
 pub mod Answered
 pub mod Comes
+mod Losing

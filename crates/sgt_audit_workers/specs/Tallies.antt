@@ -1,5 +1,5 @@
 -- What the first sections of a text were found to be.
-use Rattle.std.specs.Prelude.{◌≡◌, ◌↔◌, ◌≤◌, ℕ, Bool, IsTrue, List, [], ◌∷◌, ◌++◌, length, map, Option, Some, None}
+use Rattle.std.specs.Prelude.{◌≡◌, ◌↔◌, ◌⊎◌, ◌≤◌, ◌+◌, ◌^◌, ⊤, ℕ, Bool, false, IsTrue, List, [], ◌∷◌, ◌++◌, length, map, Option, Some, None}
 use Rattle.sgt_notation.specs.Spelling.{line_text, text_of_lines}
 use Rattle.sgt_cert.specs.Text.{section_lines}
 use Rattle.sgt_cert.specs.declared.bundle.SiteLog.{SiteLog}
@@ -8,6 +8,8 @@ use Rattle.sgt_audit.specs.Faults.{FirstFault, reach}
 use Rattle.sgt_audit.specs.declared.faults.Fault.{Fault}
 use Rattle.sgt_audit.specs.declared.verdict.Verdict.{Verdict}
 use Rattle.sgt_audit.specs.Verdict.{IsVerdict}
+use Rattle.sgt_audit_sections.specs.declared.judging.Judged.{Judged}
+use Rattle.sgt_audit_sections.specs.declared.judging.Judged.TheVariants.{Whole, Faulty, Open, Unfit}
 use Rattle.sgt_audit_sections.specs.Sections.{AllStepsAreFound, AreFaultlessSections, IsFaultlessCertificate, front_text, lines_in_front}
 use Rattle.sgt_audit_workers.specs.declared.tally.Tally.{Tally}
 
@@ -33,3 +35,10 @@ Adds second c logs bytes more new None = (log : SiteLog) × IsTally second c (lo
     × (bytes ≡ text_of_lines (map line_text (section_lines (length logs) log)))
 Adds second c logs bytes more new (Some v) =
     IsVerdictBehind (front_text second c logs) (bytes ++ more) v
+
+-- behind so many lines this is not added: more than one section, one that goes on and is not the last, or one with a line past 2^64 - 1
+abbrev pub IsLost : (lines : ℕ) → (is_last : Bool) → Judged → Type 0
+IsLost lines is_last (Whole many met) = 2 ^ 64 ≤ lines + many
+IsLost lines is_last (Faulty line f) = 2 ^ 64 ≤ lines + line
+IsLost lines is_last (Open line rest) = (is_last ≡ false) ⊎ (2 ^ 64 ≤ lines + line)
+IsLost lines is_last Unfit = ⊤

@@ -1,6 +1,6 @@
 //! The audit of all that a reader gives, with several sections judged at once.
 
-ghost use Rattle.std.specs.Prelude.{◌≡◌, ◌≢◌, ◌+◌, ◌-◌, ◌*◌, ◌<◌, ◌≤◌, ◌⊎◌, [], ℕ, List, Option, None, Some, false, Err, Ok, length, IsTrue, IfOk, IfErr, IfSome, OnErr, IsErrOf, if◌then◌else◌};
+ghost use Rattle.std.specs.Prelude.{◌≡◌, ◌≢◌, ◌↔◌, ◌+◌, ◌-◌, ◌*◌, ◌<◌, ◌≤◌, ◌⊎◌, [], ℕ, List, Option, None, Some, false, Err, Ok, length, IsTrue, IfOk, IfErr, IfSome, IfNone, OnErr, IsErrOf, if◌then◌else◌};
 ghost use Rattle.std.specs.Arc.{arc_value};
 ghost use Rattle.std.specs.Io.KnownBytes.{Appends};
 ghost use Rattle.sgt_names.specs.Limits.{max_line};
@@ -355,7 +355,7 @@ fn has_failed(text: &Text) -> bool
 
 /// Whether the verdict is a yes.
 fn is_yes(verdict: Verdict) -> bool
-    ensures { IsYes verdict → IsTrue result }
+    ensures { IsTrue result ↔ IsYes verdict }
 {
     match verdict {
         Verdict::Yes { .. } => true,
@@ -363,10 +363,11 @@ fn is_yes(verdict: Verdict) -> bool
     }
 }
 
-/// The verdict, if there is one; but no yes on a text whose reader failed.
+/// The verdict, if there is one; but no yes on a text whose reader failed. A fault stands before what could not be read.
 fn unless_failed(found: Result<Verdict, EngineFail>, failed: bool) -> Option<Verdict>
     ensures some { IfSome result (λ v. found ≡ Ok v) }
     ensures yes { IfSome result (λ v. IsYes v → failed ≡ false) }
+    ensures none { IfNone result ((v : Verdict) → found ≡ Ok v → IsYes v × IsTrue failed) }
 {
     let Ok(verdict) = found else {
         return None;

@@ -45,15 +45,14 @@ impl Promise<Reading> for Given {
     ghost kept_by = { λ given reading. IsFoundOf given.second given.line.value.items reading.found };
 }
 
-/// A line 2 that a thread reads; or that was read here, where no thread could be made.
-#[derive(Drop)]
+/// A line 2 that a thread reads; or that was read here, where no thread could be made. It is not `Drop`, so it can't be let go but by
+/// `wait`.
 pub enum Underway {
     There(PromisedHandle<Reading, Given>),
     Here(Reading),
 }
 
-/// A line 2 that is read, to be judged, and whether line 1 says the second format.
-#[derive(Drop)]
+/// A line 2 that is read, to be judged, and whether line 1 says the second format. It ends by `finish` alone.
 pub struct Judging {
     second: bool,
     reading: Underway,

@@ -1,6 +1,6 @@
 //! A section that is judged in a thread of its own.
 
-ghost use Rattle.std.specs.Prelude.{◌<◌, IfOk};
+ghost use Rattle.std.specs.Prelude.{◌<◌};
 ghost use Rattle.std.specs.Arc.{arc_value};
 ghost use Rattle.sgt_audit_workers.specs.Head.{IsHead};
 ghost use Rattle.sgt_audit_workers.specs.declared.head.Head.{Head};
@@ -10,7 +10,7 @@ ghost use Rattle.sgt_audit_workers.specs.private.Running.{Will};
 
 use crate::head::Head;
 use crate::job::{Job, run};
-use std::alloc::{AllocError, Global};
+use std::alloc::Global;
 use std::snapshot::Snapshot;
 use std::sync::Arc;
 use std::thread;
@@ -27,8 +27,8 @@ impl Promise<Job> for Task {
     ghost kept_by = { λ task done. HasRun task.head.value task.job.value done };
 }
 
-/// A section that a thread judges; or that was judged here, where no thread could be made.
-#[derive(Drop)]
+/// A section that a thread judges; or that was judged here, where no thread could be made. It is not `Drop`, so none can be let go but
+/// by `finish`, which waits for its thread.
 pub enum Running {
     There(PromisedHandle<Job, Task>),
     Here(Job),
@@ -44,19 +44,13 @@ fn run_owning(alloc: Global, head: Arc<Head>, job: Job) -> Job
     run(alloc, &head, job)
 }
 
-/// Has the section judged, in a thread of its own where one can be made.
-pub fn start<H: Threads>(
-    rt: &H,
-    alloc: Global,
-    head: &Arc<Head>,
-    job: Job,
-) -> Result<Running, AllocError>
-    requires head { IsHead (arc_value head.now) }
-    requires idle { IsIdle (arc_value head.now) job.site job }
-    requires site { job.site < (arc_value head.now).certificate.sites }
-    ensures { IfOk result (Will (arc_value head.now) job) }
+/// Has the section judged, in a thread of its own where one can be made, and else here.
+pub fn start<H: Threads>(rt: &H, alloc: Global, theirs: Arc<Head>, job: Job) -> Running
+    requires head { IsHead (arc_value theirs) }
+    requires idle { IsIdle (arc_value theirs) job.site job }
+    requires site { job.site < (arc_value theirs).certificate.sites }
+    ensures { Will (arc_value theirs) job result }
 {
-    let theirs = Arc::try_clone(head)?;
     let task = Task {
         head: Snapshot::of(&theirs),
         job: Snapshot::of(&job),
@@ -67,8 +61,8 @@ pub fn start<H: Threads>(
         ensures { HasRun (arc_value theirs) job result }
     { run_owning(alloc, theirs, job) };
     match thread::spawn_with(rt, task, judge) {
-        Ok(handle) => Ok(Running::There(handle)),
-        Err(refused) => Ok(Running::Here((refused.value)())),
+        Ok(handle) => Running::There(handle),
+        Err(refused) => Running::Here((refused.value)()),
     }
 }
 

@@ -1,11 +1,11 @@
 //! The sections judged so far, in their order.
 
-ghost use Rattle.std.specs.Prelude.{◌≡◌, ◌≢◌, ◌<◌, ◌↔◌, ◌+◌, ◌^◌, ◌&&◌, None, [], ℕ, Bool, IsTrue, IfOk, IfErr, IfSome, IfNone, OnOk, List, length};
+ghost use Rattle.std.specs.Prelude.{◌≡◌, ◌≢◌, ◌<◌, ◌≤◌, ◌↔◌, ◌+◌, ◌^◌, ◌&&◌, None, [], ℕ, Bool, IsTrue, IfOk, IfErr, IfSome, IfNone, OnOk, OnErr, List, length};
 ghost use Rattle.sgt_cert.specs.declared.bundle.SiteLog.{SiteLog};
 ghost use Rattle.sgt_cert.specs.declared.certificate.Certificate.{Certificate};
 ghost use Rattle.sgt_audit_sections.specs.Judged.{IsJudgedSection, IsWhole};
 ghost use Rattle.sgt_audit_sections.specs.Sections.{IsFaultlessCertificate, front_text, AllStepsAreFound};
-ghost use Rattle.sgt_audit_workers.specs.Tallies.{Adds, IsTally, IsVerdictBehind};
+ghost use Rattle.sgt_audit_workers.specs.Tallies.{Adds, IsLost, IsTally, IsVerdictBehind};
 
 use sgt_audit::{Fault, Verdict};
 use sgt_audit_sections::Judged;
@@ -25,7 +25,7 @@ pub struct Tally {
 /// The line of this number behind so many.
 fn counted_on(lines: u64, line: u64) -> Result<u64, EngineFail>
     ensures ok { IfOk result (λ n. n ≡ lines + line) }
-    ensures err { IfErr result (λ e. e ≡ EngineFail.Memory) }
+    ensures err { IfErr result (λ e. (e ≡ EngineFail.Memory) × (2 ^ 64 ≤ lines + line)) }
 {
     match lines.checked_add(line) {
         Some(number) => Ok(number),
@@ -58,6 +58,7 @@ impl Tally {
         ensures ok { IfOk result
             (λ found. found ≡ Some (Verdict.No (self.now.lines + line) fault)) }
         ensures err { IfErr result (λ e. e ≡ EngineFail.Memory) }
+        ensures spent { OnErr result (2 ^ 64 ≤ self.now.lines + line) }
     {
         let line = counted_on(self.lines, line)?;
         Ok(Some(Verdict::No { line, fault }))
@@ -71,6 +72,7 @@ impl Tally {
             → OnOk result (Adds second c logs bytes more self.new None) }
         ensures whole { self.old.whole < 2 ^ 32 → OnOk result (self.new.whole ≡ self.old.whole + 1) }
         ensures err { IfErr result (λ e. e ≡ EngineFail.Memory) }
+        ensures spent { OnErr result (2 ^ 64 ≤ self.old.lines + lines) }
     {
         self.lines = counted_on(self.lines, lines)?;
         self.whole = self.whole.saturating_add(1);
@@ -87,6 +89,7 @@ impl Tally {
             → IfOk result (Adds second c logs bytes more self.new) }
         ensures whole { IfOk result (λ found. IfNone found (IsWhole judged)) }
         ensures err { IfErr result (λ e. e ≡ EngineFail.Memory) }
+        ensures lost { OnErr result (IsLost self.old.lines is_last judged) }
     {
         match judged {
             Judged::Whole { lines, met } => {
@@ -130,6 +133,7 @@ impl Tally {
             → AllStepsAreFound c.decisions logs → more ≢ []
             → IfOk result (IsVerdictBehind (front_text second c logs) more) }
         ensures err { IfErr result (λ e. e ≡ EngineFail.Memory) }
+        ensures spent { OnErr result (2 ^ 64 ≤ self.now.lines + 1) }
     {
         let line = counted_on(self.lines, 1)?;
         Ok(Verdict::No {

@@ -1,13 +1,13 @@
 //! Workers, each with a section that it judges in a thread of its own.
 
-ghost use Rattle.std.specs.Prelude.{◌≡◌, ◌<◌, ◌≤◌, ◌+◌, ◌∷◌, ◌++◌, [], ℕ, List, Option, None, length, IfOk, IfErr, IfSome, IfNone, OnOk};
+ghost use Rattle.std.specs.Prelude.{◌≡◌, ◌<◌, ◌≤◌, ◌+◌, ◌∷◌, ◌++◌, [], ℕ, List, Option, None, length, IfOk, IfErr, IfSome, IfNone, OnOk, OnErr};
 ghost use Rattle.std.specs.Arc.{arc_value};
 ghost use Rattle.std.specs.Io.KnownBytes.{Consumes};
 ghost use Rattle.sgt_audit_sections.specs.Sections.{front_text};
 ghost use Rattle.sgt_audit_workers.specs.Head.{IsHead};
 ghost use Rattle.sgt_audit_workers.specs.declared.head.Head.{Head};
 ghost use Rattle.sgt_audit_workers.specs.declared.job.Job.{Job};
-ghost use Rattle.sgt_audit_workers.specs.private.Jobs.{IsGiven, MayJudge};
+ghost use Rattle.sgt_audit_workers.specs.private.Jobs.{HasRun, IsGiven, IsLostJob, MayJudge};
 ghost use Rattle.sgt_audit_workers.specs.private.Running.{Will};
 ghost use Rattle.sgt_audit_workers.specs.private.Tallied.{IsTallied, Takes};
 ghost use Rattle.sgt_audit_workers.specs.private.Texts.{IsNextSection};
@@ -29,8 +29,8 @@ use std::thread::Threads;
 /// So many decisions take some time to be let go.
 const MANY: usize = 4_096;
 
-/// Workers that judge sections, one after another of a text, and what those before these came to.
-#[derive(Drop)]
+/// Workers that judge sections, one after another of a text, and what those before these came to. They end by `stop` alone: the sections
+/// that are judged now can't be let go.
 pub struct Workers {
     pub alloc: Global,
     /// How many there may be.
@@ -62,12 +62,17 @@ fn first(running: &mut Vec<Running>) -> Option<Running>
     Some(running.remove(0))
 }
 
-/// One more section that is judged now.
-fn add(running: &mut Vec<Running>, one: Running) -> Result<(), AllocError>
+/// One more section that is judged now. Where there is no memory for one more, it is waited for.
+fn add<H: Threads>(rt: &H, running: &mut Vec<Running>, one: Running) -> Result<(), AllocError>
     ensures { OnOk result (running.new.items ≡ running.old.items ++ one ∷ []) }
 {
-    running.push(one)?;
-    Ok(())
+    match running.push(one) {
+        Ok(()) => Ok(()),
+        Err(refused) => {
+            drop(finish(rt, refused.value));
+            Err(AllocError)
+        }
+    }
 }
 
 /// Waits until the next section is judged, and adds what was found: its worker, or the verdict on the text.
@@ -80,6 +85,8 @@ fn take<H: Threads>(
         → IsTallied h told old tally.old → tally.old.whole < h.certificate.sites
         → IsGiven most old tally.old.whole job new → Will h job running
         → IfOk result (Takes h most told new tally.old tally.new) }
+    ensures lost { (h : Head) (job : Job) → Will h job running
+        → OnErr result ((done : Job) × HasRun h job done × IsLostJob tally.old.lines done) }
     ensures err { IfErr result (λ e. e ≡ EngineFail.Memory) }
 {
     let job = finish(rt, running);
@@ -182,8 +189,9 @@ impl Workers {
             section,
             judged: Ok(Judged::Unfit),
         };
-        let running = start(rt, self.alloc, &self.head, job)?;
-        add(&mut self.running, running)?;
+        let theirs = Arc::try_clone(&self.head)?;
+        let running = start(rt, self.alloc, theirs, job);
+        add(rt, &mut self.running, running)?;
         Ok(Ok(free.buffer))
     }
 
@@ -210,10 +218,19 @@ impl Workers {
 
     /// Waits for the sections that are judged still, whatever is found. Where the lines say much, no one waits until that is let go.
     pub fn stop<H: Threads>(self, rt: &H) {
-        let Workers { head, running, .. } = self;
-        for running in running {
-            finish(rt, running);
+        let Workers {
+            alloc: _,
+            count: _,
+            most: _,
+            head,
+            running,
+            tally: _,
+        } = self;
+        let mut running = running;
+        'judged: while let Some(one) = first(&mut running) {
+            drop(finish(rt, one));
         }
+        running.destroy_empty();
         if head.certificate.decisions().len() >= MANY {
             let_go(rt, head);
         }

@@ -1,6 +1,7 @@
 //! What the words of the command line say of files, and what is left for the program; what a replay or a run wrote, cut.
 #![tactic(auto)]
 
+mod clash;
 mod kind;
 mod line;
 mod name;
@@ -11,4 +12,4 @@ pub use kind::tells_lines;
 pub use line::Line;
 pub use name::{CommandName, named};
 pub use texts::{behind_first, first_of, last_of, only_of};
-pub use written::{cut, has_refusal, strict_status};
+pub use written::{cut, has_refusal, shown, strict_status};

@@ -58,7 +58,7 @@ impl Line {
     }
 
     // One more word is left for the program.
-    fn leave(&mut self, alloc: Global, word: &str) -> Result<(), AllocError>
+    pub(crate) fn leave(&mut self, alloc: Global, word: &str) -> Result<(), AllocError>
         ensures { OnOk result (parts_of self.new ≡ left (parts_of self.old) word.now) }
     {
         self.words.push(String::from_str(alloc, word)?)?;

@@ -1,9 +1,11 @@
 //! What a replay or a run wrote, cut at its `---`.
 
-ghost use Rattle.std.specs.Prelude.{◌≡◌, ◌↔◌, ◌≤◌, ◌∷◌, ℕ, List, IfSome, IsNone, IsTrue, length};
+ghost use Rattle.std.specs.Prelude.{◌≡◌, ◌≢◌, ◌↔◌, ◌≤◌, ◌∷◌, ℕ, List, IfSome, IsNone, IsTrue, None, length};
+ghost use Rattle.sgt_line.specs.Parts.{parts_of};
 ghost use Rattle.sgt_line.specs.Written.{HasRefusal, IsCutAt};
 ghost use Rattle.sgt_line.specs.private.Found.{FindsLine};
 
+use crate::line::Line;
 use memchr::memmem;
 
 // The first place where a line begins with these bytes, which are the other ones behind an LF.
@@ -30,6 +32,21 @@ pub fn cut(text: &[u8]) -> (&[u8], Option<&[u8]>)
 {
     match line_with(text, b"---\n", b"\n---\n") {
         Some(place) => (&text[..place], Some(&text[place + 4..])),
+        None => (text, None),
+    }
+}
+
+/// What of the text is for standard output, and the bundle that goes to the line's place, where it names one.
+pub fn shown<'a>(line: &Line, text: &'a [u8]) -> (&'a [u8], Option<&'a [u8]>)
+    ensures some { IfSome result.1 (λ bundle.
+        ((parts_of line.now).place ≢ None) × IsCutAt text.now result.0.now bundle.now) }
+    ensures first { (front bundle : List ℕ) → (parts_of line.now).place ≢ None
+        → IsCutAt text.now front bundle → length result.0.now ≤ length front }
+    ensures none { IsNone result.1 → (result.0.now ≡ text.now)
+        × ((front bundle : List ℕ) → (parts_of line.now).place ≢ None → IsCutAt text.now front bundle → ⊥) }
+{
+    match &line.place {
+        Some(_) => cut(text),
         None => (text, None),
     }
 }

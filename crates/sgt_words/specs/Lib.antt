@@ -1,4 +1,5 @@
 pub mod Check
 pub mod Options
 pub mod Words
+pub mod Ways
 pub mod private

@@ -8,7 +8,7 @@ use Rattle.sgt_words.specs.Options.{ReadsNumber, SaysRun}
 use Rattle.sgt_words.specs.declared.choice.Choice.{Choice}
 use Rattle.sgt_words.specs.declared.choice.Choice.TheVariants.{Audit, AuditWith, Certify, Check, Draw, DrawWith, Explain, Replay, Rule, Run, Serial, Transaction}
 use Rattle.sgt_words.specs.declared.choice.NoChoice.{NoChoice}
-use Rattle.sgt_words.specs.declared.choice.NoChoice.TheVariants.{Help, Usage, Memory}
+use Rattle.sgt_words.specs.declared.choice.NoChoice.TheVariants.{Help, Usage, Bare, Memory}
 use Rattle.sgt_line.specs.declared.name.CommandName.{CommandName}
 use Rattle.sgt_line.specs.declared.name.CommandName.TheVariants as command
 
@@ -98,16 +98,26 @@ NamesHelp word = ((word ≡ codes "--help") ⊎ (word ≡ codes "-h"))
 abbrev pub AsksHelp : List (List ℕ) → Type 0
 AsksHelp words = Any NamesHelp (drop 1 words)
 
+-- the words behind the program's name are those of a run
+abbrev pub BeginsRun : List (List ℕ) → Type 0
+BeginsRun words = (options : List (List ℕ)) × (words ≡ command_text command.Run ∷ options)
+
+-- memory may be wanting where help is to be written, and where clap reads a run's words
+abbrev pub MayLackMemory : List (List ℕ) → Type 0
+MayLackMemory words = AsksHelp words ⊎ BeginsRun (drop 1 words)
+
 -- what is said of words that ask for no command: help exactly where one of them asks for it
 abbrev pub TellsHelp : List (List ℕ) → NoChoice → Type 0
 TellsHelp words (Help text) = AsksHelp words
 TellsHelp words (Usage text) = AsksHelp words → ⊥
+TellsHelp words Bare = AsksHelp words → ⊥
 TellsHelp words Memory = ⊤
 
 -- what is said is never empty
 abbrev pub HasText : NoChoice → Type 0
 HasText (Help text) = 0 < length (string_bytes text)
 HasText (Usage text) = 0 < length (string_bytes text)
+HasText Bare = ⊤
 HasText Memory = ⊤
 
 -- the words are no command

@@ -1,9 +1,9 @@
 //! What the words of the command line ask for.
 
-ghost use Rattle.std.specs.Prelude.{◌≡◌, ◌↔◌, ◌⊎◌, Ok, Err, Some, IfOk, IfErr, IfSome, IsErr, IsTrue, map, string_bytes};
+ghost use Rattle.std.specs.Prelude.{◌≡◌, ◌↔◌, ◌⊎◌, Ok, Err, Some, IfOk, IfErr, IfSome, IsErr, IsTrue, OnErr, map, string_bytes};
 ghost use Rattle.sgt_words.specs.declared.choice.Choice.{Choice};
 ghost use Rattle.sgt_line.specs.declared.name.CommandName.TheVariants as command;
-ghost use Rattle.sgt_words.specs.Words.{Asks, AsksFor, AsksTalk, HasText, TellsHelp, command_of};
+ghost use Rattle.sgt_words.specs.Words.{Asks, AsksFor, AsksTalk, BeginsRun, HasText, MayLackMemory, TellsHelp, command_of};
 
 use crate::behind::choice_behind;
 use crate::check::CheckWanted;
@@ -50,7 +50,9 @@ pub enum NoChoice {
     Help(String),
     /// The words are no command: the usage text, for the error stream.
     Usage(String),
-    /// A growth was refused.
+    /// The same, and a growth was refused while that text was made.
+    Bare,
+    /// A growth was refused while a run's words were read, or help was written.
     Memory,
 }
 
@@ -70,6 +72,7 @@ fn choice_of(alloc: Global, words: &[String]) -> Result<Option<Choice>, AllocErr
     ensures some { IfOk result (λ found. IfSome found (Asks (map string_bytes words.now))) }
     ensures all { (choice : Choice) → Asks (map string_bytes words.now) choice
         → (result ≡ Ok (Some choice)) ⊎ (IsErr result × (command_of choice ≡ command.Run)) }
+    ensures run { OnErr result (BeginsRun (map string_bytes words.now)) }
 {
     let Some((word, options)) = first_of(words) else {
         return Ok(Some(Choice::Audit));
@@ -103,9 +106,10 @@ pub fn choose(alloc: Global, words: &[String]) -> Result<Choice, NoChoice>
         ⊎ ((result ≡ Err NoChoice.Memory) × (command_of choice ≡ command.Run)) }
     ensures help { IfErr result (TellsHelp (map string_bytes words.now)) }
     ensures text { IfErr result HasText }
+    ensures memory { result ≡ Err NoChoice.Memory → MayLackMemory (map string_bytes words.now) }
 {
     match choice_of(alloc, behind_first(words))? {
         Some(choice) => Ok(choice),
-        None => Err(no_choice(alloc, words)?),
+        None => Err(no_choice(alloc, words)),
     }
 }

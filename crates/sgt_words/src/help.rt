@@ -1,7 +1,7 @@
 //! What is said of words that ask for no command: help, or how the commands are used.
 
-ghost use Rattle.std.specs.Prelude.{◌<◌, ◌↔◌, Any, IfOk, IsSome, IsTrue, length, map, string_bytes};
-ghost use Rattle.sgt_words.specs.Words.{HasText, IsUsage, NamesHelp, TellsHelp};
+ghost use Rattle.std.specs.Prelude.{◌≡◌, ◌<◌, ◌↔◌, ℕ, Any, IfOk, IsSome, IsTrue, List, length, map, string_bytes};
+ghost use Rattle.sgt_words.specs.Words.{AsksHelp, HasText, IsUsage, NamesHelp, TellsHelp};
 
 use crate::choice::NoChoice;
 use crate::commands::{command, listing_line};
@@ -88,14 +88,29 @@ fn usage(alloc: Global, words: &[String]) -> Result<NoChoice, AllocError>
     refused(alloc, &error)
 }
 
+// The help that the word asks for, if there is memory for it.
+fn help(alloc: Global, words: &[String], word: &str) -> NoChoice
+    ensures text { HasText result }
+    ensures help { (given : List (List ℕ)) → AsksHelp given → TellsHelp given result }
+{
+    match help_text(alloc, words, word) {
+        Ok(text) => NoChoice::Help(text),
+        Err(_) => NoChoice::Memory,
+    }
+}
+
 /// The help or the usage text for words that ask for no command, the program's name first.
-pub fn no_choice(alloc: Global, words: &[String]) -> Result<NoChoice, AllocError>
-    ensures text { IfOk result HasText }
-    ensures help { IfOk result (TellsHelp (map string_bytes words.now)) }
+pub fn no_choice(alloc: Global, words: &[String]) -> NoChoice
+    ensures text { HasText result }
+    ensures help { TellsHelp (map string_bytes words.now) result }
+    ensures memory { result ≡ NoChoice.Memory → AsksHelp (map string_bytes words.now) }
 {
     let behind = behind_first(words);
     match help_word(behind) {
-        Some(word) => Ok(NoChoice::Help(help_text(alloc, behind, word)?)),
-        None => usage(alloc, words),
+        Some(word) => help(alloc, behind, word),
+        None => match usage(alloc, words) {
+            Ok(said) => said,
+            Err(_) => NoChoice::Bare,
+        },
     }
 }

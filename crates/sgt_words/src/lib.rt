@@ -7,6 +7,8 @@ mod choice;
 mod commands;
 mod help;
 mod options;
+mod way;
 
 pub use check::CheckWanted;
 pub use choice::{Choice, NoChoice, asks_talk, choose};
+pub use way::{Way, awaited, way_of};

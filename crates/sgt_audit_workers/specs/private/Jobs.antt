@@ -5,6 +5,7 @@ use Rattle.sgt_audit.specs.declared.alone.Alone.{Alone}
 use Rattle.sgt_audit_sections.specs.Judged.{IsJudgedSection, IsWhole}
 use Rattle.sgt_audit_workers.specs.declared.head.Head.{Head}
 use Rattle.sgt_audit_workers.specs.declared.job.Job.{Job}
+use Rattle.sgt_audit_workers.specs.Tallies.{IsLost}
 use Rattle.sgt_audit_workers.specs.private.Texts.{IsNextSection}
 
 -- nothing of the section of this site or a later one was met
@@ -31,3 +32,7 @@ pub record HasRun (h : Head) (old new : Job) : Type 0 where
   pub site : new.site ≡ old.site
   pub section : new.section ≡ old.section
   pub done : HasJudged h new
+
+-- where there was memory to judge the section, it is one that is not added behind so many lines
+abbrev pub IsLostJob : (lines : ℕ) → Job → Type 0
+IsLostJob lines done = IfOk done.judged (IsLost lines done.section.is_last)

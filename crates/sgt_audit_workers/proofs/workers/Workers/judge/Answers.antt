@@ -7,7 +7,8 @@ use Rattle.sgt_audit_sections.specs.declared.judging.Judged.TheVariants.{Unfit}
 use Rattle.sgt_audit_workers.specs.Cut.{longest}
 use Rattle.sgt_audit_workers.specs.declared.job.Job.{Job}
 use Rattle.sgt_audit_workers.specs.declared.running.Running.{Running}
-use Rattle.sgt_audit_workers.specs.private.Running.{AreRunning}
+use Rattle.sgt_audit_workers.specs.declared.head.Head.{Head}
+use Rattle.sgt_audit_workers.specs.private.Running.{AreRunning, Will}
 use Rattle.sgt_audit_workers.specs.private.Tallied.{second_size}
 use Rattle.sgt_audit_workers.specs.private.Texts.{IsNextSection}
 use Rattle.sgt_audit_workers.proofs.Given.{running-more}
@@ -25,13 +26,14 @@ returns-clause-goes g c told left next works section =
       middle = was.middle;
       tallied = was.tallied;
       running = subst (λ (rs : List Running). AreRunning h most was.middle c.free.new.self.tally.whole rs next) (sym c.in_ok-add.ensures)
-          (running-more h most was.middle left next c.free.new.self.tally.whole _ c.free.new.self.running.items c.in_ok-running.running job was.running refl (record { site = omega (arith, c.len.ensures); section = given }) c.in_ok-running.ensures);
+          (running-more h most was.middle left next c.free.new.self.tally.whole _ c.free.new.self.running.items c.start-running.result job was.running refl (record { site = omega (arith, c.len.ensures); section = given })
+          (subst (λ (x : Head). Will x job c.start-running.result) c.in_ok-theirs.ensures c.start-running.ensures));
     }
 
 pub returns-clause-given : goal.returns-clause-given
 returns-clause-given g c =
     let same = rw c.in-Ok.is at c.in_ok-free.ensures.given in
-    omega (arith, same, ap length c.in_ok-add.ensures, length-append c.free.new.self.running.items (c.in_ok-running.running ∷ []))
+    omega (arith, same, ap length c.in_ok-add.ensures, length-append c.free.new.self.running.items (c.start-running.result ∷ []))
 
 pub returns-in-Err-clause-goes : goal.returns-in-Err-clause-goes
 returns-in-Err-clause-goes g c told left next works section =

@@ -1,0 +1,33 @@
+-- Words that stand on a line.
+use Rattle.std.specs.Prelude.{IfNone}
+use Rattle.std.proofs.Common.{◌≡◌, ◌<◌, ◌∙◌, ℕ, zero, suc, Option, Some, None, List, [], ◌∷◌, Any, get_or, ap, length, refl, sym, subst, arith}
+
+module _ {A : Type 0} (P : A → Type 0) (w : A) (ws : List A) where
+  any_later : Any P ws → Any P (w ∷ ws)
+  any_later (k, x, within, at, holds) = (suc k, x, omega (arith, within), at, holds)
+
+  any_behind : (P w → ⊥) → Any P (w ∷ ws) → Any P ws
+  any_behind other (zero, x, within, at, holds) = absurd (other (subst P (sym at) holds))
+  any_behind other (suc k, x, within, at, holds) = (k, x, omega (arith, within), at, holds)
+
+  -- the first does
+  pub of_the_first : (xs : List A) → xs ≡ w ∷ ws → P w → Any P xs
+  of_the_first xs e holds = subst (Any P) (sym e) (0, w, omega arith, refl, holds)
+
+  -- where the first does not, one of the others does
+  pub of_the_others : (xs : List A) (S : Type 0) → xs ≡ w ∷ ws → (P w → ⊥) → (S → Any P ws) × (Any P ws → S) → (S → Any P xs) × (Any P xs → S)
+  of_the_others xs S e other both =
+      (λ some. subst (Any P) (sym e) (any_later (both.0 some)), λ has. both.1 (any_behind other (subst (Any P) e has)))
+
+-- the first of the words is this one
+pub first_is : (xs rest : List (List ℕ)) (w v : List ℕ) (S : Type 0) → xs ≡ w ∷ rest → (S → w ≡ v) × (w ≡ v → S)
+    → (S → (options : List (List ℕ)) × (xs ≡ v ∷ options)) × (((options : List (List ℕ)) × (xs ≡ v ∷ options)) → S)
+first_is xs rest w v S e both = (
+  λ yes. (rest, e ∙ ap (λ x. x ∷ rest) (both.0 yes)),
+  λ told. both.1 (ap (λ l. get_or l 0 w) (sym e ∙ told.1)),
+)
+
+-- what holds where nothing is found
+pub none_weaker : {A : Type 0} (o : Option A) (P Q : Type 0) → (P → Q) → IfNone o P → IfNone o Q
+none_weaker None P Q so holds = so holds
+none_weaker (Some x) P Q so holds = tt

@@ -1,0 +1,83 @@
+//! Options of a check that don't go with an order that is given.
+
+ghost use Rattle.std.specs.Prelude.{◌≡◌, ◌↔◌, ℕ, IfNone, IfOk, IfSome, IsTrue, List, map, string_bytes};
+ghost use Rattle.sgt_line.specs.Clashes.{Clashes, HasWord, IsBeside, IsCheck, Settles};
+ghost use Rattle.sgt_line.specs.Parts.{parts_of};
+
+use crate::line::Line;
+use crate::texts::{behind_first, first_of};
+use std::alloc::{AllocError, Global};
+
+fn is(one: &str, other: &str) -> bool
+    ensures { IsTrue result ↔ (one.now ≡ other.now) }
+{
+    one == other
+}
+
+// Whether the word is one of these.
+fn has_word(words: &[String], word: &str) -> bool
+    ensures { IsTrue result ↔ HasWord word.now (map string_bytes words.now) }
+{
+    let Some((first, behind)) = first_of(words) else {
+        return false;
+    };
+    if is(first, word) {
+        return true;
+    }
+    has_word(behind, word)
+}
+
+fn is_check(line: &Line) -> bool
+    ensures { IsTrue result ↔ IsCheck (parts_of line.now) }
+{
+    match first_of(behind_first(line.words.as_slice())) {
+        Some((word, _)) => is(word, "check"),
+        None => false,
+    }
+}
+
+// What stands on the line that is refused beside an order, by the text that says so.
+fn beside_order(line: &Line) -> Option<&'static str>
+    ensures some { IfSome result (λ text. IsBeside (parts_of line.now) text.now) }
+    ensures none { IfNone result ((text : List ℕ) → IsBeside (parts_of line.now) text → ⊥) }
+{
+    let words = line.words.as_slice();
+    if line.place.is_some() {
+        return Some("--svg (with --against)");
+    }
+    if has_word(words, "--order") {
+        return Some("--order (with --against)");
+    }
+    if has_word(words, "--real-time") {
+        return Some("--real-time (with --against)");
+    }
+    if has_word(words, "--sessions") {
+        return Some("--sessions (with --against)");
+    }
+    None
+}
+
+// The same where an order is given.
+fn clash_of(line: &Line) -> Option<&'static str>
+    ensures some { IfSome result (λ text. Clashes (parts_of line.now) text.now) }
+    ensures none { IfNone result ((text : List ℕ) → Clashes (parts_of line.now) text → ⊥) }
+{
+    if line.against.is_some() && is_check(line) {
+        return beside_order(line);
+    }
+    None
+}
+
+impl Line {
+    /// The line; where an option of a check clashes with an order that is given, with its text for a word more, which no command
+    /// takes.
+    pub fn settled(self, alloc: Global) -> Result<Line, AllocError>
+        ensures { IfOk result (λ line. Settles (parts_of self) (parts_of line)) }
+    {
+        let mut line = self;
+        if let Some(text) = clash_of(&line) {
+            line.leave(alloc, text)?;
+        }
+        Ok(line)
+    }
+}
