@@ -7,6 +7,7 @@
         transaction.end(committed=True)                       # as the database said
     history.close()
 """
+import fcntl
 import json
 import math
 import threading
@@ -26,12 +27,21 @@ def plain(value):
 
 
 class History:
-    """The lines of a history. Any number of threads may write to it. A line is in the file once its transaction has ended."""
+    """The lines of a history. Any number of threads may write to it. A line is in the file once its transaction has ended.
 
-    def __init__(self, path):
-        self.file = open(path, "w", encoding="utf-8")
+    A process has a file of its own, and its name in the ids: History(f"bank.{pid}", process=pid). `cat` joins the files, and
+    `--real-time` takes them together where all ran on one machine."""
+
+    def __init__(self, path, process=None):
+        self.file = open(path, "a", encoding="utf-8")
+        try:
+            fcntl.flock(self.file, fcntl.LOCK_EX | fcntl.LOCK_NB)
+        except BlockingIOError:
+            raise RuntimeError(f"{path}: another recorder writes it: give each process a file of its own, and its name") from None
+        self.file.truncate(0)
         self.lock = threading.Lock()
         self.begun = 0
+        self.front = "T-" if process is None else f"{process}/T-"
 
     def begin(self, session=None, name=None):
         """Begins a transaction: each attempt is one. A session is one client, whose transactions follow one another; the name says what
@@ -39,7 +49,7 @@ class History:
         with self.lock:
             self.begun += 1
             number = self.begun
-        return Transaction(self, f"T-{number}" if name is None else f"T-{number} {name}", session)
+        return Transaction(self, f"{self.front}{number}" if name is None else f"{self.front}{number} {name}", session)
 
     def add(self, line):
         text = json.dumps(line, separators=(",", ":"), ensure_ascii=False)
