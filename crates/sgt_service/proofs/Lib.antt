@@ -9,6 +9,7 @@ pub mod Ordering
 pub mod Placing
 pub mod Reporting
 pub mod Sums
+pub mod Telling
 pub mod Tries
 pub mod Unreadable
 pub mod Walks

@@ -3,6 +3,7 @@ pub mod Input
 pub mod Operations
 pub mod Report
 pub mod Results
+pub mod Told
 pub mod Tries
 pub mod private
 pub mod Tallies

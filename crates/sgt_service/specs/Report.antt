@@ -1,7 +1,9 @@
 -- What a run of an input writes: a line for each script, the verdict on the run's own bundle, and
 -- the bundle.
-use Rattle.std.specs.Prelude.{◌≡◌, ◌≢◌, ◌⊎◌, ◌↔◌, ◌++◌, ⊤, ℕ, List, [], length, map, take, codes, decimal, All, Option, IfSome, slice_get}
+use Rattle.std.specs.Prelude.{◌≡◌, ◌≢◌, ◌⊎◌, ◌↔◌, ◌-◌, ◌++◌, ⊤, ℕ, List, [], length, map, take, codes, decimal, All}
+use Rattle.std.specs.Prelude.{Option, Some, IfSome, slice_get}
 use Rattle.std.specs.Io.KnownBytes.{Appends}
+use Rattle.sgt_names.specs.Log.{names}
 use Rattle.sgt_names.specs.Device.{AppendsOrForgets, WritesFront}
 use Rattle.sgt_names.specs.declared.entry.Holding.{Holding}
 use Rattle.sgt_names.specs.declared.outcome.Outcome.{Outcome}
@@ -26,13 +28,13 @@ use Rattle.sgt_audit.specs.Verdict as auditor
 use Rattle.sgt_audit.specs.declared.verdict.Verdict.{Verdict}
 use Rattle.sgt_audit.specs.declared.verdict.Verdict.TheVariants.{Yes, No}
 use Rattle.sgt_service_locks.specs.Guarded.{decision_count}
-use Rattle.sgt_service_locks.specs.Refused.{IsOfCall}
 use Rattle.sgt_service_settle.specs.Settled.{AreKept, IsSettled, Run, tickets_of}
 use Rattle.sgt_service_settle.specs.Fault.{IsUnsettled}
 use Rattle.sgt_service.specs.Bundle.{IsBundleOf, IsToldAlone}
 use Rattle.sgt_service.specs.Input.{FirstUnreadable, Spells}
 use Rattle.sgt_service.specs.Results.{IsCommitted, done_text}
 use Rattle.sgt_service.specs.Tallies.{AreCountsOf}
+use Rattle.sgt_service.specs.Told.{EndsTry}
 use Rattle.sgt_service.specs.Tries.{AreDonesOf}
 use Rattle.sgt_service.specs.declared.input.Input.{Input}
 
@@ -99,9 +101,12 @@ pool_fault_number pool.Memory = 1
 pool_fault_number (pool.Unrun job) = 2
 pool_fault_number (pool.Doubled job) = 3
 
--- V4 or V7: a call of a transaction was refused, and not for want of memory
-abbrev pub IsOfRun : ServiceFault → Type 0
-IsOfRun f = IsOfCall f × (f ≢ fault.Memory)
+-- V4 or V7: a call of a transaction that tried one of these scripts, at sites with these items, was
+-- refused, and not for want of memory
+abbrev pub IsOfRun : List Script → List (List Holding) → ServiceFault → Type 0
+IsOfRun scripts items f = (f ≢ fault.Memory)
+    × ((number : ℕ) × (s : Script) × (slice_get scripts (number - 1) ≡ Some s)
+    × EndsTry (length items) (map names items) s f)
 
 -- these are a run's certifier and its Dones: each script has its tries, and as many decisions were
 -- taken as there are tickets
@@ -135,7 +140,7 @@ pub record EndsElsewhere (scripts : List Script) (items : List (List Holding)) (
 -- isn't settled or isn't theirs. The pool has no fault of its own but want of memory
 abbrev pub EndsRun : List Script → List (List Holding) → ℕ → PoolFail ServiceFault → Type 0
 EndsRun scripts items tries (Work f) =
-    IsOfRun f ⊎ (EndsUnsettled scripts (length items) tries f ⊎ EndsElsewhere scripts items tries f)
+    IsOfRun scripts items f ⊎ (EndsUnsettled scripts (length items) tries f ⊎ EndsElsewhere scripts items tries f)
 EndsRun scripts items tries (Pool f) = ⊥
 
 -- want of memory, which ends a run too and is never told

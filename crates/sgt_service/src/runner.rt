@@ -27,6 +27,8 @@ impl<'a, L: Ledgers, G: Gate> Runner<'a, L, G> {
     ghost use Rattle.sgt_service_locks.specs.Refused.{IsOfCall, IsOfChange};
     ghost use Rattle.sgt_service.specs.Tries.{CountsOp, CountsReads, IsStopped, TriesAt};
     ghost use Rattle.sgt_service.specs.Operations.{op_fits, sum_fits, Does, DoesAll, IsOfOperation, PutsSum};
+    ghost use Rattle.sgt_service.specs.Told.{IsToldBy, IsUndone, RefusesPutOfSum, RefusesOperation};
+    ghost use Rattle.std.specs.Prelude.{vec_len};
 
     #[tactic(auto, using(crate::proofs::Faults::item_of_change))]
     // Keeps the sum of this value and of what the transaction sees at the source, as a private write. False where it is too
@@ -45,6 +47,8 @@ impl<'a, L: Ledgers, G: Gate> Runner<'a, L, G> {
         ensures same { result ≡ Ok false → active.new.draft.touched ≡ active.old.draft.touched }
         ensures named { IsOfActive active.old active.new }
         ensures err { OnErr result (active.new.draft.touched ≡ active.old.draft.touched) }
+        ensures refused { IfErr result
+            (RefusesPutOfSum self.now.service.now.names.items site item seen) }
         ensures fault { IfErr result IsOfChange }
     {
         let Some(seen) = seen else {
@@ -81,6 +85,8 @@ impl<'a, L: Ledgers, G: Gate> Runner<'a, L, G> {
             (CountsOp op.now active.old.draft.touched seat.old.counts.items seat.new.counts.items) }
         ensures err { OnErr result ((active.new.draft.touched ≡ active.old.draft.touched)
             × (seat.new.counts.items ≡ seat.old.counts.items)) }
+        ensures refused { IfErr result (RefusesOperation
+            self.now.service.now.names.items active.old.tx active.old.draft.touched op.now) }
         ensures fault { IfErr result IsOfOperation }
     {
         match *op {
@@ -128,6 +134,9 @@ impl<'a, L: Ledgers, G: Gate> Runner<'a, L, G> {
         ensures begins { seat.new.begins ≡ seat.old.begins }
         ensures counts { CountsReads active.old.draft.touched active.new.draft.touched
             seat.old.counts.items seat.new.counts.items }
+        ensures refused { IfErr result (IsUndone
+            self.now.service.now.names.items active.old.tx script.now.operations
+            active.old.draft.touched reads.old.items) }
         ensures fault { IfErr result IsOfOperation }
     {
         let operations = script.operations.as_slice();
@@ -156,6 +165,8 @@ impl<'a, L: Ledgers, G: Gate> Runner<'a, L, G> {
         ensures parts { seat.new.share.parts ≡ seat.old.share.parts }
         ensures begin_parts { seat.new.begins.parts ≡ seat.old.begins.parts }
         ensures halt { IfErr result (IsStopped seat.old seat.new) }
+        ensures told { IfErr result (IsToldBy
+            (vec_len self.now.service.now.sites) self.now.service.now.names.items script.now.operations) }
         ensures fault { IfErr result IsOfCall }
     {
         reads.clear();
@@ -177,12 +188,14 @@ impl<'a, L: Ledgers, G: Gate> Runner<'a, L, G> {
 impl<'a, L: Ledgers, G: Gate> Work<Seat<L>, Script, ServiceFault> for Runner<'a, L, G> {
     ghost use Rattle.std.specs.Prelude.{◌≡◌, refl};
     ghost use Rattle.std.proofs.Common.{◌∙◌};
-    ghost use Rattle.sgt_service_locks.specs.Refused.{IsOfCall};
+    ghost use Rattle.std.specs.Prelude.{vec_len};
+    ghost use Rattle.sgt_service.specs.Told.{EndsTry};
     ghost use Rattle.sgt_service.specs.Tries.{IsDoneOf, TriesJob};
 
     ghost answers = { λ w number script done. IsDoneOf w.tries script done };
 
-    ghost faults = { λ w fault. IsOfCall fault };
+    ghost faults = { λ w number script fault.
+        EndsTry (vec_len w.service.now.sites) w.service.now.names.items script fault };
 
     ghost keeps = { λ s t. (t.share.parts ≡ s.share.parts) × (t.begins.parts ≡ s.begins.parts) };
 

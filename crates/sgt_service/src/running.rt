@@ -2,10 +2,10 @@
 
 ghost use Rattle.std.specs.Prelude.{◌≡◌, ◌+◌, ◌<◌, ◌≤◌, IfOk, IfErr, length, vec_len};
 ghost use Rattle.sgt_workers.specs.Answers.{AreShared, IsFault};
-ghost use Rattle.sgt_service_locks.specs.Refused.{IsOfCall};
 ghost use Rattle.sgt_service_locks.specs.Counts.{capped};
 ghost use Rattle.sgt_service_locks.specs.Together.{parts_of, amount_of, begin_parts_of, begins_of, begun_of};
 ghost use Rattle.sgt_service_settle.specs.Settled.{tickets_of};
+ghost use Rattle.sgt_service.specs.Told.{EndsTry};
 ghost use Rattle.sgt_service.specs.Tries.{AreDonesOf, TriesJob};
 
 use crate::runner::Runner;
@@ -22,7 +22,8 @@ use std::thread::Threads;
 /// is withdrawn at that operation and isn't tried again (V5). Gives a Done for each script, in their order, with a ticket
 /// for each try and the values that the reads of the last try answered, and the seats in theirs, once all workers are joined.
 ///
-/// An Err is P1, or a fault of the service's call that a worker made: V3, V4 or V7. Of several it isn't fixed which.
+/// An Err is P1, or a fault that a call of the service told a worker in a try of one of the scripts: V3, V4 or V7.
+/// Of several it isn't fixed which.
 /// A sum whose source no earlier operation reads or writes is S1. The seats and the tickets are then spent.
 ///
 /// The service's gate is told of each job that a worker takes, and of what the service's calls tell. A worker's number is its seat's.
@@ -49,7 +50,9 @@ pub fn run<L: Ledgers + Send + Sync, G: Gate + Sync, R: Threads + Wait + Sync>(
         (λ r. begun_of r.1.items ≡ capped (begun_of seats.items + length (tickets_of r.0.items))) }
     ensures tried { IfOk result
         (λ r. AreShared TriesJob scripts.now seats.items r.0.items r.1.items) }
-    ensures fault { IfErr result (IsFault IsOfCall) }
+    ensures fault { IfErr result (IsFault
+        (λ number script f. EndsTry (vec_len service.now.sites) service.now.names.items script f)
+        scripts.now) }
 {
     let runner = Runner {
         alloc,

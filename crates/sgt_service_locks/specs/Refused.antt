@@ -4,8 +4,9 @@ use Rattle.std.specs.Ordering.{nat_cmp}
 use Rattle.std.specs.Cmp.Lexicographic.{slice_cmp}
 use Rattle.sgt_names.specs.Name.{Name}
 use Rattle.sgt_names.specs.Ordered.{IsRisingBy}
+use Rattle.sgt_names.specs.declared.draft.Touch.{Touch}
 use Rattle.sgt_names.specs.declared.entry.Holding.{Holding}
-use Rattle.sgt_site.specs.State.{SiteState, AreItems}
+use Rattle.sgt_site.specs.State.{SiteState, AreItems, IsSite}
 use Rattle.sgt_site.specs.Refused.{RefusesRead}
 use Rattle.sgt_site.specs.declared.fault.SiteFault.{SiteFault}
 use Rattle.sgt_site.specs.declared.fault.SiteFault.TheVariants as site
@@ -17,6 +18,7 @@ use Rattle.sgt_certifier.specs.declared.call.CertifierFault.TheVariants as certi
 use Rattle.sgt_service_agreement.specs.Fault.{of_site, of_certifier}
 use Rattle.sgt_service_agreement.specs.declared.fault.ServiceFault.{ServiceFault}
 use Rattle.sgt_service_agreement.specs.declared.fault.ServiceFault.TheVariants.{Memory, Site, Certifier, NotPledged}
+use Rattle.sgt_service_locks.specs.Reads.{look_in}
 
 -- the certifier refuses the request, and its fault is handed on
 abbrev pub HandsOn : State → Request → ServiceFault → Type 0
@@ -73,6 +75,15 @@ abbrev pub IsToldOfRead : ℕ → SiteState → ℕ → Name → ServiceFault �
 IsToldOfRead here s tx x f =
     ((s.number ≢ here) × (f ≡ Site site.UnknownItem))
     ⊎ ((s.number ≡ here) × ((told : SiteFault) × RefusesRead s tx x told × (f ≡ of_site told)))
+
+-- a read that is refused, of a transaction with this draft, which doesn't show the item: the item isn't
+-- there; or it is, and memory is wanted for the draft, or some site refuses it
+abbrev pub RefusesReadAt : List (List Name) → (tx : ℕ) → List Touch → ℕ → Name → ServiceFault → Type 0
+RefusesReadAt names tx touched here x f =
+    (look_in touched here x ≡ None)
+    × (((HasItem names here x → ⊥) × (f ≡ Site site.UnknownItem))
+    ⊎ (HasItem names here x
+    × ((f ≡ Memory) ⊎ ((s : SiteState) × IsSite s × IsToldOfRead here s tx x f))))
 
 -- what a site may refuse a read for, and a pledge
 abbrev pub IsOfRead : ServiceFault → Type 0

@@ -52,6 +52,7 @@ impl<L: Ledgers, G: Gate> Service<L, G> {
     ghost use Rattle.sgt_service_locks.specs.Undecided.{IsToldOfCommit, IsToldOfWithdraw, IsUncommitted, IsNotWithdrawn};
     ghost use Rattle.sgt_service_locks.specs.declared.ending.Stop.TheVariants.{Undecided};
     ghost use Rattle.sgt_service_locks.specs.Seats.{CountsEnd, IsBack};
+    ghost use Rattle.sgt_workers.specs.declared.gate.Place.TheVariants.{InStep};
 
     /// Commits or refuses a transaction, in one step under the certifier's lock: at each site that it touches the versions are
     /// asked for, its pledge is taken and its edges are gathered; it is decided on these; and its block is written at each of
@@ -84,6 +85,7 @@ impl<L: Ledgers, G: Gate> Service<L, G> {
         ensures fault { IfErr result (λ back. IsOfCommit back.fault) }
         ensures refused { IfErr result
             (ComesBackBy (IsToldOfCommit (vec_len self.now.sites) active)) }
+        ensures told { OnOk result (G.lets_go self.now.gate seat.old.number InStep) }
     {
         let mut guard = self.certifier.lock(rt);
         let guarded = &mut *guard;
@@ -154,6 +156,7 @@ impl<L: Ledgers, G: Gate> Service<L, G> {
         ensures kept { OnOk result (guarded.new.lost ≡ guarded.old.lost) }
         ensures leaves { IfErr result
             (LeavesGuard guarded.old.certifier guarded.new.certifier guarded.old.lost guarded.new.lost) }
+        ensures told { OnOk result (G.lets_go self.now.gate seat.old.number InStep) }
     {
         let (edges, pledges) = match self.gathered(rt, alloc, guarded, active) {
             Ok(gathered) => gathered,

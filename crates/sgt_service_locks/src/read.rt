@@ -3,6 +3,7 @@
 ghost use Rattle.std.specs.Prelude.{◌≡◌, None, Some, IsTrue, IfOk, IfErr, OnOk, OnErr};
 ghost use Rattle.sgt_names.specs.Draft.{change_at, ChangesOnly};
 ghost use Rattle.sgt_service_locks.specs.Reads.{look_in, ReadsAt, SameActive};
+ghost use Rattle.sgt_site.specs.State.{IsSite};
 ghost use Rattle.sgt_service_locks.specs.Refused.{IsToldOfRead};
 
 use crate::active::Active;
@@ -24,7 +25,9 @@ impl<L: Ledgers, G: Gate> Service<L, G> {
     ghost use Rattle.std.specs.Prelude.{◌≡◌, ◌<◌, None, Some, Err, IsTrue, IsSome, IsOk, IfOk, IfErr, OnOk, OnErr, vec_len};
     ghost use Rattle.sgt_service_locks.specs.Counts.{AreCounted, only_at, with_read};
     ghost use Rattle.sgt_service_locks.specs.Reads.{look_in, GainsRead, IsOfActive, SameActive};
-    ghost use Rattle.sgt_service_locks.specs.Refused.{HasItem, IsOfRead};
+    ghost use Rattle.sgt_service_locks.specs.Refused.{HasItem, IsOfRead, IsToldOfRead, RefusesReadAt};
+    ghost use Rattle.sgt_site.specs.State.{SiteState, IsSite};
+    ghost use Rattle.sgt_workers.specs.declared.gate.Place.TheVariants.{InRead, AfterRead};
     ghost use Rattle.sgt_service_locks.specs.Seats.{SameSeat};
 
     /// Reads an item. What the transaction wrote or read before is answered from its draft. Else the item is read and logged at
@@ -59,7 +62,12 @@ impl<L: Ledgers, G: Gate> Service<L, G> {
         ensures unknown { (HasItem self.now.names.items site item → ⊥)
             → look_in active.old.draft.touched site item ≡ None
             → result ≡ Err (AtSite UnknownItem) }
+        ensures refused { IfErr result
+            (RefusesReadAt self.now.names.items active.old.tx active.old.draft.touched site item) }
         ensures fault { IfErr result IsOfRead }
+        ensures told { OnOk result (look_in active.old.draft.touched site item ≡ None
+            → G.lets_go self.now.gate seat.old.number (InRead site)
+            × G.lets_go self.now.gate seat.old.number (AfterRead site)) }
     {
         if let Some(value) = active.draft.look(site, item) {
             return Ok(value);
@@ -110,7 +118,10 @@ impl<L: Ledgers, G: Gate> Service<L, G> {
             (GainsRead site item active.old.draft.touched active.new.draft.touched) }
         ensures named { IsOfActive active.old active.new }
         ensures err { OnErr result (SameActive active.old active.new) }
+        ensures refused { IfErr result
+            (λ f. (s : SiteState) × IsSite s × IsToldOfRead site s active.old.tx item f) }
         ensures fault { IfErr result IsOfRead }
+        ensures told { G.lets_go self.now.gate seat.now.number (InRead site) }
     {
         let (mut guard, unread) = self.lock_to_read(rt, site, active);
         self.gate.arrive(seat.number, Place::InRead(site));
@@ -137,7 +148,9 @@ fn read_held(
     ensures value { IfOk result (λ v. look_in active.new.draft.touched site item ≡ Some v) }
     ensures err { OnErr result ((held.new ≡ held.old) × SameActive active.old active.new) }
     ensures refused { IfErr result (IsToldOfRead site held.old active.old.tx item) }
+    ensures site { IsSite held.old }
 {
+    let _items = held.items();
     if !is_numbered(held, site) {
         return Err(ServiceFault::Site(SiteFault::UnknownItem));
     }

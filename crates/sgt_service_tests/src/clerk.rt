@@ -74,7 +74,7 @@ impl<'a> Clerk<'a> {
 impl<'a> Work<usize, Errand, Mishap> for Clerk<'a> {
     ghost answers = { λ clerk number errand done. Unit {0} };
 
-    ghost faults = { λ clerk mishap. Unit {0} };
+    ghost faults = { λ clerk number errand mishap. Unit {0} };
 
     ghost keeps = { λ s t. Unit {0} };
 

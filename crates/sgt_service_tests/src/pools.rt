@@ -92,34 +92,64 @@ fn each_job_is_run_once(rt: HostRuntime) -> Result<(), Fail> {
 }
 
 #[test]
-fn faults_begin_with_their_names(rt: HostRuntime) -> Result<(), Fail> {
+fn faults_tell_their_names(rt: HostRuntime) -> Result<(), Fail> {
     let pools = [
-        (PoolFault::Memory, "P1: "),
-        (PoolFault::Unrun(7), "P2: job 7 "),
-        (PoolFault::Doubled(7), "P3: job 7 "),
+        (PoolFault::Memory, "P1: out of memory"),
+        (PoolFault::Unrun(7), "P2: job 7 was not run"),
+        (PoolFault::Doubled(7), "P3: job 7 was run twice"),
     ];
-    for (fault, start) in pools {
+    for (fault, whole) in pools {
         let text = format!(in rt.alloc(); "{fault}")?;
-        assert!(rt; text.as_str().starts_with(start), "{text}");
+        assert_eq!(rt; text.as_str(), whole);
     }
     let site = SiteNo::new(3)?;
     let services = [
-        (ServiceFault::StrayTicket(5), "V1: "),
-        (ServiceFault::TwoTickets(5), "V2: "),
-        (ServiceFault::Memory, "V3: "),
+        (
+            ServiceFault::StrayTicket(5),
+            "V1: the ticket of number 5 is of no decision",
+        ),
+        (
+            ServiceFault::TwoTickets(5),
+            "V2: two tickets have the number 5",
+        ),
+        (ServiceFault::Memory, "V3: out of memory"),
+        (
+            ServiceFault::SumTooLarge,
+            "V5: a sum is above the greatest value",
+        ),
+        (
+            ServiceFault::MissingTicket(5),
+            "V6: the decision of number 5 has no ticket",
+        ),
+        (
+            ServiceFault::NotPledged(site),
+            "V7: site 3 has lost a pledge, or its versions are not those of the history",
+        ),
+        (
+            ServiceFault::TicketOrder(5),
+            "V8: the tickets of job 5 do not rise",
+        ),
+        (
+            ServiceFault::LogDiffers(site),
+            "V9: the log of site 3 is not what was counted or decided on there",
+        ),
+        (
+            ServiceFault::VersionsDiffer(site),
+            "V10: the versions of site 3 are not those of the history",
+        ),
+    ];
+    for (fault, whole) in services {
+        let text = format!(in rt.alloc(); "{fault}")?;
+        assert_eq!(rt; text.as_str(), whole);
+    }
+    let handed_on = [
         (ServiceFault::Site(SiteFault::UnknownItem), "V4: S1: "),
         (
             ServiceFault::Certifier(CertifierFault::WindowFull),
             "V4: C1: ",
         ),
-        (ServiceFault::SumTooLarge, "V5: "),
-        (ServiceFault::MissingTicket(5), "V6: "),
-        (ServiceFault::NotPledged(site), "V7: site 3 "),
-        (ServiceFault::TicketOrder(5), "V8: "),
-        (ServiceFault::LogDiffers(site), "V9: "),
-        (ServiceFault::VersionsDiffer(site), "V10: "),
     ];
-    for (fault, start) in services {
+    for (fault, start) in handed_on {
         let text = format!(in rt.alloc(); "{fault}")?;
         assert!(rt; text.as_str().starts_with(start), "{text}");
     }

@@ -61,22 +61,26 @@ final x=5
 end
 ";
 
-const ROWS: [(&str, &str, Outcome); 6] = [
-    (INPUT, OUTPUT, Outcome::Yes),
-    (LARGE, WITHDRAWN, Outcome::No),
-    ("site 0 x=5\n", NONE, Outcome::Yes),
-    // an item that isn't there, a source that no earlier operation names, no line at all
+// The last is the number of the first read that fails, where one does.
+const ROWS: [(&str, &str, Outcome, Option<u64>); 6] = [
+    (INPUT, OUTPUT, Outcome::Yes, None),
+    (LARGE, WITHDRAWN, Outcome::No, None),
+    ("site 0 x=5\n", NONE, Outcome::Yes, None),
+    // an item that isn't there, a source that no earlier operation names, no line at all. Behind a line that can't be
+    // read no further read is made: it would fail
     (
         "site 0 x=5\nw[0.x]=1\nr[0.q]\n",
         "! L1 line 3\n",
         Outcome::Unreadable,
+        Some(28),
     ),
     (
         "site 0 x=5\nd[0.x]=1 w[0.x]=0.x+1\n",
         "! L1 line 2\n",
         Outcome::Unreadable,
+        Some(34),
     ),
-    ("", "! L1 line 1\n", Outcome::Unreadable),
+    ("", "! L1 line 1\n", Outcome::Unreadable, None),
 ];
 
 // How a run of one worker ends, of whose input one byte is read at a time.
@@ -93,9 +97,9 @@ fn ended<R: Threads + Wait + Sync>(
 
 #[test]
 fn rows_of_one_worker(rt: HostRuntime) -> Result<(), Fail> {
-    for (input, output, outcome) in ROWS {
+    for (input, output, outcome, fail_at) in ROWS {
         let mut writer = MemSink::new(rt.alloc(), ROOM)?;
-        let ended = ended(&rt, rt.alloc(), input, None, &mut writer);
+        let ended = ended(&rt, rt.alloc(), input, fail_at, &mut writer);
         assert_eq!(rt; ended, Ok(outcome));
         assert_eq!(rt; writer.bytes(), output.as_bytes());
     }

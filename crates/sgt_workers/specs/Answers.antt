@@ -58,8 +58,9 @@ abbrev pub IsOwn : {E : Type 0} → PoolFail E → Type 0
 IsOwn (Work e) = ⊥
 IsOwn (Pool f) = ⊤
 
--- a fault that the work may end with, or want of memory: none of the pool's jobs is left out, and none
--- is run twice
-abbrev pub IsFault : {E : Type 0} → (E → Type 0) → PoolFail E → Type 0
-IsFault faults (Work e) = faults e
-IsFault faults (Pool f) = f ≡ Memory
+-- a fault that the work may end with on one of these jobs, whose script is the one of its number, from
+-- 1; or want of memory: none of the pool's jobs is left out, and none is run twice
+abbrev pub IsFault : {C E : Type 0} → (ℕ → C → E → Type 0) → List C → PoolFail E → Type 0
+IsFault {C} faults scripts (Work e) = (number : ℕ) × (c : C) × (0 < number)
+    × (slice_get scripts (number - 1) ≡ Some c) × faults number c e
+IsFault faults scripts (Pool f) = f ≡ Memory

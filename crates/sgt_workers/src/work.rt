@@ -19,8 +19,8 @@ pub trait Work<S, C, E> {
     /// A right Done of the job with this number and this script.
     ghost answers: { Self → ℕ → C → Done → Type 0 };
 
-    /// A fault that a call may end with.
-    ghost faults: { Self → E → Type 0 };
+    /// A fault that a call on the job with this number and this script may end with.
+    ghost faults: { Self → ℕ → C → E → Type 0 };
 
     /// What a call keeps of a worker's state.
     ghost keeps: { S → S → Type 0 };
@@ -34,7 +34,8 @@ pub trait Work<S, C, E> {
         ensures job { IfOk result (λ d. d.job ≡ job.entry.number) }
         ensures answer { IfOk result
             (λ d. answers self.now job.entry.number job.entry.script.now d) }
-        ensures fault { IfErr result (λ e. faults self.now e) }
+        ensures fault { IfErr result
+            (λ e. faults self.now job.entry.number job.entry.script.now e) }
         ensures does { IfOk result
             (λ d. does self.now state.old job.entry.number job.entry.script.now d state.new) }
         ensures keeps { keeps state.old state.new };

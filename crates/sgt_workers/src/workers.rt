@@ -41,7 +41,7 @@ pub fn pool<
     ensures shares { IfOk result
         (λ r. AreShared (W.does work.now) scripts.now states.items r.0.items r.1.items) }
     ensures states { IfOk result (λ r. AllZip W.keeps states.items r.1.items) }
-    ensures fault { IfErr result (IsFault (W.faults work.now)) }
+    ensures fault { IfErr result (IsFault (W.faults work.now) scripts.now) }
 {
     if scripts.is_empty() {
         return Ok(no_jobs(alloc, states, work));
@@ -127,7 +127,7 @@ fn run_workers<
         IfOk e (λ r. All
         (IsAnswer (W.answers work.now) scripts.now) r.dones.items)) v.items) }
     ensures fault { IfOk result
-        (λ v. All (λ e. IfErr e (IsFault (W.faults work.now))) v.items) }
+        (λ v. All (λ e. IfErr e (IsFault (W.faults work.now) scripts.now)) v.items) }
 {
     let one = |kit: Kit<S>| -> Result<Report<S>, PoolFail<E>>
         requires { IsBegun (receives_on receiver.now) (length scripts.now) kit.pass }
@@ -138,7 +138,7 @@ fn run_workers<
             (IsReport (W.does work.entry.now) scripts.entry.now kit.state) }
         ensures answers { IfOk result
             (λ r. All (IsAnswer (W.answers work.entry.now) scripts.entry.now) r.dones.items) }
-        ensures fault { IfErr result (IsFault (W.faults work.entry.now)) }
+        ensures fault { IfErr result (IsFault (W.faults work.entry.now) scripts.entry.now) }
     {
         let Kit {
             mut state,

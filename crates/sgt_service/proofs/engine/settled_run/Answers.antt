@@ -1,8 +1,9 @@
-use Rattle.std.proofs.Common.{◌≡◌, ◌∙◌, ap, arith, inl, inr, length, refl, vec_len}
+use Rattle.std.proofs.Common.{◌≡◌, ◌∙◌, ap, arith, inl, inr, length, refl, rules, sym, vec_len}
 use Rattle.std.proofs.lemmas.List.{length-map}
 use Rattle.sgt_names.specs.Log.{names}
 use Rattle.sgt_service.proofs.Ordering.{numbered_rise}
 use Rattle.sgt_service.proofs.Reporting.{ends_unsettled, left_of}
+use Rattle.sgt_service.proofs.Telling.{run_ended}
 use Rattle.sgt_service.proofs.engine.settled_run.Goals as goal
 
 pub returns-in-None-clause-run : goal.returns-in-None-clause-run
@@ -42,3 +43,14 @@ returns-in-Some-clause-fault g c =
       began = began;
       told = refl;
     })))
+
+pub returns-in_err-dones-clause-fault : goal.returns-in_err-dones-clause-fault
+returns-in_err-dones-clause-fault g c =
+    let service = c.in-Ok.opened.0 in
+    let named : vec_len service.names ≡ length c.args.sites.now =
+    service.names.ok.0 ∙ ap length c.in-Ok.ensures.names ∙ length-map c.args.sites.now names in
+    search (
+      rules,
+      run_ended c.args.scripts.now c.args.sites.now c.args.tries (vec_len service.sites) service.names.items
+          (sym service.named ∙ named) c.in-Ok.ensures.names,
+    )

@@ -2,6 +2,7 @@ use Rattle.std.proofs.Common.{◌≡◌, Ok, false, ap, arith, refl, rules, subs
 use Rattle.sgt_names.specs.Draft.{AreRising, DraftView}
 use Rattle.sgt_names.proofs.Lists.{element_at}
 use Rattle.sgt_service.specs.Operations.{op_fits}
+use Rattle.sgt_service.proofs.Telling.{undone_at}
 use Rattle.sgt_service.proofs.Doing.{does_next_at, does_stop_at}
 use Rattle.sgt_service.proofs.Keeping.{counted_same, op_counts, reads_on, unfit_counts}
 use Rattle.sgt_service.proofs.runner.Runner.apply_all.Goals as goal
@@ -44,3 +45,16 @@ pub returns-then-not-branch-clause-does : goal.returns-then-not-branch-clause-do
 returns-then-not-branch-clause-does g c =
     let here = element_at c.as_slice-operations.result.now c.loop-op.op-index c.op-item.result (omega arith) c.op-item.is in
     search (rules, does_stop_at c.as_slice-operations.result.now c.loop-op.op-index c.op-item.result _ _ _ _ here c.loop-op.invariant.done)
+
+pub returns-in_err-apply-clause-refused : goal.returns-in_err-apply-clause-refused
+returns-in_err-apply-clause-refused g c =
+    let op = c.op-item.result in
+    let shown = c.as_slice-operations.result.now in
+    let here = element_at shown c.loop-op.op-index op (omega arith) c.op-item.is in
+    search (
+      rules,
+      undone_at c.args.self.now.service.now.names.items c.args.active.now.tx c.loop-op.active.tx
+          c.args.script.now.operations shown c.loop-op.op-index op c.args.active.now.draft.touched
+          c.loop-op.active.draft.touched c.args.reads.now.items c.loop-op.reads.items c.as_slice-operations.ensures here
+          c.loop-op.invariant.done c.loop-op.invariant.named.0,
+    )

@@ -1,7 +1,8 @@
-use Rattle.std.proofs.Common.{◌≡◌, ◌∙◌, ◌++◌, ◌∷◌, [], List, ap, rules, subst, sym}
+use Rattle.std.proofs.Common.{◌≡◌, ◌∙◌, ◌++◌, ◌∷◌, [], List, ap, rules, subst, sym, vec_len}
 use Rattle.std.proofs.lemmas.List.Elements.{All-push}
 use Rattle.sgt_workers.specs.declared.ticket.Ticket.{Ticket}
 use Rattle.sgt_service.specs.Tries.{AreTriesOf, IsRefused}
+use Rattle.sgt_service.proofs.Telling.{want_ends}
 use Rattle.sgt_service.proofs.Tries.{last_more, tried_more, tries_end, tries_more, tries_spent, try_of}
 use Rattle.sgt_service.proofs.runner.RunnerWorkSeatScriptServiceFault.work.Goals as goal
 
@@ -48,3 +49,8 @@ returns-then-ne-clause-does g c =
     c.push_reserved.ensures.items ∙ ap (λ (ts : List Ticket). ts ++ t ∷ []) c.in_ok-reserve.ensures.items in
     rw pushed (tried_more ops c.loop.tickets.items t c.try_once.new.reads.items c.args.seat.now c.loop.seat c.try_once.new.seat
     c.loop.invariant.tried c.in_ok-ticket.ensures.tries)
+
+pub returns-in_err-reserve-clause-fault : goal.returns-in_err-reserve-clause-fault
+returns-in_err-reserve-clause-fault g c =
+    let service = c.args.self.now.service.now in
+    want_ends (vec_len service.sites) service.names.items c.args.job.script.now c.from_residual.result (search rules)
