@@ -4,3 +4,4 @@ pub mod Decided
 pub mod NextEnds
 pub mod Firsts
 pub mod Numbered
+pub mod Reached

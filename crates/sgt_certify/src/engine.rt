@@ -1,9 +1,10 @@
 //! The certificate of all that a reader gives.
 
-ghost use Rattle.std.specs.Prelude.{◌≡◌, ◌≢◌, ◌<◌, ◌++◌, ◌↔◌, ℕ, true, List, Option, Some, Err, IfErr, IfOk, IfSome, IsErrOf, OnErr};
+ghost use Rattle.std.specs.Prelude.{◌≡◌, ◌≢◌, ◌-◌, ◌<◌, ◌++◌, ◌↔◌, ℕ, true, List, Option, Some, Err, length, IfErr, IfOk, IfSome, IsErrOf, OnErr};
 ghost use Rattle.sgt_notation.specs.Lines.{ReadFaultIsDue};
 ghost use Rattle.sgt_audit.specs.Faults.{fault_number};
 ghost use Rattle.sgt_certify.specs.Answer.{HasCertificate, IsAnswer, IsTaken, fault_text, WroteAnswer, WroteAnswerFront};
+ghost use Rattle.sgt_certify.specs.Reach.{BeginsNoneBehind, ReadsAll, ReadsNoFurther};
 ghost use Rattle.sgt_certify.specs.Reasons.{IsDecidedAnswer, IsToldBy, Passes};
 ghost use Rattle.sgt_certify_search.specs.declared.finding.Found.TheVariants.{Refused};
 ghost use Rattle.sgt_certify_search.specs.declared.finding.Reason.{Reason as AnyReason};
@@ -137,7 +138,7 @@ fn answer_to(alloc: Global, taken: Taken) -> Result<Answer, EngineFail>
 /// Reads the text of a bundle without its second line, and writes it with the line of a certificate that makes its logs valid; or
 /// the reason why there is none: `no line L FN`, `no order`, `no ranks` or `no walk` and the lines that show it. Where what the search
 /// found doesn't pass its check, the answer is decided anew, by a search that is proved and slow; no input is known for which it is.
-/// All but a line that is too long and what follows it is read before anything is written.
+/// All is read before anything is written, but no further than into a line that is too long.
 ///
 /// ReadFault where the reader failed, or no read is left, and Memory where a growth was refused: nothing was written.
 /// WriteFault where the writer failed: a front of the answer may have been written.
@@ -152,6 +153,12 @@ pub fn certify<R: Source, W: Sink>(
     ensures exact { IfOk result
         (λ outcome. IfSome (R.tells reader.old)
         (λ bytes. outcome ≡ Outcome.Yes ↔ HasCertificate bytes)) }
+    ensures no_further { IfOk result (λ _. IfSome (R.tells reader.old) (λ bytes.
+        ReadsNoFurther bytes (R.asked reader.new - R.asked reader.old))) }
+    ensures none_behind { IfOk result (λ _. IfSome (R.tells reader.old) (λ bytes. IfSome (R.tells reader.new)
+        (λ left. BeginsNoneBehind bytes (length left) (R.last reader.new)))) }
+    ensures reads_all { IfOk result (λ _. IfSome (R.tells reader.old) (λ bytes. IfSome (R.tells reader.new)
+        (ReadsAll bytes))) }
     ensures front { OnErr result
         (WroteAnswerFront (R.tells reader.old) (W.holds writer.old) (W.holds writer.new)) }
     ensures unwritten { IsErrOf result EngineFail.ReadFault → writer.new ≡ writer.old }

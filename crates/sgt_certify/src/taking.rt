@@ -1,9 +1,10 @@
 //! All that a reader gives.
 
-ghost use Rattle.std.specs.Prelude.{◌≡◌, ◌≢◌, ◌≤◌, ◌∷◌, ◌++◌, ℕ, [], length, take, Err, IfOk, IsErrOf, OnOk};
+ghost use Rattle.std.specs.Prelude.{◌≡◌, ◌≢◌, ◌≤◌, ◌-◌, ◌∷◌, ◌++◌, ℕ, [], length, take, Err, IfOk, IfSome, IsErrOf, OnOk};
 ghost use Rattle.sgt_names.specs.Limits.{most_reads};
 ghost use Rattle.sgt_notation.specs.Lines.{ReadFaultIsDue, passed};
 ghost use Rattle.sgt_certify.specs.Answer.{IsTaken};
+ghost use Rattle.sgt_certify.specs.Reach.{AreShort, BeginsNoneBehind, ReadsAll, ReadsNoFurther};
 
 use memchr::memrchr;
 use sgt_names::{EngineFail, MAX_LINE, Source};
@@ -18,11 +19,13 @@ fn push_line(text: &mut Vec<u8>, line: &[u8]) -> Result<(), AllocError>
     text.extend_from_slice(b"\n")
 }
 
-/// How many bytes the lines have that stand whole in these, with their LFs.
+/// How many bytes the lines have, with their LFs, that stand whole in the first of these: as many as a line may have.
 fn whole_lines(bytes: &[u8]) -> usize
-    ensures { result ≤ length bytes.now }
+    ensures within { result ≤ length bytes.now }
+    ensures short { AreShort (take result bytes.now) }
 {
-    match memrchr(b'\n', bytes) {
+    let most = bytes.len().min(MAX_LINE);
+    match memrchr(b'\n', &bytes[..most]) {
         Some(last) => last + 1,
         None => 0,
     }
@@ -32,7 +35,8 @@ fn whole_lines(bytes: &[u8]) -> usize
 fn take_held(lines: &mut Lines, text: &mut Vec<u8>) -> Result<(), AllocError>
     ensures { OnOk result
         ((n : ℕ) × (lines.new ≡ passed n lines.old)
-        × (text.new.items ≡ text.old.items ++ take n lines.old.held)) }
+        × (text.new.items ≡ text.old.items ++ take n lines.old.held)
+        × AreShort (take n lines.old.held)) }
 {
     let n = whole_lines(lines.held());
     text.extend_from_slice(&lines.held()[..n])?;
@@ -50,6 +54,12 @@ fn take_lines<R: Source>(
     requires fresh { lines.old ≡ record { held = []; reads = most_reads } }
     requires none { text.old.items ≡ [] }
     ensures taken { IfOk result (λ all. IsTaken (R.tells reader.old) text.new.items all) }
+    ensures no_further { IfOk result (λ _. IfSome (R.tells reader.old) (λ bytes.
+        ReadsNoFurther bytes (R.asked reader.new - R.asked reader.old))) }
+    ensures none_behind { IfOk result (λ _. IfSome (R.tells reader.old) (λ bytes. IfSome (R.tells reader.new)
+        (λ left. BeginsNoneBehind bytes (length left) (R.last reader.new)))) }
+    ensures reads_all { IfOk result (λ _. IfSome (R.tells reader.old) (λ bytes. IfSome (R.tells reader.new)
+        (ReadsAll bytes))) }
     ensures quiet { result ≢ Err EngineFail.ReadFault
         → R.failures reader.new ≡ R.failures reader.old }
     ensures read_fault { IsErrOf result EngineFail.ReadFault → ReadFaultIsDue (R.tells reader.old)
@@ -85,6 +95,12 @@ pub struct Taken {
 /// needed, or Memory.
 pub fn take_text<R: Source>(alloc: Global, reader: &mut R) -> Result<Taken, EngineFail>
     ensures taken { IfOk result (λ taken. IsTaken (R.tells reader.old) taken.text.items taken.all) }
+    ensures no_further { IfOk result (λ _. IfSome (R.tells reader.old) (λ bytes.
+        ReadsNoFurther bytes (R.asked reader.new - R.asked reader.old))) }
+    ensures none_behind { IfOk result (λ _. IfSome (R.tells reader.old) (λ bytes. IfSome (R.tells reader.new)
+        (λ left. BeginsNoneBehind bytes (length left) (R.last reader.new)))) }
+    ensures reads_all { IfOk result (λ _. IfSome (R.tells reader.old) (λ bytes. IfSome (R.tells reader.new)
+        (ReadsAll bytes))) }
     ensures quiet { result ≢ Err EngineFail.ReadFault
         → R.failures reader.new ≡ R.failures reader.old }
     ensures read_fault { IsErrOf result EngineFail.ReadFault → ReadFaultIsDue (R.tells reader.old)

@@ -21,6 +21,7 @@ use Rattle.sgt_audit.specs.Faults.{fault_number, section_with, open_section, ini
 use Rattle.sgt_audit.specs.Faults.{logged_in as entry_in}
 use Rattle.sgt_explain_lines.specs.Numbered.{HasLine, with_line, open_lines, stated_in, logged_in, numbered_items, numbered_entries}
 use Rattle.sgt_explain_lines.specs.Values.{holdings_of, entries_of}
+use Rattle.sgt_explain.specs.Shown.{lines_before}
 use Rattle.sgt_notation.proofs.Texts.{line_front}
 
 -- ---- the open section, with the numbers of its lines and without
@@ -259,6 +260,23 @@ module _ (bytes rest : List ℕ) (n : ℕ) where
   left-of (complete second c before) (last l) text kept number comes breaks = absurd (breaks.broken tt)
   left-of (within second c before) (whole l) text kept number comes breaks =
       inside bytes rest l n second c before text kept number comes fault.NotEnded (breaks.least fault.Notation (omega arith)) (breaks.least fault.Section (omega arith)) (breaks.least fault.Item) (breaks.least fault.End) breaks.broken
+
+  -- a line that the section doesn't allow spells one all the same
+  section-of : (stage : Stage) (next : Piece) → bytes ≡ text_of_lines (lines_so_far stage) ++ rest → IsFaultless stage → n ≡ length (lines_so_far stage) + 1 → ComesNext rest next
+      → Breaks (Rule stage next) fault.Section → (line : SectionLine) × HasLine bytes n (lines_before stage) line
+  section-of start (whole l) text kept number comes breaks = absurd (breaks.broken tt)
+  section-of start (last l) text kept number comes breaks = absurd (breaks.broken tt)
+  section-of (headed second) (whole l) text kept number comes breaks = absurd (breaks.broken (λ c is e. tt))
+  section-of (headed second) (last l) text kept number comes breaks = absurd (breaks.broken tt)
+  section-of (within second c before) (last l) text kept number comes breaks = absurd (breaks.broken tt)
+  section-of (complete second c before) (whole l) text kept number comes breaks = absurd (breaks.broken tt)
+  section-of (complete second c before) (last l) text kept number comes breaks = absurd (breaks.broken tt)
+  section-of (within second c before) (whole l) text kept number comes breaks =
+      let spelled = breaks.least fault.Notation (omega arith) in
+      (spelled.0, has-line bytes rest l n second c before text kept number comes spelled.0 spelled.1.0 spelled.2)
+
+pub section-line : (bytes : List ℕ) (n : ℕ) (first : FirstFault bytes n fault.Section) → (line : SectionLine) × HasLine bytes n (lines_before first.stage) line
+section-line bytes n first = section-of bytes first.rest n first.stage first.next first.text first.faultless first.number first.comes first.breaks
 
 pub rank-line : (bytes : List ℕ) (n : ℕ) (first : FirstFault bytes n fault.RankOrder) → FaultyLine bytes n fault.RankOrder first.stage first.next
 rank-line bytes n first = rank-of bytes first.rest n first.stage first.next first.text first.faultless first.number first.comes first.breaks

@@ -28,7 +28,7 @@ use Rattle.sgt_explain_lines.specs.Values.{holdings_of, entries_of, last_change,
 use Rattle.sgt_explain_lines.specs.declared.section.Logged.{Logged as LoggedEntry}
 use Rattle.sgt_explain_lines.specs.declared.section.Section.{Section}
 use Rattle.sgt_explain_lines.specs.declared.values.Misvalued.{Misvalued}
-use Rattle.sgt_explain_decisions.specs.Against.{StandAgainst}
+use Rattle.sgt_explain_decisions.specs.Against.{StandAgainst, IsFirstAgainst}
 use Rattle.sgt_explain_decisions.specs.declared.order.RanksShown.{RanksShown}
 use Rattle.sgt_explain.specs.Shown.{lines_before, decisions_before, ShowsValue, ShowsRead, ShowsFinal, ShowsRanks, read_in, final_in}
 use Rattle.sgt_explain.proofs.FaultyLine.{FaultyLine, items-same, entries-same, read-line, final-line, rank-line}
@@ -193,8 +193,9 @@ module _ (bytes : List ℕ) (n : ℕ) (first : FirstFault bytes n fault.RankOrde
       → shown.site ≡ unwrap_or section.site 0 → Contains section.entries.items shown.first.logged → shown.second.logged ≡ logged
       → IsCommitted d.decisions shown.first.number (tx_of shown.first.logged.entry) shown.first.rank
       → IsCommitted d.decisions shown.second.number (tx_of shown.second.logged.entry) shown.second.rank → StandAgainst shown.first shown.second shown.kind shown.item
+      → (IsDecidedOnce d.decisions → IsFirstAgainst d.decisions section.entries.items shown.first.logged logged.entry)
       → ShowsRanks (decisions_before first.stage) (lines_before first.stage) (bytes_of first.next) n shown
-  shows-ranks section d logged shown are one at site among same one-rank other-rank stand =
+  shows-ranks section d logged shown are one at site among same one-rank other-rank stand earlier =
       let is = are found_ranks.before found_ranks.line found_ranks.has in
       let cert = found_ranks.certified in
       let decisions : d.decisions ≡ found_ranks.c.decisions =
@@ -208,6 +209,11 @@ module _ (bytes : List ℕ) (n : ℕ) (first : FirstFault bytes n fault.RankOrde
         first = subst (λ ds. IsCommitted ds shown.first.number (tx_of shown.first.logged.entry) shown.first.rank) decisions one-rank;
         second = subst (λ ds. IsCommitted ds shown.second.number (tx_of shown.second.logged.entry) shown.second.rank) decisions other-rank;
         stand = stand;
+        earlier =
+            let once : IsDecidedOnce d.decisions = subst IsDecidedOnce (sym decisions) (found_ranks.kept.itself fault.DecidedTwice) in
+            subst (λ e. IsFirstAgainst found_ranks.c.decisions (numbered_entries found_ranks.before) shown.first.logged e) (ap (λ (g : LoggedEntry). g.entry) (sym same))
+            (subst (λ es. IsFirstAgainst found_ranks.c.decisions es shown.first.logged logged.entry) is.entries
+            (subst (λ ds. IsFirstAgainst ds section.entries.items shown.first.logged logged.entry) decisions (earlier once)));
       })
 
   -- an entry that stands against none before it keeps the ranks
@@ -232,11 +238,12 @@ module _ (bytes : List ℕ) (n : ℕ) (first : FirstFault bytes n fault.RankOrde
       → IfSome found (λ s. IsCommitted d.decisions s.first.number (tx_of s.first.logged.entry) s.first.rank)
       → IfSome found (λ s. IsCommitted d.decisions s.second.number (tx_of s.second.logged.entry) s.second.rank)
       → IfSome found (λ s. StandAgainst s.first s.second s.kind s.item)
+      → (IsDecidedOnce d.decisions → IfSome found (λ s. IsFirstAgainst d.decisions section.entries.items s.first.logged logged.entry))
       → (IsDecidedOnce d.decisions → IfNone found (All (λ (l : LoggedEntry). RiseInRank d.decisions l.entry logged.entry) section.entries.items))
       → IsSomeAnd found (ShowsRanks (decisions_before first.stage) (lines_before first.stage) (bytes_of first.next) n)
-  shows-ranks-found section d logged (Some shown) are one at site among same one-rank other-rank stand none =
-      shows-ranks section d logged shown are one at site among same one-rank other-rank stand
-  shows-ranks-found section d logged None are one at site among same one-rank other-rank stand none =
+  shows-ranks-found section d logged (Some shown) are one at site among same one-rank other-rank stand earlier none =
+      shows-ranks section d logged shown are one at site among same one-rank other-rank stand earlier
+  shows-ranks-found section d logged None are one at site among same one-rank other-rank stand earlier none =
       let before = found_ranks.before in
       let is = are before found_ranks.line found_ranks.has in
       let cert = found_ranks.certified in

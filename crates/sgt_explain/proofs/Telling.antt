@@ -13,7 +13,7 @@ use Rattle.sgt_explain_steps.specs.Told.{walk_step_text}
 use Rattle.sgt_explain_steps.specs.declared.unmet.Unmet.{Unmet}
 use Rattle.sgt_names.specs.declared.outcome.Outcome.{Outcome}
 use Rattle.sgt_audit.specs.Verdict.{IsVerdict}
-use Rattle.sgt_explain.specs.Asked.{TellsAsked}
+use Rattle.sgt_explain.specs.Asked.{TellsAsked, TellsIfYes}
 use Rattle.sgt_explain.specs.Explained.{Tells, Means, MeansOf, IsExplained, IsExplainedOf, WroteExplained, WroteExplainedOf}
 use Rattle.sgt_explain.specs.Shown.{lines_before, decisions_before, ShowsRead, ShowsFinal, ShowsRanks}
 use Rattle.sgt_explain.specs.Steps.{ShowsStep}
@@ -82,12 +82,13 @@ pub if-ok : {T E : Type 0} {P Q : T → Type 0} (r : Result T E) → ((t : T) �
 if-ok (Ok t) f p = f t p
 if-ok (Err e) f p = tt
 
-pub means-both : (bytes : List ℕ) (asked : Option ℕ) (v : Verdict) (told more meaning : List ℕ) → Tells bytes v [] told → TellsAsked bytes v asked [] more → meaning ≡ told ++ more → MeansOf bytes asked v meaning
-means-both bytes asked v told more meaning tells dealings text = record {
+pub means-both : (bytes : List ℕ) (asked : Option ℕ) (v : Verdict) (told more meaning : List ℕ) → Tells bytes v [] told → TellsIfYes bytes asked v [] told → TellsAsked bytes v asked [] more → meaning ≡ told ++ more → MeansOf bytes asked v meaning
+means-both bytes asked v told more meaning tells each dealings text = record {
   said = told;
   more = more;
   text = text;
   told = tells;
+  cycles = each;
   dealings = dealings;
 }
 

@@ -1,9 +1,9 @@
 -- What is told of one transaction that is asked for.
-use Rattle.std.specs.Prelude.{◌≡◌, ℕ, List, ◌∷◌, ◌++◌, Option, Some, None}
-use Rattle.sgt_notation.specs.Spelling.{HasNoLf}
+use Rattle.std.specs.Prelude.{◌≡◌, ◌≢◌, ◌⊎◌, ℕ, ◌+◌, List, ◌∷◌, ◌++◌, All, length, Option, Some, None, IsSome}
+use Rattle.sgt_notation.specs.Spelling.{HasNoLf, text_of_lines}
 use Rattle.sgt_cert.specs.Text.{certificate_text, sections_from, IsCertificate, Spells}
 use Rattle.sgt_cert.specs.declared.certificate.Certificate.{Certificate}
-use Rattle.sgt_explain_decisions.specs.Fate.{TellsFate}
+use Rattle.sgt_explain_decisions.specs.Fate.{TellsFate, TellsRefusals}
 use Rattle.sgt_explain_dealings.specs.Dealings.{TellsDealings, TellsOwn, own_of}
 use Rattle.sgt_audit.specs.Faults.{FirstFault}
 use Rattle.sgt_audit.specs.declared.verdict.Verdict.{Verdict}
@@ -23,11 +23,30 @@ AreSeen bytes (No line f) lines = (first : FirstFault bytes line f) × (lines �
 AreSeen bytes (Yes committed refused withdrawn) lines = (b : Parts) × Spells bytes b
     × (lines ≡ sections_from 0 b.sites)
 
+-- the text in which entries are looked for: the lines before the first fault, and all of a valid
+-- bundle
+abbrev pub IsSeenText : List ℕ → Verdict → List ℕ → Type 0
+IsSeenText bytes (No line f) seen = (lines : List (List ℕ)) (rest : List ℕ) → All HasNoLf lines
+    → line ≡ length lines + 1 → bytes ≡ text_of_lines lines ++ rest → seen ≡ text_of_lines lines
+IsSeenText bytes (Yes committed refused withdrawn) seen = seen ≡ bytes
+
+-- what a yes means: each refusal with its cycle; nothing where a transaction is asked for, or none
+-- was refused
+abbrev pub TellsYes : List ℕ → Option ℕ → (refused : ℕ) → (old new : List ℕ) → Type 0
+TellsYes bytes asked refused old new = ((IsSome asked ⊎ (refused ≡ 0)) × (new ≡ old))
+    ⊎ ((asked ≡ None) × (refused ≢ 0)
+    × ((c : Certificate) → HoldsCertificate bytes c → TellsRefusals c.decisions bytes old new))
+
+abbrev pub TellsIfYes : List ℕ → Option ℕ → Verdict → (old new : List ℕ) → Type 0
+TellsIfYes bytes asked (Yes committed refused withdrawn) old new = TellsYes bytes asked refused old new
+TellsIfYes bytes asked (No line f) old new = Unit {0}
+
 -- by the certificate of line 2 its decision is told, and then its entries in those lines, all of
 -- them, or that it has none there
 pub record TellsTransaction (bytes : List ℕ) (v : Verdict) (tx : ℕ) (old new : List ℕ) : Type 0 where
   pub fate : List ℕ
-  pub told : (c : Certificate) → HoldsCertificate bytes c → TellsFate c.decisions tx old fate
+  pub told : (c : Certificate) → HoldsCertificate bytes c
+      → (seen : List ℕ) × IsSeenText bytes v seen × TellsFate c.decisions seen tx old fate
   pub dealings : TellsDealings tx fate new
   pub own : (lines : List SectionLine) → AreSeen bytes v lines
       → TellsOwn lines tx (own_of tx lines) fate new

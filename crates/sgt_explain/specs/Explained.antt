@@ -9,6 +9,7 @@ use Rattle.sgt_audit.specs.declared.verdict.Verdict.{Verdict}
 use Rattle.sgt_audit.specs.declared.verdict.Verdict.TheVariants.{Yes, No}
 use Rattle.sgt_audit.specs.declared.faults.Fault.TheVariants as fault
 use Rattle.sgt_audit.specs.Faults.{FirstFault, bytes_of}
+use Rattle.sgt_explain_lines.specs.Places.{TellsFormat, TellsLine, trailing_head, trailing_rule}
 use Rattle.sgt_explain_lines.specs.Told.{read_text, final_text}
 use Rattle.sgt_explain_lines.specs.declared.values.Misvalued.{Misvalued}
 use Rattle.sgt_explain_decisions.specs.Told.{rank_order_text}
@@ -19,9 +20,9 @@ use Rattle.sgt_cert.specs.declared.certificate.Certificate.{Certificate}
 use Rattle.sgt_explain_certificate.specs.Ranks.{TellsRanks}
 use Rattle.sgt_explain_decisions.specs.Twice.{TellsTwice}
 use Rattle.sgt_explain_decisions.specs.Walks.{TellsWalk}
-use Rattle.sgt_explain.specs.Asked.{TellsAsked}
+use Rattle.sgt_explain.specs.Asked.{TellsAsked, TellsIfYes}
 use Rattle.sgt_explain.specs.Certified.{TellsNoCertificate, SpellsCertificate, ShowsAgainstEnd, ShowsMisplaced, ShowsUnended}
-use Rattle.sgt_explain.specs.Lines.{ShowsFaulty, ShowsUnspelled, ShowsEnd, ShowsUnlisted, ShowsRepeating, ShowsCut}
+use Rattle.sgt_explain.specs.Lines.{ShowsFaulty, ShowsUnspelled, ShowsUnallowed, ShowsEnd, ShowsUnlisted, ShowsRepeating, ShowsCut}
 use Rattle.sgt_explain.specs.Shown.{lines_before, decisions_before, ShowsRead, ShowsFinal, ShowsRanks}
 use Rattle.sgt_explain.specs.Steps.{ShowsStep}
 
@@ -36,6 +37,7 @@ outcome_of (No line f) = outcome.No
 abbrev pub Tells : List ℕ → Verdict → (old new : List ℕ) → Type 0
 Tells bytes (No line fault.Format) old new =
     ShowsFaulty (codes "Format: ") bytes line fault.Format old new
+    × ((first : FirstFault bytes line fault.Format) → TellsFormat (bytes_of first.next) old new)
 Tells bytes (No line fault.Notation) old new =
     ShowsFaulty (codes "Notation: ") bytes line fault.Notation old new
     × ShowsUnspelled bytes line old new
@@ -60,8 +62,12 @@ Tells bytes (No line fault.NotEnded) old new = (first : FirstFault bytes line fa
     → ShowsUnended (decisions_before first.stage) (lines_before first.stage) old new
 Tells bytes (No line fault.Section) old new =
     ShowsFaulty (codes "Section: ") bytes line fault.Section old new
+    × ((first : FirstFault bytes line fault.Section)
+    → ShowsUnallowed bytes (lines_before first.stage) (bytes_of first.next) line old new)
 Tells bytes (No line fault.Trailing) old new =
     ShowsFaulty (codes "Trailing: ") bytes line fault.Trailing old new
+    × ((first : FirstFault bytes line fault.Trailing)
+    → TellsLine trailing_head line (bytes_of first.next) (trailing_rule line) old new)
 Tells bytes (No line fault.Truncated) old new = (first : FirstFault bytes line fault.Truncated)
     → ShowsEnd (bytes_of first.next) line old new
 Tells bytes (No line fault.Item) old new = (first : FirstFault bytes line fault.Item)
@@ -95,6 +101,7 @@ pub record MeansOf (bytes : List ℕ) (asked : Option ℕ) (v : Verdict) (meanin
   pub more : List ℕ
   pub text : meaning ≡ said ++ more
   pub told : Tells bytes v [] said
+  pub cycles : TellsIfYes bytes asked v [] said
   pub dealings : TellsAsked bytes v asked [] more
 
 -- whether one is asked for or not

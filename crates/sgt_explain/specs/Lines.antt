@@ -9,10 +9,12 @@ use Rattle.sgt_audit.specs.declared.faults.Fault.{Fault}
 use Rattle.sgt_audit.specs.Faults.{FirstFault, bytes_of}
 use Rattle.sgt_explain_lines.specs.Beside.{ShowsNearest, ShowsTwice, ShowsBlock}
 use Rattle.sgt_audit.specs.declared.faults.Fault.TheVariants as fault
+use Rattle.sgt_explain_lines.specs.Places.{TellsSection}
 use Rattle.sgt_explain_lines.specs.Slips.{TellsSlip}
 use Rattle.sgt_explain_lines.specs.Told.{Adds, ShowsLine}
-use Rattle.sgt_explain_lines.specs.Numbered.{open_site, numbered_items, numbered_entries}
+use Rattle.sgt_explain_lines.specs.Numbered.{IsSectionOf, open_site, numbered_items, numbered_entries}
 use Rattle.sgt_explain_lines.specs.declared.section.Logged.{Logged}
+use Rattle.sgt_explain_lines.specs.declared.section.Section.{Section}
 
 -- what is told begins with these words, and among what follows is the line that has the fault
 abbrev pub ShowsFaulty : (words bytes : List ℕ) → ℕ → Fault → (old new : List ℕ) → Type 0
@@ -28,6 +30,12 @@ ShowsUnspelled bytes n old new = (first : FirstFault bytes n fault.Notation)
 pub record ShowsEnd (line : List ℕ) (n : ℕ) (old new : List ℕ) : Type 0 where
   pub begins : Adds (old ++ codes "Truncated: ") new
   pub shown : line ≢ [] → ShowsLine (codes "Truncated: ") n line old new
+
+-- of a line that its section doesn't allow: the line before it, the line, and what may stand there
+-- by what the lines before it say
+abbrev pub ShowsUnallowed : List ℕ → List SectionLine → (line : List ℕ) → ℕ → (old new : List ℕ) → Type 0
+ShowsUnallowed bytes before line n old new = (s : Section) × IsSectionOf before s
+    × TellsSection bytes n s line old new
 
 -- the entry that a line of this number spells
 pub record IsEntryOf (line : List ℕ) (n : ℕ) (l : Logged) : Type 0 where

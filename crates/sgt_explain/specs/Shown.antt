@@ -13,7 +13,7 @@ use Rattle.sgt_audit.specs.Faults.{Stage, start, headed, within, complete, items
 use Rattle.sgt_explain_lines.specs.Numbered.{open_site, numbered_items, numbered_entries}
 use Rattle.sgt_explain_lines.specs.Values.{last_change, stated_as, HadUntil}
 use Rattle.sgt_explain_lines.specs.declared.values.Misvalued.{Misvalued}
-use Rattle.sgt_explain_decisions.specs.Against.{StandAgainst}
+use Rattle.sgt_explain_decisions.specs.Against.{StandAgainst, IsFirstAgainst}
 use Rattle.sgt_explain_decisions.specs.declared.order.RanksShown.{RanksShown}
 
 -- the lines of sections that a text has before its first fault
@@ -69,6 +69,7 @@ pub record ShowsRanks (decisions : List Decision) (before : List SectionLine) (l
   pub second : IsCommitted decisions shown.second.number
       (tx_of shown.second.logged.entry) shown.second.rank
   pub stand : StandAgainst shown.first shown.second shown.kind shown.item
+  pub earlier : IsFirstAgainst decisions (numbered_entries before) shown.first.logged shown.second.logged.entry
 
 -- ---- the parts of a line, for private clauses
 

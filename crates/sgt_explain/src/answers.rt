@@ -2,7 +2,7 @@
 
 ghost use Rattle.std.specs.Prelude.{◌≡◌, ◌++◌, [], IfOk, OnOk, string_bytes};
 ghost use Rattle.sgt_audit.specs.Verdict.{text_of};
-ghost use Rattle.sgt_explain.specs.Asked.{TellsAsked};
+ghost use Rattle.sgt_explain.specs.Asked.{TellsAsked, TellsIfYes};
 ghost use Rattle.sgt_explain.specs.Explained.{outcome_of, Tells, MeansOf};
 
 use crate::noes::push_no;
@@ -36,17 +36,13 @@ fn push_verdict(
     verdict: Verdict,
     asked: &Option<Tx>,
 ) -> Result<(), AllocError>
-    ensures { OnOk result (Tells bytes.now verdict (string_bytes out.old) (string_bytes out.new)) }
+    ensures told { OnOk result (Tells bytes.now verdict (string_bytes out.old) (string_bytes out.new)) }
+    ensures cycles { OnOk result
+        (TellsIfYes bytes.now asked.now verdict (string_bytes out.old) (string_bytes out.new)) }
 {
     match verdict {
         Verdict::No { line, fault } => push_no(alloc, out, bytes, line, fault),
-        Verdict::Yes { refused, .. } => {
-            if asked.is_some() || refused == 0 {
-                Ok(())
-            } else {
-                push_yes(alloc, out, bytes)
-            }
-        }
+        Verdict::Yes { refused, .. } => push_yes(alloc, out, bytes, refused, asked),
     }
 }
 
@@ -57,7 +53,8 @@ fn told_of(
     verdict: Verdict,
     asked: &Option<Tx>,
 ) -> Result<String, AllocError>
-    ensures { IfOk result (λ told. Tells bytes.now verdict [] (string_bytes told)) }
+    ensures told { IfOk result (λ told. Tells bytes.now verdict [] (string_bytes told)) }
+    ensures cycles { IfOk result (λ told. TellsIfYes bytes.now asked.now verdict [] (string_bytes told)) }
 {
     let mut told = String::new(alloc);
     push_verdict(alloc, &mut told, bytes, verdict, asked)?;

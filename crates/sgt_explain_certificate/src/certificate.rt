@@ -1,11 +1,12 @@
 //! What is said of a second line that is no certificate.
 
-ghost use Rattle.std.specs.Prelude.{◌≡◌, ◌≢◌, OnOk, codes, string_bytes};
+ghost use Rattle.std.specs.Prelude.{◌≡◌, ◌≢◌, ◌<◌, ◌≤◌, ◌++◌, ℕ, List, Some, OnOk, codes, length, slice_get, string_bytes};
 ghost use Rattle.sgt_cert.specs.Line.{Refuses};
 ghost use Rattle.sgt_cert.specs.Text.{certificate_text, IsCertificate};
 ghost use Rattle.sgt_cert.specs.declared.certificate.Certificate.{Certificate};
 ghost use Rattle.sgt_cert.specs.declared.fault.CertFault.{CertFault};
 ghost use Rattle.sgt_explain_lines.specs.Told.{Adds, ShowsLine};
+ghost use Rattle.sgt_explain_certificate.specs.Columns.{IsBehind, IsFoundAt, IsStanding, IsToldByte, ShowsBetween, bytes_before, column_text};
 ghost use Rattle.sgt_explain_certificate.specs.Told.{fault_words};
 
 use crate::compact::{Turn, turn_in};
@@ -15,40 +16,97 @@ use sgt_explain_lines::{push_numbered, push_shown};
 use std::alloc::{AllocError, Global};
 use std::fmt::Write;
 
-/// What stands at a place of the line.
-fn push_standing(out: &mut String, line: &[u8], at: usize) -> Result<(), AllocError>
-    ensures { OnOk result (Adds (string_bytes out.old) (string_bytes out.new)) }
+fn push_text(out: &mut String, text: &str) -> Result<(), AllocError>
+    ensures { OnOk result (string_bytes out.new ≡ string_bytes out.old ++ text.now) }
+{
+    out.push_str(text)
+}
+
+/// A text between these words.
+fn push_between(out: &mut String, before: &str, text: &[u8], behind: &str) -> Result<(), AllocError>
+    ensures { OnOk result ((told : List ℕ) × ShowsBetween before.now text.now behind.now told
+        × (string_bytes out.new ≡ string_bytes out.old ++ told)) }
+{
+    out.push_str(before)?;
+    push_shown(out, text)?;
+    push_text(out, behind)
+}
+
+/// A byte that stands at a place.
+fn push_byte(out: &mut String, byte: u8) -> Result<(), AllocError>
+    ensures { OnOk result ((told : List ℕ) × IsToldByte (Some byte) told
+        × (string_bytes out.new ≡ string_bytes out.old ++ told)) }
+{
+    if byte == b' ' {
+        push_text(out, "a space stands")
+    } else {
+        push_between(out, "`", &[byte], "` stands")
+    }
+}
+
+/// What stands at a place, if a byte does.
+fn push_if_byte(out: &mut String, byte: Option<u8>) -> Result<(), AllocError>
+    ensures { OnOk result ((told : List ℕ) × IsToldByte byte told
+        × (string_bytes out.new ≡ string_bytes out.old ++ told)) }
+{
+    match byte {
+        Some(byte) => push_byte(out, byte),
+        None => push_text(out, "the line ends"),
+    }
+}
+
+fn byte_at(line: &[u8], at: usize) -> Option<u8>
+    ensures { result ≡ slice_get line.now at }
 {
     match line.get(at) {
-        None => out.push_str("the line ends"),
-        Some(b' ') => out.push_str("a space stands"),
-        Some(byte) => {
-            out.push_str("`")?;
-            push_shown(out, &[*byte])?;
-            out.push_str("` stands")
-        }
+        Some(byte) => Some(*byte),
+        None => None,
     }
+}
+
+/// What stands at a place of the line.
+fn push_standing(out: &mut String, line: &[u8], at: usize) -> Result<(), AllocError>
+    ensures { OnOk result ((told : List ℕ) × IsStanding line.now at told
+        × (string_bytes out.new ≡ string_bytes out.old ++ told)) }
+{
+    push_if_byte(out, byte_at(line, at))
+}
+
+/// The bytes before a place of the line, sixteen at most.
+fn bytes_before(line: &[u8], at: usize) -> &[u8]
+    ensures { at ≤ length line.now → result.now ≡ bytes_before line.now at }
+{
+    if at > line.len() {
+        return &line[..0];
+    }
+    &line[at.saturating_sub(16)..at]
 }
 
 /// What stands before a place of the line, if it isn't the first.
 fn push_before(out: &mut String, line: &[u8], at: usize) -> Result<(), AllocError>
-    ensures { OnOk result (Adds (string_bytes out.old) (string_bytes out.new)) }
+    ensures { OnOk result ((told : List ℕ) × IsBehind line.now at told
+        × (string_bytes out.new ≡ string_bytes out.old ++ told)) }
 {
     if at == 0 {
-        return out.push_str("");
+        push_text(out, "")
+    } else {
+        push_between(out, " behind `", bytes_before(line, at), "`")
     }
-    out.push_str(" behind `")?;
-    let from = at.saturating_sub(16);
-    push_shown(out, line.get(from..at).unwrap_or(b""))?;
-    out.push_str("`")
+}
+
+fn push_column(out: &mut String, column: usize) -> Result<(), AllocError>
+    ensures { OnOk result (string_bytes out.new ≡ string_bytes out.old ++ column_text column) }
+{
+    write!(out, "column {column}: ")
 }
 
 /// A place of the line, from 1: `column 14: a space stands behind "decisions":`.
 fn push_found(out: &mut String, line: &[u8], at: usize) -> Result<(), AllocError>
-    ensures { OnOk result (Adds (string_bytes out.old) (string_bytes out.new)) }
+    ensures more { OnOk result (Adds (string_bytes out.old) (string_bytes out.new)) }
+    ensures found { at < 18446744073709551615 → OnOk result ((told : List ℕ) × IsFoundAt line.now at told
+        × (string_bytes out.new ≡ string_bytes out.old ++ told)) }
 {
-    let column = at.saturating_add(1);
-    write!(out, "column {column}: ")?;
+    push_column(out, at.saturating_add(1))?;
     push_standing(out, line, at)?;
     push_before(out, line, at)
 }

@@ -4,15 +4,9 @@ use Rattle.std.specs.Prelude.{Contains, IfSome, IfNone, Result, Ok, Err, OnOk, i
 use Rattle.sgt_names.specs.Entry.{tx_of, IsEnd}
 use Rattle.sgt_cert.specs.declared.certificate.Decision.{Decision}
 use Rattle.sgt_explain_lines.specs.declared.section.Logged.{Logged}
-use Rattle.sgt_explain_lines.specs.Told.{Adds}
-use Rattle.sgt_explain_lines.proofs.Adding.{adds-more}
 use Rattle.sgt_explain_decisions.specs.declared.placed.Placed.{Placed}
 use Rattle.sgt_explain_decisions.specs.Ends.{EndsTx, HasNoEnd, IsEndOf, IsReason, end_head, TellsEnd}
 use Rattle.sgt_names.proofs.Elements.{ok-taken, two-parts, three-parts, four-parts}
-
--- more behind a beginning that is known
-pub adds-behind : (old head a new : List ℕ) → a ≡ old ++ head → Adds a new → Adds (old ++ head) new
-adds-behind old head a new e adds = subst (λ t. Adds t new) e adds
 
 -- the end of the transaction of an entry, and why this may not stand there
 pub tells-end : (ds : List Decision) (ps : List Placed) (entries given : List Logged) (tx : ℕ) (l : Logged) (ended : Option Logged) (has_ended : Bool) (reason old a new : List ℕ)

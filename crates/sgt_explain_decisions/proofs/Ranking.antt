@@ -1,5 +1,5 @@
 -- Entries that stand against the ranks, and those that don't.
-use Rattle.std.proofs.Common.{◌≡◌, inl, inr, subst, arith}
+use Rattle.std.proofs.Common.{◌≡◌, ◌∙◌, ℕ, All, Option, Some, None, ap, inl, inr, subst, sym, take, arith}
 use Rattle.std.proofs.lemmas.Bool.{cases_order}
 use Rattle.sgt_names.specs.Name.{Name}
 use Rattle.sgt_names.specs.Entry.{tx_of}
@@ -7,9 +7,11 @@ use Rattle.sgt_names.specs.declared.entry.Kind.{Kind}
 use Rattle.sgt_cert.specs.Certificate.{IsCommitted, IsDecidedOnce}
 use Rattle.sgt_cert.specs.Valid.{RiseInRank}
 use Rattle.sgt_cert.specs.declared.certificate.Decision.{Decision}
-use Rattle.std.specs.Prelude.{List}
+use Rattle.std.specs.Prelude.{List, IfSome, slice_get}
+use Rattle.sgt_names.specs.declared.entry.Entry.{Entry}
 use Rattle.sgt_explain_lines.specs.declared.section.Logged.{Logged}
-use Rattle.sgt_explain_decisions.specs.Against.{StandAgainst}
+use Rattle.sgt_explain_decisions.specs.Against.{StandAgainst, IsAgainst, IsFirstAgainst}
+use Rattle.sgt_explain_decisions.specs.declared.order.RanksShown.{RanksShown}
 use Rattle.sgt_explain_decisions.specs.declared.order.Ranked.{Ranked}
 use Rattle.sgt_explain_decisions.proofs.Placing.{one-rank}
 
@@ -26,3 +28,10 @@ rise-ranked ds one first second same once own other none =
       | inr (inl rises) ↦ rises
       | inr (inr falls) ↦ absurd (none kind x (record { clash = clash; apart = apart; falls = omega (arith, a, b, falls) }))
     ])
+
+-- the first of these entries that is shown against another
+pub first-against : (decisions : List Decision) (entries : List Logged) (k i : ℕ) (one : Logged) (second : Ranked) (e : Entry) (shown : Option RanksShown)
+    → IfSome shown (IsAgainst decisions k one second) → slice_get entries i ≡ Some one → All (λ l. RiseInRank decisions l.entry e) (take i entries)
+    → IfSome shown (λ s. IsFirstAgainst decisions entries s.first.logged e)
+first-against decisions entries k i one second e None is at before = tt
+first-against decisions entries k i one second e (Some s) is at before = record { place = i; there = at ∙ ap Some (sym is.own); before = before }

@@ -1,6 +1,6 @@
 -- One more step of a cycle that is told, and one more decision.
 use Rattle.std.proofs.Common.{◌≡◌, true, ℕ, suc, ◌+◌, List, [], ◌∷◌, ◌++◌, length, take, Option, Some, None, inl, inr, refl, sym, subst, ap, ◌∙◌, arith, append_assoc}
-use Rattle.std.specs.Prelude.{slice_get, is_some}
+use Rattle.std.specs.Prelude.{Result, Ok, Err, IfOk, slice_get, is_some}
 use Rattle.std.proofs.lemmas.List.{append-nil}
 use Rattle.std.proofs.lemmas.Bool.{cases_order, false≢true}
 use Rattle.std.proofs.lemmas.Option.{same_Some}
@@ -9,7 +9,10 @@ use Rattle.sgt_cert.specs.declared.certificate.Decision.{Decision}
 use Rattle.sgt_explain_lines.specs.declared.section.Logged.{Logged}
 use Rattle.sgt_explain_decisions.specs.declared.sought.Sought.{Sought}
 use Rattle.sgt_explain_decisions.specs.Cycles.{IsShownStep, Shows, step_text, TellsCycle, TellsRefusal, TellsCycles, AreShown}
-use Rattle.sgt_explain_decisions.specs.Sought.{last_stop}
+use Rattle.sgt_notation.specs.declared.SectionLine.{SectionLine}
+use Rattle.sgt_explain_lines.specs.Sited.{HasBefore}
+use Rattle.sgt_explain_decisions.specs.Fate.{AreSoughtIn}
+use Rattle.sgt_explain_decisions.specs.Sought.{last_stop, AreFound, AreFoundIn, WalksAreSought}
 
 pub last_stop-next : (from : ℕ) (walk : List Step) (step : Step) → last_stop from (walk ++ step ∷ []) ≡ step.to
 last_stop-next from [] step = refl
@@ -61,3 +64,10 @@ shown-next sought tx from place walk step two at is shown before q s less at' =
       | inr (inl earlier) ↦ before q s earlier at'
       | inr (inr later) ↦ absurd (omega (arith, less, later))
     ]
+
+-- ---- what is sought
+
+pub sought-whole : {E : Type 0} (r : Result Sought E) (decisions : List Decision) (bytes : List ℕ) → IfOk r AreFound → IfOk r (λ s. WalksAreSought s decisions (length decisions))
+    → ((lines : List SectionLine) → HasBefore bytes 18446744073709551615 lines → IfOk r (AreFoundIn lines (length lines))) → IfOk r (AreSoughtIn decisions bytes)
+sought-whole (Ok s) decisions bytes found walks lines = record { found = found; walks = walks; lines = lines }
+sought-whole (Err e) decisions bytes found walks lines = tt

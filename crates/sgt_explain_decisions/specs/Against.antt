@@ -1,9 +1,11 @@
 -- Entries that stand against the ranks of their transactions.
-use Rattle.std.specs.Prelude.{◌≡◌, ◌≢◌, ◌≤◌, ℕ, List}
+use Rattle.std.specs.Prelude.{◌≡◌, ◌≢◌, ◌≤◌, ℕ, List, All, Some, slice_get, take}
 use Rattle.sgt_names.specs.Name.{Name}
 use Rattle.sgt_names.specs.Entry.{Clash, tx_of}
+use Rattle.sgt_names.specs.declared.entry.Entry.{Entry}
 use Rattle.sgt_names.specs.declared.entry.Kind.{Kind}
 use Rattle.sgt_cert.specs.Certificate.{IsCommitted}
+use Rattle.sgt_cert.specs.Valid.{RiseInRank}
 use Rattle.sgt_cert.specs.declared.certificate.Decision.{Decision}
 use Rattle.sgt_explain_lines.specs.declared.section.Logged.{Logged}
 use Rattle.sgt_explain_decisions.specs.declared.order.Ranked.{Ranked}
@@ -22,3 +24,9 @@ pub record IsAgainst (decisions : List Decision) (k : ℕ) (one : Logged) (secon
   pub other : s.second ≡ second
   pub committed : IsCommitted decisions s.first.number (tx_of s.first.logged.entry) s.first.rank
   pub stand : StandAgainst s.first s.second s.kind s.item
+
+-- one of these entries, before which each rises in rank to this one
+pub record IsFirstAgainst (decisions : List Decision) (entries : List Logged) (one : Logged) (e : Entry) : Type 0 where
+  pub place : ℕ
+  pub there : slice_get entries place ≡ Some one
+  pub before : All (λ l. RiseInRank decisions l.entry e) (take place entries)

@@ -119,7 +119,7 @@ fn push_refusal(
 }
 
 /// Each refused transaction with its cycle.
-pub fn push_cycles(
+pub(crate) fn push_cycles(
     out: &mut String,
     decisions: &[Decision],
     sought: &Sought,

@@ -12,9 +12,9 @@ mod twice;
 mod walks;
 mod words;
 
-pub use cycles::{push_cycles, unmet_in};
+pub use cycles::unmet_in;
 pub use ends::{push_end, push_not_ended};
-pub use fate::push_fate;
+pub use fate::{push_fate, push_refusals};
 pub use order::{Ranked, RanksShown, against_ranks, push_decision_order, push_rank_order};
 pub use placed::{Placed, number_on, placed_in};
 pub use sought::{Found, Sought, sought_in};

@@ -6,7 +6,7 @@ ghost use Rattle.sgt_names.specs.Entry.{tx_of, IsEnd};
 ghost use Rattle.sgt_cert.specs.Certificate.{IsCommitted, IsDecidedOnce};
 ghost use Rattle.sgt_cert.specs.Valid.{RiseInRank};
 ghost use Rattle.sgt_cert.specs.declared.certificate.Decision.{Decision};
-ghost use Rattle.sgt_explain_decisions.specs.Against.{StandAgainst, IsAgainst};
+ghost use Rattle.sgt_explain_decisions.specs.Against.{StandAgainst, IsAgainst, IsFirstAgainst};
 ghost use Rattle.sgt_explain_decisions.specs.Decided.{IsDecidedEnd, IsNotLater, IsFirstLater, IsOvertaken, decided_text, decision_order_head, TellsDecisionOrder};
 ghost use Rattle.sgt_explain_decisions.specs.Placed.{ArePlaced, IsUndecided, IsUncommitted};
 ghost use Rattle.sgt_explain_decisions.specs.Told.{ranked_text, both_ranked, first_deed, second_deed, rank_wish, ranks_wanted, rank_order_head, rank_order_text};
@@ -114,6 +114,8 @@ pub fn against_ranks(
     ensures second { IfSome result
         (λ s. IsCommitted decisions.now s.second.number (tx_of s.second.logged.entry) s.second.rank) }
     ensures stand { IfSome result (λ s. StandAgainst s.first s.second s.kind s.item) }
+    ensures earlier { ArePlaced decisions.now placed.now → IsDecidedOnce decisions.now
+        → IfSome result (λ s. IsFirstAgainst decisions.now section.now.entries.items s.first.logged logged.now.entry) }
     ensures none { ArePlaced decisions.now placed.now → IsDecidedOnce decisions.now
         → IfNone result
         (All (λ l. RiseInRank decisions.now l.entry logged.now.entry) section.now.entries.items) }

@@ -1,6 +1,7 @@
 pub mod Beside
 pub mod Clashing
 pub mod Numbered
+pub mod Places
 pub mod Sited
 pub mod Slips
 pub mod Told

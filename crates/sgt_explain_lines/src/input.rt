@@ -1,8 +1,9 @@
 //! The lines of a text, by number.
 
-ghost use Rattle.std.specs.Prelude.{◌≡◌, ℕ, List, [], ◌∷◌, ◌++◌, length, All, IsSomeAnd};
+ghost use Rattle.std.specs.Prelude.{◌≡◌, ℕ, List, [], ◌∷◌, ◌++◌, length, All, IfSome, IsSomeAnd};
 ghost use Rattle.sgt_notation.specs.Spelling.{text_of_lines, HasNoLf};
 ghost use Rattle.sgt_explain_lines.specs.Numbered.{IsLineAt};
+ghost use Rattle.sgt_explain_lines.specs.Places.{HasUpTo};
 
 use sgt_notation::find_lf;
 
@@ -35,7 +36,8 @@ pub fn after_line(bytes: &[u8], number: u64) -> &[u8]
 
 /// The line of this number, counted from 1, without its LF. `None` where the text ends before it.
 pub fn line_at(bytes: &[u8], number: u64) -> Option<&[u8]>
-    ensures { (line : List ℕ) → IsLineAt bytes.now number line → IsSomeAnd result (λ l. l.now ≡ line) }
+    ensures some { (line : List ℕ) → IsLineAt bytes.now number line → IsSomeAnd result (λ l. l.now ≡ line) }
+    ensures none { HasUpTo bytes.now number → IfSome result (λ _. ⊥) }
 {
     let rest = after_line(bytes, number.saturating_sub(1));
     if rest.is_empty() {

@@ -283,7 +283,7 @@ fn slip_of_entry(line: &[u8]) -> Option<Slip>
 }
 
 /// What stands behind this word at the front.
-fn behind_word<'a>(line: &'a [u8], word: &[u8]) -> Option<&'a [u8]>
+pub(crate) fn behind_word<'a>(line: &'a [u8], word: &[u8]) -> Option<&'a [u8]>
     ensures { MatchOption result ((behind : List ℕ) → line.entry.now ≢ word.now ++ behind)
         (λ r. line.entry.now ≡ word.now ++ r.now) }
 {
@@ -308,7 +308,7 @@ fn slip_of_words(line: &[u8]) -> Option<Slip>
 }
 
 /// The last byte.
-fn last_of(line: &[u8]) -> Option<u8>
+pub(crate) fn last_of(line: &[u8]) -> Option<u8>
     ensures some { IfSome result (λ b. EndsWith b line.now) }
     ensures none { IfNone result (line.now ≡ []) }
 {

@@ -1,6 +1,9 @@
-use Rattle.std.proofs.Common.{◌∙◌, [], ◌∷◌, ◌++◌, List, ℕ, ap, refl, arith, Err}
+use Rattle.std.proofs.Common.{◌∙◌, ◌≡◌, ◌<◌, ◌≤◌, ◌-◌, ◌+◌, [], ◌∷◌, ◌++◌, List, ℕ, ap, refl, sym, subst, arith, length, take, Err}
 use Rattle.sgt_certify.proofs.Taken.{nothing-taken, held-taken, line-taken, cut-taken, end-taken, long-taken, spends_on}
+use Rattle.std.proofs.lemmas.List.{length-append}
 use Rattle.sgt_notation.specs.Lines.{Ahead}
+use Rattle.sgt_certify.specs.Reach.{AreShort}
+use Rattle.sgt_certify.proofs.Reached.{line-kept, held-kept, few-kept, last-kept, last-kept_line, drop-few, long-further, long-behind, long-all, cut-further, cut-behind, cut-all, end-further, end-behind, end-all}
 use Rattle.sgt_notation.proofs.Texts.{spends-none, fault-met}
 use Rattle.sgt_certify.proofs.taking.take_lines.Goals as goal
 
@@ -10,18 +13,29 @@ lines-init g c = (
   refl,
   spends-none _ _ _ (ap (λ a. a.reads) c.requires.fresh),
   omega (arith, ap (λ a. a.reads) c.requires.fresh),
+  subst AreShort (sym c.requires.none) tt,
+  omega (arith, ap (λ a. a.reads) c.requires.fresh),
+  omega (arith, ap (λ a. length a.held) c.requires.fresh),
 )
 
 pub lines-preserved : goal.lines-preserved
 lines-preserved g c =
     let gave = rw c.in-Ok-Line.field-0-is at c.in-Ok-Line.ensures.ok in
     let held = c.in_ok-take_held.ensures in
-    let reads = ap (λ (a : Ahead). a.reads) held.1 in (
+    let kept : length c.take_held.new.lines.held ≤ g.R.Source.last c.lines.reader =
+    omega (arith, c.lines.invariant.6, drop-few held.0 c.lines.lines.held, ap (λ (a : Ahead). length a.held) held.1) in
+    let reads = ap (λ (a : Ahead). a.reads) held.1 in
+    let spent : 4294967295 ≤ c.take_held.new.lines.reads + length c.lines.text.items = omega (arith, c.lines.invariant.5, reads) in (
       line-taken _ _ _ _ _ _ _ (held-taken _ _ held.0 _ _ _ _ c.lines.invariant.0 held.1 held.2) gave.gives
           (c.in_ok-push_line-in-Ok-Line.ensures ∙ ap (λ (l : List ℕ). (c.take_held.new.text.items ++ l) ++ 10 ∷ []) c.as_slice.ensures.value),
       gave.quiet ∙ c.lines.invariant.1,
       spends_on _ _ _ _ _ _ _ reads c.lines.invariant.2 gave.spends,
       omega (arith, c.in-Ok-Line.ensures.asks, c.lines.invariant.3, reads),
+      line-kept _ _ _ _ _ _ held.2 c.lines.invariant.4 held.3 c.as_slice.ensures.value c.in-Ok-Line.ensures.line.1 c.in_ok-push_line-in-Ok-Line.ensures,
+      few-kept c.take_held.new.lines.reads _ 4294967295 _ _ _ _ _ _ held.2 c.as_slice.ensures.value c.in_ok-push_line-in-Ok-Line.ensures spent
+          c.in-Ok-Line.ensures.few,
+      last-kept_line c.take_held.new.lines.reads _ (length c.take_held.new.lines.held) _ _ _ _ c.in-Ok-Line.ensures.reads c.in-Ok-Line.ensures.still
+          (λ less. rw c.in-Ok-Line.field-0-is at c.in-Ok-Line.ensures.fresh less) c.in-Ok-Line.ensures.bounded kept,
     )
 
 pub returns-in-Ok-Cut-clause-taken : goal.returns-in-Ok-Cut-clause-taken
@@ -42,6 +56,81 @@ returns-in-Ok-TooLong-clause-taken g c =
     let gave = rw c.in-Ok-TooLong.field-0-is at c.in-Ok-TooLong.ensures.ok in
     let held = c.in_ok-take_held.ensures in
     long-taken _ _ _ _ _ (held-taken _ _ held.0 _ _ _ _ c.lines.invariant.0 held.1 held.2) gave.gives
+
+pub returns-in-Ok-Cut-clause-no_further : goal.returns-in-Ok-Cut-clause-no_further
+returns-in-Ok-Cut-clause-no_further g c =
+    let gave = rw c.in-Ok-Cut.field-0-is at c.in-Ok-Cut.ensures.ok in
+    let held = c.in_ok-take_held.ensures in
+    let mid = held-taken _ _ held.0 _ _ _ _ c.lines.invariant.0 held.1 held.2 in
+    let short = held-kept _ _ _ held.2 c.lines.invariant.4 held.3 in
+    cut-further _ _ _ _ _ _ mid gave.gives short
+
+pub returns-in-Ok-Cut-clause-none_behind : goal.returns-in-Ok-Cut-clause-none_behind
+returns-in-Ok-Cut-clause-none_behind g c =
+    let gave = rw c.in-Ok-Cut.field-0-is at c.in-Ok-Cut.ensures.ok in
+    let held = c.in_ok-take_held.ensures in
+    let mid = held-taken _ _ held.0 _ _ _ _ c.lines.invariant.0 held.1 held.2 in
+    let short = held-kept _ _ _ held.2 c.lines.invariant.4 held.3 in
+    cut-behind _ _ _ _ _ _ _ mid gave.gives short
+
+pub returns-in-Ok-Cut-clause-reads_all : goal.returns-in-Ok-Cut-clause-reads_all
+returns-in-Ok-Cut-clause-reads_all g c =
+    let gave = rw c.in-Ok-Cut.field-0-is at c.in-Ok-Cut.ensures.ok in
+    let held = c.in_ok-take_held.ensures in
+    let mid = held-taken _ _ held.0 _ _ _ _ c.lines.invariant.0 held.1 held.2 in
+    cut-all _ _ _ _ _ _ mid gave.gives
+
+pub returns-in-Ok-End-clause-no_further : goal.returns-in-Ok-End-clause-no_further
+returns-in-Ok-End-clause-no_further g c =
+    let gave = rw c.in-Ok-End.field-0-is at c.in-Ok-End.ensures.ok in
+    let held = c.in_ok-take_held.ensures in
+    let mid = held-taken _ _ held.0 _ _ _ _ c.lines.invariant.0 held.1 held.2 in
+    let short = held-kept _ _ _ held.2 c.lines.invariant.4 held.3 in
+    end-further _ _ _ _ _ _ mid gave.gives short
+
+pub returns-in-Ok-End-clause-none_behind : goal.returns-in-Ok-End-clause-none_behind
+returns-in-Ok-End-clause-none_behind g c =
+    let gave = rw c.in-Ok-End.field-0-is at c.in-Ok-End.ensures.ok in
+    let held = c.in_ok-take_held.ensures in
+    let mid = held-taken _ _ held.0 _ _ _ _ c.lines.invariant.0 held.1 held.2 in
+    let short = held-kept _ _ _ held.2 c.lines.invariant.4 held.3 in
+    end-behind _ _ _ _ _ _ _ mid gave.gives short
+
+pub returns-in-Ok-End-clause-reads_all : goal.returns-in-Ok-End-clause-reads_all
+returns-in-Ok-End-clause-reads_all g c =
+    let gave = rw c.in-Ok-End.field-0-is at c.in-Ok-End.ensures.ok in
+    let held = c.in_ok-take_held.ensures in
+    let mid = held-taken _ _ held.0 _ _ _ _ c.lines.invariant.0 held.1 held.2 in
+    end-all _ _ _ _ _ _ mid gave.gives
+
+pub returns-in-Ok-TooLong-clause-no_further : goal.returns-in-Ok-TooLong-clause-no_further
+returns-in-Ok-TooLong-clause-no_further g c =
+    let gave = rw c.in-Ok-TooLong.field-0-is at c.in-Ok-TooLong.ensures.ok in
+    let held = c.in_ok-take_held.ensures in
+    let mid = held-taken _ _ held.0 _ _ _ _ c.lines.invariant.0 held.1 held.2 in
+    let short = held-kept _ _ _ held.2 c.lines.invariant.4 held.3 in
+    let reads = ap (λ (a : Ahead). a.reads) held.1 in
+    let grown = ap length held.2 in
+    long-further _ _ _ _ _ _ mid gave.gives short c.in-Ok-TooLong.ensures.line.1
+    (omega (arith, c.in-Ok-TooLong.ensures.asks, c.in-Ok-TooLong.ensures.few, c.lines.invariant.3, c.lines.invariant.5, reads, grown, length-append c.lines.text.items (take held.0 c.lines.lines.held)))
+
+pub returns-in-Ok-TooLong-clause-none_behind : goal.returns-in-Ok-TooLong-clause-none_behind
+returns-in-Ok-TooLong-clause-none_behind g c =
+    let gave = rw c.in-Ok-TooLong.field-0-is at c.in-Ok-TooLong.ensures.ok in
+    let held = c.in_ok-take_held.ensures in
+    let mid = held-taken _ _ held.0 _ _ _ _ c.lines.invariant.0 held.1 held.2 in
+    let short = held-kept _ _ _ held.2 c.lines.invariant.4 held.3 in
+    let kept = last-kept c.take_held.new.lines.reads _ (length c.take_held.new.lines.held) _ _ _ _ c.in-Ok-TooLong.ensures.reads c.in-Ok-TooLong.ensures.still
+    (λ less. rw c.in-Ok-TooLong.field-0-is at c.in-Ok-TooLong.ensures.fresh less) c.in-Ok-TooLong.ensures.bounded
+    (omega (arith, c.lines.invariant.6, drop-few held.0 c.lines.lines.held, ap (λ (a : Ahead). length a.held) held.1)) in
+    long-behind _ _ _ _ _ _ _ mid gave.gives short c.in-Ok-TooLong.ensures.line.1 kept
+
+pub returns-in-Ok-TooLong-clause-reads_all : goal.returns-in-Ok-TooLong-clause-reads_all
+returns-in-Ok-TooLong-clause-reads_all g c =
+    let gave = rw c.in-Ok-TooLong.field-0-is at c.in-Ok-TooLong.ensures.ok in
+    let held = c.in_ok-take_held.ensures in
+    let mid = held-taken _ _ held.0 _ _ _ _ c.lines.invariant.0 held.1 held.2 in
+    long-all _ _ _ _ _ _ mid gave.gives
 
 pub returns-in-Err-ReadFault-clause-read_fault : goal.returns-in-Err-ReadFault-clause-read_fault
 returns-in-Err-ReadFault-clause-read_fault g c same =

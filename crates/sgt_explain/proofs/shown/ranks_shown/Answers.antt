@@ -3,6 +3,7 @@ use Rattle.std.specs.Prelude.{IfSome, IfNone}
 use Rattle.sgt_names.specs.Entry.{tx_of}
 use Rattle.sgt_cert.specs.Certificate.{IsCommitted, IsDecidedOnce}
 use Rattle.sgt_cert.specs.Valid.{RiseInRank}
+use Rattle.sgt_explain_decisions.specs.Against.{IsFirstAgainst}
 use Rattle.sgt_explain_decisions.specs.Placed.{ArePlaced}
 use Rattle.sgt_explain.proofs.ShownValues.{no-certificate, no-entry, shows-ranks-found}
 use Rattle.sgt_explain.proofs.shown.ranks_shown.Goals as goal
@@ -26,5 +27,7 @@ returns c = λ first.
     (subst (λ ds. IfSome found (λ s. IsCommitted ds s.first.number (tx_of s.first.logged.entry) s.first.rank)) decisions r.first)
     (subst (λ ds. IfSome found (λ s. IsCommitted ds s.second.number (tx_of s.second.logged.entry) s.second.rank)) decisions r.second)
     r.stand
+    (subst (λ ds. IsDecidedOnce ds → IfSome found (λ s. IsFirstAgainst ds c.in_ok-section.section.entries.items s.first.logged c.in-Some-logged_at.logged.entry)) decisions
+    (r.earlier (subst (λ ps. ArePlaced c.decisions-decisions.result.now ps) (sym c.as_slice.ensures.value) placed)))
     (subst (λ ds. IsDecidedOnce ds → IfNone found (All (λ l. RiseInRank ds l.entry c.in-Some-logged_at.logged.entry) c.in_ok-section.section.entries.items)) decisions
     (r.none (subst (λ ps. ArePlaced c.decisions-decisions.result.now ps) (sym c.as_slice.ensures.value) placed)))

@@ -1,16 +1,20 @@
-use Rattle.std.proofs.Common.{sym, ◌∙◌, subst}
+use Rattle.std.proofs.Common.{sym, ◌∙◌, ap, subst}
 use Rattle.std.specs.Prelude.{OnOk, string_bytes}
 use Rattle.std.proofs.lemmas.Option.{same_Some, none-some}
 use Rattle.sgt_cert.specs.declared.certificate.Certificate.{Certificate}
 use Rattle.sgt_explain_decisions.specs.Fate.{TellsFate}
-use Rattle.sgt_explain.proofs.Telling.{on-all}
+use Rattle.sgt_explain.proofs.Telling.{on-all, on-ok}
 use Rattle.sgt_explain.proofs.yeses.push_decided.Goals as goal
 
 pub returns-in-Some : goal.returns-in-Some
 returns-in-Some c = on-all _ c.push_fate.result (λ d. on-all _ c.push_fate.result (λ held.
     let same = same_Some c.in-Some.certificate d (sym c.in-Some.is ∙ c.in_ok-certificate.ensures held.0 d held.1 held.2 held.3 held.4) in
-    subst (λ (k : Certificate). OnOk c.push_fate.result (TellsFate k.decisions c.args.tx (string_bytes c.args.out.now) (string_bytes c.push_fate.new.out))) same
-    (subst (λ ds. OnOk c.push_fate.result (TellsFate ds c.args.tx (string_bytes c.args.out.now) (string_bytes c.push_fate.new.out))) c.decisions.ensures c.push_fate.ensures)))
+    let decisions = c.decisions.ensures ∙ ap (λ (k : Certificate). k.decisions) same in
+    on-ok c.push_fate.result (λ fate. (
+      c.seen_text-seen.result.now,
+      c.seen_text-seen.ensures,
+      subst (λ ds. TellsFate ds c.seen_text-seen.result.now c.args.tx (string_bytes c.args.out.now) (string_bytes c.push_fate.new.out)) decisions fate,
+    )) c.push_fate.ensures))
 
 pub returns-in-None : goal.returns-in-None
 returns-in-None c = on-all _ c.push_str.result (λ d. on-all _ c.push_str.result (λ held.
