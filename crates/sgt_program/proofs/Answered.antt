@@ -1,6 +1,6 @@
 -- What the engines' answers say, by the status.
 use Rattle.std.proofs.Common.{◌≡◌, ◌<◌, ◌≤◌, ◌↔◌, ℕ, List, [], ◌∷◌, Option, Some, None, Result, Ok, Err, inl, length, refl, subst, arith}
-use Rattle.std.specs.Prelude.{IfSome, IfOk, OnErr, OnOk}
+use Rattle.std.specs.Prelude.{IfErr, IfSome, IfOk, OnErr, OnOk}
 use Rattle.std.specs.Io.KnownBytes.{Appends}
 use Rattle.sgt_names.specs.declared.outcome.EngineFail.{EngineFail}
 use Rattle.sgt_names.specs.declared.outcome.EngineFail.TheVariants.{Memory, ReadFault, WriteFault}
@@ -165,6 +165,17 @@ help-answers words old new text Quiet (Err fail) asks some shown front is =
       known = λ e. absurd (omega (arith, high, e));
       front = λ le. (text, front);
     }
+
+-- and so, where there is no help, a write failed
+pub help_four : (r : Result Outcome EngineFail) (Quiet Failed : Type 0) → IfOk r (λ o. (o ≡ Outcome_.Yes) × Quiet)
+    → IfErr r (λ fail. (fail ≡ WriteFault) × Failed) → 3 ≤ status_of (Ran r) → status_of (Ran r) ≡ 4
+help_four (Ok Outcome_.Yes) Quiet Failed is failed high = absurd (omega (arith, high))
+help_four (Ok Outcome_.No) Quiet Failed is failed high = absurd (let e : Outcome_.No ≡ Outcome_.Yes = is.0 in cc)
+help_four (Ok Outcome_.Unreadable) Quiet Failed is failed high =
+    absurd (let e : Outcome_.Unreadable ≡ Outcome_.Yes = is.0 in cc)
+help_four (Err Memory) Quiet Failed is failed high = absurd (let e : Memory ≡ WriteFault = failed.0 in cc)
+help_four (Err ReadFault) Quiet Failed is failed high = absurd (let e : ReadFault ≡ WriteFault = failed.0 in cc)
+help_four (Err WriteFault) Quiet Failed is failed high = refl
 
 -- no help was asked for
 pub usage-answers : (words : List (List ℕ)) (status : ℕ) (old new : Option (List ℕ)) → (AsksHelp words → ⊥) → status ≡ 2 → AnswersOthers words status old new

@@ -4,9 +4,10 @@ use Rattle.sgt_line.specs.Names.{command_text}
 use Rattle.sgt_line.specs.declared.name.CommandName.TheVariants as command
 use Rattle.sgt_words.specs.Words.{AsksFor, NamesExplain, command_of}
 use Rattle.sgt_words.specs.declared.choice.Choice.{Choice}
-use Rattle.sgt_words.specs.declared.choice.Choice.TheVariants.{Audit}
+use Rattle.sgt_words.specs.declared.choice.Choice.TheVariants.{Audit, AuditWith, Certify, Check, Draw, DrawWith, Explain, Replay, Rule, Run, Serial, Transaction}
+use Rattle.sgt_program.specs.Commands.{LeavesUnread}
 use Rattle.sgt_words.specs.declared.choice.NoChoice.{NoChoice}
-use Rattle.sgt_words.specs.declared.choice.NoChoice.TheVariants.{Help, Usage, Memory}
+use Rattle.sgt_words.specs.declared.choice.NoChoice.TheVariants.{Help, Usage, Bare, Memory}
 
 abbrev chosen : Result Choice NoChoice → Choice
 chosen (Ok choice) = choice
@@ -33,6 +34,7 @@ same_asked r x y P Q is either p = elim either [
 abbrev pub is_memory : NoChoice → Bool
 is_memory (Help text) = false
 is_memory (Usage text) = false
+is_memory Bare = false
 is_memory Memory = true
 
 abbrev is_refusal : Result Choice NoChoice → Bool
@@ -61,3 +63,18 @@ pub names_explain : (words : List (List ℕ)) (choice : Choice) → AsksFor word
 names_explain words choice (inl none) is =
     absurd (let bad : command.Audit ≡ command.Explain = sym (ap command_of none.1) ∙ is in cc)
 names_explain words choice (inr (options, named, says)) is = (options, named ∙ ap (λ c. command_text c ∷ options) is)
+
+-- where nothing is read for any words, nothing is for these
+pub left_unread : (choice : Choice) (Unread : Type 0) → Unread → LeavesUnread choice Unread
+left_unread Audit Unread is = tt
+left_unread (AuditWith workers) Unread is = tt
+left_unread Serial Unread is = tt
+left_unread Replay Unread is = tt
+left_unread Certify Unread is = tt
+left_unread Explain Unread is = tt
+left_unread (Transaction tx) Unread is = tt
+left_unread (Rule topic) Unread is = is
+left_unread Draw Unread is = tt
+left_unread (DrawWith tx is_dot) Unread is = tt
+left_unread (Check wanted) Unread is = tt
+left_unread (Run workers tries) Unread is = tt

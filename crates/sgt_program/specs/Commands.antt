@@ -1,5 +1,5 @@
 -- What each command answers, by the exit status.
-use Rattle.std.specs.Prelude.{◌≡◌, ◌≢◌, ◌⊎◌, ◌<◌, ◌≤◌, ℕ, IsTrue, List, Option, Some, None, length, IfSome}
+use Rattle.std.specs.Prelude.{◌≡◌, ◌≢◌, ◌⊎◌, ◌<◌, ◌≤◌, ⊤, ℕ, IsTrue, List, Option, Some, None, length, IfSome}
 use Rattle.std.specs.Io.KnownBytes.{Appends}
 use Rattle.sgt_names.specs.Device.{WritesFront}
 use Rattle.sgt_names.specs.declared.outcome.Outcome.{Outcome}
@@ -23,7 +23,7 @@ use Rattle.sgt_service.specs.Report as run
 use Rattle.sgt_serial.specs.Answer as serial
 use Rattle.sgt_serial.specs.Answer.{IsAnswer}
 use Rattle.sgt_history_text.specs.declared.wanted.Wanted.{Wanted}
-use Rattle.sgt_words.specs.Words.{AsksFor, AsksHelp, AsksNone}
+use Rattle.sgt_words.specs.Words.{AsksFor, AsksHelp, AsksNone, MayLackMemory}
 use Rattle.sgt_words.specs.declared.check.CheckWanted.{CheckWanted}
 use Rattle.sgt_words.specs.declared.choice.Choice.{Choice}
 use Rattle.sgt_words.specs.declared.choice.Choice.TheVariants.{Audit, AuditWith, Certify, Check, Draw, DrawWith, Explain, Replay, Rule, Run, Serial, Transaction}
@@ -165,6 +165,11 @@ Answers Draw = AnswersDraw
 Answers (DrawWith tx is_dot) = AnswersDraw
 Answers (Run workers tries) = AnswersRun tries
 
+-- a command that reads nothing: what a rule is
+abbrev pub LeavesUnread : Choice → (unread : Type 0) → Type 0
+LeavesUnread (Rule topic) unread = unread
+LeavesUnread choice unread = ⊤
+
 -- other words: help where one of them asks for it, or no command
 pub record AnswersOthers (words : List (List ℕ)) (status : ℕ) (written written' : Option (List ℕ))
     : Type 0 where
@@ -174,13 +179,13 @@ pub record AnswersOthers (words : List (List ℕ)) (status : ℕ) (written writt
   -- what was written before stays
   pub front : 3 ≤ status → (text : List ℕ) × WritesFront written written' text
 
--- what comes of the words: a command that they ask for is answered; or, where they ask for none or
--- memory is wanting, nothing is read
+-- what comes of the words: a command that they ask for is answered; or, where they ask for none, or memory is wanting for help or to
+-- read a run's words, nothing is read
 pub data ComesOf (words : List (List ℕ)) (status : ℕ) (told written written' : Option (List ℕ))
     (unread : Type 0) : Type 0 where
   command : (choice : Choice) → AsksFor words choice → Answers choice status told written written'
       → ComesOf words status told written written' unread
-  other : AsksNone words → unread → AnswersOthers words status written written'
+  other : AsksNone words → (3 ≤ status → (status ≡ 4) × AsksHelp words) → unread → AnswersOthers words status written written'
       → ComesOf words status told written written' unread
-  memory : status ≡ 3 → unread → AnswersOthers words status written written'
+  memory : status ≡ 3 → MayLackMemory words → unread → AnswersOthers words status written written'
       → ComesOf words status told written written' unread

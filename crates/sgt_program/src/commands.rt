@@ -1,7 +1,7 @@
 //! The program over any reader and writers.
 
 ghost use Rattle.std.specs.Prelude.{◌≡◌, ◌<◌, Err, map, length, string_bytes, IfErr, IsOk, codes};
-ghost use Rattle.sgt_program.specs.Commands.{Answers, ComesOf};
+ghost use Rattle.sgt_program.specs.Commands.{Answers, ComesOf, LeavesUnread};
 ghost use Rattle.sgt_program.specs.Ending.{AsksWorkers, LeavesDevices, ReadFailed, ReaderIsQuiet, TellsErrors, WroteOrFailed, status_of, text_of_fail};
 ghost use Rattle.sgt_words.specs.Words.{AsksFor, NamesExplain};
 ghost use Rattle.sgt_words.specs.declared.choice.Choice.{Choice};
@@ -64,7 +64,7 @@ pub fn refuse_words<E: Sink>(errors: &mut E) -> u8
 /// Does what the words ask for, and gives the exit status: 0 yes or done (or help was shown); 1 no, a replay that ended with a
 /// transaction active, a script that was not committed, or a fault that ended a run; 2 the words are no command (nothing is read or
 /// written then) or a line of a replay's or a run's input can't be read; 3 want of memory; 4 a read or a write failed. The first word
-/// is the program's name. For help nothing is read. Only a run and an audit by workers start threads; they are joined when this returns.
+/// is the program's name. For help and for a rule nothing is read. Only a run and an audit by workers start threads; they are joined when this returns.
 pub fn program<H: Threads + Wait + Sync, R: Source, W: Sink, E: Sink>(
     rt: &H,
     alloc: Global,
@@ -73,9 +73,11 @@ pub fn program<H: Threads + Wait + Sync, R: Source, W: Sink, E: Sink>(
     writer: &mut W,
     errors: &mut E,
 ) -> u8
-    // what each command answers, and what comes of all words
+    // what each command answers, which one reads nothing, and what comes of all words
     ensures asked { (choice : Choice) → AsksFor (map string_bytes words.now) choice
         → Answers choice result (R.tells reader.old) (W.holds writer.old) (W.holds writer.new) }
+    ensures unread { (choice : Choice) → AsksFor (map string_bytes words.now) choice
+        → LeavesUnread choice (reader.new ≡ reader.old) }
     ensures chosen { ComesOf (map string_bytes words.now) result (R.tells reader.old)
         (W.holds writer.old) (W.holds writer.new) (reader.new ≡ reader.old) }
 
@@ -96,6 +98,7 @@ pub fn program<H: Threads + Wait + Sync, R: Source, W: Sink, E: Sink>(
         Ok(choice) => finish(errors, run_choice(rt, alloc, choice, reader, writer)),
         Err(NoChoice::Help(text)) => finish(errors, show_help(writer, text.as_str())),
         Err(NoChoice::Usage(text)) => refuse(errors, text.as_str()),
+        Err(NoChoice::Bare) => refuse(errors, "sgt: see sgt --help\n"),
         Err(NoChoice::Memory) => give_up(errors, EngineFail::Memory),
     }
 }

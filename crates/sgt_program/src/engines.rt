@@ -3,7 +3,7 @@
 ghost use Rattle.std.specs.Prelude.{⊤, ◌≡◌, ◌<◌, ◌↔◌, length, IsTrue, IfOk, IfErr, OnErr, OnOk};
 ghost use Rattle.std.specs.Io.KnownBytes.{Appends};
 ghost use Rattle.sgt_names.specs.Device.{WritesFront};
-ghost use Rattle.sgt_program.specs.Commands.{Answers, AnswersAudit, AnswersCheck, AsksKept, kept_of, options_of, outcome};
+ghost use Rattle.sgt_program.specs.Commands.{Answers, AnswersAudit, AnswersCheck, AsksKept, LeavesUnread, kept_of, options_of, outcome};
 ghost use Rattle.sgt_program.specs.Ending.{LeavesDevices, ReadFailed, ReaderIsQuiet, ReadsOn, status_of};
 ghost use Rattle.sgt_words.specs.Words.{CanRun, command_of};
 ghost use Rattle.sgt_line.specs.declared.name.CommandName.TheVariants as command;
@@ -119,6 +119,7 @@ pub fn run_choice<H: Threads + Wait + Sync, R: Source, W: Sink>(
     requires { CanRun choice }
     ensures answers { Answers choice (status_of (Ran result)) (R.tells reader.old)
         (W.holds writer.old) (W.holds writer.new) }
+    ensures unread { LeavesUnread choice (reader.new ≡ reader.old) }
     ensures ends { LeavesDevices (Ran result)
         (ReaderIsQuiet (ReadsOn choice) (Ran result) (R.failures reader.old) (R.failures reader.new)
         × (W.failures writer.new ≡ W.failures writer.old))

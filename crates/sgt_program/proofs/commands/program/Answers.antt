@@ -1,10 +1,10 @@
-use Rattle.std.proofs.Common.{◌<◌, ◌∙◌, Err, ap, inl, length, map, refl, rules, string_bytes}
+use Rattle.std.proofs.Common.{◌≡◌, ◌<◌, ◌≤◌, ◌∙◌, Err, ap, arith, inl, length, map, refl, rules, string_bytes, subst}
 use Rattle.sgt_names.specs.declared.outcome.EngineFail.TheVariants.{Memory}
-use Rattle.sgt_program.proofs.Answered.{help-answers, memory-answers, run-memory, usage-answers}
-use Rattle.sgt_program.proofs.Chosen.{is_memory, names_explain, no_refusal, of_a_run, same_asked}
+use Rattle.sgt_program.proofs.Answered.{help-answers, help_four, memory-answers, run-memory, usage-answers}
+use Rattle.sgt_program.proofs.Chosen.{is_memory, left_unread, names_explain, no_refusal, of_a_run, same_asked}
 use Rattle.sgt_program.proofs.Told.{asks_workers, failed_more, helped, leaves_more, quiet_more, tells-errors}
 use Rattle.sgt_program.specs.Commands as comes
-use Rattle.sgt_program.specs.Commands.{Answers}
+use Rattle.sgt_program.specs.Commands.{Answers, LeavesUnread}
 use Rattle.sgt_program.specs.Ending.{status_of}
 use Rattle.sgt_words.specs.Words.{AsksFor, TellsHelp}
 use Rattle.sgt_program.specs.declared.ending.Ending.TheVariants.{Ran, NoCommand}
@@ -16,6 +16,20 @@ returns-in-Ok-clause-asked g c = λ choice asks.
     (same_asked c.choose.result _ choice (λ choice. Answers choice (status_of (Ran c.run_choice.result))
     (g.R.Source.tells c.args.reader.now) (g.W.Sink.holds c.args.writer.now) (g.W.Sink.holds c.run_choice.new.writer)) _
     c.in-Ok.is (c.choose.ensures.all choice asks) c.run_choice.ensures.answers)
+
+pub returns-in-Ok-clause-unread : goal.returns-in-Ok-clause-unread
+returns-in-Ok-clause-unread g c = λ choice asks.
+    same_asked c.choose.result _ choice (λ choice. LeavesUnread choice (c.run_choice.new.reader ≡ c.args.reader.now)) _
+    c.in-Ok.is (c.choose.ensures.all choice asks) c.run_choice.ensures.unread
+
+pub returns-in-Err-Help-clause-unread : goal.returns-in-Err-Help-clause-unread
+returns-in-Err-Help-clause-unread g c = λ choice asks. left_unread choice _ refl
+
+pub returns-in-Err-Usage-clause-unread : goal.returns-in-Err-Usage-clause-unread
+returns-in-Err-Usage-clause-unread g c = λ choice asks. left_unread choice _ refl
+
+pub returns-in-Err-Memory-clause-unread : goal.returns-in-Err-Memory-clause-unread
+returns-in-Err-Memory-clause-unread g c = λ choice asks. left_unread choice _ refl
 
 pub returns-in-Ok-clause-chosen : goal.returns-in-Ok-clause-chosen
 returns-in-Ok-clause-chosen g c =
@@ -43,6 +57,9 @@ returns-in-Err-Help-clause-chosen g c =
     let some : 0 < length c.as_str.result.now = search rules in
     comes.other
     (λ choice asks. no_refusal c.choose.result choice said.field-0 _ (c.choose.ensures.all choice asks) said.is (ap is_memory said.field-0-is))
+    (λ high.
+    let status = c.finish-in-Err-Help.ensures.status in
+    (status ∙ help_four c.show_help.result _ _ shown.yes shown.fault (subst (λ n. 3 ≤ n) status high), rw said.field-0-is at said.ensures.help))
     refl
     (rw c.finish-in-Err-Help.ensures.status (help-answers _ _ _ _ _ c.show_help.result (rw said.field-0-is at said.ensures.help)
     some shown.text shown.front shown.yes))
@@ -67,6 +84,7 @@ returns-in-Err-Usage-clause-chosen g c =
     let said = c.in-Err-Usage in
     comes.other
     (λ choice asks. no_refusal c.choose.result choice said.field-0 _ (c.choose.ensures.all choice asks) said.is (ap is_memory said.field-0-is))
+    (λ high. absurd (omega (arith, high, c.refuse.ensures.status)))
     refl
     (usage-answers _ _ _ _ (rw said.field-0-is at said.ensures.help) c.refuse.ensures.status)
 
@@ -75,6 +93,28 @@ returns-in-Err-Usage-clause-ends g c =
     let refused = c.refuse.ensures in
     (NoCommand, refused.status, ((inl refl, refl), refl), (c.as_str-in-Err-Usage.result.now, refused.some, refused.told))
 
+pub returns-in-Err-Bare-clause-asked : goal.returns-in-Err-Bare-clause-asked
+returns-in-Err-Bare-clause-asked g c = λ choice asks.
+    let said = c.in-Err-Bare in
+    absurd (no_refusal c.choose.result choice said.field-0 _ (c.choose.ensures.all choice asks) said.is (ap is_memory said.field-0-is))
+
+pub returns-in-Err-Bare-clause-unread : goal.returns-in-Err-Bare-clause-unread
+returns-in-Err-Bare-clause-unread g c = λ choice asks. left_unread choice _ refl
+
+pub returns-in-Err-Bare-clause-chosen : goal.returns-in-Err-Bare-clause-chosen
+returns-in-Err-Bare-clause-chosen g c =
+    let said = c.in-Err-Bare in
+    comes.other
+    (λ choice asks. no_refusal c.choose.result choice said.field-0 _ (c.choose.ensures.all choice asks) said.is (ap is_memory said.field-0-is))
+    (λ high. absurd (omega (arith, high, c.refuse-in-Err-Bare.ensures.status)))
+    refl
+    (usage-answers _ _ _ _ (rw said.field-0-is at said.ensures.help) c.refuse-in-Err-Bare.ensures.status)
+
+pub returns-in-Err-Bare-clause-ends : goal.returns-in-Err-Bare-clause-ends
+returns-in-Err-Bare-clause-ends g c =
+    let refused = c.refuse-in-Err-Bare.ensures in
+    (NoCommand, refused.status, ((inl refl, refl), refl), (_, refused.some, refused.told))
+
 pub returns-in-Err-Memory-clause-asked : goal.returns-in-Err-Memory-clause-asked
 returns-in-Err-Memory-clause-asked g c = λ choice asks.
     run-memory choice _ _ _ (of_a_run c.choose.result choice _ (c.choose.ensures.all choice asks)
@@ -82,7 +122,7 @@ returns-in-Err-Memory-clause-asked g c = λ choice asks.
 
 pub returns-in-Err-Memory-clause-chosen : goal.returns-in-Err-Memory-clause-chosen
 returns-in-Err-Memory-clause-chosen g c =
-    comes.memory c.give_up.ensures.status refl (memory-answers _ c.give_up.result _ c.give_up.ensures.status)
+    comes.memory c.give_up.ensures.status (c.choose.ensures.memory (c.in-Err-Memory.is ∙ ap Err c.in-Err-Memory.field-0-is)) refl (memory-answers _ c.give_up.result _ c.give_up.ensures.status)
 
 pub returns-in-Err-Memory-clause-ends : goal.returns-in-Err-Memory-clause-ends
 returns-in-Err-Memory-clause-ends g c =
