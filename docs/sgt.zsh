@@ -22,6 +22,7 @@ _sgt() {
         F1 F2 F3 F4 F5 F6 F7 F8 F9 F10 F11 F12 F13 F14 F15 F16 F17 F18 F19 K1 K2 K3 K4
         E1 E2 E3 E4 E5 E6 E7 E8 E9 E10 E11 E12 L1 L2 L3 V1 V2 V3 V4 V5 V6 V7 V8 V9 V10 P1 P2 P3 C1
         internal duplicate G1a unwritten G1b value G0 G1c G-single G2-item
+        G1c-process G-single-process G2-item-process G1c-realtime G-single-realtime G2-item-realtime
     )
     quiet=('(-q --quiet)'{-q,--quiet}'[answer by the status alone]')
     _arguments -C '(- : *)--help[what there is]' '(- : *)--version[the version]' '1:command:->command' '*::word:->word'
@@ -44,9 +45,9 @@ _sgt() {
             '1:events:_files' ;;
         certify) _arguments $help '1:logs:_files' ;;
         check) _arguments $help $progress $quiet \
-            '(--against)--order[write an order that serves]' '(--against)--real-time[the order has to keep real time]' \
-            '(--against)--sessions[the order has to keep that of each session]' \
-            '(--order --real-time --sessions --svg)--against=[judge the order in this file]:order:_files' \
+            '(--against)--order[write an order that serves]' '--real-time[the order has to keep real time]' \
+            '--sessions[the order has to keep that of each session]' \
+            '(--order --svg)--against=[judge the order in this file]:order:_files' \
             '(--against)--svg=[draw the circle of a no in this file]:file:_files' '1:history:_files' ;;
         explain) _arguments $help '--tx=[say what this transaction did]:transaction:' \
             '1:bundle or rule: _alternative "topics:rule:($topics)" "files:bundle:_files"' ;;

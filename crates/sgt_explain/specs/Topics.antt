@@ -80,6 +80,12 @@ anomaly_name anomaly.WriteCycle = codes "G0"
 anomaly_name anomaly.CircularFlow = codes "G1c"
 anomaly_name anomaly.SingleAntiDependency = codes "G-single"
 anomaly_name anomaly.ItemAntiDependency = codes "G2-item"
+anomaly_name anomaly.ProcessFlow = codes "G1c-process"
+anomaly_name anomaly.ProcessSingle = codes "G-single-process"
+anomaly_name anomaly.ProcessItem = codes "G2-item-process"
+anomaly_name anomaly.RealTimeFlow = codes "G1c-realtime"
+anomaly_name anomaly.RealTimeSingle = codes "G-single-realtime"
+anomaly_name anomaly.RealTimeItem = codes "G2-item-realtime"
 
 abbrev pub topic_name : Topic → List ℕ
 topic_name (Bundle f) = fault_name f

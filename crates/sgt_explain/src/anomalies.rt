@@ -1,7 +1,8 @@
 //! What the answers of a check of a history mean: the anomalies of the field, and which isolation levels let them happen.
 //!
 //! Definitions of G0 to G2-item: A. Adya, Weak Consistency, PhD thesis, MIT 1999. Lost update, read skew and write skew: Berenson
-//! et al., A Critique of ANSI SQL Isolation Levels, SIGMOD 1995.
+//! et al., A Critique of ANSI SQL Isolation Levels, SIGMOD 1995. With sessions and real time: the names of Elle (Kingsbury and
+//! Alvaro, VLDB 2020).
 
 ghost use Rattle.sgt_explain.specs.Topics.{anomaly_name, IsRuleOf};
 
@@ -75,6 +76,54 @@ const ITEM: &str = "G2-item Item Anti-dependency Cycle\n\
     At SERIALIZABLE: a read outside of the transaction (another connection, autocommit, a cache, a replica), or the level\n\
     wasn't set.\n";
 
+const PROCESS_FLOW: &str = "G1c-process Order Of A Session Broken\n\
+    No order that serves keeps the order of each session: a circle of writes, of reads of them, and of steps of a\n\
+    session (`po`). Without `--sessions` it may be a yes: the values fit, but a client didn't see what it had done or\n\
+    seen before (the name is Elle's; sessions: Terry et al. 1994).\n\
+    A cache, a replica that lags, or a read that went to another connection. Or lines of a session that don't stand in\n\
+    the order in which the client made them, or two clients under one name.\n";
+
+const PROCESS_SINGLE: &str = "G-single-process Order Of A Session Broken\n\
+    No order that serves keeps the order of each session: a circle with one read that was overwritten, and of steps of\n\
+    a session (`po`). Without `--sessions` it may be a yes: the values fit, but a client didn't see what it had done\n\
+    or seen before (the name is Elle's; sessions: Terry et al. 1994).\n\
+    A cache, a replica that lags, or a read that went to another connection. Or lines of a session that don't stand in\n\
+    the order in which the client made them, or two clients under one name.\n";
+
+const PROCESS_ITEM: &str = "G2-item-process Order Of A Session Broken\n\
+    No order that serves keeps the order of each session: a circle with two or more reads that were overwritten, and\n\
+    of steps of a session (`po`). Without `--sessions` it may be a yes: the values fit, but a client didn't see what\n\
+    it had done or seen before (the name is Elle's; sessions: Terry et al. 1994).\n\
+    A cache, a replica that lags, or a read that went to another connection. Or lines of a session that don't stand in\n\
+    the order in which the client made them, or two clients under one name.\n";
+
+const REAL_TIME_FLOW: &str = "G1c-realtime Real Time Broken\n\
+    No order that serves keeps real time: a circle of writes, of reads of them, and of steps of time (`rt`: one was\n\
+    done before the other began). Without `--real-time` it may be a yes: serializable, but not strictly (the name is\n\
+    Elle's; Herlihy and Wing 1990).\n\
+    A transaction didn't see what was done before it began: a cache, a replica that lags, a snapshot that was taken\n\
+    late. A level called SERIALIZABLE promises a serial order, and not always this one.\n\
+    Or `begin` and `done` are of different clocks, or were taken inside the transaction: `begin` belongs before its\n\
+    first statement, `done` behind the answer to its commit.\n";
+
+const REAL_TIME_SINGLE: &str = "G-single-realtime Real Time Broken\n\
+    No order that serves keeps real time: a circle with one read that was overwritten, and of steps of time (`rt`: one\n\
+    was done before the other began). Without `--real-time` it may be a yes: serializable, but not strictly (the name\n\
+    is Elle's; Herlihy and Wing 1990).\n\
+    A transaction didn't see what was done before it began: a cache, a replica that lags, a snapshot that was taken\n\
+    late. A level called SERIALIZABLE promises a serial order, and not always this one.\n\
+    Or `begin` and `done` are of different clocks, or were taken inside the transaction: `begin` belongs before its\n\
+    first statement, `done` behind the answer to its commit.\n";
+
+const REAL_TIME_ITEM: &str = "G2-item-realtime Real Time Broken\n\
+    No order that serves keeps real time: a circle with two or more reads that were overwritten, and of steps of time\n\
+    (`rt`: one was done before the other began). Without `--real-time` it may be a yes: serializable, but not strictly\n\
+    (the name is Elle's; Herlihy and Wing 1990).\n\
+    A transaction didn't see what was done before it began: a cache, a replica that lags, a snapshot that was taken\n\
+    late. A level called SERIALIZABLE promises a serial order, and not always this one.\n\
+    Or `begin` and `done` are of different clocks, or were taken inside the transaction: `begin` belongs before its\n\
+    first statement, `done` behind the answer to its commit.\n";
+
 /// What the anomaly is, and who lets it happen.
 pub fn anomaly_rule(anomaly: Anomaly) -> &'static str
     ensures { IsRuleOf (anomaly_name anomaly) result.now }
@@ -90,5 +139,11 @@ pub fn anomaly_rule(anomaly: Anomaly) -> &'static str
         Anomaly::CircularFlow => CIRCULAR_FLOW,
         Anomaly::SingleAntiDependency => SINGLE,
         Anomaly::ItemAntiDependency => ITEM,
+        Anomaly::ProcessFlow => PROCESS_FLOW,
+        Anomaly::ProcessSingle => PROCESS_SINGLE,
+        Anomaly::ProcessItem => PROCESS_ITEM,
+        Anomaly::RealTimeFlow => REAL_TIME_FLOW,
+        Anomaly::RealTimeSingle => REAL_TIME_SINGLE,
+        Anomaly::RealTimeItem => REAL_TIME_ITEM,
     }
 }

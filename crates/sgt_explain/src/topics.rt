@@ -63,6 +63,13 @@ pub enum Anomaly {
     CircularFlow,
     SingleAntiDependency,
     ItemAntiDependency,
+    /// Cycles with steps of sessions, and with steps of time.
+    ProcessFlow,
+    ProcessSingle,
+    ProcessItem,
+    RealTimeFlow,
+    RealTimeSingle,
+    RealTimeItem,
 }
 
 /// A rule that can be asked about: of a fault of a bundle, F1 to F19, or of why a line is no certificate, K1 to K4; what a
@@ -177,6 +184,12 @@ fn anomaly_of(word: &[u8]) -> Option<Anomaly>
         b"G1c" => Some(Anomaly::CircularFlow),
         b"G-single" => Some(Anomaly::SingleAntiDependency),
         b"G2-item" => Some(Anomaly::ItemAntiDependency),
+        b"G1c-process" => Some(Anomaly::ProcessFlow),
+        b"G-single-process" => Some(Anomaly::ProcessSingle),
+        b"G2-item-process" => Some(Anomaly::ProcessItem),
+        b"G1c-realtime" => Some(Anomaly::RealTimeFlow),
+        b"G-single-realtime" => Some(Anomaly::RealTimeSingle),
+        b"G2-item-realtime" => Some(Anomaly::RealTimeItem),
         _ => None,
     }
 }
@@ -202,7 +215,7 @@ impl Topic {
     ghost use Rattle.sgt_explain.specs.Topics.{topic_name};
 
     /// The topic of this name: `F1` to `F19`, `K1` to `K4`; `E1` to `E12`, `L1` to `L3`, `V1` to `V10`, `P1` to `P3`, `C1`;
-    /// `internal` to `G2-item`. Names are compared byte by byte. None where no topic has the name.
+    /// `internal` to `G2-item`, and those of cycles with `-process` or `-realtime`. Names are compared byte by byte. None where no topic has the name.
     pub fn find(word: &str) -> Option<Topic>
         ensures some { IfSome result (λ topic. word.now ≡ topic_name topic) }
         ensures none { IfNone result ((topic : Named) → word.now ≢ topic_name topic) }

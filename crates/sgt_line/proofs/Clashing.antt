@@ -1,6 +1,9 @@
 -- Words that stand on a line.
 use Rattle.std.specs.Prelude.{IfNone}
-use Rattle.std.proofs.Common.{◌≡◌, ◌<◌, ◌∙◌, ℕ, zero, suc, Option, Some, None, List, [], ◌∷◌, Any, get_or, ap, length, refl, sym, subst, arith}
+use Rattle.sgt_line.specs.Clashes.{Clashes, HasWord, IsBesideOrder, WritesOverInput}
+use Rattle.sgt_line.specs.Parts.{Parts}
+use Rattle.std.proofs.lemmas.Option.{same_Some}
+use Rattle.std.proofs.Common.{◌≡◌, ◌<◌, ◌∙◌, ℕ, zero, suc, Option, Some, None, List, [], ◌∷◌, Any, get_or, ap, length, refl, sym, subst, arith, inl, inr}
 
 module _ {A : Type 0} (P : A → Type 0) (w : A) (ws : List A) where
   any_later : Any P ws → Any P (w ∷ ws)
@@ -31,3 +34,19 @@ first_is xs rest w v S e both = (
 pub none_weaker : {A : Type 0} (o : Option A) (P Q : Type 0) → (P → Q) → IfNone o P → IfNone o Q
 none_weaker None P Q so holds = so holds
 none_weaker (Some x) P Q so holds = tt
+
+-- where nothing is written over what is read, and nothing stands beside an order, nothing clashes
+pub nothing_clashes : (p : Parts) → (WritesOverInput p → ⊥) → ((text : List ℕ) → IsBesideOrder p text → ⊥)
+    → (text : List ℕ) → Clashes p text → ⊥
+nothing_clashes p over beside text (inl order) = beside text order
+nothing_clashes p over beside text (inr (writes, is)) = over writes
+
+-- the file that is written is among these words, which are those that are read
+pub over_input : (p : Parts) (word : List ℕ) (words : List (List ℕ)) (S : Type 0) → p.place ≡ Some word → words ≡ p.files
+    → (S → HasWord word words) × (HasWord word words → S) → (S → WritesOverInput p) × (WritesOverInput p → S)
+over_input p word words S at same both = (
+  λ yes. (word, at, subst (HasWord word) same (both.0 yes)),
+  λ told.
+      let one = same_Some told.0 word (sym told.1 ∙ at) in
+      both.1 (subst (λ w. HasWord w words) one (subst (HasWord told.0) (sym same) told.2)),
+)

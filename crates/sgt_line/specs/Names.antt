@@ -25,10 +25,15 @@ abbrev pub IsNumbered : List ℕ → Type 0
 IsNumbered word = (letter : ℕ) × (digits : List ℕ) × (word ≡ letter ∷ digits)
     × IsTopicLetter letter × (digits ≢ []) × All (λ digit. (48 ≤ digit) × (digit ≤ 57)) digits
 
--- the name of a cycle of conflicts in a history
+-- the name of a cycle with steps of sessions or of time
+abbrev pub IsKeptName : List ℕ → Type 0
+IsKeptName word = ((word ≡ codes "G1c-process") ⊎ ((word ≡ codes "G-single-process") ⊎ (word ≡ codes "G2-item-process")))
+    ⊎ ((word ≡ codes "G1c-realtime") ⊎ ((word ≡ codes "G-single-realtime") ⊎ (word ≡ codes "G2-item-realtime")))
+
+-- the name of a cycle in a history
 abbrev pub IsCycleName : List ℕ → Type 0
-IsCycleName word = ((word ≡ codes "G0") ⊎ (word ≡ codes "G1c"))
-    ⊎ ((word ≡ codes "G-single") ⊎ (word ≡ codes "G2-item"))
+IsCycleName word = (((word ≡ codes "G0") ⊎ (word ≡ codes "G1c"))
+    ⊎ ((word ≡ codes "G-single") ⊎ (word ≡ codes "G2-item"))) ⊎ IsKeptName word
 
 -- the name of a fault of a history's line
 abbrev pub IsFaultName : List ℕ → Type 0

@@ -1,7 +1,7 @@
-//! Options of a check that don't go with an order that is given.
+//! Options that don't go with an order that is given, and a file that would be written over what is read.
 
 ghost use Rattle.std.specs.Prelude.{◌≡◌, ◌↔◌, ℕ, IfNone, IfOk, IfSome, IsTrue, List, map, string_bytes};
-ghost use Rattle.sgt_line.specs.Clashes.{Clashes, HasWord, IsBeside, IsCheck, Settles};
+ghost use Rattle.sgt_line.specs.Clashes.{Clashes, HasWord, IsBeside, IsBesideOrder, IsCheck, Settles, WritesOverInput};
 ghost use Rattle.sgt_line.specs.Parts.{parts_of};
 
 use crate::line::Line;
@@ -48,19 +48,13 @@ fn beside_order(line: &Line) -> Option<&'static str>
     if has_word(words, "--order") {
         return Some("--order (with --against)");
     }
-    if has_word(words, "--real-time") {
-        return Some("--real-time (with --against)");
-    }
-    if has_word(words, "--sessions") {
-        return Some("--sessions (with --against)");
-    }
     None
 }
 
 // The same where an order is given.
-fn clash_of(line: &Line) -> Option<&'static str>
-    ensures some { IfSome result (λ text. Clashes (parts_of line.now) text.now) }
-    ensures none { IfNone result ((text : List ℕ) → Clashes (parts_of line.now) text → ⊥) }
+fn beside_given(line: &Line) -> Option<&'static str>
+    ensures some { IfSome result (λ text. IsBesideOrder (parts_of line.now) text.now) }
+    ensures none { IfNone result ((text : List ℕ) → IsBesideOrder (parts_of line.now) text → ⊥) }
 {
     if line.against.is_some() && is_check(line) {
         return beside_order(line);
@@ -68,9 +62,30 @@ fn clash_of(line: &Line) -> Option<&'static str>
     None
 }
 
+// Whether the file that is to be written is one of those that are read.
+fn writes_over_input(line: &Line) -> bool
+    ensures { IsTrue result ↔ WritesOverInput (parts_of line.now) }
+{
+    match &line.place {
+        Some(place) => has_word(line.files.as_slice(), place),
+        None => false,
+    }
+}
+
+// What clashes on the line.
+fn clash_of(line: &Line) -> Option<&'static str>
+    ensures some { IfSome result (λ text. Clashes (parts_of line.now) text.now) }
+    ensures none { IfNone result ((text : List ℕ) → Clashes (parts_of line.now) text → ⊥) }
+{
+    if writes_over_input(line) {
+        return Some("FILE (read, and to be written)");
+    }
+    beside_given(line)
+}
+
 impl Line {
-    /// The line; where an option of a check clashes with an order that is given, with its text for a word more, which no command
-    /// takes.
+    /// The line; where an option of a check clashes with an order that is given, or the file to be written is read, with a
+    /// text that says so for a word more, which no command takes.
     pub fn settled(self, alloc: Global) -> Result<Line, AllocError>
         ensures { IfOk result (λ line. Settles (parts_of self) (parts_of line)) }
     {

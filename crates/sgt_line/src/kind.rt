@@ -1,8 +1,8 @@
 //! What a word is, behind a command.
 
-ghost use Rattle.std.specs.Prelude.{◌≡◌, ◌↔◌, ◌++◌, ℕ, IfNone, IfSome, IsTrue, List};
+ghost use Rattle.std.specs.Prelude.{◌≡◌, ◌⊎◌, ◌↔◌, ◌++◌, ℕ, IfNone, IfSome, IsTrue, List, codes};
 ghost use Rattle.sgt_line.specs.Kinds.{IsKind, IsNoted, IsOption, IsSwitch, TellsLines};
-ghost use Rattle.sgt_line.specs.Names.{IsCycleName, IsFaultName, IsNumbered, IsTopicLetter, NamesRule};
+ghost use Rattle.sgt_line.specs.Names.{IsCycleName, IsFaultName, IsKeptName, IsNumbered, IsTopicLetter, NamesRule};
 ghost use Rattle.sgt_line.specs.declared.kind.Kind.{Kind};
 ghost use Rattle.sgt_line.specs.declared.kind.Kind.TheVariants as kind;
 
@@ -56,11 +56,32 @@ fn is_numbered(word: &[u8]) -> bool
     }
 }
 
+// Whether a cycle with steps of sessions or of time has this name.
+fn is_kept_name(word: &str) -> bool
+    ensures { IsTrue result ↔ IsKeptName word.now }
+{
+    let is_process = word == "G1c-process"
+        || word == "G-single-process"
+        || word == "G2-item-process";
+    is_process
+        || word == "G1c-realtime"
+        || word == "G-single-realtime"
+        || word == "G2-item-realtime"
+}
+
+// Whether a cycle of conflicts alone has this name.
+fn is_conflict_name(word: &str) -> bool
+    ensures { IsTrue result ↔ (((word.now ≡ codes "G0") ⊎ (word.now ≡ codes "G1c"))
+        ⊎ ((word.now ≡ codes "G-single") ⊎ (word.now ≡ codes "G2-item"))) }
+{
+    word == "G0" || word == "G1c" || word == "G-single" || word == "G2-item"
+}
+
 // Whether a history is refused by a cycle of this name.
 fn is_cycle_name(word: &str) -> bool
     ensures { IsTrue result ↔ IsCycleName word.now }
 {
-    word == "G0" || word == "G1c" || word == "G-single" || word == "G2-item"
+    is_conflict_name(word) || is_kept_name(word)
 }
 
 // Whether a history is refused by a fault of this name.

@@ -1,11 +1,10 @@
-use Rattle.std.proofs.Common.{List, ℕ}
-use Rattle.sgt_line.specs.Clashes.{Clashes, IsBeside}
+use Rattle.std.proofs.Common.{◌∙◌, sym}
+use Rattle.std.proofs.lemmas.Bool.{true≢false}
 use Rattle.sgt_line.specs.Parts.{parts_of}
-use Rattle.sgt_line.proofs.Clashing.{none_weaker}
+use Rattle.sgt_line.proofs.Clashing.{none_weaker, nothing_clashes}
 use Rattle.sgt_line.proofs.clash.clash_of.Goals as goal
 
-pub returns-then-is_check-clause-none : goal.returns-then-is_check-clause-none
-returns-then-is_check-clause-none c =
-    let weaker : ((text : List ℕ) → IsBeside (parts_of c.args.line.now) text → ⊥) → (text : List ℕ) → Clashes (parts_of c.args.line.now) text → ⊥ =
-    λ none text clashes. none text clashes.1 in
-    none_weaker _ _ _ weaker c.beside_order.ensures.none
+pub returns-clause-none : goal.returns-clause-none
+returns-clause-none c =
+    none_weaker _ _ _ (nothing_clashes (parts_of c.args.line.now) (λ over. absurd (true≢false (sym (c.writes_over_input.ensures.1 over) ∙ c.if-writes_over_input.false))))
+    c.beside_given.ensures.none
