@@ -23,49 +23,13 @@ use crate::unreadable::Watched;
 use sgt_line::Line;
 use sgt_names::{EngineFail, ToWrite};
 use sgt_program::{give_up, refuse_words};
-use sgt_words::{Choice, NoChoice, asks_talk, choose};
+use sgt_words::{Choice, NoChoice, Way, awaited, choose, wanted_by, way_of};
 use std::alloc::AllocError;
 use std::io::IsTerminal;
 use std::process::ExitCode;
 use std::sync::Wait;
 use std::thread::Threads;
 use std::{env, io};
-
-// Whether the word stands behind the command's name.
-fn has_word(line: &Line, option: &str) -> bool {
-    for word in &line.words {
-        if word.as_str() == option {
-            return true;
-        }
-    }
-    false
-}
-
-// A word that a check doesn't take, where its words ask for what it can't do: beside an order that is given another one, or a picture.
-fn unknown(line: &Line) -> Option<&'static str> {
-    let is_check = line
-        .words
-        .get(1)
-        .is_some_and(|word| word.as_str() == "check");
-    if !is_check {
-        return None;
-    }
-    if line.against.is_some() && line.place.is_some() {
-        return Some("--svg (with --against)");
-    }
-    if line.against.is_some() && has_word(line, "--order") {
-        return Some("--order (with --against)");
-    }
-    None
-}
-
-// The words of the line, and one that is refused, where it asks for what can't be done.
-fn with_unknown(rt: &HostRuntime, mut line: Line) -> Result<Line, AllocError> {
-    if let Some(word) = unknown(&line) {
-        line.words.push(String::from_str(rt.alloc(), word)?)?;
-    }
-    Ok(line)
-}
 
 // The command line, or the status where it can't be had.
 fn line_of(rt: &HostRuntime, hush: &Hush) -> Result<Line, u8> {
@@ -79,30 +43,9 @@ fn line_of(rt: &HostRuntime, hush: &Hush) -> Result<Line, u8> {
         Ok(given) => Line::of(rt.alloc(), given.as_slice()),
         Err(_) => Err(AllocError),
     };
-    match line.and_then(|line| with_unknown(rt, line)) {
+    match line.and_then(|line| line.settled(rt.alloc())) {
         Ok(line) => Ok(line),
         Err(_) => Err(give_up(&mut errors, EngineFail::Memory)),
-    }
-}
-
-// Whether the line asks for a talk, and names one file at most.
-fn is_talk(line: &Line) -> bool {
-    asks_talk(line.words.as_slice()) && line.files.len() < 2
-}
-
-// What is read, in the words of who has to type it. None: nothing is.
-fn awaited(line: &Line, choice: &Result<Choice, NoChoice>) -> Option<&'static str> {
-    if is_talk(line) {
-        return Some("sites and events");
-    }
-    match choice {
-        Ok(Choice::Rule(_)) => None,
-        Ok(Choice::Certify) => Some("a bundle without its line 2"),
-        Ok(Choice::Replay) => Some("sites and events"),
-        Ok(Choice::Check(_)) => Some("a history, a transaction a line"),
-        Ok(Choice::Run { .. }) => Some("sites and scripts"),
-        Ok(_) => Some("a bundle"),
-        Err(_) => None,
     }
 }
 
@@ -115,33 +58,33 @@ fn tells_terminal(choice: &Result<Choice, NoChoice>) -> bool {
     }
 }
 
+// The file of this name; with none, standard input.
+fn file_of(name: Option<&String>) -> &str {
+    match name {
+        Some(name) => name.as_str(),
+        None => "-",
+    }
+}
+
 // Runs the program as the line says.
 fn run<H: Threads + Wait + Sync>(
     host: &Host<'_, H>,
     line: &Line,
     choice: &Result<Choice, NoChoice>,
 ) -> Result<u8, EngineFail> {
-    let name = match line.files.first() {
-        Some(name) => name.as_str(),
-        None => "-",
-    };
-    if is_talk(line) {
-        return Ok(serve_events(host, line, name));
-    }
-    if let (Ok(Choice::Check(wanted)), Some(order)) = (choice, &line.against) {
-        return Ok(judge_order(host, line, *wanted, order.as_str(), name));
-    }
-    if let (Ok(Choice::Check(_)), Some(place)) = (choice, &line.place) {
-        return check_drawn(host, line, name, place.as_str());
-    }
-    match choice {
-        Ok(Choice::Audit | Choice::AuditWith { .. }) if line.is_chain && !line.files.is_empty() => {
-            Ok(audit_chain(host, line))
+    let name = file_of(line.files.first());
+    match way_of(line, choice) {
+        Way::Talk => Ok(serve_events(host, line, name)),
+        Way::Against => {
+            let order = file_of(line.against.as_ref());
+            Ok(judge_order(host, line, wanted_by(choice), order, name))
         }
-        Ok(_) if line.files.len() > 1 => audit_each(host, line),
-        Ok(_) if line.place.is_some() || line.is_strict => run_held(host, line, name),
-        Ok(_) if line.is_quiet => judge(host, line, name),
-        _ => {
+        Way::Drawn => check_drawn(host, line, name, file_of(line.place.as_ref())),
+        Way::Chain => Ok(audit_chain(host, line)),
+        Way::Each => audit_each(host, line),
+        Way::Held => run_held(host, line, name),
+        Way::Quiet => judge(host, line, name),
+        Way::Plain => {
             let mut output = ToWrite::new(Retrying::new(host.rt.stdout(), host.hush));
             Ok(over(host, line.words.as_slice(), name, &mut output))
         }

@@ -2,7 +2,7 @@
 
 use crate::devices::{Held, Retrying};
 use crate::host::{Host, over, write_file};
-use sgt_line::{Line, cut, strict_status};
+use sgt_line::{Line, cut, shown, strict_status};
 use sgt_names::{EngineFail, MemSink, ToWrite, write_all};
 use std::sync::Wait;
 use std::thread::Threads;
@@ -38,10 +38,7 @@ pub(crate) fn audit_each<H: Threads + Wait + Sync>(
 fn deliver<H>(host: &Host<'_, H>, line: &Line, text: &[u8]) -> Result<Option<u8>, EngineFail> {
     let rt = host.rt;
     let mut output = ToWrite::new(Retrying::new(rt.stdout(), host.hush));
-    let (front, bundle) = match &line.place {
-        Some(_) => cut(text),
-        None => (text, None),
-    };
+    let (front, bundle) = shown(line, text);
     if write_all(&mut output, front).is_err() {
         return Err(EngineFail::WriteFault);
     }

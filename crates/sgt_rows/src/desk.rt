@@ -4,11 +4,11 @@ ghost use Rattle.std.specs.Prelude.{◌<◌};
 
 use crate::row::{Given, Row};
 use sgt_audit_chain::ChainAuditor;
-use sgt_line::{Line, cut, strict_status};
+use sgt_line::{cut, shown, strict_status};
 use sgt_names::{MemSink, MemSource, Outcome, write_all};
 use sgt_program::{audit_next, check_order, end_chain, program};
 use sgt_serve::{MemBundles, Pipe, serve};
-use sgt_words::{CheckWanted, Choice, asks_talk, choose};
+use sgt_words::{CheckWanted, Way, choose, wanted_by, way_of};
 use std::alloc::{AllocError, Global};
 use std::sync::Wait;
 use std::thread::Threads;
@@ -97,7 +97,7 @@ fn audit_each<H: Threads + Wait + Sync>(
 }
 
 /// The status of the files as a chain.
-fn audit_chain(
+fn chain_status(
     alloc: Global,
     given: &Given,
     per_read: usize,
@@ -116,6 +116,22 @@ fn audit_chain(
         }
     }
     end_chain(&auditor, alloc, output, errors)
+}
+
+/// What is answered of the files as a chain.
+fn audit_chain(alloc: Global, given: &Given, per_read: usize) -> Result<Answer, AllocError>
+    requires { 0 < per_read }
+{
+    let mut output = MemSink::new(alloc, ROOM)?;
+    let mut errors = MemSink::new(alloc, ROOM)?;
+    let status = chain_status(alloc, given, per_read, &mut output, &mut errors);
+    Ok(Answer {
+        status,
+        output,
+        errors,
+        bundle: None,
+        cut: None,
+    })
 }
 
 /// What is answered in a talk.
@@ -144,12 +160,15 @@ fn judge_order(
     alloc: Global,
     given: &Given,
     wanted: CheckWanted,
-    order: &str,
     per_read: usize,
 ) -> Result<Answer, AllocError>
     requires { 0 < per_read }
 {
-    let mut lines = MemSource::new(order.as_bytes(), per_read, None);
+    let order = match &given.order {
+        Some(order) => order.as_bytes(),
+        None => b"",
+    };
+    let mut lines = MemSource::new(order, per_read, None);
     let mut history = source_of(given, per_read);
     let mut output = MemSink::new(alloc, ROOM)?;
     let mut errors = MemSink::new(alloc, ROOM)?;
@@ -179,31 +198,17 @@ fn answered<H: Threads + Wait + Sync>(
 ) -> Result<Answer, AllocError>
     requires { 0 < per_read }
 {
-    let line = &given.line;
-    if asks_talk(line.words.as_slice()) {
-        return talk(alloc, given, per_read);
-    }
-    if let Some(order) = &given.order {
-        if let Ok(Choice::Check(wanted)) = choose(alloc, line.words.as_slice()) {
-            return judge_order(alloc, given, wanted, order.as_str(), per_read);
+    let words = given.line.words.as_slice();
+    let chosen = choose(alloc, words);
+    match way_of(&given.line, &chosen) {
+        Way::Talk => talk(alloc, given, per_read),
+        Way::Against => judge_order(alloc, given, wanted_by(&chosen), per_read),
+        Way::Chain => audit_chain(alloc, given, per_read),
+        Way::Each => audit_each(rt, alloc, given, per_read),
+        Way::Drawn | Way::Held | Way::Quiet | Way::Plain => {
+            run(rt, alloc, words, source_of(given, per_read))
         }
     }
-    if line.is_chain && !line.files.is_empty() {
-        let mut output = MemSink::new(alloc, ROOM)?;
-        let mut errors = MemSink::new(alloc, ROOM)?;
-        let status = audit_chain(alloc, given, per_read, &mut output, &mut errors);
-        return Ok(Answer {
-            status,
-            output,
-            errors,
-            bundle: None,
-            cut: None,
-        });
-    }
-    if line.files.len() > 1 {
-        return audit_each(rt, alloc, given, per_read);
-    }
-    run(rt, alloc, line.words.as_slice(), source_of(given, per_read))
 }
 
 /// The program's answer to the row, read in pieces of so many bytes: without the bundle that goes to a file, and without a word where
@@ -221,13 +226,11 @@ pub(crate) fn answer_to<H: Threads + Wait + Sync>(
     if line.is_strict {
         answer.status = strict_status(answer.status, cut(answer.output.bytes()).0);
     }
-    if line.place.is_some() {
-        if let (front, Some(bundle)) = cut(answer.output.bytes()) {
-            let bundle = sink_of(alloc, bundle)?;
-            let front = sink_of(alloc, front)?;
-            answer.bundle = Some(bundle);
-            answer.output = front;
-        }
+    if let (front, Some(bundle)) = shown(line, answer.output.bytes()) {
+        let bundle = sink_of(alloc, bundle)?;
+        let front = sink_of(alloc, front)?;
+        answer.bundle = Some(bundle);
+        answer.output = front;
     }
     if line.is_quiet {
         answer.output = MemSink::new(alloc, 0)?;

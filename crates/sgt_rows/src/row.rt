@@ -78,7 +78,7 @@ fn files_of<R: Files + AllocGlobal>(rt: &R, name: &str, line: &Line) -> io::Resu
 fn given_of<R: Files + AllocGlobal>(rt: &R, name: &str) -> io::Result<Given> {
     let args = text_or_none(rt, name, "args")?;
     let words = words_of(rt.alloc(), args.as_str())?;
-    let line = Line::of(rt.alloc(), words.as_slice())?;
+    let line = Line::of(rt.alloc(), words.as_slice())?.settled(rt.alloc())?;
     let files = files_of(rt, name, &line)?;
     let order = match &line.against {
         Some(file) => text_of(rt, name, file.as_str())?,

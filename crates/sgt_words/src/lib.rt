@@ -11,4 +11,4 @@ mod way;
 
 pub use check::CheckWanted;
 pub use choice::{Choice, NoChoice, asks_talk, choose};
-pub use way::{Way, awaited, way_of};
+pub use way::{Way, awaited, wanted_by, way_of};

@@ -1,9 +1,12 @@
 //! In which way a command line is answered.
 
-ghost use Rattle.std.specs.Prelude.{◌↔◌, Ok, IsSome, IsTrue};
+ghost use Rattle.std.specs.Prelude.{◌≡◌, ◌↔◌, Ok, IsSome, IsTrue};
 ghost use Rattle.sgt_line.specs.Parts.{parts_of};
+ghost use Rattle.sgt_words.specs.declared.check.CheckWanted.{CheckWanted as AnyWanted};
+ghost use Rattle.sgt_words.specs.declared.choice.Choice.TheVariants as made;
 ghost use Rattle.sgt_words.specs.Ways.{Chooses, ChoosesAudit, ChoosesCheck, ChoosesInput, Fits, IsTalk, NoneBefore, Reads};
 
+use crate::check::CheckWanted;
 use crate::choice::{Choice, NoChoice, asks_talk};
 use sgt_line::Line;
 
@@ -96,6 +99,20 @@ pub fn way_of(line: &Line, chosen: &Result<Choice, NoChoice>) -> Way
         return Way::Quiet;
     }
     Way::Plain
+}
+
+/// What a check is asked for, where the words ask for one.
+pub fn wanted_by(chosen: &Result<Choice, NoChoice>) -> CheckWanted
+    ensures { (wanted : AnyWanted) → chosen.now ≡ Ok (made.Check wanted) → result ≡ wanted }
+{
+    match chosen {
+        Ok(Choice::Check(wanted)) => *wanted,
+        _ => CheckWanted {
+            order: false,
+            real_time: false,
+            sessions: false,
+        },
+    }
 }
 
 fn awaited_by(choice: Choice) -> Option<&'static str>
