@@ -9,7 +9,8 @@ use sgt_program::check_order;
 use sgt_words::CheckWanted;
 use std::fs::File;
 
-// The reader of the order; the status, where it can't be opened. Standard input gives one text, so not this one and the history too.
+// The reader of the order; the status, where it can't be opened. Standard input gives one text, so not this one and
+// the history too.
 fn open_order<'a, H>(host: &Host<'a, H>, order: &str, name: &str) -> Result<Steady<'a, Input>, u8> {
     let rt = host.rt;
     if order == "-" && name == "-" {

@@ -14,8 +14,8 @@ use std::io::{Read, Stdin, Write};
 // How often a read or a write that a signal interrupts is begun: so often that it never gives up.
 const TRIES: u64 = u64::MAX;
 
-/// Whether the program's own words on how it ended would be one too many: the system has a reason why a read failed, which is told
-/// alone, or the reader of what is written went away, and nobody is told.
+/// Whether the program's own words on how it ended would be one too many: the system has a reason why a read failed,
+/// which is told alone, or the reader of what is written went away, and nobody is told.
 #[derive(Drop)]
 pub struct Hush {
     is_set: Cell<bool>,
@@ -68,8 +68,8 @@ impl Read for Input {
     }
 }
 
-/// A reader that begins a read again where a signal interrupted it, keeps why a read failed and which byte came first, and tells of
-/// what was read.
+/// A reader that begins a read again where a signal interrupted it, keeps why a read failed and which byte came
+/// first, and tells of what was read.
 #[derive(Drop)]
 pub struct Steady<'a, R> {
     inner: R,

@@ -44,7 +44,8 @@ fn greatest(rt: &HostRuntime, folder: &str) -> io::Result<u64> {
     Ok(last)
 }
 
-// A new file beside the name of this number, and what it is called. It is nobody else's: what stands there is never opened.
+// A new file beside the name of this number, and what it is called. It is nobody else's: what stands there is never
+// opened.
 fn new_beside(rt: &HostRuntime, folder: &str, number: u64) -> io::Result<(String, File)> {
     for at in 0..BESIDE {
         let beside = format!(in rt.alloc(); "{folder}/{number:08}.{at}.part")?;
@@ -68,13 +69,15 @@ fn sync(rt: &HostRuntime, folder: &str) -> io::Result<()> {
     File::open(rt, folder)?.sync_all()
 }
 
-/// Whether a growth of the program was refused. What the system itself has no memory for is a device that failed, and has its number.
+/// Whether a growth of the program was refused. What the system itself has no memory for is a device that failed, and
+/// has its number.
 pub(crate) fn is_growth(why: &io::Error) -> bool {
     why.kind() == io::ErrorKind::OutOfMemory && why.raw_os_error().is_none()
 }
 
 impl<'a> FolderBundles<'a> {
-    /// The folder, which is made where it isn't there, and can be written. The next number is the one behind the greatest in it.
+    /// The folder, which is made where it isn't there, and can be written. The next number is the one behind the
+    /// greatest in it.
     pub(crate) fn open(rt: &'a HostRuntime, folder: &'a str) -> io::Result<FolderBundles<'a>> {
         fs::create_dir_all(rt, folder)?;
         let last = greatest(rt, folder)?;

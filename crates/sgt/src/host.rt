@@ -11,8 +11,9 @@ use std::io::{IsTerminal, Write};
 use std::sync::Wait;
 use std::thread::Threads;
 
-/// The system: its files and streams, and its threads; what is awaited from a terminal, if something is read, and what words are of
-/// use where it can't be; whether lines are told as they are read, and whether last words are wanted.
+/// The system: its files and streams, and its threads; what is awaited from a terminal, if something is read, and
+/// what words are of use where it can't be; whether lines are told as they are read, and whether last words are
+/// wanted.
 #[derive(Drop)]
 pub struct Host<'a, H> {
     pub rt: &'a HostRuntime,

@@ -8,7 +8,8 @@ use sgt_names::{EngineFail, FromRead, Outcome, ToWrite};
 use sgt_program::give_up;
 use sgt_serve::{Bundles, Last, NoBundles, Pipe, ServeFail, serve};
 
-// Tells where a device failed and there was no memory for the last bundle, too. Of a place that refused it the place has told.
+// Tells where a device failed and there was no memory for the last bundle, too. Of a place that refused it the place
+// has told.
 fn tell_lost<H>(host: &Host<'_, H>, last: Last) {
     if let Last::Memory = last {
         let _ = eprintln!(host.rt; "sgt: no memory for the last bundle");

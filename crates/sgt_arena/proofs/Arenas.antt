@@ -158,28 +158,29 @@ module _ {X : Type 0} (a : Inside X) (h : IsArena a) where
           laid_within a.blocks.items (joined a.blocks.items) h.laid in let count = h.count in let most = len_within in
           (omega arith, omega (arith, c.1))
 
-      module _ (blocks : Vec (List X) Global) (e : blocks.items ≡ a.blocks.items ++ replicate (w - a.blocks.len) []) where
-        pub wanted_added : let d = record a { blocks = blocks } in
-            IsArena d × (joined d.blocks.items ≡ joined a.blocks.items)
-        wanted_added = let c = ceil in let long = a.blocks.ok.0 in let most = len_within in
-            blocks_added blocks (w - a.blocks.len) e (omega (arith, c.1))
+      module _ (blocks : Vec (List X) Global) (e : blocks.items ≡ a.blocks.items ++ replicate (w - a.blocks.len) [])
+        where
+          pub wanted_added : let d = record a { blocks = blocks } in
+              IsArena d × (joined d.blocks.items ≡ joined a.blocks.items)
+          wanted_added = let c = ceil in let long = a.blocks.ok.0 in let most = len_within in
+              blocks_added blocks (w - a.blocks.len) e (omega (arith, c.1))
 
-        wanted_long : length blocks.items ≡ w
-        wanted_long = let none : List X = [] in let long = a.blocks.ok.0 in ap length e
-            ∙ omega (
-              arith,
-              length-append a.blocks.items (replicate (w - a.blocks.len) none),
-              length-replicate (w - a.blocks.len) none,
-            )
+          wanted_long : length blocks.items ≡ w
+          wanted_long = let none : List X = [] in let long = a.blocks.ok.0 in ap length e
+              ∙ omega (
+                arith,
+                length-append a.blocks.items (replicate (w - a.blocks.len) none),
+                length-replicate (w - a.blocks.len) none,
+              )
 
-        pub room_kept : 64 * length a.blocks.items - length (joined a.blocks.items) ≤ 64 * length blocks.items - length
-            (joined blocks.items)
-        room_kept = let long = a.blocks.ok.0 in let now = wanted_long in let same = ap length wanted_added.1 in
-            omega arith
+          pub room_kept : 64 * length a.blocks.items - length (joined a.blocks.items) ≤ 64 * length blocks.items - length
+              (joined blocks.items)
+          room_kept = let long = a.blocks.ok.0 in let now = wanted_long in let same = ap length wanted_added.1 in
+              omega arith
 
-        pub room_made : more ≤ 64 * length blocks.items - length (joined blocks.items)
-        room_made = let c = ceil in let now = wanted_long in let same = ap length wanted_added.1 in let count =
-            h.count in omega (arith, c.0)
+          pub room_made : more ≤ 64 * length blocks.items - length (joined blocks.items)
+          room_made = let c = ceil in let now = wanted_long in let same = ap length wanted_added.1 in let count =
+              h.count in omega (arith, c.0)
 
 module _ {X : Type 0} (s : Window X) (h : Handle) where
   pub get_is : h.generation ≡ s.generation → get s h ≡ slice_get s.items h.index

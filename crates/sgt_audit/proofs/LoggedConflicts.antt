@@ -98,7 +98,10 @@ module _ (ds : List Decision) (b : Begun) (s : SiteState) (old new : Walks) (her
         let at = section-at log t in
         record {
           steps = steps-same;
-          met = (λ h. absurd (false≢true (sym met ∙ h)), λ m. absurd (miss log t.1 (met-here ds b.whole log here at m)));
+          met = (
+            λ h. absurd (false≢true (sym met ∙ h)),
+            λ m. absurd (miss log t.1 (met-here ds b.whole log here at m)),
+          );
         }
 
 -- ---- all logs are whole

@@ -43,14 +43,16 @@ abbrev StartsAt : ℕ → List SectionLine → SectionLine → Type 0
 StartsAt k [] l = l ≡ Site k
 StartsAt k (x ∷ own) l = x ≡ Site k
 
-starts : (k : ℕ) (tail : List SiteLog) (own more : List SectionLine) (l : SectionLine) → sections_from k tail ≡ own ++ l ∷ more → StartsAt k own l
+starts : (k : ℕ) (tail : List SiteLog) (own more : List SectionLine) (l : SectionLine)
+    → sections_from k tail ≡ own ++ l ∷ more → StartsAt k own l
 starts k [] own more l e = absurd (no_cons own more l e)
 starts k (t ∷ tail) [] more l e = sym (heads (Site k) l _ more e)
 starts k (t ∷ tail) (x ∷ own) more l e = sym (heads (Site k) x _ (own ++ l ∷ more) e)
 
 -- ---- lines that have the same section open
 
-module _ (c : Certificate) (a b : List SectionLine) (opened : open_section a ≡ open_section b) (ends : last_or None a ≡ last_or None b) where
+module _ (c : Certificate) (a b : List SectionLine) (opened : open_section a ≡ open_section b)
+    (ends : last_or None a ≡ last_or None b) where
   items-same : items_in a ≡ items_in b
   items-same = ap (filter_map initial_in) opened
 
@@ -105,7 +107,8 @@ module _ (c : Certificate) (a b : List SectionLine) (opened : open_section a ≡
   site-alike k moves fault.Block h = λ g last. h g (ends ∙ last)
   site-alike k moves _ h = tt
 
-  line-alike : (line : SectionLine) → Moves line → (f : Fault) → f ≢ fault.WalkStep → Keeps c a line f → Keeps c b line f
+  line-alike : (line : SectionLine) → Moves line → (f : Fault) → f ≢ fault.WalkStep → Keeps c a line f
+      → Keeps c b line f
   line-alike (Site k) moves f other h = site-alike k moves f h
   line-alike (Initial x) moves f other h = initial-alike x moves f h
   line-alike (Logged e) moves f other h = logged-alike e moves f h
@@ -121,7 +124,8 @@ ends-at front own x = last_or-append None front (x ∷ own)
 
 -- ---- a site line between sections
 
-closed-site : (c : Certificate) (before : List SectionLine) (k : ℕ) → IsClosed before → (f : Fault) → (fault_number f ≡ 7 → ⊥) → Keeps c before (Site k) f
+closed-site : (c : Certificate) (before : List SectionLine) (k : ℕ) → IsClosed before → (f : Fault)
+    → (fault_number f ≡ 7 → ⊥) → Keeps c before (Site k) f
 closed-site c before k closed fault.Section not = absurd (not refl)
 closed-site c before k closed fault.Block not = λ g last is_open. absurd (closed g last)
 closed-site c before k closed _ not = tt
@@ -133,7 +137,8 @@ module _ (ws vs : List SiteLog) (len : length ws ≡ length vs) (shaped : All Is
   abbrev other : List SectionLine
   other = sections_from 0 vs
 
-  pub begins-moved : (n : ℕ) (own : List SectionLine) (l : SectionLine) → Begins n ((front ++ own) ++ l ∷ []) → Begins n ((other ++ own) ++ l ∷ [])
+  pub begins-moved : (n : ℕ) (own : List SectionLine) (l : SectionLine) → Begins n ((front ++ own) ++ l ∷ [])
+      → Begins n ((other ++ own) ++ l ∷ [])
   begins-moved n own l (logs, more, shape, e) =
       let split = split-whole 0 ws logs (own ++ l ∷ more) (e ∙ regroup front own more l) in
       let tail = split.0 in (
@@ -142,13 +147,18 @@ module _ (ws vs : List SiteLog) (len : length ws ≡ length vs) (shaped : All Is
         record {
           some = shape.some;
           few = shape.few;
-          each = length-append vs tail ∙ ap (λ n. n + length tail) (sym len) ∙ sym (length-append ws tail) ∙ ap length (sym split.1) ∙ shape.each;
-          logs = All-append IsShapedLog vs tail shaped (all-tail IsShapedLog ws tail (subst (All IsShapedLog) split.1 shape.logs));
+          each = length-append vs tail ∙ ap (λ n. n + length tail) (sym len) ∙ sym (length-append ws tail)
+              ∙ ap length (sym split.1) ∙ shape.each;
+          logs = All-append IsShapedLog vs tail shaped
+              (all-tail IsShapedLog ws tail (subst (All IsShapedLog) split.1 shape.logs));
         },
-        sections-append 0 vs tail ∙ ap (λ (ls : List SectionLine). other ++ ls) (ap (λ j. sections_from (0 + j) tail) (sym len) ∙ split.2) ∙ sym (regroup other own more l),
+        sections-append 0 vs tail
+            ∙ ap (λ (ls : List SectionLine). other ++ ls) (ap (λ j. sections_from (0 + j) tail) (sym len) ∙ split.2)
+            ∙ sym (regroup other own more l),
       )
 
-  begins-starts : (n : ℕ) (own : List SectionLine) (l : SectionLine) → Begins n ((front ++ own) ++ l ∷ []) → StartsAt (length ws) own l
+  begins-starts : (n : ℕ) (own : List SectionLine) (l : SectionLine) → Begins n ((front ++ own) ++ l ∷ [])
+      → StartsAt (length ws) own l
   begins-starts n own l (logs, more, shape, e) =
       let split = split-whole 0 ws logs (own ++ l ∷ more) (e ∙ regroup front own more l) in
       subst (λ j. StartsAt j own l) (zero-add (length ws)) (starts (0 + length ws) split.0 own more l split.2)
@@ -156,33 +166,44 @@ module _ (ws vs : List SiteLog) (len : length ws ≡ length vs) (shaped : All Is
   other-closed : IsClosed (other ++ [])
   other-closed = subst IsClosed (sym (append-nil other)) (whole-closed 0 [] vs (λ e h. none-some (Logged e) h))
 
-  open-moved : (c : Certificate) (k : ℕ) (own : List SectionLine) (l : SectionLine) (f : Fault) → StartsAt k own l → f ≢ fault.WalkStep → (fault_number f ≡ 7 → ⊥) → Keeps c (front ++ own) l f → Keeps c (other ++ own) l f
-  open-moved c k [] l f is not seven h = subst (λ m. Keeps c (other ++ []) m f) (sym is) (closed-site c (other ++ []) k other-closed f seven)
+  open-moved : (c : Certificate) (k : ℕ) (own : List SectionLine) (l : SectionLine) (f : Fault) → StartsAt k own l
+      → f ≢ fault.WalkStep → (fault_number f ≡ 7 → ⊥) → Keeps c (front ++ own) l f → Keeps c (other ++ own) l f
+  open-moved c k [] l f is not seven h =
+      subst (λ m. Keeps c (other ++ []) m f) (sym is) (closed-site c (other ++ []) k other-closed f seven)
   open-moved c k (x ∷ own) l f is not seven h =
-      let opened = subst (λ y. open_section (front ++ y ∷ own) ≡ open_section (other ++ y ∷ own)) (sym is) (opened-at front own k ∙ sym (opened-at other own k)) in
+      let opened = subst (λ y. open_section (front ++ y ∷ own) ≡ open_section (other ++ y ∷ own)) (sym is)
+      (opened-at front own k ∙ sym (opened-at other own k)) in
       let ends = ends-at front own x ∙ sym (ends-at other own x) in
       line-alike c (front ++ x ∷ own) (other ++ x ∷ own) opened ends l (begins-moved c.sites (x ∷ own) l) f not h
 
   -- a rule, where F7 is kept if its number is greater
-  pub line-moved : (c : Certificate) (own : List SectionLine) (l : SectionLine) (f : Fault) → f ≢ fault.WalkStep → (7 < fault_number f → Begins c.sites ((front ++ own) ++ l ∷ [])) → Keeps c (front ++ own) l f → Keeps c (other ++ own) l f
+  pub line-moved : (c : Certificate) (own : List SectionLine) (l : SectionLine) (f : Fault) → f ≢ fault.WalkStep
+      → (7 < fault_number f → Begins c.sites ((front ++ own) ++ l ∷ [])) → Keeps c (front ++ own) l f
+      → Keeps c (other ++ own) l f
   line-moved c own l f not begins h =
       elim (cases_order (fault_number f) 7) [
         | inl same ↦
             let seven = number-one f fault.Section same in
-            subst (λ g. Keeps c (front ++ own) l g → Keeps c (other ++ own) l g) (sym seven) (begins-moved c.sites own l) h
+            subst (λ g. Keeps c (front ++ own) l g → Keeps c (other ++ own) l g) (sym seven)
+            (begins-moved c.sites own l) h
         | inr (inl less) ↦ kept-7 c (other ++ own) l f less
-        | inr (inr more) ↦ open-moved c (length ws) own l f (begins-starts c.sites own l (begins more)) not (λ e. absurd (omega arith)) h
+        | inr (inr more) ↦ open-moved c (length ws) own l f (begins-starts c.sites own l (begins more)) not
+            (λ e. absurd (omega arith)) h
       ]
 
-  pub rule-last : (second : Bool) (c : Certificate) (own : List SectionLine) (l : List ℕ) (f : Fault) → Rule (within second c (front ++ own)) (last l) f → Rule (within second c (other ++ own)) (last l) f
+  pub rule-last : (second : Bool) (c : Certificate) (own : List SectionLine) (l : List ℕ) (f : Fault)
+      → Rule (within second c (front ++ own)) (last l) f → Rule (within second c (other ++ own)) (last l) f
   rule-last second c own l fault.Notation h = h
   rule-last second c own l fault.Truncated h = h
   rule-last second c own l _ h = tt
 
   abbrev pub Kept7 : Bool → Certificate → List SectionLine → List ℕ → Type 0
-  Kept7 second c own l = (line : SectionLine) → IsLineIn second line → l ≡ line_text line → Begins c.sites ((front ++ own) ++ line ∷ [])
+  Kept7 second c own l = (line : SectionLine) → IsLineIn second line → l ≡ line_text line
+      → Begins c.sites ((front ++ own) ++ line ∷ [])
 
-  pub rule-whole : (second : Bool) (c : Certificate) (own : List SectionLine) (l : List ℕ) (f : Fault) → f ≢ fault.WalkStep → (7 < fault_number f → Kept7 second c own l)
+  pub rule-whole : (second : Bool) (c : Certificate) (own : List SectionLine) (l : List ℕ) (f : Fault)
+      → f ≢ fault.WalkStep → (7 < fault_number f → Kept7 second c own l)
       → Rule (within second c (front ++ own)) (whole l) f → Rule (within second c (other ++ own)) (whole l) f
   rule-whole second c own l fault.Notation not begins h = h
-  rule-whole second c own l f not begins h = λ line is same. line-moved c own line f not (λ more. begins more line is same) (h line is same)
+  rule-whole second c own l f not begins h =
+      λ line is same. line-moved c own line f not (λ more. begins more line is same) (h line is same)

@@ -46,9 +46,16 @@ abbrev pub at_site : Certificate → ℕ → Begun
 at_site c k = record { sites = c.sites; whole = empty k; current = None }
 
 pub fresh : (c : Certificate) (k : ℕ) → IsFaultlessCertificate c → k < c.sites → IsBegun (at_site c k)
-fresh c k good few = record { some = good.spelled.0; few = good.spelled.1; logs = empties k; room = omega (arith, length-replicate k empty_log) }
+fresh c k good few = record {
+  some = good.spelled.0;
+  few = good.spelled.1;
+  logs = empties k;
+  room =
+      omega (arith, length-replicate k empty_log);
+}
 
-pub begins : (second : Bool) (c : Certificate) (k : ℕ) (bytes : List ℕ) (a : Alone) → StandsAlone c (at_site c k) a → a.second ≡ second → IsUnderway second c k bytes bytes 1 a
+pub begins : (second : Bool) (c : Certificate) (k : ℕ) (bytes : List ℕ) (a : Alone) → StandsAlone c (at_site c k) a
+    → a.second ≡ second → IsUnderway second c k bytes bytes 1 a
 begins second c k bytes a stands format = record {
   b = at_site c k;
   own = [];
@@ -63,18 +70,21 @@ begins second c k bytes a stands format = record {
 
 -- what is behind the line at the front
 pub cut-rest : (rest l : List ℕ) (n : ℕ) → take n rest ≡ l ++ 10 ∷ [] → rest ≡ l ++ 10 ∷ drop n rest
-cut-rest rest l n front = sym (take-append-drop n rest) ∙ ap (λ (t : List ℕ). t ++ drop n rest) front ∙ append_assoc l (10 ∷ []) (drop n rest)
+cut-rest rest l n front = sym (take-append-drop n rest) ∙ ap (λ (t : List ℕ). t ++ drop n rest) front
+    ∙ append_assoc l (10 ∷ []) (drop n rest)
 
 -- ---- a line that is too long
 
 -- what stands before it has no LF
-pub longer-front : (rest left : List ℕ) → HasNoLf rest → IsLongerThan max_line left → IsLongerThan max_line (rest ++ left)
+pub longer-front : (rest left : List ℕ) → HasNoLf rest → IsLongerThan max_line left
+    → IsLongerThan max_line (rest ++ left)
 longer-front rest left one long = (
   omega (arith, length-append rest left, long.0),
   All-from_recursion (λ b. b ≢ 10) _ (go rest (max_line + 1) (recursion_from_All (λ b. b ≢ 10) rest one)),
 )
   where
-    shorter : (n m : ℕ) (xs : List ℕ) → n ≤ m → AllByRecursion (λ b. b ≢ 10) (take m xs) → AllByRecursion (λ b. b ≢ 10) (take n xs)
+    shorter : (n m : ℕ) (xs : List ℕ) → n ≤ m → AllByRecursion (λ b. b ≢ 10) (take m xs)
+        → AllByRecursion (λ b. b ≢ 10) (take n xs)
     shorter zero m xs le h = tt
     shorter (suc n) zero xs le h = absurd (omega arith)
     shorter (suc n) (suc m) [] le h = tt
@@ -83,18 +93,22 @@ longer-front rest left one long = (
     below : (n : ℕ) → n ≤ max_line + 1 → AllByRecursion (λ b. b ≢ 10) (take n left)
     below n le = shorter n (max_line + 1) left le (recursion_from_All (λ b. b ≢ 10) _ long.1)
 
-    all-of : (xs : List ℕ) (n : ℕ) → n ≤ max_line + 1 → AllByRecursion (λ b. b ≢ 10) xs → AllByRecursion (λ b. b ≢ 10) (take n (xs ++ left))
+    all-of : (xs : List ℕ) (n : ℕ) → n ≤ max_line + 1 → AllByRecursion (λ b. b ≢ 10) xs
+        → AllByRecursion (λ b. b ≢ 10) (take n (xs ++ left))
     all-of [] n le h = below n le
     all-of (x ∷ xs) zero le h = tt
     all-of (x ∷ xs) (suc n) le h = (h.0, all-of xs n (omega arith) h.1)
 
-    go : (xs : List ℕ) (n : ℕ) → AllByRecursion (λ b. b ≢ 10) xs → AllByRecursion (λ b. b ≢ 10) (take (max_line + 1) (xs ++ left))
+    go : (xs : List ℕ) (n : ℕ) → AllByRecursion (λ b. b ≢ 10) xs
+        → AllByRecursion (λ b. b ≢ 10) (take (max_line + 1) (xs ++ left))
     go xs n h = all-of xs (max_line + 1) (omega arith) h
 
 pub longer-rest : (rest more : List ℕ) → max_line < length rest → HasNoLf rest → IsLongerThan max_line (rest ++ more)
 longer-rest rest more lt one = (
   omega (arith, length-append rest more, lt),
-  All-from_recursion (λ b. b ≢ 10) _ (subst (λ (t : List ℕ). AllByRecursion (λ b. b ≢ 10) t) (sym (take-append-le (max_line + 1) rest more (omega (arith, lt)))) (few rest (max_line + 1) (recursion_from_All (λ b. b ≢ 10) rest one))),
+  All-from_recursion (λ b. b ≢ 10) _ (subst (λ (t : List ℕ). AllByRecursion (λ b. b ≢ 10) t)
+      (sym (take-append-le (max_line + 1) rest more (omega (arith, lt))))
+      (few rest (max_line + 1) (recursion_from_All (λ b. b ≢ 10) rest one))),
 )
   where
     few : (xs : List ℕ) (n : ℕ) → AllByRecursion (λ b. b ≢ 10) xs → AllByRecursion (λ b. b ≢ 10) (take n xs)
@@ -104,8 +118,10 @@ longer-rest rest more lt one = (
 
 -- ---- whether one more section is whole
 
-pub whole-cases : (ws : List SiteLog) (b : Begun) (o : Option SiteLog) (line : SectionLine) → b.whole ≡ ws → MayFollow b o line
-    → ((with_next b o line).whole ≡ ws) ⊎ ((log : SiteLog) × (o ≡ Some log) × (line ≡ End) × ((with_next b o line).whole ≡ ws ++ log ∷ []))
+pub whole-cases : (ws : List SiteLog) (b : Begun) (o : Option SiteLog) (line : SectionLine) → b.whole ≡ ws
+    → MayFollow b o line
+    → ((with_next b o line).whole ≡ ws)
+    ⊎ ((log : SiteLog) × (o ≡ Some log) × (line ≡ End) × ((with_next b o line).whole ≡ ws ++ log ∷ []))
 whole-cases ws b None line e follow = inl e
 whole-cases ws b (Some log) (Site k) e follow = inl e
 whole-cases ws b (Some log) (Initial h) e follow = inl e
@@ -115,7 +131,8 @@ whole-cases ws b (Some log) End e follow = inr (log, refl, refl, ap (λ (ls : Li
 
 -- ---- the steps at a site
 
-pub steps-found : (ds : List Decision) (k : ℕ) (edges : List Edge) (log : SiteLog) (met : Bool) → AreStepsAt ds k edges → IsTrue met ↔ All (IsMet log.entries) edges → IsTrue met ↔ StepsAreFound ds k log
+pub steps-found : (ds : List Decision) (k : ℕ) (edges : List Edge) (log : SiteLog) (met : Bool)
+    → AreStepsAt ds k edges → IsTrue met ↔ All (IsMet log.entries) edges → IsTrue met ↔ StepsAreFound ds k log
 steps-found ds k edges log met are is = (
   λ h. All-from_at (λ (e : Edge). e.step.label.site ≡ k → IsMet log.entries e) (edges_in ds) (λ n e at here.
       All_in (IsMet log.entries) edges e (is.0 h) ((are e).1 (Contains-from_at (edges_in ds) n e at, here))),
@@ -124,17 +141,21 @@ steps-found ds k edges log met are is = (
       All_in (λ (e : Edge). e.step.label.site ≡ k → IsMet log.entries e) (edges_in ds) e found both.0 both.1)),
 )
 
-module _ (second : Bool) (c : Certificate) (k : ℕ) (few : k < c.sites) (bytes rest : List ℕ) (line : ℕ) (a : Alone) (g : IsUnderway second c k bytes rest line a) where
+module _ (second : Bool) (c : Certificate) (k : ℕ) (few : k < c.sites) (bytes rest : List ℕ) (line : ℕ) (a : Alone)
+    (g : IsUnderway second c k bytes rest line a) where
   -- the section goes on
   pub open-yet : AreSections c.sites (alone k g.own) → ⊥
   open-yet all =
-      let each = (are-sections g.b (subst (λ n. AreSections n (lines_read g.b)) (sym g.stands.sites) (subst (AreSections c.sites) (sym g.lines) all))).1 in
+      let each =
+      (are-sections g.b (subst (λ n. AreSections n (lines_read g.b)) (sym g.stands.sites)
+      (subst (AreSections c.sites) (sym g.lines) all))).1 in
       let many : length g.b.whole ≡ k = ap length g.whole ∙ length-replicate k empty_log in
       let sites = g.stands.sites in
       omega (arith, each, many, sites)
 
   -- at the end of the text
-  pub ends : (f : Fault) → HasNoLf rest → Breaks (Rule (within second c (alone k g.own)) (last rest)) f → f ≢ fault.WalkStep → OwnFault second c k bytes line f
+  pub ends : (f : Fault) → HasNoLf rest → Breaks (Rule (within second c (alone k g.own)) (last rest)) f
+      → f ≢ fault.WalkStep → OwnFault second c k bytes line f
   ends f one breaks other = record {
     own = g.own;
     rest = rest;
@@ -149,7 +170,8 @@ module _ (second : Bool) (c : Certificate) (k : ℕ) (few : k < c.sites) (bytes 
   }
 
   -- where what comes next is a line that is too long
-  pub unspelled : (left : List ℕ) → IsLongerThan max_line (rest ++ left) → OwnFault second c k (bytes ++ left) line fault.Notation
+  pub unspelled : (left : List ℕ) → IsLongerThan max_line (rest ++ left)
+      → OwnFault second c k (bytes ++ left) line fault.Notation
   unspelled left long =
       let p = piece (rest ++ left) in
       record {
@@ -161,7 +183,8 @@ module _ (second : Bool) (c : Certificate) (k : ℕ) (few : k < c.sites) (bytes 
         open_yet = open-yet;
         number = g.number;
         comes = p.1;
-        breaks = notation-breaks second c (alone k g.own) p.0 (piece-long max_line (rest ++ left) p.0 p.1 long.0 long.1);
+        breaks = notation-breaks second c (alone k g.own) p.0
+            (piece-long max_line (rest ++ left) p.0 p.1 long.0 long.1);
         others = λ same. cc;
       }
 
@@ -181,7 +204,8 @@ module _ (second : Bool) (c : Certificate) (k : ℕ) (few : k < c.sites) (bytes 
 
   module _ (edges : List Edge) (new : Alone) (n : ℕ) (same : new.second ≡ a.second) where
     -- a line with a fault
-    pub faulty : (f : Fault) → FedAlone c edges a new rest n (Some f) → (more : List ℕ) → OwnFault second c k (bytes ++ more) line f
+    pub faulty : (f : Fault) → FedAlone c edges a new rest n (Some f) → (more : List ℕ)
+        → OwnFault second c k (bytes ++ more) line f
     faulty f fed more =
         let follows = fed.follows g.b g.stands in
         record {
@@ -192,8 +216,14 @@ module _ (second : Bool) (c : Certificate) (k : ℕ) (few : k < c.sites) (bytes 
           kept = g.kept;
           open_yet = open-yet;
           number = g.number;
-          comes = (drop n rest ++ more, ap (λ (t : List ℕ). t ++ more) (fed.cut) ∙ append_assoc fed.line (10 ∷ drop n rest) more, fed.one);
-          breaks = subst (λ ls. Breaks (Rule (within second c ls) (whole fed.line)) f) g.lines (subst (λ s. Breaks (Rule (within s c (lines_read g.b)) (whole fed.line)) f) (same ∙ g.format) follows.0);
+          comes = (
+            drop n rest ++ more,
+            ap (λ (t : List ℕ). t ++ more) (fed.cut)
+                ∙ append_assoc fed.line (10 ∷ drop n rest) more,
+            fed.one,
+          );
+          breaks = subst (λ ls. Breaks (Rule (within second c ls) (whole fed.line)) f) g.lines
+              (subst (λ s. Breaks (Rule (within s c (lines_read g.b)) (whole fed.line)) f) (same ∙ g.format) follows.0);
           others = follows.1;
         }
 
@@ -227,7 +257,8 @@ module _ (second : Bool) (c : Certificate) (k : ℕ) (few : k < c.sites) (bytes 
 
       next-read : lines_read next ≡ alone k more_own
       next-read =
-          added-lines g.b g.stands.begun read may g.b.current refl ∙ ap (λ (ls : List SectionLine). ls ++ read ∷ []) g.lines
+          added-lines g.b g.stands.begun read may g.b.current refl
+          ∙ ap (λ (ls : List SectionLine). ls ++ read ∷ []) g.lines
           ∙ append_assoc (sections_from 0 (empty k)) g.own (read ∷ [])
 
       own-kept : AreKeptAlone second c k more_own
@@ -237,19 +268,23 @@ module _ (second : Bool) (c : Certificate) (k : ℕ) (few : k < c.sites) (bytes 
             | inr end ↦
                 let one = last_cut read end.0 later l end.2 in
                 let front = end.1 ∙ ap (λ (ls : List SectionLine). g.own ++ ls) one.1 ∙ append-nil g.own in
-                subst (λ ls. IsLineIn second l × KeepsAlone c k ls l) (sym front) (subst (λ m. IsLineIn second m × KeepsAlone c k g.own m) one.0
+                subst (λ ls. IsLineIn second l × KeepsAlone c k ls l) (sym front)
+                (subst (λ m. IsLineIn second m × KeepsAlone c k g.own m) one.0
                 (is-line, λ f lt. subst (λ ls. Keeps c ls read f) g.lines (keeps f lt)))
           ]
 
       own-text : bytes ≡ text_of_lines (map line_text more_own) ++ drop n rest
       own-text =
-          g.text ∙ ap (λ (t : List ℕ). text_of_lines (map line_text g.own) ++ t) (fed.cut ∙ ap (λ (t : List ℕ). t ++ 10 ∷ drop n rest) is-text)
-          ∙ sym (text-one_line (map line_text g.own) (line_text read) (drop n rest)) ∙ ap (λ ls. text_of_lines ls ++ drop n rest) (sym (map-append line_text g.own (read ∷ [])))
+          g.text ∙ ap (λ (t : List ℕ). text_of_lines (map line_text g.own) ++ t) (fed.cut
+          ∙ ap (λ (t : List ℕ). t ++ 10 ∷ drop n rest) is-text)
+          ∙ sym (text-one_line (map line_text g.own) (line_text read) (drop n rest))
+          ∙ ap (λ ls. text_of_lines ls ++ drop n rest) (sym (map-append line_text g.own (read ∷ [])))
 
       own-number : line ≡ length more_own
       own-number = omega (arith, g.number, length-append g.own (read ∷ []))
 
-      cases : (next.whole ≡ empty k) ⊎ ((log : SiteLog) × (g.b.current ≡ Some log) × (read ≡ End) × (next.whole ≡ empty k ++ log ∷ []))
+      cases : (next.whole ≡ empty k) ⊎ ((log : SiteLog) × (g.b.current ≡ Some log) × (read ≡ End)
+          × (next.whole ≡ empty k ++ log ∷ []))
       cases = whole-cases (empty k) g.b g.b.current read g.whole (begins-follow g.b read may)
 
       -- the section goes on behind it
@@ -257,7 +292,16 @@ module _ (second : Bool) (c : Certificate) (k : ℕ) (few : k < c.sites) (bytes 
       goes-on before = record {
         b = next;
         own = more_own;
-        whole = elim cases [ inl same_as ↦ same_as | inr more ↦ absurd (before (omega (arith, ap length more.3, length-append (empty k) (more.0 ∷ []), length-replicate k empty_log))) ];
+        whole = elim cases [
+          | inl same_as ↦ same_as
+          | inr more ↦ absurd
+              (before (omega (
+                arith,
+                ap length more.3,
+                length-append (empty k) (more.0 ∷ []),
+                length-replicate k empty_log,
+              )))
+        ];
         stands = stands;
         lines = next-read;
         kept = own-kept;
@@ -267,11 +311,18 @@ module _ (second : Bool) (c : Certificate) (k : ℕ) (few : k < c.sites) (bytes 
       }
 
       -- the section is whole with it
-      pub ended : k < length next.whole → (log : SiteLog) × (g.b.current ≡ Some log) × (read ≡ End) × (next.whole ≡ empty k ++ log ∷ [])
-      ended behind = elim cases [ inl same_as ↦ absurd (omega (arith, ap length same_as, length-replicate k empty_log)) | inr more ↦ more ]
+      pub ended : k < length next.whole → (log : SiteLog) × (g.b.current ≡ Some log) × (read ≡ End)
+          × (next.whole ≡ empty k ++ log ∷ [])
+      ended behind =
+          elim cases [
+            | inl same_as ↦ absurd (omega (arith, ap length same_as, length-replicate k empty_log))
+            | inr more ↦ more
+          ]
 
-      none-open : (o : Option SiteLog) (l : SectionLine) (log : SiteLog) → o ≡ Some log → l ≡ End → (with_next g.b o l).current ≡ None
-      none-open o l log here end = ap (λ (p : Option SiteLog). (with_next g.b p l).current) here ∙ ap (λ m. (with_next g.b (Some log) m).current) end
+      none-open : (o : Option SiteLog) (l : SectionLine) (log : SiteLog) → o ≡ Some log → l ≡ End
+          → (with_next g.b o l).current ≡ None
+      none-open o l log here end = ap (λ (p : Option SiteLog). (with_next g.b p l).current) here
+          ∙ ap (λ m. (with_next g.b (Some log) m).current) end
 
       module _ (behind : k < length next.whole) where
         abbrev log : SiteLog
@@ -285,8 +336,15 @@ module _ (second : Bool) (c : Certificate) (k : ℕ) (few : k < c.sites) (bytes 
 
         ready-state : IsReadyFor c.decisions (k + 1 + 1) new.state
         ready-state =
-            let many : length next.whole ≡ k + 1 = omega (arith, ap length (ended behind).3, length-append (empty k) (log ∷ []), length-replicate k empty_log) in
-            subst (λ m. IsReadyFor c.decisions (m + 1) new.state) many (subst (λ o. TracksCurrent c.decisions (length next.whole) o new.state) closed stands.open_site)
+            let many : length next.whole ≡ k + 1 =
+            omega (
+              arith,
+              ap length (ended behind).3,
+              length-append (empty k) (log ∷ []),
+              length-replicate k empty_log,
+            ) in
+            subst (λ m. IsReadyFor c.decisions (m + 1) new.state) many
+            (subst (λ o. TracksCurrent c.decisions (length next.whole) o new.state) closed stands.open_site)
 
         pub ready : IsReadyAlone c (k + 1) new
         ready = record { sites = ready-sites; state = ready-state }
@@ -295,28 +353,38 @@ module _ (second : Bool) (c : Certificate) (k : ℕ) (few : k < c.sites) (bytes 
         section-is =
             let at : length (empty k) ≡ k = length-replicate k empty_log in
             append_cancel_left (sections_from 0 (empty k)) more_own (section_lines k log)
-            (sym next-read ∙ read-whole next (empty k ++ log ∷ []) (ended behind).3 closed ∙ sections-append 0 (empty k) (log ∷ [])
-            ∙ ap (λ (ls : List SectionLine). sections_from 0 (empty k) ++ ls) (append-nil (section_lines (0 + length (empty k)) log) ∙ ap (λ j. section_lines j log) (zero-add (length (empty k)) ∙ at)))
+            (sym next-read ∙ read-whole next (empty k ++ log ∷ []) (ended behind).3 closed
+            ∙ sections-append 0 (empty k) (log ∷ [])
+            ∙ ap (λ (ls : List SectionLine). sections_from 0 (empty k) ++ ls)
+            (append-nil (section_lines (0 + length (empty k)) log)
+            ∙ ap (λ j. section_lines j log) (zero-add (length (empty k)) ∙ at)))
           where
             append-end : (b : Begun) → b.current ≡ None → lines_read b ≡ sections_from 0 b.whole
-            append-end b none = ap (λ o. lines_read (record b { current = o })) none ∙ append-nil (sections_from 0 b.whole)
+            append-end b none = ap (λ o. lines_read (record b { current = o })) none
+                ∙ append-nil (sections_from 0 b.whole)
 
-            read-whole : (b : Begun) (ws : List SiteLog) → b.whole ≡ ws → b.current ≡ None → lines_read b ≡ sections_from 0 ws
+            read-whole : (b : Begun) (ws : List SiteLog) → b.whole ≡ ws → b.current ≡ None
+                → lines_read b ≡ sections_from 0 ws
             read-whole b ws e none = append-end b none ∙ ap (sections_from 0) e
 
         shaped : IsShapedLog log
         shaped =
             let at : length (empty k) ≡ k = length-replicate k empty_log in
-            All_at IsShapedLog next.whole (length (empty k)) log stands.begun.logs (ap (λ (ls : List SiteLog). slice_get ls (length (empty k))) (ended behind).3 ∙ middle_at (empty k) log [])
+            All_at IsShapedLog next.whole (length (empty k)) log stands.begun.logs
+            (ap (λ (ls : List SiteLog). slice_get ls (length (empty k))) (ended behind).3
+            ∙ middle_at (empty k) log [])
 
         met : IsTrue new.met ↔ All (IsMet log.entries) edges
-        met = subst (λ m. MeetsSteps edges (Some log) m new.met) (ended behind).2 (subst (λ o. MeetsSteps edges o read new.met) (ended behind).1 meets)
+        met = subst (λ m. MeetsSteps edges (Some log) m new.met) (ended behind).2
+            (subst (λ o. MeetsSteps edges o read new.met) (ended behind).1 meets)
 
         pub is-whole : AreStepsAt c.decisions k edges → drop n rest ≡ [] → IsWholeSection second c k bytes line new.met
         is-whole are none = record {
           log = log;
           faultless = record { shaped = shaped; kept = subst (AreKeptAlone second c k) section-is own-kept };
-          text = own-text ∙ ap (λ (t : List ℕ). text_of_lines (map line_text more_own) ++ t) none ∙ append-nil (text_of_lines (map line_text more_own)) ∙ ap (λ ls. text_of_lines (map line_text ls)) section-is;
+          text = own-text ∙ ap (λ (t : List ℕ). text_of_lines (map line_text more_own) ++ t) none
+              ∙ append-nil (text_of_lines (map line_text more_own))
+              ∙ ap (λ ls. text_of_lines (map line_text ls)) section-is;
           count = own-number ∙ ap length section-is;
           steps = steps-found c.decisions k edges log new.met are met;
         }

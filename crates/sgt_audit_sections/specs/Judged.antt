@@ -15,12 +15,13 @@ use Rattle.sgt_audit_sections.specs.declared.judging.Judged.{Judged}
 use Rattle.sgt_audit_sections.specs.declared.judging.Judged.TheVariants.{Whole, Faulty, Open, Unfit}
 
 -- the bytes are the whole section of site k, with no fault of its own
-pub record IsWholeSection (second : Bool) (c : Certificate) (k : ℕ) (bytes : List ℕ) (lines : ℕ) (met : Bool) : Type 0 where
-  pub log : SiteLog
-  pub faultless : IsFaultlessSection second c k log
-  pub text : bytes ≡ text_of_lines (map line_text (section_lines k log))
-  pub count : lines ≡ length (section_lines k log)
-  pub steps : IsTrue met ↔ StepsAreFound c.decisions k log
+pub record IsWholeSection (second : Bool) (c : Certificate) (k : ℕ) (bytes : List ℕ) (lines : ℕ) (met : Bool) : Type 0
+  where
+    pub log : SiteLog
+    pub faultless : IsFaultlessSection second c k log
+    pub text : bytes ≡ text_of_lines (map line_text (section_lines k log))
+    pub count : lines ≡ length (section_lines k log)
+    pub steps : IsTrue met ↔ StepsAreFound c.decisions k log
 
 -- they are that, or they have this fault, whatever follows them, or F18 where nothing does
 abbrev pub IsJudgedSection : Bool → Certificate → ℕ → List ℕ → Judged → Type 0
@@ -36,19 +37,21 @@ IsWhole _ = ⊥
 
 -- Of these bytes of the section of site k all but the rest, which begin with its line of this
 -- number, are lines with no fault of their own, and this is what is kept of them.
-pub record IsUnderway (second : Bool) (c : Certificate) (k : ℕ) (bytes rest : List ℕ) (line : ℕ) (a : Alone) : Type 0 where
-  pub b : Begun
-  pub own : List SectionLine
-  pub whole : b.whole ≡ replicate k empty_log
-  pub stands : StandsAlone c b a
-  pub lines : lines_read b ≡ alone k own
-  pub kept : AreKeptAlone second c k own
-  pub text : bytes ≡ text_of_lines (map line_text own) ++ rest
-  pub number : line ≡ length own + 1
-  pub format : a.second ≡ second
+pub record IsUnderway (second : Bool) (c : Certificate) (k : ℕ) (bytes rest : List ℕ) (line : ℕ) (a : Alone) : Type 0
+  where
+    pub b : Begun
+    pub own : List SectionLine
+    pub whole : b.whole ≡ replicate k empty_log
+    pub stands : StandsAlone c b a
+    pub lines : lines_read b ≡ alone k own
+    pub kept : AreKeptAlone second c k own
+    pub text : bytes ≡ text_of_lines (map line_text own) ++ rest
+    pub number : line ≡ length own + 1
+    pub format : a.second ≡ second
 
 -- where the section goes on, its next line begins with the last bytes
-pub record IsUnderwayAt (second : Bool) (c : Certificate) (k : ℕ) (bytes piece : List ℕ) (a : Alone) (line many : ℕ) : Type 0 where
+pub record IsUnderwayAt (second : Bool) (c : Certificate) (k : ℕ) (bytes piece : List ℕ) (a : Alone)
+    (line many : ℕ) : Type 0 where
   pub rest : List ℕ
   pub front : List ℕ
   pub last : piece ≡ front ++ rest

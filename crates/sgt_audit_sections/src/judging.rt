@@ -17,11 +17,13 @@ use std::alloc::AllocError;
 /// What the bytes of a section were found to be.
 #[derive(Clone, Copy, Debug, PartialEq, Eq)]
 pub enum Judged {
-    /// A whole section of so many lines, with no fault but perhaps one of a walk; and whether each step at its site is a conflict there.
+    /// A whole section of so many lines, with no fault but perhaps one of a walk; and whether each step at its site
+    /// is a conflict there.
     Whole { lines: u64, met: bool },
     /// The section has this fault, at this line first. Lines are counted from 1.
     Faulty { line: u64, fault: Fault },
-    /// The section goes on at this line, of which the last bytes stand here, so many, with no LF; where the text ends there, that line has F18.
+    /// The section goes on at this line, of which the last bytes stand here, so many, with no LF; where the text ends
+    /// there, that line has F18.
     Open { line: u64, rest: usize },
     /// More than one section.
     Unfit,
@@ -68,7 +70,8 @@ fn behind(bytes: &[u8], n: usize) -> &[u8]
     rest
 }
 
-/// Feeds the line at the front of the bytes, if a whole one stands there: how many bytes it has with its LF, and its fault.
+/// Feeds the line at the front of the bytes, if a whole one stands there: how many bytes it has with its LF, and its
+/// fault.
 #[inline(always)]
 fn feed_front(
     alone: &mut Alone,
@@ -96,9 +99,10 @@ fn feed_front(
     }
 }
 
-/// Judges these bytes, which come next of the section of this site, with the certificate and the steps at the site lent. The line is the
-/// number of the next one in the section, and what was kept of those before it is passed. What is found is of all bytes of the section
-/// so far. Where it goes on, the last bytes, which are no whole line, are to be passed once more, with those behind them.
+/// Judges these bytes, which come next of the section of this site, with the certificate and the steps at the site
+/// lent. The line is the number of the next one in the section, and what was kept of those before it is passed. What
+/// is found is of all bytes of the section so far. Where it goes on, the last bytes, which are no whole line, are to
+/// be passed once more, with those behind them.
 pub fn judge_lines(
     alone: &mut Alone,
     certificate: &Decided,

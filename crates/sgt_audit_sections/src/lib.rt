@@ -1,4 +1,5 @@
-//! The sections of a bundle, each judged by itself, and what their own faults have to do with the first fault of the text.
+//! The sections of a bundle, each judged by itself, and what their own faults have to do with the first fault of the
+//! text.
 #![tactic(auto)]
 
 mod judging;

@@ -13,14 +13,19 @@ use Rattle.sgt_audit_workers.specs.private.Texts.{IsOpen}
 use Rattle.sgt_audit_workers.proofs.Taken.{some-comes}
 
 -- where a section is open
-pub open-comes : (first now : Reader) (lines : Ahead) (most : ℕ) (left : Option (List ℕ)) (bytes : List ℕ) (s : Result Stop EngineFail) → IsOpen first lines most now left bytes s → (bytes ≢ []) ⊎ (s ≡ Ok stop.Long) → IfSome left (λ rest. rest ≢ [])
+pub open-comes : (first now : Reader) (lines : Ahead) (most : ℕ) (left : Option (List ℕ)) (bytes : List ℕ)
+    (s : Result Stop EngineFail) → IsOpen first lines most now left bytes s → (bytes ≢ []) ⊎ (s ≡ Ok stop.Long)
+    → IfSome left (λ rest. rest ≢ [])
 open-comes first now lines most left bytes s is (inl some) = some-comes left is.behind bytes is.read some
 open-comes first now lines most left bytes s is (inr long) = by-left left is.behind is.read (long-behind s long is)
   where
-    long-behind : (s : Result Stop EngineFail) → s ≡ Ok stop.Long → (o : IsOpen first lines most now left bytes s) → IfSome o.behind (IsLongerThan max_line)
+    long-behind : (s : Result Stop EngineFail) → s ≡ Ok stop.Long → (o : IsOpen first lines most now left bytes s)
+        → IfSome o.behind (IsLongerThan max_line)
     long-behind s long o = rw long at o.stops
 
-    by-left : (left behind : Option (List ℕ)) → Consumes left behind bytes → IfSome behind (IsLongerThan max_line) → IfSome left (λ rest. rest ≢ [])
+    by-left : (left behind : Option (List ℕ)) → Consumes left behind bytes → IfSome behind (IsLongerThan max_line)
+        → IfSome left (λ rest. rest ≢ [])
     by-left None behind read long = tt
     by-left (Some xs) None read long = absurd read
-    by-left (Some xs) (Some ys) read long = λ none. absurd (omega (arith, long.0, ap length (sym read ∙ none), length-append bytes ys))
+    by-left (Some xs) (Some ys) read long =
+        λ none. absurd (omega (arith, long.0, ap length (sym read ∙ none), length-append bytes ys))

@@ -36,30 +36,51 @@ pub idle-later : (h : Head) (k n : ℕ) (job : Job) → k ≤ n → IsIdle h k j
 idle-later h k n job le idle = some-later h k n job.alone le idle
 
 -- ---- one more that is judged
-pub running-more : (h : Head) (most : ℕ) (old mid new : Option (List ℕ)) (k n : ℕ) (running : List Running) (r : Running) (job : Job) → AreRunning h most old k running mid → k + length running ≡ n → IsGiven most mid n job new → Will h job r → AreRunning h most old k (running ++ r ∷ []) new
+pub running-more : (h : Head) (most : ℕ) (old mid new : Option (List ℕ)) (k n : ℕ) (running : List Running)
+    (r : Running) (job : Job) → AreRunning h most old k running mid → k + length running ≡ n
+    → IsGiven most mid n job new → Will h job r → AreRunning h most old k (running ++ r ∷ []) new
 running-more h most old mid new k n [] r job none same is will = (
   job,
   new,
   record {
     site = omega (arith, is.site, same);
-    section = record { bytes = Consumes-trans old mid new [] job.section.bytes.items none is.section.bytes; last = is.section.last; short = is.section.short };
+    section = record {
+      bytes = Consumes-trans old mid new [] job.section.bytes.items none is.section.bytes;
+      last =
+          is.section.last;
+      short = is.section.short;
+    };
   },
   will,
   Consumes-nil new,
 )
-running-more h most old mid new k n (first ∷ running) r job are same is will = (are.0, are.1, are.2, are.3, running-more h most are.1 mid new (k + 1) n running r job are.4 (omega (arith, same)) is will)
+running-more h most old mid new k n (first ∷ running) r job are same is will = (
+  are.0,
+  are.1,
+  are.2,
+  are.3,
+  running-more h most are.1 mid new (k + 1) n running r job are.4 (omega (arith, same))
+      is will,
+)
 
 -- how many bytes they have
-pub running-bytes : (h : Head) (most : ℕ) (old new : Option (List ℕ)) (k : ℕ) (running : List Running) → AreRunning h most old k running new → Bytes old new (length running * longest most)
+pub running-bytes : (h : Head) (most : ℕ) (old new : Option (List ℕ)) (k : ℕ) (running : List Running)
+    → AreRunning h most old k running new → Bytes old new (length running * longest most)
 running-bytes h most old new k [] none = ([], none, omega arith)
 running-bytes h most old new k (r ∷ running) are =
-    bytes-one old are.1 new are.0.section.bytes.items (longest most) (length running * longest most) (suc (length running) * longest most) are.2.section.bytes (omega (arith, are.2.section.short))
+    bytes-one old are.1 new are.0.section.bytes.items (longest most) (length running * longest most)
+    (suc (length running) * longest most) are.2.section.bytes (omega (arith, are.2.section.short))
     (running-bytes h most are.1 new (k + 1) running are.4) (omega (arith, suc-mul (length running) (longest most)))
 
 -- the job, when it is judged
-pub given-run : (h : Head) (most : ℕ) (old new : Option (List ℕ)) (k : ℕ) (job done : Job) → HasRun h job done → IsGiven most old k job new → IsGiven most old k done new
+pub given-run : (h : Head) (most : ℕ) (old new : Option (List ℕ)) (k : ℕ) (job done : Job) → HasRun h job done
+    → IsGiven most old k job new → IsGiven most old k done new
 given-run h most old new k job done ran given =
-    record { site = ran.site ∙ given.site; section = subst (λ (s : Section). IsNextSection most old s new) (sym ran.section) given.section }
+    record {
+      site = ran.site ∙ given.site;
+      section =
+          subst (λ (s : Section). IsNextSection most old s new) (sym ran.section) given.section;
+    }
 
 -- ---- lists and results
 

@@ -27,7 +27,8 @@ pub record IsShort (most idle many : ℕ) : Type 0 where
 
 -- A piece of what came was put behind these bytes, and each read, of those that are gone, took a
 -- byte of it at least, but for a few.
-pub record IsPiece (most : ℕ) (old new : Option (List ℕ)) (reads reads' : ℕ) (before after : List ℕ) (stop : Result Stop EngineFail) : Type 0 where
+pub record IsPiece (most : ℕ) (old new : Option (List ℕ)) (reads reads' : ℕ) (before after : List ℕ)
+    (stop : Result Stop EngineFail) : Type 0 where
   pub piece : List ℕ
   pub left : Option (List ℕ)
   pub idle : ℕ

@@ -36,7 +36,8 @@ Adds second c logs bytes more new None = (log : SiteLog) × IsTally second c (lo
 Adds second c logs bytes more new (Some v) =
     IsVerdictBehind (front_text second c logs) (bytes ++ more) v
 
--- behind so many lines this is not added: more than one section, one that goes on and is not the last, or one with a line past 2^64 - 1
+-- behind so many lines this is not added: more than one section, one that goes on and is not the last, or one with a
+-- line past 2^64 - 1
 abbrev pub IsLost : (lines : ℕ) → (is_last : Bool) → Judged → Type 0
 IsLost lines is_last (Whole many met) = 2 ^ 64 ≤ lines + many
 IsLost lines is_last (Faulty line f) = 2 ^ 64 ≤ lines + line

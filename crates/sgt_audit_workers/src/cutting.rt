@@ -21,8 +21,8 @@ pub enum Stop {
     Long,
 }
 
-/// How much of a text is wanted in one piece: once it has `enough` bytes no more is read for it, and held lines are put behind it only
-/// where it has at most so many bytes as `most` with them.
+/// How much of a text is wanted in one piece: once it has `enough` bytes no more is read for it, and held lines are
+/// put behind it only where it has at most so many bytes as `most` with them.
 #[derive(Clone, Copy)]
 pub struct Room {
     pub enough: usize,
@@ -114,8 +114,8 @@ fn held_lines(lines: &Lines) -> (usize, bool)
     }
 }
 
-/// Moves the lines that are held whole behind the section, up to the first line `end`, unless it had more bytes than these with them: where
-/// it stops then.
+/// Moves the lines that are held whole behind the section, up to the first line `end`, unless it had more bytes than
+/// these with them: where it stops then.
 fn take_held(
     lines: &mut Lines,
     section: &mut Vec<u8>,
@@ -154,9 +154,9 @@ fn append_line(section: &mut Vec<u8>, line: &mut Vec<u8>) -> Result<(), EngineFa
     append(section, line.as_slice())
 }
 
-/// Reads on behind the bytes of a section that were read: its lines up to the next line `end`, with it, or up to the end of the text, or a
-/// part of them. No read is made where lines are held whole. What was read before an Err stands behind the section too, but for the line
-/// that was read then.
+/// Reads on behind the bytes of a section that were read: its lines up to the next line `end`, with it, or up to the
+/// end of the text, or a part of them. No read is made where lines are held whole. What was read before an Err stands
+/// behind the section too, but for the line that was read then.
 pub fn read_piece<R: Source>(
     reader: &mut R,
     lines: &mut Lines,

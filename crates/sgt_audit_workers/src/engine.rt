@@ -126,7 +126,8 @@ fn ends_here<R: Source>(source: &mut R, text: &mut Text) -> Result<bool, EngineF
     }
 }
 
-/// The verdict, once all sections have no fault but perhaps one of a walk, where these were read behind them; or this yes.
+/// The verdict, once all sections have no fault but perhaps one of a walk, where these were read behind them; or this
+/// yes.
 fn at_end<R: Source>(
     source: &mut R,
     text: &mut Text,
@@ -239,7 +240,8 @@ fn has_room(workers: &Workers, ahead: &[Section]) -> bool
     held.saturating_add(2) <= workers.count.saturating_mul(2)
 }
 
-/// Reads one section more behind those that were read, if there is one, where one more may be held and there is a buffer for it.
+/// Reads one section more behind those that were read, if there is one, where one more may be held and there is a
+/// buffer for it.
 fn read_within<R: Source>(
     source: &mut R,
     text: &mut Text,
@@ -363,7 +365,8 @@ fn is_yes(verdict: Verdict) -> bool
     }
 }
 
-/// The verdict, if there is one; but no yes on a text whose reader failed. A fault stands before what could not be read.
+/// The verdict, if there is one; but no yes on a text whose reader failed. A fault stands before what could not be
+/// read.
 fn unless_failed(found: Result<Verdict, EngineFail>, failed: bool) -> Option<Verdict>
     ensures some { IfSome result (λ v. found ≡ Ok v) }
     ensures yes { IfSome result (λ v. IsYes v → failed ≡ false) }
@@ -419,15 +422,16 @@ fn judge_sections<H: Threads + Sync, R: Source>(
     }
 }
 
-/// Audits all that the reader gives, with so many sections judged at once, and writes the line of the verdict and nothing else. The
-/// verdict is that of `audit` of sgt_audit, whatever stands behind the line with the fault. With fewer than two workers it is `audit`
-/// itself.
+/// Audits all that the reader gives, with so many sections judged at once, and writes the line of the verdict and
+/// nothing else. The verdict is that of `audit` of sgt_audit, whatever stands behind the line with the fault. With
+/// fewer than two workers it is `audit` itself.
 ///
-/// Behind a fault more may be read: no more than 8 MiB for each worker, and as many bytes as stand up to the fault's line. Where a read
-/// behind a fault fails, the fault is answered.
+/// Behind a fault more may be read: no more than 8 MiB for each worker, and as many bytes as stand up to the fault's
+/// line. Where a read behind a fault fails, the fault is answered.
 ///
 /// An Err is ReadFault, where a read failed or too many were needed (`MOST_READS` of sgt_names), or Memory: nothing was
-/// written then. Or it is WriteFault, where a write failed: at most a front of the line was written, and not the whole of it.
+/// written then. Or it is WriteFault, where a write failed: at most a front of the line was written, and not the
+/// whole of it.
 pub fn audit_with<H: Threads + Sync, R: Source, W: Sink>(
     rt: &H,
     alloc: Global,

@@ -157,8 +157,8 @@ const PIECE: usize = 3_145_726;
 /// How many bytes of sections are read at most, for each worker, while the second line is judged.
 const BESIDE: usize = 4_194_304;
 
-/// How many bytes of a section are wanted in one piece, for so many workers: with those of the second line, which is let go before the
-/// sections are judged, twice as many sections as there are workers have 8 MiB for each worker.
+/// How many bytes of a section are wanted in one piece, for so many workers: with those of the second line, which is
+/// let go before the sections are judged, twice as many sections as there are workers have 8 MiB for each worker.
 fn most_of(count: usize, line: &[u8]) -> usize
     requires { 0 < count }
     ensures { IsMost count (length line.now) result }
@@ -187,7 +187,8 @@ pub struct Begun {
     pub ahead: Vec<Section>,
 }
 
-/// What the two lines say, once the second is judged, with the sections that were read beside it; or its fault, whatever was read.
+/// What the two lines say, once the second is judged, with the sections that were read beside it; or its fault,
+/// whatever was read.
 fn read_beside<H: Threads + Sync, R: Source>(
     rt: &H,
     beside: Beside,
@@ -225,8 +226,8 @@ fn read_beside<H: Threads + Sync, R: Source>(
     }
 }
 
-/// Reads the first two lines of a text, and sections behind them, while the second is judged: what the lines say, with those sections; or
-/// the verdict on the text, where its first fault is in one of the two.
+/// Reads the first two lines of a text, and sections behind them, while the second is judged: what the lines say,
+/// with those sections; or the verdict on the text, where its first fault is in one of the two.
 ///
 /// An Err is ReadFault, where a read of the two lines failed or too many were needed, or Memory.
 pub fn read_head<H: Threads + Sync, R: Source>(

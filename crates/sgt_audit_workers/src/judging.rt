@@ -16,8 +16,8 @@ use std::snapshot::Snapshot;
 use std::thread;
 use std::thread::{Promise, PromisedHandle, Threads};
 
-/// What a line 2 is found to be: that of a certificate in which no transaction is decided twice, to be judged by the other rules; or
-/// what the first two lines say, or the fault, by all of them.
+/// What a line 2 is found to be: that of a certificate in which no transaction is decided twice, to be judged by the
+/// other rules; or what the first two lines say, or the fault, by all of them.
 #[derive(Drop)]
 pub enum Found {
     Once(Once),
@@ -45,7 +45,8 @@ impl Promise<Reading> for Given {
     ghost kept_by = { λ given reading. IsFoundOf given.second given.line.value.items reading.found };
 }
 
-/// A line 2 that a thread reads; or that was read here, where no thread could be made. It is not `Drop`, so it can't be let go but by
+/// A line 2 that a thread reads; or that was read here, where no thread could be made. It is not `Drop`, so it can't
+/// be let go but by
 /// `wait`.
 pub enum Underway {
     There(PromisedHandle<Reading, Given>),
@@ -81,8 +82,8 @@ fn judged_of(alloc: Global, second: bool, line: &[u8]) -> Result<Found, EngineFa
     }
 }
 
-/// What the line is found to be. A short one is judged at once. One where a transaction is decided twice is read once more, for the
-/// least of its faults.
+/// What the line is found to be. A short one is judged at once. One where a transaction is decided twice is read once
+/// more, for the least of its faults.
 fn find(alloc: Global, second: bool, line: &[u8]) -> Result<Found, EngineFail>
     ensures { IsFoundOf second line.now result }
 {
@@ -143,7 +144,8 @@ fn wait<H: Threads>(rt: &H, reading: Underway) -> Reading
     }
 }
 
-/// Waits until line 2 is read, and judges its certificate: what the first two lines say, by the second of them; or its fault.
+/// Waits until line 2 is read, and judges its certificate: what the first two lines say, by the second of them; or
+/// its fault.
 pub fn finish<H: Threads + Sync>(
     rt: &H,
     alloc: Global,

@@ -113,7 +113,8 @@ fn read_next<R: Source>(source: &mut R, text: &mut Text, opened: &mut Opened)
     text.state = state_behind(text.alloc, opened.stop);
 }
 
-/// The fault of the next line of a section, by where or why reading stopped before or in it; none where more of it is to be read.
+/// The fault of the next line of a section, by where or why reading stopped before or in it; none where more of it is
+/// to be read.
 fn fault_behind(stop: Result<Stop, EngineFail>) -> Result<Option<Fault>, EngineFail>
     ensures long { IfOk result (λ r. IfSome r (λ f. ((stop ≡ Ok Stop.Long) × (f ≡ Fault.Notation))
         ⊎ ((stop ≡ Ok Stop.Text) × (f ≡ Fault.Truncated)))) }

@@ -59,7 +59,8 @@ fn steps_of(alloc: Global, certificate: &Decided, bytes: Vec<u8>) -> Result<Step
     steps
 }
 
-/// What the first two lines say, with this certificate in the second of them; or its fault. The second's bytes are let go.
+/// What the first two lines say, with this certificate in the second of them; or its fault. The second's bytes are
+/// let go.
 pub fn judge_once<H: Threads + Sync>(
     rt: &H,
     alloc: Global,

@@ -27,8 +27,8 @@ impl Promise<Job> for Task {
     ghost kept_by = { λ task done. HasRun task.head.value task.job.value done };
 }
 
-/// A section that a thread judges; or that was judged here, where no thread could be made. It is not `Drop`, so none can be let go but
-/// by `finish`, which waits for its thread.
+/// A section that a thread judges; or that was judged here, where no thread could be made. It is not `Drop`, so none
+/// can be let go but by `finish`, which waits for its thread.
 pub enum Running {
     There(PromisedHandle<Job, Task>),
     Here(Job),

@@ -80,8 +80,8 @@ impl Tally {
         Ok(())
     }
 
-    /// One more section: the verdict on the text, if it has a fault. An Err is Memory. The section was cut behind its first line `end`,
-    /// or it is the last; so it is not unfit, and where the text may end in it, it ends there.
+    /// One more section: the verdict on the text, if it has a fault. An Err is Memory. The section was cut behind its
+    /// first line `end`, or it is the last; so it is not unfit, and where the text may end in it, it ends there.
     pub fn add(&mut self, judged: Judged, is_last: bool) -> Result<Option<Verdict>, EngineFail>
         ensures adds { (second : Bool) (c : Certificate) (logs : List SiteLog)
             (bytes more : List ℕ) → IsTally second c logs self.old → length logs < c.sites

@@ -29,8 +29,8 @@ use std::thread::Threads;
 /// So many decisions take some time to be let go.
 const MANY: usize = 4_096;
 
-/// Workers that judge sections, one after another of a text, and what those before these came to. They end by `stop` alone: the sections
-/// that are judged now can't be let go.
+/// Workers that judge sections, one after another of a text, and what those before these came to. They end by `stop`
+/// alone: the sections that are judged now can't be let go.
 pub struct Workers {
     pub alloc: Global,
     /// How many there may be.
@@ -157,8 +157,8 @@ impl Workers {
         }
     }
 
-    /// Has the next section judged, and waits for a worker if need be: the buffer of the section that this one judged before, if
-    /// there was one, or the verdict on the text.
+    /// Has the next section judged, and waits for a worker if need be: the buffer of the section that this one judged
+    /// before, if there was one, or the verdict on the text.
     pub fn judge<H: Threads>(
         &mut self,
         rt: &H,
@@ -216,7 +216,8 @@ impl Workers {
         Ok(None)
     }
 
-    /// Waits for the sections that are judged still, whatever is found. Where the lines say much, no one waits until that is let go.
+    /// Waits for the sections that are judged still, whatever is found. Where the lines say much, no one waits until
+    /// that is let go.
     pub fn stop<H: Threads>(self, rt: &H) {
         let Workers {
             alloc: _,

@@ -70,36 +70,50 @@ reason-none Walk sites is = is.2
 
 -- ---- which is told
 
-module _ (bytes text : List ℕ) (sites : List SiteLog) (faultless : IsFaultless bytes) (logs : SpellsLogs bytes sites) where
-  reason-of : (is : IsRefused bytes text) → IsReason is.refusal sites
-  reason-of is =
-      subst (IsReason is.refusal) (logs-one bytes is.sites sites is.logs logs) (reason-from is.refusal is.sites is.shown is.first)
+module _ (bytes text : List ℕ) (sites : List SiteLog) (faultless : IsFaultless bytes) (logs : SpellsLogs bytes sites)
+  where
+    reason-of : (is : IsRefused bytes text) → IsReason is.refusal sites
+    reason-of is =
+        subst (IsReason is.refusal) (logs-one bytes is.sites sites is.logs logs)
+        (reason-from is.refusal is.sites is.shown is.first)
 
-  refused-exact : (r : Refusal) (is : IsRefused bytes text) → (Refuses r No text ↔ IsReason r sites)
-  refused-exact r is = (
-    λ told. subst (λ (s : Refusal). IsReason s sites) (same_refusal is.refusal r is.lines told.1.0 (sym is.told ∙ told.1.1)) (reason-of is),
-    λ reason. (refl, (is.lines, is.told ∙ ap (λ (s : Refusal). refusal_text s ++ is.lines) (one_reason is.refusal r sites (reason-of is) reason))),
-  )
+    refused-exact : (r : Refusal) (is : IsRefused bytes text) → (Refuses r No text ↔ IsReason r sites)
+    refused-exact r is = (
+      λ told. subst (λ (s : Refusal). IsReason s sites) (same_refusal is.refusal r is.lines told.1.0 (sym is.told
+          ∙ told.1.1)) (reason-of is),
+      λ reason. (
+        refl,
+        (
+          is.lines,
+          is.told
+              ∙ ap (λ (s : Refusal). refusal_text s ++ is.lines) (one_reason is.refusal r sites (reason-of is) reason),
+        ),
+      ),
+    )
 
-  certified-exact : (r : Refusal) → IsCertified bytes text → (Refuses r Yes text ↔ IsReason r sites)
-  certified-exact r is = (
-    λ told. let no = told.0 in absurd cc,
-    λ reason. absurd (reason-none r sites reason
-        (subst AreCertifiable (logs-one bytes is.bundle.sites sites is.logs logs) (is.bundle.certificate, is.valid))),
-  )
+    certified-exact : (r : Refusal) → IsCertified bytes text → (Refuses r Yes text ↔ IsReason r sites)
+    certified-exact r is = (
+      λ told. let no = told.0 in absurd cc,
+      λ reason. absurd (reason-none r sites reason
+          (subst AreCertifiable (logs-one bytes is.bundle.sites sites is.logs logs) (is.bundle.certificate, is.valid))),
+    )
 
-  reason-exact : (outcome : Outcome) (r : Refusal) → IsAnswer bytes outcome text → (Refuses r outcome text ↔ IsReason r sites)
-  reason-exact Yes r is = certified-exact r is
-  reason-exact No r (inl is) = refused-exact r is
-  reason-exact No r (inr is) = absurd (faultless is.line is.fault is.shown.has)
-  reason-exact Unreadable r is = absurd is
+    reason-exact : (outcome : Outcome) (r : Refusal) → IsAnswer bytes outcome text
+        → (Refuses r outcome text ↔ IsReason r sites)
+    reason-exact Yes r is = certified-exact r is
+    reason-exact No r (inl is) = refused-exact r is
+    reason-exact No r (inr is) = absurd (faultless is.line is.fault is.shown.has)
+    reason-exact Unreadable r is = absurd is
 
-pub reason-told : (bytes text : List ℕ) (outcome : Outcome) (sites : List SiteLog) (refusal : Refusal) → IsAnswer bytes outcome text → IsFaultless bytes
+pub reason-told : (bytes text : List ℕ) (outcome : Outcome) (sites : List SiteLog) (refusal : Refusal)
+    → IsAnswer bytes outcome text → IsFaultless bytes
     → SpellsLogs bytes sites → (Refuses refusal outcome text ↔ IsReason refusal sites)
-reason-told bytes text outcome sites refusal is faultless logs = reason-exact bytes text sites faultless logs outcome refusal is
+reason-told bytes text outcome sites refusal is faultless logs =
+    reason-exact bytes text sites faultless logs outcome refusal is
 
 -- the first fault is one
-faulty-told : (bytes text : List ℕ) (line : ℕ) (fault : Fault) → IsFaulty bytes text → IsFirstFault bytes line fault → text ≡ fault_text line (fault_number fault)
+faulty-told : (bytes text : List ℕ) (line : ℕ) (fault : Fault) → IsFaulty bytes text → IsFirstFault bytes line fault
+    → text ≡ fault_text line (fault_number fault)
 faulty-told bytes text line fault is first =
     let low = is.shown.first line fault first.has in
     let high = first.first is.line is.fault is.shown.has in
@@ -110,7 +124,8 @@ faulty-told bytes text line fault is first =
     let numbers : fault_number is.fault ≡ fault_number fault = omega (arith, least, less) in
     is.told ∙ ap₂ fault_text lines numbers
 
-pub fault-told : (bytes text : List ℕ) (outcome : Outcome) (line : ℕ) (fault : Fault) → IsAnswer bytes outcome text → IsFirstFault bytes line fault
+pub fault-told : (bytes text : List ℕ) (outcome : Outcome) (line : ℕ) (fault : Fault) → IsAnswer bytes outcome text
+    → IsFirstFault bytes line fault
     → (outcome ≡ No) × (text ≡ fault_text line (fault_number fault))
 fault-told bytes text Yes line fault is first =
     absurd (fault-none bytes line fault first.has is.bundle.sites is.logs (is.bundle.certificate, is.valid))

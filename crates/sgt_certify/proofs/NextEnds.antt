@@ -5,7 +5,8 @@ use Rattle.sgt_certify.specs.Lines.{AreLeftLines, IsLeftLine}
 use Rattle.sgt_names.proofs.Elements.{some-weaker, none-weaker}
 
 module _ (sites : List SiteLog) (D E : ℕ → Type 0) (to : (t : ℕ) → D t → E t) (from : (t : ℕ) → E t → D t) where
-  line-as : (site : ℕ) (log : SiteLog) (line : List ℕ) → IsLeftLine sites D site log line → IsLeftLine sites E site log line
+  line-as : (site : ℕ) (log : SiteLog) (line : List ℕ) → IsLeftLine sites D site log line
+      → IsLeftLine sites E site log line
   line-as site log line (inl (place, e, next, is)) = inl (
     place,
     e,
@@ -19,7 +20,8 @@ module _ (sites : List SiteLog) (D E : ℕ → Type 0) (to : (t : ℕ) → D t �
   )
   line-as site log line (inr (all, is)) = inr (λ k f lt at end. to _ (all k f lt at end), is)
 
-  pub lines-as : (site : ℕ) (logs : List SiteLog) (text : List ℕ) → AreLeftLines sites D site logs text → AreLeftLines sites E site logs text
+  pub lines-as : (site : ℕ) (logs : List SiteLog) (text : List ℕ) → AreLeftLines sites D site logs text
+      → AreLeftLines sites E site logs text
   lines-as site [] text is = is
   lines-as site (log ∷ logs) text (line, rest, one, others, is) =
       (line, rest, line-as site log line one, lines-as (suc site) logs rest others, is)

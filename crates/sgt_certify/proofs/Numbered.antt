@@ -32,7 +32,8 @@ section-long k log =
     let all = length-append ((map Initial log.items ++ map Logged log.entries) ++ map Final log.finals) (End ∷ []) in
     omega (arith, items, entries, finals, two, three, all)
 
-in-sections : (k : ℕ) (sites : List SiteLog) (site place : ℕ) (log : SiteLog) → slice_get sites site ≡ Some log → place < length log.entries
+in-sections : (k : ℕ) (sites : List SiteLog) (site place : ℕ) (log : SiteLog) → slice_get sites site ≡ Some log
+    → place < length log.entries
     → line_in_sections sites site place ≤ length (sections_from k sites)
 in-sections k [] site place log at lt = absurd (let within = slice_get_within [] site log at in omega (arith, within))
 in-sections k (l ∷ sites) zero place log at lt =
@@ -47,7 +48,8 @@ in-sections k (l ∷ sites) (suc site) place log at lt =
     let all = length-append (section_lines k l) (sections_from (suc k) sites) in
     omega (arith, later, here, all)
 
-pub numbered : (bytes : List ℕ) (sites : List SiteLog) → SpellsLogs bytes sites → length bytes < 2 ^ 64 → AreNumbered sites
+pub numbered : (bytes : List ℕ) (sites : List SiteLog) → SpellsLogs bytes sites → length bytes < 2 ^ 64
+    → AreNumbered sites
 numbered bytes sites logs short = record {
   few = logs.shape.few;
   below = λ site place log at lt.
@@ -61,15 +63,18 @@ numbered bytes sites logs short = record {
 
 -- ---- what stands in a log
 
-pub stands-numbered : (sites : List SiteLog) (site place : ℕ) (e : Entry) → AreNumbered sites → StandsAt sites site place e → 2 ^ 64 ≤ line_of sites site place → ⊥
+pub stands-numbered : (sites : List SiteLog) (site place : ℕ) (e : Entry) → AreNumbered sites
+    → StandsAt sites site place e → 2 ^ 64 ≤ line_of sites site place → ⊥
 stands-numbered sites site place e are at big =
     let within = slice_get_within at.log.entries place e at.there in
     let below = are.below site place at.log at.here within in
     absurd (omega (arith, below, big))
 
-pub next-numbered : (sites : List SiteLog) (D : ℕ → Type 0) (site place : ℕ) (log : SiteLog) → AreNumbered sites → slice_get sites site ≡ Some log
+pub next-numbered : (sites : List SiteLog) (D : ℕ → Type 0) (site place : ℕ) (log : SiteLog) → AreNumbered sites
+    → slice_get sites site ≡ Some log
     → ((e : Entry) × IsNextEnd D log.entries place e) → 2 ^ 64 ≤ line_of sites site place → ⊥
-next-numbered sites D site place log are here (e, next) big = stands-numbered sites site place e are (record { log = log; here = here; there = next.at }) big
+next-numbered sites D site place log are here (e, next) big =
+    stands-numbered sites site place e are (record { log = log; here = here; there = next.at }) big
 
 -- ---- each step of a way round
 
@@ -84,7 +89,8 @@ module _ {S : Type 0} (from to : S → ℕ) (Is : S → Type 0) where
 
 -- ---- the logs from a site on
 
-pub drop-first : {A : Type 0} (n : ℕ) (xs : List A) (x : A) (ys : List A) → drop n xs ≡ x ∷ ys → (slice_get xs n ≡ Some x) × (drop (n + 1) xs ≡ ys)
+pub drop-first : {A : Type 0} (n : ℕ) (xs : List A) (x : A) (ys : List A) → drop n xs ≡ x ∷ ys
+    → (slice_get xs n ≡ Some x) × (drop (n + 1) xs ≡ ys)
 drop-first {A} zero [] x ys e = absurd cc
 drop-first {A} (suc n) [] x ys e = absurd cc
 drop-first {A} zero (z ∷ xs) x ys e = (ap (λ (l : List A). slice_get l 0) e, ap (λ (l : List A). drop 1 l) e)

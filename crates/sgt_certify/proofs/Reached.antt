@@ -34,37 +34,45 @@ take-few (suc n) [] = omega arith
 take-few (suc n) (x ∷ xs) = omega (arith, take-few n xs)
 
 -- the bytes up to an LF, which stands among no more than a line may have
-pub front-short : (bytes : List ℕ) (most last : ℕ) → most ≤ max_line → last < length (take most bytes) → (slice_index (take most bytes) last == 10) ≡ true
+pub front-short : (bytes : List ℕ) (most last : ℕ) → most ≤ max_line → last < length (take most bytes)
+    → (slice_index (take most bytes) last == 10) ≡ true
     → AreShort (take (last + 1) bytes)
 front-short bytes most last few less is =
-    let at = slice_get-get_or (take most bytes) last 0 less ∙ ap Some (eqb-true (slice_index (take most bytes) last) 10 is) in
+    let at = slice_get-get_or (take most bytes) last 0 less
+    ∙ ap Some (eqb-true (slice_index (take most bytes) last) 10 is) in
     let there = slice_get-take bytes most last 10 at in
-    subst AreShort (sym (take_next bytes last 10 there.1)) (line-short (take last bytes) (omega (arith, take-few last bytes, there.0, few)))
+    subst AreShort (sym (take_next bytes last 10 there.1))
+    (line-short (take last bytes) (omega (arith, take-few last bytes, there.0, few)))
 
 -- what was held, and a line more
-pub line-kept : (text chunk mid line given new : List ℕ) → mid ≡ text ++ chunk → AreShort text → AreShort chunk → given ≡ line → length line ≤ max_line
+pub line-kept : (text chunk mid line given new : List ℕ) → mid ≡ text ++ chunk → AreShort text → AreShort chunk
+    → given ≡ line → length line ≤ max_line
     → new ≡ (mid ++ given) ++ 10 ∷ [] → AreShort new
 line-kept text chunk mid line given new is one other same few added =
     let front = subst AreShort (sym is) (short-append text chunk one other) in
-    let whole : new ≡ mid ++ (line ++ 10 ∷ []) = added ∙ append_assoc mid given (10 ∷ []) ∙ ap (λ l. mid ++ (l ++ 10 ∷ [])) same in
+    let whole : new ≡ mid ++ (line ++ 10 ∷ []) = added ∙ append_assoc mid given (10 ∷ [])
+    ∙ ap (λ l. mid ++ (l ++ 10 ∷ [])) same in
     subst AreShort (sym whole) (short-append mid (line ++ 10 ∷ []) front (line-short line few))
 
 pub held-kept : (text chunk mid : List ℕ) → mid ≡ text ++ chunk → AreShort text → AreShort chunk → AreShort mid
 held-kept text chunk mid is one other = subst AreShort (sym is) (short-append text chunk one other)
 
 -- no line that is too long begins within them
-pub short-before : (text xs front more : List ℕ) → text ++ xs ≡ front ++ more → AreShort text → IsLongerThan max_line more → length text ≤ length front
+pub short-before : (text xs front more : List ℕ) → text ++ xs ≡ front ++ more → AreShort text
+    → IsLongerThan max_line more → length text ≤ length front
 short-before [] xs front more same short long = omega arith
 short-before (b ∷ text) xs [] more same short long =
     let lf = within-more (b ∷ text) xs short.0 in
     let is : lf.0 ++ 10 ∷ lf.1 ≡ more = sym lf.2 ∙ same in
     absurd (lf-within lf.0 lf.1 (max_line + 1) (omega (arith, lf.3))
-    (recursion_from_All (λ c. c ≢ 10) (take (max_line + 1) (lf.0 ++ 10 ∷ lf.1)) (subst (λ t. IsLongerThan max_line t) (sym is) long).1))
+    (recursion_from_All (λ c. c ≢ 10) (take (max_line + 1) (lf.0 ++ 10 ∷ lf.1))
+    (subst (λ t. IsLongerThan max_line t) (sym is) long).1))
 short-before (b ∷ text) xs (c ∷ front) more same short long =
     omega (arith, short-before text xs front more (ap (drop 1) same) short.1 long)
 
 -- and none where no more than a line follows
-none-long : (text line bytes : List ℕ) (n : ℕ) → AreShort text → length line ≤ max_line → bytes ≡ text ++ line → IsLongAt bytes n → ⊥
+none-long : (text line bytes : List ℕ) (n : ℕ) → AreShort text → length line ≤ max_line → bytes ≡ text ++ line
+    → IsLongAt bytes n → ⊥
 none-long text line bytes n short few is long =
     let before = short-before text line long.front long.more (sym is ∙ long.text) short long.long in
     let all = ap length (sym is ∙ long.text) in
@@ -72,13 +80,25 @@ none-long text line bytes n short few is long =
 
 -- ---- the reads
 
-pub few-kept : (reads reads' most : ℕ) (text chunk mid line given new : List ℕ) → mid ≡ text ++ chunk → given ≡ line → new ≡ (mid ++ given) ++ 10 ∷ []
+pub few-kept : (reads reads' most : ℕ) (text chunk mid line given new : List ℕ) → mid ≡ text ++ chunk → given ≡ line
+    → new ≡ (mid ++ given) ++ 10 ∷ []
     → most ≤ reads + length text → reads ≤ reads' + length line + 1 → most ≤ reads' + length new
 few-kept reads reads' most text chunk mid line given new is same added few more =
-    omega (arith, few, more, ap length is, ap length same, ap length added, length-append text chunk, length-append mid given, length-append (mid ++ given) (10 ∷ []))
+    omega (
+      arith,
+      few,
+      more,
+      ap length is,
+      ap length same,
+      ap length added,
+      length-append text chunk,
+      length-append mid given,
+      length-append (mid ++ given) (10 ∷ []),
+    )
 
 -- what is held is of the last read
-pub last-kept : (reads reads' held held' size last last' : ℕ) → reads' ≤ reads → (reads' ≡ reads → last' ≡ last) → (reads' < reads → held' ≤ last')
+pub last-kept : (reads reads' held held' size last last' : ℕ) → reads' ≤ reads → (reads' ≡ reads → last' ≡ last)
+    → (reads' < reads → held' ≤ last')
     → reads' * 65536 + held' + size ≤ reads * 65536 + held → held ≤ last → held' ≤ last'
 last-kept reads reads' held held' size last last' fewer still fresh bounded kept =
     elim (cases_order reads' reads) [
@@ -88,7 +108,8 @@ last-kept reads reads' held held' size last last' fewer still fresh bounded kept
     ]
 
 -- the same behind a line, whose LF is of the last read too
-pub last-kept_line : (reads reads' held held' size last last' : ℕ) → reads' ≤ reads → (reads' ≡ reads → last' ≡ last) → (reads' < reads → held' < last')
+pub last-kept_line : (reads reads' held held' size last last' : ℕ) → reads' ≤ reads → (reads' ≡ reads → last' ≡ last)
+    → (reads' < reads → held' < last')
     → reads' * 65536 + held' + size ≤ reads * 65536 + held → held ≤ last → held' ≤ last'
 last-kept_line reads reads' held held' size last last' fewer still fresh bounded kept =
     last-kept reads reads' held held' size last last' fewer still (λ less. omega (arith, fresh less)) bounded kept
@@ -100,7 +121,8 @@ drop-few (suc n) (x ∷ xs) = omega (arith, drop-few n xs)
 
 -- ---- a line that is too long
 
-pub long-further : (told old new : Option (List ℕ)) (text line : List ℕ) (reads : ℕ) → Consumes told old text → Gives max_line old TooLong line new → AreShort text
+pub long-further : (told old new : Option (List ℕ)) (text line : List ℕ) (reads : ℕ) → Consumes told old text
+    → Gives max_line old TooLong line new → AreShort text
     → length line ≤ max_line → reads ≤ length text + length line + 1 → IfSome told (λ bytes. ReadsNoFurther bytes reads)
 long-further None old new text line reads rest gives short few counted = tt
 long-further (Some bytes) None new text line reads rest gives short few counted = absurd rest
@@ -109,16 +131,30 @@ long-further (Some bytes) (Some xs) (Some ys) text line reads rest gives short f
     let before = short-before text xs long.front long.more (sym rest ∙ long.text) short long.long in
     omega (arith, before, long.counted, few, counted)
 
-pub long-behind : (told old left : Option (List ℕ)) (text line held : List ℕ) (last : ℕ) → Consumes told old text → Gives max_line old TooLong line (prepend_known held left)
-    → AreShort text → length line ≤ max_line → length held ≤ last → IfSome told (λ bytes. IfSome left (λ more. BeginsNoneBehind bytes (length more) last))
+pub long-behind : (told old left : Option (List ℕ)) (text line held : List ℕ) (last : ℕ) → Consumes told old text
+    → Gives max_line old TooLong line (prepend_known held left)
+    → AreShort text → length line ≤ max_line → length held ≤ last
+    → IfSome told (λ bytes. IfSome left (λ more. BeginsNoneBehind bytes (length more) last))
 long-behind None old left text line held last rest gives short few kept = tt
 long-behind (Some bytes) None left text line held last rest gives short few kept = absurd rest
 long-behind (Some bytes) (Some xs) None text line held last rest gives short few kept = tt
 long-behind (Some bytes) (Some xs) (Some ys) text line held last rest gives short few kept = λ n long.
     let before = short-before text xs long.front long.more (sym rest ∙ long.text) short long.long in
-    omega (arith, before, long.counted, few, kept, ap length rest, ap length gives.1, length-append text xs, length-append line (held ++ ys), length-append held ys)
+    omega (
+      arith,
+      before,
+      long.counted,
+      few,
+      kept,
+      ap length rest,
+      ap length gives.1,
+      length-append text xs,
+      length-append line (held ++ ys),
+      length-append held ys,
+    )
 
-pub long-all : (told old left : Option (List ℕ)) (text line held : List ℕ) → Consumes told old text → Gives max_line old TooLong line (prepend_known held left)
+pub long-all : (told old left : Option (List ℕ)) (text line held : List ℕ) → Consumes told old text
+    → Gives max_line old TooLong line (prepend_known held left)
     → IfSome told (λ bytes. IfSome left (ReadsAll bytes))
 long-all None old left text line held rest gives = tt
 long-all (Some bytes) None left text line held rest gives = absurd rest
@@ -133,7 +169,8 @@ nothing-left : (held left : List ℕ) → held ++ left ≡ [] → left ≡ []
 nothing-left [] left none = none
 nothing-left (b ∷ held) left none = absurd (omega (arith, ap length none))
 
-pub cut-further : (told old new : Option (List ℕ)) (text line : List ℕ) (reads : ℕ) → Consumes told old text → Gives max_line old Cut line new → AreShort text
+pub cut-further : (told old new : Option (List ℕ)) (text line : List ℕ) (reads : ℕ) → Consumes told old text
+    → Gives max_line old Cut line new → AreShort text
     → IfSome told (λ bytes. ReadsNoFurther bytes reads)
 cut-further None old new text line reads rest gives short = tt
 cut-further (Some bytes) None new text line reads rest gives short = absurd rest
@@ -141,7 +178,8 @@ cut-further (Some bytes) (Some xs) None text line reads rest gives short = absur
 cut-further (Some bytes) (Some xs) (Some ys) text line reads rest gives short = λ n long.
     absurd (none-long text line bytes n short gives.2 (rest ∙ ap (λ t. text ++ t) gives.3) long)
 
-pub cut-behind : (told old left : Option (List ℕ)) (text line held : List ℕ) (last : ℕ) → Consumes told old text → Gives max_line old Cut line (prepend_known held left)
+pub cut-behind : (told old left : Option (List ℕ)) (text line held : List ℕ) (last : ℕ) → Consumes told old text
+    → Gives max_line old Cut line (prepend_known held left)
     → AreShort text → IfSome told (λ bytes. IfSome left (λ more. BeginsNoneBehind bytes (length more) last))
 cut-behind None old left text line held last rest gives short = tt
 cut-behind (Some bytes) None left text line held last rest gives short = absurd rest
@@ -149,14 +187,16 @@ cut-behind (Some bytes) (Some xs) None text line held last rest gives short = tt
 cut-behind (Some bytes) (Some xs) (Some ys) text line held last rest gives short = λ n long.
     absurd (none-long text line bytes n short gives.2 (rest ∙ ap (λ t. text ++ t) gives.3) long)
 
-pub cut-all : (told old left : Option (List ℕ)) (text line held : List ℕ) → Consumes told old text → Gives max_line old Cut line (prepend_known held left)
+pub cut-all : (told old left : Option (List ℕ)) (text line held : List ℕ) → Consumes told old text
+    → Gives max_line old Cut line (prepend_known held left)
     → IfSome told (λ bytes. IfSome left (ReadsAll bytes))
 cut-all None old left text line held rest gives = tt
 cut-all (Some bytes) None left text line held rest gives = absurd rest
 cut-all (Some bytes) (Some xs) None text line held rest gives = tt
 cut-all (Some bytes) (Some xs) (Some ys) text line held rest gives = λ none. nothing-left held ys gives.4
 
-pub end-further : (told old new : Option (List ℕ)) (text line : List ℕ) (reads : ℕ) → Consumes told old text → Gives max_line old End line new → AreShort text
+pub end-further : (told old new : Option (List ℕ)) (text line : List ℕ) (reads : ℕ) → Consumes told old text
+    → Gives max_line old End line new → AreShort text
     → IfSome told (λ bytes. ReadsNoFurther bytes reads)
 end-further None old new text line reads rest gives short = tt
 end-further (Some bytes) None new text line reads rest gives short = absurd rest
@@ -164,7 +204,8 @@ end-further (Some bytes) (Some xs) None text line reads rest gives short = absur
 end-further (Some bytes) (Some xs) (Some ys) text line reads rest gives short = λ n long.
     absurd (none-long text [] bytes n short (omega arith) (rest ∙ ap (λ t. text ++ t) gives.0) long)
 
-pub end-behind : (told old left : Option (List ℕ)) (text line held : List ℕ) (last : ℕ) → Consumes told old text → Gives max_line old End line (prepend_known held left)
+pub end-behind : (told old left : Option (List ℕ)) (text line held : List ℕ) (last : ℕ) → Consumes told old text
+    → Gives max_line old End line (prepend_known held left)
     → AreShort text → IfSome told (λ bytes. IfSome left (λ more. BeginsNoneBehind bytes (length more) last))
 end-behind None old left text line held last rest gives short = tt
 end-behind (Some bytes) None left text line held last rest gives short = absurd rest
@@ -172,7 +213,8 @@ end-behind (Some bytes) (Some xs) None text line held last rest gives short = tt
 end-behind (Some bytes) (Some xs) (Some ys) text line held last rest gives short = λ n long.
     absurd (none-long text [] bytes n short (omega arith) (rest ∙ ap (λ t. text ++ t) gives.0) long)
 
-pub end-all : (told old left : Option (List ℕ)) (text line held : List ℕ) → Consumes told old text → Gives max_line old End line (prepend_known held left)
+pub end-all : (told old left : Option (List ℕ)) (text line held : List ℕ) → Consumes told old text
+    → Gives max_line old End line (prepend_known held left)
     → IfSome told (λ bytes. IfSome left (ReadsAll bytes))
 end-all None old left text line held rest gives = tt
 end-all (Some bytes) None left text line held rest gives = absurd rest

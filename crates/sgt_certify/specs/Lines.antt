@@ -37,7 +37,8 @@ lines_text first second =
 -- the line of a step of a cycle of ends: A before B site S lines P Q
 abbrev pub end_line : List SiteLog → EndStep → List ℕ
 end_line sites s = decimal s.from ++ (codes " before " ++ (decimal s.to ++ (codes " site "
-    ++ (decimal s.first.site ++ lines_text (line_of sites s.first.site s.first.entry) (line_of sites s.first.site s.second)))))
+    ++ (decimal s.first.site ++ lines_text (line_of sites s.first.site s.first.entry)
+    (line_of sites s.first.site s.second)))))
 
 abbrev pub kind_text : Kind → List ℕ
 kind_text Wr = codes " wr "
@@ -56,7 +57,8 @@ tx_line tx = decimal tx ++ codes "\n"
 
 -- whoever ends in the log before this place is decided
 abbrev pub AreDecidedBefore : (ℕ → Type 0) → List Entry → ℕ → Type 0
-AreDecidedBefore IsDecided entries n = (k : ℕ) (f : Entry) → k < n → slice_get entries k ≡ Some f → IsEnd f → IsDecided (tx_of f)
+AreDecidedBefore IsDecided entries n = (k : ℕ) (f : Entry) → k < n → slice_get entries k ≡ Some f → IsEnd f
+    → IsDecided (tx_of f)
 
 -- the next end of a log: who ends there isn't decided, and whoever ends before is
 pub record IsNextEnd (IsDecided : ℕ → Type 0) (entries : List Entry) (place : ℕ) (e : Entry) : Type 0 where
@@ -73,13 +75,15 @@ left_text e site line =
 -- the line of the next end of the log of this site; none where all its ends are decided
 abbrev pub IsLeftLine : List SiteLog → (ℕ → Type 0) → (site : ℕ) → SiteLog → List ℕ → Type 0
 IsLeftLine sites IsDecided site log line =
-    ((place : ℕ) × (e : Entry) × IsNextEnd IsDecided log.entries place e × (line ≡ left_text e site (line_of sites site place)))
+    ((place : ℕ) × (e : Entry) × IsNextEnd IsDecided log.entries place e
+    × (line ≡ left_text e site (line_of sites site place)))
     ⊎ (AreDecidedBefore IsDecided log.entries (length log.entries) × (line ≡ []))
 
 -- those of the logs from this site on, one after another
 abbrev pub AreLeftLines : List SiteLog → (ℕ → Type 0) → (site : ℕ) → List SiteLog → List ℕ → Type 0
 AreLeftLines sites IsDecided site [] text = text ≡ []
-AreLeftLines sites IsDecided site (log ∷ logs) text = (line : List ℕ) × (rest : List ℕ) × IsLeftLine sites IsDecided site log line
+AreLeftLines sites IsDecided site (log ∷ logs) text = (line : List ℕ) × (rest : List ℕ)
+    × IsLeftLine sites IsDecided site log line
     × AreLeftLines sites IsDecided (suc site) logs rest × (text ≡ line ++ rest)
 
 -- what the slow search tells: the transactions alone that stand in a cycle, or are decided in a stuck

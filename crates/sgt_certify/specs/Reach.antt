@@ -3,7 +3,8 @@ use Rattle.std.specs.Prelude.{◌≡◌, ◌≤◌, ℕ, ◌+◌, List, [], ◌�
 use Rattle.sgt_names.specs.Limits.{max_line}
 use Rattle.sgt_notation.specs.Lines.{IsLongerThan}
 
--- behind so many bytes stand more than a line has, with no LF among them: where that is so first, a line begins that is too long
+-- behind so many bytes stand more than a line has, with no LF among them: where that is so first, a line begins that
+-- is too long
 pub record IsLongAt (bytes : List ℕ) (n : ℕ) : Type 0 where
   pub front : List ℕ
   pub more : List ℕ
@@ -11,13 +12,14 @@ pub record IsLongAt (bytes : List ℕ) (n : ℕ) : Type 0 where
   pub counted : n ≡ length front
   pub long : IsLongerThan max_line more
 
--- so many reads go no further than into the line that is too long: each but the last gave a byte of the lines before it, or of as
--- many as tell that it is too long
+-- so many reads go no further than into the line that is too long: each but the last gave a byte of the lines before
+-- it, or of as many as tell that it is too long
 abbrev pub ReadsNoFurther : List ℕ → ℕ → Type 0
 ReadsNoFurther bytes reads = (n : ℕ) → IsLongAt bytes n → reads ≤ n + max_line + 1
 
--- the last read began before it was told that the line is too long: what had been given before are no more than the lines before it
--- and as many bytes as a line may have. So many bytes are left now, and so many were given by the last read
+-- the last read began before it was told that the line is too long: what had been given before are no more than the
+-- lines before it and as many bytes as a line may have. So many bytes are left now, and so many were given by the
+-- last read
 abbrev pub BeginsNoneBehind : List ℕ → (left given : ℕ) → Type 0
 BeginsNoneBehind bytes left given = (n : ℕ) → IsLongAt bytes n → length bytes ≤ n + max_line + (left + given)
 

@@ -76,7 +76,8 @@ fn reason_answer(alloc: Global, refusal: Refusal, txs: &[Tx]) -> Result<Answer, 
     })
 }
 
-/// The answer to a text without a fault, and so of sound logs: a certificate wherever there is one, else what shows that there is none.
+/// The answer to a text without a fault, and so of sound logs: a certificate wherever there is one, else what shows
+/// that there is none.
 pub fn sound_answer(alloc: Global, text: &[u8]) -> Result<Answer, EngineFail>
     requires faultless { IsFaultless text.now }
     requires sound { SpellsSoundLogs text.now }

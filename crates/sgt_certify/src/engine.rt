@@ -46,8 +46,8 @@ fn fault_answer(alloc: Global, first: FirstFault) -> Result<Answer, AllocError>
     })
 }
 
-/// The answer to a text without a fault, and so of sound logs: a no for this reason, if one was found that passes its check against
-/// the logs, else what is decided of them.
+/// The answer to a text without a fault, and so of sound logs: a no for this reason, if one was found that passes its
+/// check against the logs, else what is decided of them.
 fn faultless_answer(
     alloc: Global,
     text: &[u8],
@@ -74,8 +74,8 @@ fn faultless_answer(
     }
 }
 
-/// The answer to a text in which no certificate was found: its first fault, or else the answer to sound logs, by this reason, if one
-/// was found. Behind the text comes nothing more, where that is all, else a line that is too long.
+/// The answer to a text in which no certificate was found: its first fault, or else the answer to sound logs, by this
+/// reason, if one was found. Behind the text comes nothing more, where that is all, else a line that is too long.
 fn no_answer(
     alloc: Global,
     text: Vec<u8>,
@@ -135,10 +135,11 @@ fn answer_to(alloc: Global, taken: Taken) -> Result<Answer, EngineFail>
     found_answer(alloc, text, found)
 }
 
-/// Reads the text of a bundle without its second line, and writes it with the line of a certificate that makes its logs valid; or
-/// the reason why there is none: `no line L FN`, `no order`, `no ranks` or `no walk` and the lines that show it. Where what the search
-/// found doesn't pass its check, the answer is decided anew, by a search that is proved and slow; no input is known for which it is.
-/// All is read before anything is written, but no further than into a line that is too long.
+/// Reads the text of a bundle without its second line, and writes it with the line of a certificate that makes its
+/// logs valid; or the reason why there is none: `no line L FN`, `no order`, `no ranks` or `no walk` and the lines
+/// that show it. Where what the search found doesn't pass its check, the answer is decided anew, by a search that is
+/// proved and slow; no input is known for which it is. All is read before anything is written, but no further than
+/// into a line that is too long.
 ///
 /// ReadFault where the reader failed, or no read is left, and Memory where a growth was refused: nothing was written.
 /// WriteFault where the writer failed: a front of the answer may have been written.

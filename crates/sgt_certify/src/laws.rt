@@ -18,9 +18,9 @@ pub fn a_yes_is_told_exactly_where_there_is_a_certificate()
         → (outcome ≡ Yes ↔ HasCertificate bytes) }
 {}
 
-/// A text with a fault is answered by its first, and else logs without a certificate by the first reason that they have: `no order`
-/// exactly where ends are in a cycle; `no ranks` exactly where no ends are, and committed conflicts are; `no walk` exactly where
-/// neither are, and there is no certificate.
+/// A text with a fault is answered by its first, and else logs without a certificate by the first reason that they
+/// have: `no order` exactly where ends are in a cycle; `no ranks` exactly where no ends are, and committed conflicts
+/// are; `no walk` exactly where neither are, and there is no certificate.
 pub fn the_first_reason_is_told()
     ensures fault { (bytes text : List ℕ) (outcome : Outcome) (line : ℕ) (fault : Fault)
         → IsAnswer bytes outcome text → IsFirstFault bytes line fault

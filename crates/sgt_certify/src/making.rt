@@ -52,8 +52,8 @@ pub fn with_line(alloc: Global, text: &[u8], line: &[u8]) -> Result<Option<Vec<u
     Ok(Some(made))
 }
 
-/// The text with the certificate's line put in behind its first one, or the text again, if it has no line. What it is made of is
-/// given back.
+/// The text with the certificate's line put in behind its first one, or the text again, if it has no line. What it is
+/// made of is given back.
 fn with_certificate(
     alloc: Global,
     text: Vec<u8>,

@@ -50,7 +50,8 @@ pub fn line_of(refusal: Refusal) -> &'static [u8]
     }
 }
 
-/// Whether the ends and the committed conflicts of the logs lead onward in these orders, which then show that none are in a cycle.
+/// Whether the ends and the committed conflicts of the logs lead onward in these orders, which then show that none
+/// are in a cycle.
 fn are_in_order(
     alloc: Global,
     sites: &[SiteLog],

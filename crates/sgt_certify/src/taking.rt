@@ -91,8 +91,8 @@ pub struct Taken {
     pub all: bool,
 }
 
-/// Reads all bytes, or as far as to the first line that is too long. An Err is ReadFault, where a read failed or too many were
-/// needed, or Memory.
+/// Reads all bytes, or as far as to the first line that is too long. An Err is ReadFault, where a read failed or too
+/// many were needed, or Memory.
 pub fn take_text<R: Source>(alloc: Global, reader: &mut R) -> Result<Taken, EngineFail>
     ensures taken { IfOk result (λ taken. IsTaken (R.tells reader.old) taken.text.items taken.all) }
     ensures no_further { IfOk result (λ _. IfSome (R.tells reader.old) (λ bytes.

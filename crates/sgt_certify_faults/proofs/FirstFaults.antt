@@ -41,16 +41,42 @@ pub record Beyond (xs ys : List SectionLine) (rest : List ℕ) : Type 0 where
 abbrev pub Compared : List SectionLine → List SectionLine → List ℕ → List ℕ → Type 0
 Compared xs ys r s = ((xs ≡ ys) × (r ≡ s)) ⊎ (Beyond xs ys r ⊎ Beyond ys xs s)
 
-beyond-more : (x y : SectionLine) (xs ys : List SectionLine) (r : List ℕ) → x ≡ y → Beyond xs ys r → Beyond (x ∷ xs) (y ∷ ys) r
-beyond-more x y xs ys r same b = record { line = b.line; more = b.more; after = b.after; cut = ap₂ (λ z zs. z ∷ zs) (sym same) b.cut; next = b.next }
+beyond-more : (x y : SectionLine) (xs ys : List SectionLine) (r : List ℕ) → x ≡ y → Beyond xs ys r
+    → Beyond (x ∷ xs) (y ∷ ys) r
+beyond-more x y xs ys r same b = record {
+  line = b.line;
+  more = b.more;
+  after = b.after;
+  cut =
+      ap₂ (λ z zs. z ∷ zs) (sym same) b.cut;
+  next = b.next;
+}
 
-pub compare : (xs ys : List SectionLine) (r s : List ℕ) → AllByRecursion IsLine xs → AllByRecursion IsLine ys → text_of_lines (map line_text xs) ++ r ≡ text_of_lines (map line_text ys) ++ s → Compared xs ys r s
+pub compare : (xs ys : List SectionLine) (r s : List ℕ) → AllByRecursion IsLine xs → AllByRecursion IsLine ys
+    → text_of_lines (map line_text xs) ++ r ≡ text_of_lines (map line_text ys) ++ s → Compared xs ys r s
 compare [] [] r s h g e = inl (refl, e)
-compare [] (y ∷ ys) r s h g e = inr (inl (record { line = y; more = ys; after = text_of_lines (map line_text ys) ++ s; cut = refl; next = e ∙ line_front (line_text y) (map line_text ys) s }))
-compare (x ∷ xs) [] r s h g e = inr (inr (record { line = x; more = xs; after = text_of_lines (map line_text xs) ++ r; cut = refl; next = sym e ∙ line_front (line_text x) (map line_text xs) r }))
+compare [] (y ∷ ys) r s h g e =
+    inr (inl (record {
+      line = y;
+      more = ys;
+      after = text_of_lines (map line_text ys) ++ s;
+      cut = refl;
+      next = e
+          ∙ line_front (line_text y) (map line_text ys) s;
+    }))
+compare (x ∷ xs) [] r s h g e =
+    inr (inr (record {
+      line = x;
+      more = xs;
+      after = text_of_lines (map line_text xs) ++ r;
+      cut = refl;
+      next = sym e
+          ∙ line_front (line_text x) (map line_text xs) r;
+    }))
 compare (x ∷ xs) (y ∷ ys) r s h g e =
     let e1 = sym (line_front (line_text x) (map line_text xs) r) ∙ e ∙ line_front (line_text y) (map line_text ys) s in
-    let cut = cut_at_byte 10 (line_text x) (line_text y) (text_of_lines (map line_text xs) ++ r) (text_of_lines (map line_text ys) ++ s) (line-one_line x h.0) (line-one_line y g.0) e1 in
+    let cut = cut_at_byte 10 (line_text x) (line_text y) (text_of_lines (map line_text xs) ++ r)
+    (text_of_lines (map line_text ys) ++ s) (line-one_line x h.0) (line-one_line y g.0) e1 in
     let same = line-one x y h.0 g.0 cut.0 in
     elim (compare xs ys r s h.1 g.1 cut.1) [
       | inl both ↦ inl (ap₂ (λ z zs. z ∷ zs) same both.0, both.1)
@@ -66,14 +92,22 @@ kept-lines second before kept = each_line IsLine before (λ earlier later l e. (
 not-all : (before : List SectionLine) (line : SectionLine) → KeepsAlone before line fault.Section → AreAll before → ⊥
 not-all before line (count, (logs, more, shape, cut)) (ls, shaped, all) =
     let b : Begun = record { sites = count; whole = ls; current = None } in
-    let begins : Begins count ((sections_from 0 ls ++ []) ++ line ∷ []) =
-    (logs, more, shape, cut ∙ ap (λ (xs : List SectionLine). (xs ++ line ∷ []) ++ more) (sym all ∙ sym (append-nil (sections_from 0 ls)))) in
+    let begins : Begins count ((sections_from 0 ls ++ []) ++ line ∷ []) = (
+      logs,
+      more,
+      shape,
+      cut ∙ ap (λ (xs : List SectionLine). (xs ++ line ∷ []) ++ more) (sym all
+          ∙ sym (append-nil (sections_from 0 ls))),
+    ) in
     no-more b line (begins-follow b line begins) shaped.each shape.few
 
-pub good-line : (second : Bool) (before : List SectionLine) (line : SectionLine) → IsLineIn second line → ((f : Fault) → KeepsAlone before line f) → (f : Fault) → RuleAlone (behind second before) (whole (line_text line)) f
+pub good-line : (second : Bool) (before : List SectionLine) (line : SectionLine) → IsLineIn second line
+    → ((f : Fault) → KeepsAlone before line f) → (f : Fault)
+    → RuleAlone (behind second before) (whole (line_text line)) f
 good-line second before line is keeps fault.Trailing = λ all. absurd (not-all before line (keeps fault.Section) all)
 good-line second before line is keeps fault.Notation = λ open_yet. (line, is, refl)
-good-line second before line is keeps f = λ open_yet m m-is e. subst (λ k. KeepsAlone before k f) (line-one line m is.0 m-is.0 e) (keeps f)
+good-line second before line is keeps f =
+    λ open_yet m m-is e. subst (λ k. KeepsAlone before k f) (line-one line m is.0 m-is.0 e) (keeps f)
 
 good-first : (second : Bool) (f : Fault) → RuleAlone none (whole (format_line second)) f
 good-first second fault.Format = (second, refl)
@@ -91,23 +125,39 @@ abbrev pub IsNextOrLater : Front → List ℕ → Piece → ℕ → Fault → Ty
 IsNextOrLater front rest next m g = ((m ≡ length (lines_of front) + 1) × (RuleAlone front next g → ⊥))
     ⊎ ((length (lines_of front) + 1 < m) × ((l after : List ℕ) × (rest ≡ l ++ 10 ∷ after)))
 
-module _ (second : Bool) (xs : List SectionLine) (r : List ℕ) (p : Piece) (kept : AreKept second xs) (comes : ComesNext r p) where
-  beside : (ys : List SectionLine) (s : List ℕ) (q : Piece) (m : ℕ) (g : Fault) → All (IsLineIn second) ys → ComesNext s q → m ≡ length (lines_of (behind second ys)) + 1
-      → (RuleAlone (behind second ys) q g → ⊥) → text_of_lines (map line_text xs) ++ r ≡ text_of_lines (map line_text ys) ++ s → IsNextOrLater (behind second xs) r p m g
+module _ (second : Bool) (xs : List SectionLine) (r : List ℕ) (p : Piece) (kept : AreKept second xs)
+    (comes : ComesNext r p) where
+  beside : (ys : List SectionLine) (s : List ℕ) (q : Piece) (m : ℕ) (g : Fault) → All (IsLineIn second) ys
+      → ComesNext s q → m ≡ length (lines_of (behind second ys)) + 1
+      → (RuleAlone (behind second ys) q g → ⊥)
+      → text_of_lines (map line_text xs) ++ r ≡ text_of_lines (map line_text ys) ++ s
+      → IsNextOrLater (behind second xs) r p m g
   beside ys s q m g each goes number broken e =
       elim (compare xs ys r s (kept-lines second xs kept) (lines-of second ys each) e) [
         | inl both ↦
             let next = one_piece s q p goes (subst (λ t. ComesNext t p) both.1 comes) in
             inl (
               number ∙ ap (λ zs. length (lines_of (behind second zs)) + 1) (sym both.0),
-              λ rule. broken (subst (λ zs. RuleAlone (behind second zs) q g) both.0 (subst (λ n. RuleAlone (behind second xs) n g) (sym next) rule)),
+              λ rule. broken (subst (λ zs. RuleAlone (behind second zs) q g) both.0
+                  (subst (λ n. RuleAlone (behind second xs) n g) (sym next) rule)),
             )
         | inr (inl b) ↦
-            inr (omega (arith, number, length-map xs line_text, length-map ys line_text, ap length b.cut, length-append xs (b.line ∷ b.more)), (line_text b.line, b.after, b.next))
+            inr (
+              omega (
+                arith,
+                number,
+                length-map xs line_text,
+                length-map ys line_text,
+                ap length b.cut,
+                length-append xs (b.line ∷ b.more),
+              ),
+              (line_text b.line, b.after, b.next),
+            )
         | inr (inr b) ↦
             let good = kept ys b.more b.line b.cut in
             let next = comes_line (line_text b.line) b.after s q (line-one_line b.line good.0.0) b.next goes in
-            absurd (broken (subst (λ n. RuleAlone (behind second ys) n g) (sym next) (good-line second ys b.line good.0 good.1 g)))
+            absurd (broken (subst (λ n. RuleAlone (behind second ys) n g) (sym next)
+            (good-line second ys b.line good.0 good.1 g)))
       ]
 
 first-behind : (f g : Bool) (xs ys : List ℕ) → format_line f ++ 10 ∷ xs ≡ format_line g ++ 10 ∷ ys → (f ≡ g) × (xs ≡ ys)
@@ -115,34 +165,67 @@ first-behind f g xs ys e =
     let cut = cut_at_byte 10 (format_line f) (format_line g) xs ys (format-one_line f) (format-one_line g) e in
     (format-one f g cut.0, cut.1)
 
-behind-text : (second : Bool) (xs : List SectionLine) (r : List ℕ) → text_of_lines (lines_of (behind second xs)) ++ r ≡ format_line second ++ 10 ∷ (text_of_lines (map line_text xs) ++ r)
+behind-text : (second : Bool) (xs : List SectionLine) (r : List ℕ)
+    → text_of_lines (lines_of (behind second xs)) ++ r ≡ format_line second ++ 10 ∷
+    (text_of_lines (map line_text xs) ++ r)
 behind-text second xs r = line_front (format_line second) (map line_text xs) r
 
-next-or-later : (front other : Front) (rest left : List ℕ) (next piece : Piece) (m : ℕ) (g : Fault) → IsKept front → ComesNext rest next → AreSpelled other → ComesNext left piece
-    → m ≡ length (lines_of other) + 1 → (RuleAlone other piece g → ⊥) → text_of_lines (lines_of front) ++ rest ≡ text_of_lines (lines_of other) ++ left → IsNextOrLater front rest next m g
+next-or-later : (front other : Front) (rest left : List ℕ) (next piece : Piece) (m : ℕ) (g : Fault) → IsKept front
+    → ComesNext rest next → AreSpelled other → ComesNext left piece
+    → m ≡ length (lines_of other) + 1 → (RuleAlone other piece g → ⊥)
+    → text_of_lines (lines_of front) ++ rest ≡ text_of_lines (lines_of other) ++ left
+    → IsNextOrLater front rest next m g
 next-or-later none none rest left next piece m g kept comes spelled goes number broken e =
     let same = one_piece left piece next goes (subst (λ t. ComesNext t next) e comes) in
     inl (number, λ rule. broken (subst (λ n. RuleAlone none n g) (sym same) rule))
 next-or-later none (behind second ys) rest left next piece m g kept comes spelled goes number broken e =
-    inr (omega (arith, number), (format_line second, text_of_lines (map line_text ys) ++ left, e ∙ behind-text second ys left))
+    inr (
+      omega (arith, number),
+      (
+        format_line second,
+        text_of_lines (map line_text ys) ++ left,
+        e
+            ∙ behind-text second ys left,
+      ),
+    )
 next-or-later (behind second xs) none rest left next piece m g kept comes spelled goes number broken e =
-    let same = comes_line (format_line second) (text_of_lines (map line_text xs) ++ rest) left piece (format-one_line second) (sym e ∙ behind-text second xs rest) goes in
+    let same = comes_line (format_line second) (text_of_lines (map line_text xs) ++ rest) left piece
+    (format-one_line second) (sym e ∙ behind-text second xs rest) goes in
     absurd (broken (subst (λ n. RuleAlone none n g) (sym same) (good-first second g)))
 next-or-later (behind second xs) (behind other ys) rest left next piece m g kept comes spelled goes number broken e =
-    let both = first-behind second other (text_of_lines (map line_text xs) ++ rest) (text_of_lines (map line_text ys) ++ left) (sym (behind-text second xs rest) ∙ e ∙ behind-text other ys left) in
+    let both =
+    first-behind second other (text_of_lines (map line_text xs) ++ rest)
+    (text_of_lines (map line_text ys) ++ left) (sym (behind-text second xs rest) ∙ e ∙ behind-text other ys left) in
     beside second xs rest next kept comes ys left piece m g (subst (λ t. All (IsLineIn t) ys) (sym both.0) spelled) goes
-    (number ∙ ap (λ t. length (lines_of (behind t ys)) + 1) (sym both.0)) (subst (λ t. RuleAlone (behind t ys) piece g → ⊥) (sym both.0) broken) both.1
+    (number ∙ ap (λ t. length (lines_of (behind t ys)) + 1) (sym both.0)) (subst (λ t. RuleAlone (behind t ys) piece g
+    → ⊥) (sym both.0) broken) both.1
 
-module _ (bytes : List ℕ) (front : Front) (rest : List ℕ) (next : Piece) (kept : IsKept front) (spelled : AreSpelled front) (comes : ComesNext rest next)
+module _ (bytes : List ℕ) (front : Front) (rest : List ℕ) (next : Piece) (kept : IsKept front)
+    (spelled : AreSpelled front) (comes : ComesNext rest next)
     (text : bytes ≡ text_of_lines (lines_of front) ++ rest) where
   at-fault : (m : ℕ) (g : Fault) → HasFault bytes m g → IsNextOrLater front rest next m g
-  at-fault m g h = next-or-later front h.front rest h.rest next h.next m g kept comes h.spelled h.comes h.number h.broken (sym text ∙ h.text)
+  at-fault m g h = next-or-later front h.front rest h.rest next h.next m g kept comes h.spelled h.comes h.number
+      h.broken (sym text ∙ h.text)
 
   -- the least fault of what comes next is the first one
-  pub first-fault : (n : ℕ) (f : Fault) → n ≡ length (lines_of front) + 1 → Breaks (RuleAlone front next) f → IsFirstFault bytes n f
+  pub first-fault : (n : ℕ) (f : Fault) → n ≡ length (lines_of front) + 1 → Breaks (RuleAlone front next) f
+      → IsFirstFault bytes n f
   first-fault n f number breaks = record {
-    has = record { front = front; rest = rest; next = next; text = text; spelled = spelled; number = number; comes = comes; broken = breaks.broken };
-    first = λ m g h. elim (at-fault m g h) [ inl same ↦ omega (arith, number, same.0) | inr later ↦ omega (arith, number, later.0) ];
+    has = record {
+      front = front;
+      rest = rest;
+      next = next;
+      text = text;
+      spelled = spelled;
+      number = number;
+      comes =
+          comes;
+      broken = breaks.broken;
+    };
+    first = λ m g h. elim (at-fault m g h) [
+      | inl same ↦ omega (arith, number, same.0)
+      | inr later ↦ omega (arith, number, later.0)
+    ];
     least = λ g h. elim (at-fault n g h) [
       | inl same ↦ elim (cases_order (fault_number f) (fault_number g)) [
         | inl one ↦ omega (arith, one)
@@ -163,7 +246,8 @@ module _ (bytes : List ℕ) (front : Front) (rest : List ℕ) (next : Piece) (ke
 
 -- ---- a whole text without a fault
 
-pub sound-text : (second : Bool) (before : List SectionLine) (count : ℕ) → AreKept second before → AreSections count before → SpellsSoundLogs (format_line second ++ 10 ∷ text_of_lines (map line_text before))
+pub sound-text : (second : Bool) (before : List SectionLine) (count : ℕ) → AreKept second before
+    → AreSections count before → SpellsSoundLogs (format_line second ++ 10 ∷ text_of_lines (map line_text before))
 sound-text second before count kept (logs, shape, all) = (
   logs,
   record {
@@ -171,7 +255,8 @@ sound-text second before count kept (logs, shape, all) = (
     logs = logs-spelled second before kept logs all;
     second = second;
     allowed = logs-allowed second before kept logs all;
-    text = sym (first_line (format_line second) (map line_text before)) ∙ ap (λ (ls : List SectionLine). text_of_lines (format_line second ∷ map line_text ls)) (sym all);
+    text = sym (first_line (format_line second) (map line_text before))
+        ∙ ap (λ (ls : List SectionLine). text_of_lines (format_line second ∷ map line_text ls)) (sym all);
   },
   logs-sound second before kept logs all,
 )

@@ -25,8 +25,10 @@ use Rattle.sgt_certify_faults.specs.private.Reading.{Follows, HasRead}
 use Rattle.sgt_certify_faults.proofs.Broken.{follows-some, line-broken}
 use Rattle.sgt_certify_faults.proofs.ReadLines.{admits, decided-more, line-tells, one-read}
 
-module _ (second : Bool) (ds : List Decision) (bytes rest more : List ℕ) (count : ℕ) (old : Reading) (line : SectionLine) (are : AreDecidedAsAsked second bytes ds)
-    (h : HasRead second ds bytes count old rest) (is : IsLineIn second line) (cut : rest ≡ line_text line ++ 10 ∷ more) where
+module _ (second : Bool) (ds : List Decision) (bytes rest more : List ℕ) (count : ℕ) (old : Reading)
+    (line : SectionLine) (are : AreDecidedAsAsked second bytes ds)
+    (h : HasRead second ds bytes count old rest) (is : IsLineIn second line)
+    (cut : rest ≡ line_text line ++ 10 ∷ more) where
   abbrev b : Begun
   b = h.sections
 
@@ -34,7 +36,8 @@ module _ (second : Bool) (ds : List Decision) (bytes rest more : List ℕ) (coun
   tells = line-tells second bytes ds count b rest more line are h.read h.decided is cut
 
   -- a line with a fault
-  pub broken : (AreAll (lines_read b) → ⊥) → (new : Reading) (f : Fault) → Breaks (KeepsAlone (lines_read b) line) f → Follows second ds bytes count old new rest (line_text line) more (Some f)
+  pub broken : (AreAll (lines_read b) → ⊥) → (new : Reading) (f : Fault) → Breaks (KeepsAlone (lines_read b) line) f
+      → Follows second ds bytes count old new rest (line_text line) more (Some f)
   broken open_yet new f breaks = (b, h.read, line-broken second (lines_read b) line f is open_yet breaks)
 
   -- and one without
@@ -47,8 +50,10 @@ module _ (second : Bool) (ds : List Decision) (bytes rest more : List ℕ) (coun
         let odds : TellsOdds ds (lines_read b) e = subst (TellsLineOdds ds (lines_read b)) same tells in
         odds.1 (subst (λ (l : SectionLine). KeepsAlone (lines_read b) l fault.End) same (keeps fault.End)).0
 
-    pub entered : (new : Reading) → ((a : Begun) → IsBegun a → MayFollow a a.current line → IsPlace a old.place → IsPlace (with_next a a.current line) new.place)
-        → ((a : Begun) → IsDecidedOnce ds → IsBegun a → MayFollow a a.current line → AdmitsLine ds a.current line → Tracks ds a old.state → Tracks ds (with_next a a.current line) new.state)
+    pub entered : (new : Reading) → ((a : Begun) → IsBegun a → MayFollow a a.current line → IsPlace a old.place
+        → IsPlace (with_next a a.current line) new.place)
+        → ((a : Begun) → IsDecidedOnce ds → IsBegun a → MayFollow a a.current line → AdmitsLine ds a.current line
+        → Tracks ds a old.state → Tracks ds (with_next a a.current line) new.state)
         → Follows second ds bytes count old new rest (line_text line) more None
     entered new place tracks = record {
       sections = with_next b b.current line;

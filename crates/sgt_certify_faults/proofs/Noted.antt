@@ -39,8 +39,10 @@ at-push xs x n y at =
     ]
 
 -- one more entry of a transaction that stands there
-pub asked-again : (es : List Entry) (e : Entry) (a new : Askings) (number : ℕ) (k : Asking) → AreAskings es a → get nat_cmp a.numbers (tx_of e) ≡ Some number → slice_get a.list.items number ≡ Some k
-    → new.numbers ≡ a.numbers → new.list.items ≡ set a.list.items number (asking_with k e) → AreAskings (es ++ e ∷ []) new
+pub asked-again : (es : List Entry) (e : Entry) (a new : Askings) (number : ℕ) (k : Asking) → AreAskings es a
+    → get nat_cmp a.numbers (tx_of e) ≡ Some number → slice_get a.list.items number ≡ Some k
+    → new.numbers ≡ a.numbers → new.list.items ≡ set a.list.items number (asking_with k e)
+    → AreAskings (es ++ e ∷ []) new
 asked-again es e a new number k are there at same_numbers same_list = record {
   placed = λ n j at_n. get-same j.tx ∙ placed n j at_n;
   found = λ tx n by. found tx n (sym (get-same tx) ∙ by);
@@ -60,7 +62,8 @@ asked-again es e a new number k are there at same_numbers same_list = record {
     here = ap (λ (ks : List Asking). slice_get ks number) same_list ∙ set-at a.list.items number (asking_with k e) k at
 
     other : (n : ℕ) → (n ≡ number → ⊥) → slice_get new.list.items n ≡ slice_get a.list.items n
-    other n apart = ap (λ (ks : List Asking). slice_get ks n) same_list ∙ set-other a.list.items number n (asking_with k e) apart
+    other n apart = ap (λ (ks : List Asking). slice_get ks n) same_list
+        ∙ set-other a.list.items number n (asking_with k e) apart
 
     placed : (n : ℕ) (j : Asking) → slice_get new.list.items n ≡ Some j → get nat_cmp a.numbers j.tx ≡ Some n
     placed n j at_n =
@@ -71,7 +74,8 @@ asked-again es e a new number k are there at same_numbers same_list = record {
           | inr apart ↦ are.placed n j (sym (other n apart) ∙ at_n)
         ]
 
-    found : (tx n : ℕ) → get nat_cmp a.numbers tx ≡ Some n → (j : Asking) × (slice_get new.list.items n ≡ Some j) × (j.tx ≡ tx)
+    found : (tx n : ℕ) → get nat_cmp a.numbers tx ≡ Some n → (j : Asking) × (slice_get new.list.items n ≡ Some j)
+        × (j.tx ≡ tx)
     found tx n by =
         let f = are.found tx n by in
         elim (cases_eq n number) [
@@ -90,19 +94,29 @@ asked-again es e a new number k are there at same_numbers same_list = record {
               (ap (λ o. first_of o (asked_end e)) (are.ends number k at) ∙ sym (first-own k.tx es e (sym own)))
           | inr apart ↦
               let at_old = sym (other n apart) ∙ at_n in
-              are.ends n j at_old ∙ sym (first-others j.tx es e (λ same. apart (same_Some n number (sym (are.placed n j at_old) ∙ ap (get nat_cmp a.numbers) (sym same) ∙ there))))
+              are.ends n j at_old
+              ∙ sym (first-others j.tx es e
+              (λ same. apart (same_Some n number (sym (are.placed n j at_old)
+              ∙ ap (get nat_cmp a.numbers) (sym same) ∙ there))))
         ]
 
-    all : (n : ℕ) (f : Entry) → slice_get (es ++ e ∷ []) n ≡ Some f → (m : ℕ) × (get nat_cmp new.numbers (tx_of f) ≡ Some m)
+    all : (n : ℕ) (f : Entry) → slice_get (es ++ e ∷ []) n ≡ Some f
+        → (m : ℕ) × (get nat_cmp new.numbers (tx_of f) ≡ Some m)
     all n f at_n =
         elim (at-push es e n f at_n) [
           | earlier at_old ↦ let m = are.all n f at_old in (m.0, get-same (tx_of f) ∙ m.1)
-          | newest last is ↦ (number, get-same (tx_of f) ∙ ap (λ (g : Entry). get nat_cmp a.numbers (tx_of g)) is ∙ there)
+          | newest last is ↦ (
+            number,
+            get-same (tx_of f) ∙ ap (λ (g : Entry). get nat_cmp a.numbers (tx_of g)) is
+                ∙ there,
+          )
         ]
 
 -- the first entry of a transaction
-pub asked-first : (es : List Entry) (e : Entry) (a new : Askings) → AreAskings es a → get nat_cmp a.numbers (tx_of e) ≡ None
-    → ((q : ℕ) → get nat_cmp new.numbers q ≡ cond (is_eq (nat_cmp (tx_of e) q)) (Some (length a.list.items)) (get nat_cmp a.numbers q))
+pub asked-first : (es : List Entry) (e : Entry) (a new : Askings) → AreAskings es a
+    → get nat_cmp a.numbers (tx_of e) ≡ None
+    → ((q : ℕ) → get nat_cmp new.numbers q ≡ cond (is_eq (nat_cmp (tx_of e) q)) (Some (length a.list.items))
+    (get nat_cmp a.numbers q))
     → new.list.items ≡ a.list.items ++ record { tx = tx_of e; end = asked_end e } ∷ [] → AreAskings (es ++ e ∷ []) new
 asked-first es e a new are none updates same_list = record { placed = placed; found = found; ends = ends; all = all }
   where
@@ -129,12 +143,17 @@ asked-first es e a new are none updates same_list = record { placed = placed; fo
           | newest last is ↦ ap (λ (i : Asking). get nat_cmp new.numbers i.tx) is ∙ here ∙ ap Some (sym last)
         ]
 
-    found : (tx n : ℕ) → get nat_cmp new.numbers tx ≡ Some n → (j : Asking) × (slice_get new.list.items n ≡ Some j) × (j.tx ≡ tx)
+    found : (tx n : ℕ) → get nat_cmp new.numbers tx ≡ Some n → (j : Asking) × (slice_get new.list.items n ≡ Some j)
+        × (j.tx ≡ tx)
     found tx n by =
         elim (cases_eq (tx_of e) tx) [
           | inl same ↦
-              let last = same_Some (length a.list.items) n (sym here ∙ ap (get nat_cmp new.numbers) same ∙ by) in
-              (k, ap (λ (ks : List Asking). slice_get ks n) same_list ∙ ap (slice_get (a.list.items ++ k ∷ [])) (sym last) ∙ middle_at a.list.items k [], same)
+              let last = same_Some (length a.list.items) n (sym here ∙ ap (get nat_cmp new.numbers) same ∙ by) in (
+                k,
+                ap (λ (ks : List Asking). slice_get ks n) same_list
+                    ∙ ap (slice_get (a.list.items ++ k ∷ [])) (sym last) ∙ middle_at a.list.items k [],
+                same,
+              )
           | inr other ↦
               let f = are.found tx n (sym (others tx other) ∙ by) in
               (f.0, ap (λ (ks : List Asking). slice_get ks n) same_list ∙ front_at a.list.items (k ∷ []) n f.0 f.1, f.2)
@@ -146,11 +165,14 @@ asked-first es e a new are none updates same_list = record { placed = placed; fo
           | earlier at_old ↦ are.ends n j at_old ∙ sym (first-others j.tx es e (apart n j at_old))
           | newest last is ↦
               subst (λ (i : Asking). i.end ≡ first_end i.tx (es ++ e ∷ [])) (sym is)
-              (sym (first-own (tx_of e) es e refl ∙ ap (λ o. first_of o (asked_end e)) (first-none (tx_of e) es (λ m f at_f same.
-              let number = are.all m f at_f in none-some number.0 (sym none ∙ ap (get nat_cmp a.numbers) (sym same) ∙ number.1)))))
+              (sym (first-own (tx_of e) es e refl
+              ∙ ap (λ o. first_of o (asked_end e)) (first-none (tx_of e) es (λ m f at_f same.
+              let number = are.all m f at_f in none-some number.0 (sym none ∙ ap (get nat_cmp a.numbers) (sym same)
+              ∙ number.1)))))
         ]
 
-    all : (n : ℕ) (f : Entry) → slice_get (es ++ e ∷ []) n ≡ Some f → (m : ℕ) × (get nat_cmp new.numbers (tx_of f) ≡ Some m)
+    all : (n : ℕ) (f : Entry) → slice_get (es ++ e ∷ []) n ≡ Some f
+        → (m : ℕ) × (get nat_cmp new.numbers (tx_of f) ≡ Some m)
     all n f at =
         elim (cases_eq (tx_of e) (tx_of f)) [
           | inl same ↦ (length a.list.items, ap (get nat_cmp new.numbers) (sym same) ∙ here)
@@ -172,21 +194,31 @@ pub record IsAskedTo (second : Bool) (bytes : List ℕ) (a : Askings) (rest : Li
 pub asked-none : (second : Bool) (bytes : List ℕ) (a : Askings) → AreAskings [] a → IsAskedTo second bytes a bytes
 asked-none second bytes a are = record { lines = []; each = All-nil (IsLineIn second); text = refl; askings = are }
 
-pub asked-more : (second : Bool) (bytes : List ℕ) (a new : Askings) (rest after : List ℕ) (line : SectionLine) → IsAskedTo second bytes a rest → IsLineIn second line → rest ≡ line_text line ++ 10 ∷ after
-    → ((es : List Entry) → AreAskings es a → AreAskings (es ++ filter_map logged_in (line ∷ [])) new) → IsAskedTo second bytes new after
+pub asked-more : (second : Bool) (bytes : List ℕ) (a new : Askings) (rest after : List ℕ) (line : SectionLine)
+    → IsAskedTo second bytes a rest → IsLineIn second line → rest ≡ line_text line ++ 10 ∷ after
+    → ((es : List Entry) → AreAskings es a → AreAskings (es ++ filter_map logged_in (line ∷ [])) new)
+    → IsAskedTo second bytes new after
 asked-more second bytes a new rest after line t is cut adds = record {
   lines = t.lines ++ line ∷ [];
   each = All-push (IsLineIn second) t.lines line t.each is;
-  text = t.text ∙ ap (λ (xs : List ℕ). text_of_lines (map line_text t.lines) ++ xs) cut ∙ sym (text-more t.lines line after);
-  askings = subst (λ (es : List Entry). AreAskings es new) (sym (filter_map-append logged_in t.lines (line ∷ []))) (adds (filter_map logged_in t.lines) t.askings);
+  text = t.text ∙ ap (λ (xs : List ℕ). text_of_lines (map line_text t.lines) ++ xs) cut
+      ∙ sym (text-more t.lines line after);
+  askings = subst (λ (es : List Entry). AreAskings es new) (sym (filter_map-append logged_in t.lines (line ∷ [])))
+      (adds (filter_map logged_in t.lines) t.askings);
 }
 
 pub asked-end : (second : Bool) (bytes : List ℕ) (a : Askings) (rest : List ℕ) → IsAskedTo second bytes a rest
-    → ((line : SectionLine) (more : List ℕ) → IsLineIn second line → rest ≡ line_text line ++ 10 ∷ more → ⊥) → IsAskedIn second bytes a
-asked-end second bytes a rest t none = (t.lines, record { each = t.each; rest = rest; text = t.text; no_more = none }, t.askings)
+    → ((line : SectionLine) (more : List ℕ) → IsLineIn second line → rest ≡ line_text line ++ 10 ∷ more → ⊥)
+    → IsAskedIn second bytes a
+asked-end second bytes a rest t none = (
+  t.lines,
+  record { each = t.each; rest = rest; text = t.text; no_more = none },
+  t.askings,
+)
 
 -- a line that is no entry adds nothing
-pub adds-nothing : (line : SectionLine) (a : Askings) → ((e : Entry) → line ≡ Logged e → ⊥) → (es : List Entry) → AreAskings es a → AreAskings (es ++ filter_map logged_in (line ∷ [])) a
+pub adds-nothing : (line : SectionLine) (a : Askings) → ((e : Entry) → line ≡ Logged e → ⊥) → (es : List Entry)
+    → AreAskings es a → AreAskings (es ++ filter_map logged_in (line ∷ [])) a
 adds-nothing (Logged e) a not es are = absurd (not e refl)
 adds-nothing (Site k) a not es are = subst (λ (es : List Entry). AreAskings es a) (sym (append-nil es)) are
 adds-nothing (Initial h) a not es are = subst (λ (es : List Entry). AreAskings es a) (sym (append-nil es)) are

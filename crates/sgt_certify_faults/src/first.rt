@@ -69,9 +69,9 @@ fn fault_behind(
     }
 }
 
-/// The first line of a text of logs with a fault that no certificate mends, and the least of its faults; None where no line has one,
-/// and so the text spells sound logs. Behind the text comes nothing more, where that is all, else a line that is too long.
-/// Err: memory ran out.
+/// The first line of a text of logs with a fault that no certificate mends, and the least of its faults; None where
+/// no line has one, and so the text spells sound logs. Behind the text comes nothing more, where that is all, else a
+/// line that is too long. Err: memory ran out.
 pub fn first_fault(alloc: Global, text: &[u8], all: bool) -> Result<Option<FirstFault>, AllocError>
     ensures found { IfOk result (λ found. IfSome found (λ first. (more : List ℕ) → GoesOn all more
         → IsFirstFault (text.now ++ more) first.line first.fault)) }

@@ -12,9 +12,11 @@ use Rattle.sgt_names.proofs.Elements.{contains-later}
 abbrev pub Apart : ℕ → ℕ → Type 0
 Apart a b = a ≢ b
 
-all-without : (x : ℕ) (xs ys : List ℕ) → AllByRecursion (Apart x) xs → AllByRecursion (Contains ys) xs → AllByRecursion (Contains (without x ys)) xs
+all-without : (x : ℕ) (xs ys : List ℕ) → AllByRecursion (Apart x) xs → AllByRecursion (Contains ys) xs
+    → AllByRecursion (Contains (without x ys)) xs
 all-without x [] ys apart within = tt
-all-without x (z ∷ xs) ys apart within = (without-has x ys z within.0 (λ same. apart.0 (sym same)), all-without x xs ys apart.1 within.1)
+all-without x (z ∷ xs) ys apart within =
+    (without-has x ys z within.0 (λ same. apart.0 (sym same)), all-without x xs ys apart.1 within.1)
 
 within-most : (xs ys : List ℕ) → PairsByRecursion Apart xs → AllByRecursion (Contains ys) xs → length xs ≤ length ys
 within-most [] ys apart within = omega arith
@@ -25,7 +27,8 @@ within-most (x ∷ xs) ys apart within =
 
 -- distinct numbers that all stand in a list are no more than it has
 pub distinct-within : (xs ys : List ℕ) → AllPairs (λ a b. a ≢ b) xs → All (Contains ys) xs → length xs ≤ length ys
-distinct-within xs ys apart within = within-most xs ys (recursion_from_AllPairs Apart xs apart) (recursion_from_All (Contains ys) xs within)
+distinct-within xs ys apart within =
+    within-most xs ys (recursion_from_AllPairs Apart xs apart) (recursion_from_All (Contains ys) xs within)
 
 numbers_below : ℕ → List ℕ
 numbers_below zero = []
@@ -53,7 +56,8 @@ distinct-below n xs apart below =
     omega (arith, most, long)
 
 -- each stands at one place
-pub one-place : (xs : List ℕ) (p q a : ℕ) → AllPairs (λ a b. a ≢ b) xs → slice_get xs p ≡ Some a → slice_get xs q ≡ Some a → p ≡ q
+pub one-place : (xs : List ℕ) (p q a : ℕ) → AllPairs (λ a b. a ≢ b) xs → slice_get xs p ≡ Some a
+    → slice_get xs q ≡ Some a → p ≡ q
 one-place xs p q a apart at_p at_q =
     elim (cases_order p q) [
       | inl same ↦ same

@@ -22,12 +22,14 @@ module _ (p : ℕ → Bool) where
   chosen (x ∷ xs) t has =
       elim (bool_cases (p x)) [
         | inl passes ↦
-            elim (contains-cases x (filter p xs) t (subst (λ (b : Bool). Contains (cond b (x ∷ filter p xs) (filter p xs)) t) passes has)) [
+            elim (contains-cases x (filter p xs) t
+            (subst (λ (b : Bool). Contains (cond b (x ∷ filter p xs) (filter p xs)) t) passes has)) [
               | inl here ↦ ((0, omega arith, here), ap p (sym here) ∙ passes)
               | inr there ↦ let more = chosen xs t there in (contains-later x xs t more.0, more.1)
             ]
         | inr fails ↦
-            let more = chosen xs t (subst (λ (b : Bool). Contains (cond b (x ∷ filter p xs) (filter p xs)) t) fails has) in
+            let more =
+            chosen xs t (subst (λ (b : Bool). Contains (cond b (x ∷ filter p xs) (filter p xs)) t) fails has) in
             (contains-later x xs t more.0, more.1)
       ]
 
@@ -35,7 +37,10 @@ module _ (p : ℕ → Bool) where
   at_most [] = omega arith
   at_most (x ∷ xs) =
       let more = at_most xs in
-      elim (p x) as (λ b. length (cond b (x ∷ filter p xs) (filter p xs)) ≤ suc (length xs)) [ true ↦ omega arith | false ↦ omega arith ]
+      elim (p x) as (λ b. length (cond b (x ∷ filter p xs) (filter p xs)) ≤ suc (length xs)) [
+        | true ↦ omega arith
+        | false ↦ omega arith
+      ]
 
   fewer : (xs : List ℕ) (t : ℕ) → Contains xs t → p t ≡ false → length (filter p xs) < length xs
   fewer [] t has fails = absurd (contains-none t has)
@@ -43,10 +48,12 @@ module _ (p : ℕ → Bool) where
       elim (contains-cases x xs t has) [
         | inl here ↦
             let most = at_most xs in
-            subst (λ (b : Bool). length (cond b (x ∷ filter p xs) (filter p xs)) < suc (length xs)) (sym (ap p here ∙ fails)) (omega (arith, most))
+            subst (λ (b : Bool). length (cond b (x ∷ filter p xs) (filter p xs)) < suc (length xs))
+            (sym (ap p here ∙ fails)) (omega (arith, most))
         | inr there ↦
             let more = fewer xs t there fails in
-            elim (p x) as (λ b. length (cond b (x ∷ filter p xs) (filter p xs)) < suc (length xs)) [ true ↦ omega (arith, more) | false ↦ omega (arith, more) ]
+            elim (p x) as (λ b. length (cond b (x ∷ filter p xs) (filter p xs)) < suc (length xs))
+            [ true ↦ omega (arith, more) | false ↦ omega (arith, more) ]
       ]
 
 other-passes : (t tx : ℕ) → t ≢ tx → not (eqb t tx) ≡ true

@@ -43,24 +43,28 @@ withdraw-same (entry.Refuse t) i j h = absurd h
 withdraw-same (entry.Withdraw t) i j h = tt
 
 -- what suits an end suits each entry that asks for the same kind of end
-commit-suits : (e : Entry) (t : ℕ) (d : Decision) (i r : ℕ) → Suits e d → Suits (entry.Commit t) d → Suits e (Commit i r)
+commit-suits : (e : Entry) (t : ℕ) (d : Decision) (i r : ℕ) → Suits e d → Suits (entry.Commit t) d
+    → Suits e (Commit i r)
 commit-suits e t (Commit j s) i r se sf = commit-same e j s i r se
 commit-suits e t (Refuse j w) i r se sf = absurd sf
 commit-suits e t (Withdraw j) i r se sf = absurd sf
 
-refuse-suits : (e : Entry) (t : ℕ) (d : Decision) (i : ℕ) (v : List Step) → Suits e d → Suits (entry.Refuse t) d → Suits e (Refuse i v)
+refuse-suits : (e : Entry) (t : ℕ) (d : Decision) (i : ℕ) (v : List Step) → Suits e d → Suits (entry.Refuse t) d
+    → Suits e (Refuse i v)
 refuse-suits e t (Commit j s) i v se sf = absurd sf
 refuse-suits e t (Refuse j w) i v se sf = refuse-same e j w i v se
 refuse-suits e t (Withdraw j) i v se sf = absurd sf
 
-withdraw-suits : (e : Entry) (t : ℕ) (d : Decision) (i : ℕ) → Suits e d → Suits (entry.Withdraw t) d → Suits e (Withdraw i)
+withdraw-suits : (e : Entry) (t : ℕ) (d : Decision) (i : ℕ) → Suits e d → Suits (entry.Withdraw t) d
+    → Suits e (Withdraw i)
 withdraw-suits e t (Commit j s) i se sf = absurd sf
 withdraw-suits e t (Refuse j w) i se sf = absurd sf
 withdraw-suits e t (Withdraw j) i se sf = withdraw-same e j i se
 
 module _ (sites : List SiteLog) (sound : AreSound sites) (order : List ℕ) (Through : ℕ → Type 0) where
   -- a decision that fits suits each entry of its transaction
-  pub fitting-suits : (e : Entry) (d : Decision) → IsIn sites e → tx_of e ≡ decided_tx d → IsFitting sites order Through d → Suits e d
+  pub fitting-suits : (e : Entry) (d : Decision) → IsIn sites e → tx_of e ≡ decided_tx d
+      → IsFitting sites order Through d → Suits e d
   fitting-suits e (Commit t rank) here same fits =
       let alike = sound.alike e (entry.Commit t) here fits.0 same in
       commit-suits e t alike.0 t rank alike.1 alike.2
@@ -72,7 +76,9 @@ module _ (sites : List SiteLog) (sound : AreSound sites) (order : List ℕ) (Thr
       withdraw-suits e t alike.0 t alike.1 alike.2
 
   -- where a log commits the transaction, it is a commit
-  pub fitting-commit : (t : ℕ) (d : Decision) → IsIn sites (entry.Commit t) → t ≡ decided_tx d → IsFitting sites order Through d → (rank : ℕ) × (d ≡ Commit (decided_tx d) rank)
+  pub fitting-commit : (t : ℕ) (d : Decision) → IsIn sites (entry.Commit t) → t ≡ decided_tx d
+      → IsFitting sites order Through d → (rank : ℕ) × (d ≡ Commit (decided_tx d) rank)
   fitting-commit t (Commit i rank) here same fits = (rank, refl)
-  fitting-commit t (Refuse i walk) here same fits = absurd (fitting-suits (entry.Commit t) (Refuse i walk) here same fits)
+  fitting-commit t (Refuse i walk) here same fits =
+      absurd (fitting-suits (entry.Commit t) (Refuse i walk) here same fits)
   fitting-commit t (Withdraw i) here same fits = absurd (fitting-suits (entry.Commit t) (Withdraw i) here same fits)

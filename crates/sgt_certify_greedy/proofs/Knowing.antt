@@ -16,19 +16,23 @@ use Rattle.sgt_certify_greedy.proofs.Pairing.{ends-followed, pair-ends, pair-pre
 use Rattle.sgt_certify_greedy.proofs.Distinct.{one-place}
 use Rattle.sgt_certify_greedy.proofs.Rings.{ring-as}
 
-pub ring-ends : (sites : List SiteLog) (pairs : List Pair) (txs cycle : List ℕ) → ArePairsOf Ends sites pairs → IsRing (Among txs (Leads pairs)) cycle → IsRing (EndsBefore sites) cycle
+pub ring-ends : (sites : List SiteLog) (pairs : List Pair) (txs cycle : List ℕ) → ArePairsOf Ends sites pairs
+    → IsRing (Among txs (Leads pairs)) cycle → IsRing (EndsBefore sites) cycle
 ring-ends sites pairs txs cycle exact ring =
     ring-as (Among txs (Leads pairs)) (EndsBefore sites) (λ a b h.
     pair-ends sites h.2.0 a b (All_in (IsPair Ends sites) pairs h.2.0 exact.only h.2.1) h.2.2 h.2.3) cycle ring
 
-pub ring-precedes : (sites : List SiteLog) (pairs : List Pair) (txs cycle : List ℕ) → ArePairsOf Conflicts sites pairs → All (λ t. IsIn sites (Commit t)) txs
+pub ring-precedes : (sites : List SiteLog) (pairs : List Pair) (txs cycle : List ℕ) → ArePairsOf Conflicts sites pairs
+    → All (λ t. IsIn sites (Commit t)) txs
     → IsRing (Among txs (Leads pairs)) cycle → IsRing (PrecedesCommitted sites) cycle
 ring-precedes sites pairs txs cycle exact committed ring =
     ring-as (Among txs (Leads pairs)) (PrecedesCommitted sites) (λ a b h.
     pair-precedes sites h.2.0 a b (All_in (IsPair Conflicts sites) pairs h.2.0 exact.only h.2.1) h.2.2 h.2.3
-    (All_in (λ t. IsIn sites (Commit t)) txs a committed h.0) (All_in (λ t. IsIn sites (Commit t)) txs b committed h.1)) cycle ring
+    (All_in (λ t. IsIn sites (Commit t)) txs a committed h.0)
+    (All_in (λ t. IsIn sites (Commit t)) txs b committed h.1)) cycle ring
 
-pub order-known : (sites : List SiteLog) (pairs : List Pair) (txs order : List ℕ) → ArePairsOf Conflicts sites pairs → IsOrdered (Leads pairs) txs order
+pub order-known : (sites : List SiteLog) (pairs : List Pair) (txs order : List ℕ) → ArePairsOf Conflicts sites pairs
+    → IsOrdered (Leads pairs) txs order
     → IsOrdered (IsFollowed Conflicts sites) order order
 order-known sites pairs txs order exact sorted = record {
   all = λ t has. has;
@@ -71,7 +75,8 @@ ordered-no_cycle R S txs order ordered into =
     let in_front = slice_get-take order at_b.0 at.0 a at.1 in
     (at.0, at_b.0, in_front.1, at_b.1, in_front.0))
 
-pub ends-ordered : (sites : List SiteLog) (pairs : List Pair) (txs order : List ℕ) → ArePairsOf Ends sites pairs → IsOrdered (Leads pairs) txs order
+pub ends-ordered : (sites : List SiteLog) (pairs : List Pair) (txs order : List ℕ) → ArePairsOf Ends sites pairs
+    → IsOrdered (Leads pairs) txs order
     → ((t : ℕ) → HasEnd sites t → Contains txs t) → HaveEndsInACycle sites → ⊥
 ends-ordered sites pairs txs order exact sorted all =
     ordered-no_cycle (Leads pairs) (EndsBefore sites) txs order sorted

@@ -25,8 +25,10 @@ Keeps old new = (pair : Pair) → Contains old pair → Contains new pair
 pub leads-kept : (old new : List Pair) (a b : ℕ) → Keeps old new → Leads old a b → Leads new a b
 leads-kept old new a b keeps (pair, has, from, to) = (pair, keeps pair has, from, to)
 
-pub pairs-kept : (rule : Rule) (sites : List SiteLog) (old new : List Pair) (site q : ℕ) → Keeps old new → HasPairsTo rule sites old site q → HasPairsTo rule sites new site q
-pairs-kept rule sites old new site q keeps has p log e f lt here at_p at_q paired = leads-kept old new (tx_of e) (tx_of f) keeps (has p log e f lt here at_p at_q paired)
+pub pairs-kept : (rule : Rule) (sites : List SiteLog) (old new : List Pair) (site q : ℕ) → Keeps old new
+    → HasPairsTo rule sites old site q → HasPairsTo rule sites new site q
+pairs-kept rule sites old new site q keeps has p log e f lt here at_p at_q paired =
+    leads-kept old new (tx_of e) (tx_of f) keeps (has p log e f lt here at_p at_q paired)
 
 -- what holds of all places below n, and of n, holds of those below n + 1
 pub one-more : (P : ℕ → Type 0) (n : ℕ) → ((k : ℕ) → k < n → P k) → P n → (k : ℕ) → k < n + 1 → P k
@@ -38,7 +40,8 @@ one-more P n before here k lt =
 
 -- ---- entries that are read from a log
 
-module _ (sites : List SiteLog) (site : ℕ) (log got : SiteLog) (entries : List Entry) (here : slice_get sites site ≡ Some log) (is : got ≡ get_or sites site got) (its : entries ≡ got.entries) where
+module _ (sites : List SiteLog) (site : ℕ) (log got : SiteLog) (entries : List Entry)
+    (here : slice_get sites site ≡ Some log) (is : got ≡ get_or sites site got) (its : entries ≡ got.entries) where
   pub got-log : got ≡ log
   got-log = is ∙ get_or_from_slice_get sites site log got here
 
@@ -46,7 +49,8 @@ module _ (sites : List SiteLog) (site : ℕ) (log got : SiteLog) (entries : List
   got-entries = its ∙ ap (λ (l : SiteLog). l.entries) got-log
 
   pub read-at : (n : ℕ) (e : Entry) → n < length log.entries → e ≡ get_or entries n e → slice_get log.entries n ≡ Some e
-  read-at n e within read = slice_get-get_or log.entries n e within ∙ ap Some (sym (read ∙ ap (λ (es : List Entry). get_or es n e) got-entries))
+  read-at n e within read = slice_get-get_or log.entries n e within
+      ∙ ap Some (sym (read ∙ ap (λ (es : List Entry). get_or es n e) got-entries))
 
 -- the relations that pairs show
 pub ends-followed : (sites : List SiteLog) (a b : ℕ) → EndsBefore sites a b → IsFollowed Ends sites a b
@@ -69,7 +73,8 @@ ends-followed sites a b h =
       refl,
     )
 
-pub pair-ends : (sites : List SiteLog) (pair : Pair) (a b : ℕ) → IsPair Ends sites pair → pair.from ≡ a → pair.to ≡ b → EndsBefore sites a b
+pub pair-ends : (sites : List SiteLog) (pair : Pair) (a b : ℕ) → IsPair Ends sites pair → pair.from ≡ a → pair.to ≡ b
+    → EndsBefore sites a b
 pair-ends sites pair a b h from to = record {
   log = h.log;
   here = Contains-from_at sites pair.site h.log h.here;
@@ -85,7 +90,8 @@ pair-ends sites pair a b h from to = record {
   ends = h.paired;
 }
 
-pub pair-precedes : (sites : List SiteLog) (pair : Pair) (a b : ℕ) → IsPair Conflicts sites pair → pair.from ≡ a → pair.to ≡ b
+pub pair-precedes : (sites : List SiteLog) (pair : Pair) (a b : ℕ) → IsPair Conflicts sites pair → pair.from ≡ a
+    → pair.to ≡ b
     → IsIn sites (Commit a) → IsIn sites (Commit b) → PrecedesCommitted sites a b
 pair-precedes sites pair a b h from to first second = record {
   committed = (first, second);

@@ -27,12 +27,15 @@ pushed_at (z ∷ xs) x (suc n) y at =
 pub fronts-none : {A : Type 0} (P : List A → A → Type 0) → OnFronts P []
 fronts-none P n x at = absurd cc
 
-pub fronts-push : {A : Type 0} (P : List A → A → Type 0) (xs : List A) (x : A) → OnFronts P xs → P xs x → OnFronts P (xs ++ x ∷ [])
+pub fronts-push : {A : Type 0} (P : List A → A → Type 0) (xs : List A) (x : A) → OnFronts P xs → P xs x
+    → OnFronts P (xs ++ x ∷ [])
 fronts-push P xs x each this n y at =
     elim (pushed_at xs x n y at) [
-      | inl in_front ↦ subst (λ f. P f y) (sym (take-append-le n xs (x ∷ []) (omega (arith, in_front.0)))) (each n y in_front.1)
+      | inl in_front ↦ subst (λ f. P f y) (sym (take-append-le n xs (x ∷ []) (omega (arith, in_front.0))))
+          (each n y in_front.1)
       | inr last ↦
-          let whole : take n (xs ++ x ∷ []) ≡ xs = take-append-le n xs (x ∷ []) (omega (arith, last.0)) ∙ take_all n xs (omega (arith, last.0)) in
+          let whole : take n (xs ++ x ∷ []) ≡ xs = take-append-le n xs (x ∷ []) (omega (arith, last.0))
+          ∙ take_all n xs (omega (arith, last.0)) in
           subst (λ f. P f y) (sym whole) (subst (P xs) last.1 this)
     ]
 
@@ -94,7 +97,8 @@ next-placed R txs left order t had here free = record {
   });
 }
 
-pub all-placed : (R : ℕ → ℕ → Type 0) (txs left order : List ℕ) → IsPlacing R txs left order → left ≡ [] → IsOrdered R txs order
+pub all-placed : (R : ℕ → ℕ → Type 0) (txs left order : List ℕ) → IsPlacing R txs left order → left ≡ []
+    → IsOrdered R txs order
 all-placed R txs left order had none = record {
   all = λ t has.
       elim (had.all t has) [
@@ -108,4 +112,5 @@ all-placed R txs left order had none = record {
 }
   where
     front-has : (xs : List ℕ) (p q a b : ℕ) → p < q → slice_get xs p ≡ Some a → a ≡ b → Contains (take q xs) b
-    front-has xs p q a b lt at same = Contains-from_at (take q xs) p b (slice_get-take_at xs q p b lt (at ∙ ap Some same))
+    front-has xs p q a b lt at same =
+        Contains-from_at (take q xs) p b (slice_get-take_at xs q p b lt (at ∙ ap Some same))

@@ -47,35 +47,43 @@ commits-long (Withdraw t ∷ ds) = commits-long ds
 commits-has : (ds : List Decision) (n t r : ℕ) → slice_get ds n ≡ Some (Commit t r) → Contains (commits_of ds) t
 unfolding commits_of
 commits-has [] n t r at = absurd cc
-commits-has (Commit u s ∷ ds) zero t r at = let e = same_Some (Commit u s) (Commit t r) at in let same : u ≡ t = cc in (0, omega arith, same)
-commits-has (Commit u s ∷ ds) (suc n) t r at = let more = commits-has ds n t r at in (suc more.0, omega (arith, more.1), more.2)
+commits-has (Commit u s ∷ ds) zero t r at = let e = same_Some (Commit u s) (Commit t r) at in let same : u ≡ t = cc in
+    (0, omega arith, same)
+commits-has (Commit u s ∷ ds) (suc n) t r at = let more = commits-has ds n t r at in
+    (suc more.0, omega (arith, more.1), more.2)
 commits-has (Refuse u walk ∷ ds) zero t r at = absurd cc
 commits-has (Refuse u walk ∷ ds) (suc n) t r at = commits-has ds n t r at
 commits-has (Withdraw u ∷ ds) zero t r at = absurd cc
 commits-has (Withdraw u ∷ ds) (suc n) t r at = commits-has ds n t r at
 
 -- what holds of the rank of each commit holds of each rank
-ranks-each : (P : ℕ → Type 0) (ds : List Decision) → ((n t r : ℕ) → slice_get ds n ≡ Some (Commit t r) → P r) → AllByRecursion P (ranks ds)
+ranks-each : (P : ℕ → Type 0) (ds : List Decision) → ((n t r : ℕ) → slice_get ds n ≡ Some (Commit t r) → P r)
+    → AllByRecursion P (ranks ds)
 ranks-each P [] each = tt
 ranks-each P (Commit t r ∷ ds) each = (each 0 t r refl, ranks-each P ds (λ n u s at. each (suc n) u s at))
 ranks-each P (Refuse t walk ∷ ds) each = ranks-each P ds (λ n u s at. each (suc n) u s at)
 ranks-each P (Withdraw t ∷ ds) each = ranks-each P ds (λ n u s at. each (suc n) u s at)
 
 -- distinct transactions at the places of their ranks have distinct ranks
-ranks-pairs : (order : List ℕ) (ds : List Decision) → ((n t r : ℕ) → slice_get ds n ≡ Some (Commit t r) → slice_get order r ≡ Some t)
-    → ((p q : ℕ) (a b : Decision) → p < q → slice_get ds p ≡ Some a → slice_get ds q ≡ Some b → decided_tx a ≢ decided_tx b)
+ranks-pairs : (order : List ℕ) (ds : List Decision)
+    → ((n t r : ℕ) → slice_get ds n ≡ Some (Commit t r) → slice_get order r ≡ Some t)
+    → ((p q : ℕ) (a b : Decision) → p < q → slice_get ds p ≡ Some a → slice_get ds q ≡ Some b
+    → decided_tx a ≢ decided_tx b)
     → PairsByRecursion (λ r s. r ≢ s) (ranks ds)
 ranks-pairs order [] placed apart = tt
 ranks-pairs order (Commit t r ∷ ds) placed apart = (
   ranks-each (λ s. r ≢ s) ds (λ n u s at same.
       apart 0 (suc n) (Commit t r) (Commit u s) (omega arith) refl at
       (same_Some t u (sym (placed 0 t r refl) ∙ ap (slice_get order) same ∙ placed (suc n) u s at))),
-  ranks-pairs order ds (λ n u s at. placed (suc n) u s at) (λ p q a b lt at_p at_q. apart (suc p) (suc q) a b (omega arith) at_p at_q),
+  ranks-pairs order ds (λ n u s at. placed (suc n) u s at)
+      (λ p q a b lt at_p at_q. apart (suc p) (suc q) a b (omega arith) at_p at_q),
 )
 ranks-pairs order (Refuse t walk ∷ ds) placed apart =
-    ranks-pairs order ds (λ n u s at. placed (suc n) u s at) (λ p q a b lt at_p at_q. apart (suc p) (suc q) a b (omega arith) at_p at_q)
+    ranks-pairs order ds (λ n u s at. placed (suc n) u s at)
+    (λ p q a b lt at_p at_q. apart (suc p) (suc q) a b (omega arith) at_p at_q)
 ranks-pairs order (Withdraw t ∷ ds) placed apart =
-    ranks-pairs order ds (λ n u s at. placed (suc n) u s at) (λ p q a b lt at_p at_q. apart (suc p) (suc q) a b (omega arith) at_p at_q)
+    ranks-pairs order ds (λ n u s at. placed (suc n) u s at)
+    (λ p q a b lt at_p at_q. apart (suc p) (suc q) a b (omega arith) at_p at_q)
 
 module _ (sites : List SiteLog) (sound : AreSound sites) (committed order : List ℕ) (ds : List Decision)
     (committed_all : (t : ℕ) → IsIn sites (entry.Commit t) → Contains committed t)
@@ -106,7 +114,8 @@ module _ (sites : List SiteLog) (sound : AreSound sites) (committed order : List
   rank-at : (n t r : ℕ) → IsCommitted ds n t r → IsIn sites (entry.Commit t) × (slice_get order r ≡ Some t)
   rank-at n t r at = (each n (Commit t r) at).fits
 
-  once-apart : (p q : ℕ) (a b : Decision) → p < q → slice_get ds p ≡ Some a → slice_get ds q ≡ Some b → decided_tx a ≢ decided_tx b
+  once-apart : (p q : ℕ) (a b : Decision) → p < q → slice_get ds p ≡ Some a → slice_get ds q ≡ Some b
+      → decided_tx a ≢ decided_tx b
   once-apart p q a b lt at_p at_q same =
       (each q b at_q).new (Contains-from_at (txs_of (take q ds)) p (decided_tx b)
       (txs-at (take q ds) p a (slice_get-take_at ds q p a lt at_p) ∙ ap Some same))
@@ -114,18 +123,22 @@ module _ (sites : List SiteLog) (sound : AreSound sites) (committed order : List
   module _ (all : (t : ℕ) → HasEnd sites t → Contains (txs_of ds) t) where
     are-ranks : AreRanks (ranks ds)
     are-ranks =
-        let most = distinct-within order (commits_of ds) ordered.once (All-from_at (Contains (commits_of ds)) order (λ n t at.
+        let most =
+        distinct-within order (commits_of ds) ordered.once (All-from_at (Contains (commits_of ds)) order (λ n t at.
         let here = committed_only t (ordered.only t (Contains-from_at order n t at)) in
         let by = committed-decided t (all t (entry.Commit t, here, tt, refl)) here in
         commits-has ds by.0 t by.1 by.2)) in
         let long = commits-long ds in
         record {
-          below = All-from_recursion (λ r. r < length (ranks ds)) (ranks ds) (ranks-each (λ r. r < length (ranks ds)) ds (λ n t r at.
+          below = All-from_recursion (λ r. r < length (ranks ds)) (ranks ds)
+              (ranks-each (λ r. r < length (ranks ds)) ds (λ n t r at.
               let within = slice_get_within order r t (rank-at n t r at).1 in omega (arith, within, most, long)));
-          apart = AllPairs-from_recursion (λ r s. r ≢ s) (ranks ds) (ranks-pairs order ds (λ n t r at. (rank-at n t r at).1) once-apart);
+          apart = AllPairs-from_recursion (λ r s. r ≢ s) (ranks ds)
+              (ranks-pairs order ds (λ n t r at. (rank-at n t r at).1) once-apart);
         }
 
-    cycles : (sites_number : ℕ) → RefusedLieOnCycles (record { certificate = record { sites = sites_number; decisions = ds }; sites = sites })
+    cycles : (sites_number : ℕ)
+        → RefusedLieOnCycles (record { certificate = record { sites = sites_number; decisions = ds }; sites = sites })
     cycles sites_number number tx walk at =
         let due = each number (Refuse tx walk) at in
         let round = due.fits.1 in (
@@ -137,8 +150,10 @@ module _ (sites : List SiteLog) (sound : AreSound sites) (committed order : List
             others = All-weaken (HasCommit (take number ds)) (λ a. a ≢ tx) round.between
                 (λ a by same. due.new (Contains-from_at (txs_of (take number ds)) by.0 tx
                 (txs-at (take number ds) by.0 (Commit a by.1) by.2 ∙ ap Some same))) round.through;
-            earlier = All-weaken (HasCommit (take number ds)) (λ a. (m : ℕ) × (rank : ℕ) × (m < number) × IsCommitted ds m a rank) round.between
-                (λ a by. let at_m = slice_get-take ds number by.0 (Commit a by.1) by.2 in (by.0, by.1, at_m.0, at_m.1)) round.through;
+            earlier = All-weaken (HasCommit (take number ds)) (λ a. (m : ℕ) × (rank : ℕ) × (m < number)
+                × IsCommitted ds m a rank) round.between
+                (λ a by. let at_m = slice_get-take ds number by.0 (Commit a by.1) by.2 in
+                (by.0, by.1, at_m.0, at_m.1)) round.through;
           },
           round.logged,
         )
@@ -149,13 +164,16 @@ module _ (sites : List SiteLog) (sound : AreSound sites) (committed order : List
 
       decided : (p : ℕ) (e : Entry) → slice_get log.entries p ≡ Some e → (number : ℕ) × IsDecided ds e number
       decided p e at =
-          let ended = All_at (λ e. Any (λ f. IsEnd f × (tx_of f ≡ tx_of e)) log.entries) log.entries p e (All_in IsSoundLog sites log sound.logs here).formed.1 at in
+          let ended = All_at (λ e. Any (λ f. IsEnd f × (tx_of f ≡ tx_of e)) log.entries) log.entries p e
+          (All_in IsSoundLog sites log sound.logs here).formed.1 at in
           let end = Any_at (λ f. IsEnd f × (tx_of f ≡ tx_of e)) log.entries ended in
           let by = decision-of (tx_of e) (all (tx_of e) (end.1, entry-in end.0 end.1 end.2, end.3.0, end.3.1)) in
-          let suits = fitting-suits sites sound order (HasCommit (take by.0 ds)) e by.1.0 (entry-in p e at) (sym by.1.2) (each by.0 by.1.0 by.1.1).fits in
+          let suits = fitting-suits sites sound order (HasCommit (take by.0 ds)) e by.1.0 (entry-in p e at)
+          (sym by.1.2) (each by.0 by.1.0 by.1.1).fits in
           (by.0, (by.1.0, by.1.1, by.1.2, suits))
 
-      in-order : (p q : ℕ) (e f : Entry) → p < q → slice_get log.entries p ≡ Some e → slice_get log.entries q ≡ Some f → EndInOrder ds e f
+      in-order : (p q : ℕ) (e f : Entry) → p < q → slice_get log.entries p ≡ Some e → slice_get log.entries q ≡ Some f
+          → EndInOrder ds e f
       in-order p q e f lt at_p at_q end_e end_f m n by_e by_f =
           let ends : EndsBefore sites (tx_of e) (tx_of f) = record {
             log = log;
@@ -178,7 +196,8 @@ module _ (sites : List SiteLog) (sound : AreSound sites) (committed order : List
           let same = one-number ds (tx_of e) m at.0 decided-once (by_e.0, by_e.1, by_e.2) (d.0, first.1, d.2) in
           omega (arith, same, first.0)
 
-      rise : (p q : ℕ) (e f : Entry) → p < q → slice_get log.entries p ≡ Some e → slice_get log.entries q ≡ Some f → RiseInRank ds e f
+      rise : (p q : ℕ) (e f : Entry) → p < q → slice_get log.entries p ≡ Some e → slice_get log.entries q ≡ Some f
+          → RiseInRank ds e f
       rise p q e f lt at_p at_q kind x m n r s clash apart by_e by_f =
           let first = rank-at m (tx_of e) r by_e in
           let second = rank-at n (tx_of f) s by_f in
@@ -220,7 +239,8 @@ module _ (sites : List SiteLog) (sound : AreSound sites) (committed order : List
             ranked = AllPairs-from_at (RiseInRank ds) log.entries rise;
           }
 
-    pub valid-from : (count : ℕ) → IsValid (record { certificate = record { sites = count; decisions = ds }; sites = sites })
+    pub valid-from : (count : ℕ)
+        → IsValid (record { certificate = record { sites = count; decisions = ds }; sites = sites })
     valid-from count = record {
       logs = All-from_at (IsValidLog ds) sites (λ n log at. valid-log log (Contains-from_at sites n log at));
       once = decided-once;

@@ -23,7 +23,8 @@ use Rattle.sgt_names.proofs.Elements.{contains-cases, contains-none}
 
 -- ---- a walk with one more step
 
-logged-push : (sites : List SiteLog) (a : ℕ) (walk : List Step) (s : Step) → AreLogged sites a walk → IsLogged sites (end_of a walk) s → AreLogged sites a (walk ++ s ∷ [])
+logged-push : (sites : List SiteLog) (a : ℕ) (walk : List Step) (s : Step) → AreLogged sites a walk
+    → IsLogged sites (end_of a walk) s → AreLogged sites a (walk ++ s ∷ [])
 logged-push sites a [] s logged step = (step, tt)
 logged-push sites a (t ∷ walk) s logged step = (logged.0, logged-push sites t.to walk s logged.1 step)
 
@@ -35,11 +36,15 @@ stops-push : (walk : List Step) (s : Step) → stops (walk ++ s ∷ []) ≡ stop
 stops-push [] s = refl
 stops-push (t ∷ walk) s = ap (λ ts. t.to ∷ ts) (stops-push walk s)
 
-pairs-push : (R : ℕ → ℕ → Type 0) (xs : List ℕ) (y : ℕ) → AllPairs R xs → All (λ a. R a y) xs → AllPairs R (xs ++ y ∷ [])
+pairs-push : (R : ℕ → ℕ → Type 0) (xs : List ℕ) (y : ℕ) → AllPairs R xs → All (λ a. R a y) xs
+    → AllPairs R (xs ++ y ∷ [])
 pairs-push R xs y pairs last = AllPairs-from_at R (xs ++ y ∷ []) (λ p q a b lt at_p at_q.
     elim (pushed_at xs y p a at_p) [
       | inr behind ↦
-          absurd (elim (pushed_at xs y q b at_q) [ inl front ↦ omega (arith, front.0, behind.0) | inr end ↦ omega (arith, end.0, behind.0) ])
+          absurd (elim (pushed_at xs y q b at_q) [
+            | inl front ↦ omega (arith, front.0, behind.0)
+            | inr end ↦ omega (arith, end.0, behind.0)
+          ])
       | inl front ↦
           elim (pushed_at xs y q b at_q) [
             | inl second ↦ AllPairs_at R xs p q a b pairs lt front.1 second.1
@@ -49,7 +54,8 @@ pairs-push R xs y pairs last = AllPairs-from_at R (xs ++ y ∷ []) (λ p q a b l
 
 -- ---- all that is reached
 
-pub record IsReaching (sites : List SiteLog) (through : List ℕ) (tx : ℕ) (reached : List Reached) (unreached : List ℕ) : Type 0 where
+pub record IsReaching (sites : List SiteLog) (through : List ℕ) (tx : ℕ) (reached : List Reached)
+    (unreached : List ℕ) : Type 0 where
   pub paths : All (IsPath sites through tx) reached
   pub inside : All (λ (r : Reached). All (IsReached reached) (stops r.walk)) reached
   pub start : IsReached reached tx
@@ -57,7 +63,8 @@ pub record IsReaching (sites : List SiteLog) (through : List ℕ) (tx : ℕ) (re
   pub apart : (u : ℕ) → Contains unreached u → IsReached reached u → ⊥
   pub only : (u : ℕ) → Contains unreached u → Contains through u
 
-pub none-reached : (sites : List SiteLog) (through : List ℕ) (tx : ℕ) (reached : List Reached) (unreached : List ℕ) → reached ≡ record { tx = tx; walk = [] } ∷ []
+pub none-reached : (sites : List SiteLog) (through : List ℕ) (tx : ℕ) (reached : List Reached) (unreached : List ℕ)
+    → reached ≡ record { tx = tx; walk = [] } ∷ []
     → unreached ≡ through → (Contains through tx → ⊥) → IsReaching sites through tx reached unreached
 none-reached sites through tx reached unreached is same other =
     let first : Reached = record { tx = tx; walk = [] } in
@@ -75,7 +82,8 @@ none-reached sites through tx reached unreached is same other =
           ]);
       inside = All-from_at (λ (r : Reached). All (IsReached (first ∷ [])) (stops r.walk)) (first ∷ []) (λ n r at.
           elim (contains-cases first [] r (Contains-from_at (first ∷ []) n r at)) [
-            | inl here ↦ subst (λ (r : Reached). All (IsReached (first ∷ [])) (stops r.walk)) here (λ k d lt. absurd (omega arith))
+            | inl here ↦ subst (λ (r : Reached). All (IsReached (first ∷ [])) (stops r.walk)) here
+                (λ k d lt. absurd (omega arith))
             | inr there ↦ absurd (contains-none r there)
           ]);
       start = (first, (0, omega arith, refl), refl);
@@ -91,8 +99,10 @@ none-reached sites through tx reached unreached is same other =
 reached-kept : (reached : List Reached) (r : Reached) (u : ℕ) → IsReached reached u → IsReached (reached ++ r ∷ []) u
 reached-kept reached r u (q, has, is) = (q, Contains-append_left reached (r ∷ []) q has, is)
 
-path-on : (sites : List SiteLog) (through : List ℕ) (tx : ℕ) (reached : List Reached) (r next : Reached) (s : Step) → IsPath sites through tx r
-    → All (IsReached reached) (stops r.walk) → IsLogged sites r.tx s → Contains through s.to → (IsReached reached s.to → ⊥)
+path-on : (sites : List SiteLog) (through : List ℕ) (tx : ℕ) (reached : List Reached) (r next : Reached) (s : Step)
+    → IsPath sites through tx r
+    → All (IsReached reached) (stops r.walk) → IsLogged sites r.tx s → Contains through s.to
+    → (IsReached reached s.to → ⊥)
     → next ≡ record { tx = s.to; walk = r.walk ++ s ∷ [] } → IsPath sites through tx next
 path-on sites through tx reached r next s path inside logged within new is =
     subst (IsPath sites through tx) (sym is) (record {
@@ -100,13 +110,18 @@ path-on sites through tx reached r next s path inside logged within new is =
       leads = end-push tx r.walk s;
       distinct = subst (AllPairs (λ a b. a ≢ b)) (sym (stops-push r.walk s))
           (pairs-push (λ a b. a ≢ b) (stops r.walk) s.to path.distinct
-          (All-weaken (IsReached reached) (λ a. a ≢ s.to) (stops r.walk) (λ a by same. new (subst (IsReached reached) same by)) inside));
-      within = subst (All (Contains through)) (sym (stops-push r.walk s)) (All-push (Contains through) (stops r.walk) s.to path.within within);
+          (All-weaken (IsReached reached) (λ a. a ≢ s.to) (stops r.walk)
+          (λ a by same. new (subst (IsReached reached) same by)) inside));
+      within = subst (All (Contains through)) (sym (stops-push r.walk s))
+          (All-push (Contains through) (stops r.walk) s.to path.within within);
     })
 
-pub next-reached : (sites : List SiteLog) (through : List ℕ) (tx : ℕ) (reached made : List Reached) (unreached less : List ℕ) (r : Reached) (n : ℕ) (s : Step)
-    → IsReaching sites through tx reached unreached → slice_get reached n ≡ Some r → IsLogged sites r.tx s → Contains unreached s.to
-    → made ≡ reached ++ record { tx = s.to; walk = r.walk ++ s ∷ [] } ∷ [] → less ≡ without s.to unreached → IsReaching sites through tx made less
+pub next-reached : (sites : List SiteLog) (through : List ℕ) (tx : ℕ) (reached made : List Reached)
+    (unreached less : List ℕ) (r : Reached) (n : ℕ) (s : Step)
+    → IsReaching sites through tx reached unreached → slice_get reached n ≡ Some r → IsLogged sites r.tx s
+    → Contains unreached s.to
+    → made ≡ reached ++ record { tx = s.to; walk = r.walk ++ s ∷ [] } ∷ [] → less ≡ without s.to unreached
+    → IsReaching sites through tx made less
 next-reached sites through tx reached made unreached less r n s had at logged wanted made_so less_so =
     let next : Reached = record { tx = s.to; walk = r.walk ++ s ∷ [] } in
     let path = All_at (IsPath sites through tx) reached n r had.paths at in
@@ -115,13 +130,17 @@ next-reached sites through tx reached made unreached less r n s had at logged wa
     subst (λ (rs : List Reached). IsReaching sites through tx rs less) (sym made_so)
     (subst (IsReaching sites through tx (reached ++ next ∷ [])) (sym less_so) (record {
       paths = All-push (IsPath sites through tx) reached next had.paths
-          (path-on sites through tx reached r next s path inside logged (had.only s.to wanted) (had.apart s.to wanted) refl);
+          (path-on sites through tx reached r next s path inside logged (had.only s.to wanted) (had.apart s.to wanted)
+          refl);
       inside = All-push (λ (q : Reached). All (IsReached (reached ++ next ∷ [])) (stops q.walk)) reached next
-          (All-weaken (λ (q : Reached). All (IsReached reached) (stops q.walk)) (λ (q : Reached). All (IsReached (reached ++ next ∷ [])) (stops q.walk)) reached
-          (λ q all. All-weaken (IsReached reached) (IsReached (reached ++ next ∷ [])) (stops q.walk) (reached-kept reached next) all) had.inside)
+          (All-weaken (λ (q : Reached). All (IsReached reached) (stops q.walk))
+          (λ (q : Reached). All (IsReached (reached ++ next ∷ [])) (stops q.walk)) reached
+          (λ q all. All-weaken (IsReached reached) (IsReached (reached ++ next ∷ [])) (stops q.walk)
+          (reached-kept reached next) all) had.inside)
           (subst (All (IsReached (reached ++ next ∷ []))) (sym (stops-push r.walk s))
           (All-push (IsReached (reached ++ next ∷ [])) (stops r.walk) s.to
-          (All-weaken (IsReached reached) (IsReached (reached ++ next ∷ [])) (stops r.walk) (reached-kept reached next) inside) here));
+          (All-weaken (IsReached reached) (IsReached (reached ++ next ∷ [])) (stops r.walk)
+          (reached-kept reached next) inside) here));
       start = reached-kept reached next tx had.start;
       all = λ u has.
           elim (had.all u has) [
@@ -143,11 +162,13 @@ next-reached sites through tx reached made unreached less r n s had at logged wa
 
 -- ---- a walk that comes back, or that there is none
 
-walk-long : (sites : List SiteLog) (through : List ℕ) (tx a b : ℕ) (walk : List Step) → end_of tx walk ≡ a → a ≢ b → b ≡ tx → 1 ≤ length (stops walk)
+walk-long : (sites : List SiteLog) (through : List ℕ) (tx a b : ℕ) (walk : List Step) → end_of tx walk ≡ a → a ≢ b
+    → b ≡ tx → 1 ≤ length (stops walk)
 walk-long sites through tx a b [] leads apart back = absurd (apart (sym leads ∙ sym back))
 walk-long sites through tx a b (t ∷ walk) leads apart back = omega arith
 
-pub round-from : (sites : List SiteLog) (through : List ℕ) (tx : ℕ) (r : Reached) (s : Step) (made : List Step) → IsPath sites through tx r → IsLogged sites r.tx s
+pub round-from : (sites : List SiteLog) (through : List ℕ) (tx : ℕ) (r : Reached) (s : Step) (made : List Step)
+    → IsPath sites through tx r → IsLogged sites r.tx s
     → s.to ≡ tx → made ≡ r.walk ++ s ∷ [] → IsRound sites (Contains through) tx made
 round-from sites through tx r s made path logged back is =
     subst (IsRound sites (Contains through) tx) (sym is) (record {
@@ -178,10 +199,12 @@ logged-followed sites a s (log, here, c) = (
   refl,
 )
 
-module _ (sites : List SiteLog) (pairs : List Pair) (through : List ℕ) (tx : ℕ) (reached : List Reached) (exact : ArePairsOf Conflicts sites pairs)
+module _ (sites : List SiteLog) (pairs : List Pair) (through : List ℕ) (tx : ℕ) (reached : List Reached)
+    (exact : ArePairsOf Conflicts sites pairs)
     (closed : (a b : ℕ) → IsReached reached a → Leads pairs a b → Contains through b → IsReached reached b)
     (none : (a : ℕ) → IsReached reached a → Leads pairs a tx → ⊥) where
-  from_reached : (a : ℕ) (walk : List Step) (between : List ℕ) → IsReached reached a → AreLogged sites a walk → stops walk ≡ between ++ tx ∷ []
+  from_reached : (a : ℕ) (walk : List Step) (between : List ℕ) → IsReached reached a → AreLogged sites a walk
+      → stops walk ≡ between ++ tx ∷ []
       → ((k t : ℕ) → slice_get between k ≡ Some t → Contains through t) → ⊥
   from_reached a [] [] here logged ends within = absurd cc
   from_reached a [] (b ∷ bs) here logged ends within = absurd cc
@@ -189,7 +212,8 @@ module _ (sites : List SiteLog) (pairs : List Pair) (through : List ℕ) (tx : �
       none a here (subst (Leads pairs a) (heads _ _ _ _ ends) (exact.has a s.to (logged-followed sites a s logged.0)))
   from_reached a (s ∷ walk) (b ∷ bs) here logged ends within =
       let to = heads _ _ _ _ ends in
-      from_reached s.to walk bs (closed a s.to here (exact.has a s.to (logged-followed sites a s logged.0)) (subst (Contains through) (sym to) (within 0 b refl)))
+      from_reached s.to walk bs (closed a s.to here (exact.has a s.to (logged-followed sites a s logged.0))
+      (subst (Contains through) (sym to) (within 0 b refl)))
       logged.1 (tails _ _ _ _ ends) (λ k t at. within (suc k) t at)
 
   pub no-round : IsReached reached tx → HasNoRound sites through tx

@@ -24,8 +24,8 @@ pub enum Answer {
     Certificate(Certificate),
     /// Each of these transactions ends before the next one, and the last before the first.
     Order(Vec<Tx>),
-    /// An entry of each of these committed transactions stands before one of the next in conflict with it, and so one of the last before
-    /// one of the first.
+    /// An entry of each of these committed transactions stands before one of the next in conflict with it, and so one
+    /// of the last before one of the first.
     Ranks(Vec<Tx>),
     /// These are decided; whoever can be decided next is refused, and no walk leads back to it.
     Stuck(Vec<Tx>),
@@ -135,8 +135,8 @@ fn answer_after(
     }
 }
 
-/// A certificate that makes the sound logs valid, or what shows that there is none: a cycle of their ends, else a cycle of their
-/// committed conflicts, else a set that is stuck in them. Err: memory ran out.
+/// A certificate that makes the sound logs valid, or what shows that there is none: a cycle of their ends, else a
+/// cycle of their committed conflicts, else a set that is stuck in them. Err: memory ran out.
 pub fn decide(alloc: Global, sites: &[SiteLog]) -> Result<Answer, AllocError>
     requires sound { AreSound sites.now }
     requires few { length sites.now ≤ max_sites }

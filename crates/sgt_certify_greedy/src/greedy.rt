@@ -14,8 +14,8 @@ use sgt_cert::{Decision, SiteLog};
 use sgt_names::{Entry, Tx};
 use std::alloc::{AllocError, Global};
 
-/// What is known of the logs: the pairs of ends, those of entries in conflict, and the committed ones in an order in which conflicts
-/// lead onward.
+/// What is known of the logs: the pairs of ends, those of entries in conflict, and the committed ones in an order in
+/// which conflicts lead onward.
 #[derive(Drop)]
 pub struct Known {
     pub ends: Vec<Pair>,

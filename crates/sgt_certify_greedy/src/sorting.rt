@@ -81,7 +81,8 @@ pub fn cycle_in(alloc: Global, left: &[Tx], pairs: &[Pair]) -> Result<Vec<Tx>, A
     }
 }
 
-/// The transactions in an order in which the pairs between them lead onward, or a cycle of pairs between them. Err: memory ran out.
+/// The transactions in an order in which the pairs between them lead onward, or a cycle of pairs between them. Err:
+/// memory ran out.
 pub fn sorted(alloc: Global, txs: &[Tx], pairs: &[Pair]) -> Result<Sorting, AllocError>
     ensures { IfOk result (IsSorting txs.now (Leads pairs.now)) }
 {

@@ -113,7 +113,8 @@ impl Front {
         None
     }
 
-    /// The cycle of ends that there is where some are left and none is free: told forwards, from its least transaction on.
+    /// The cycle of ends that there is where some are left and none is free: told forwards, from its least
+    /// transaction on.
     pub fn cycle(&self, alloc: Global, history: &History) -> Result<Vec<Before>, AllocError> {
         let mut steps: Vec<Before> = Vec::new(alloc);
         let mut met = vec![in alloc; 0u32; history.count()]?;

@@ -1,5 +1,5 @@
-//! What the logs of sites without a certificate say, and searches over it: the order of the ends, ranks, and cycles of conflicts.
-//! What they find is checked by who asks for it.
+//! What the logs of sites without a certificate say, and searches over it: the order of the ends, ranks, and cycles
+//! of conflicts. What they find is checked by who asks for it.
 #![tactic(auto)]
 
 mod conflicts;

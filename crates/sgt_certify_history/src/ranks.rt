@@ -5,7 +5,8 @@ use crate::lists::{count_down, short};
 use std::alloc::{AllocError, Global};
 use std::collections::BTreeSet;
 
-/// How far the committed operations on an item are ranked, run by run: reads in a row, increments in a row, and each other change alone.
+/// How far the committed operations on an item are ranked, run by run: reads in a row, increments in a row, and each
+/// other change alone.
 #[derive(Clone, Copy)]
 struct Turn {
     /// The place of the first operation behind the run, and the place behind the item's last one.

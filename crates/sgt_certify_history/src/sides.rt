@@ -255,8 +255,8 @@ impl Side {
         }
     }
 
-    /// Meets the next layer: of each one of the last, in order, those that it leads to and that were not met yet, the least number
-    /// first.
+    /// Meets the next layer: of each one of the last, in order, those that it leads to and that were not met yet, the
+    /// least number first.
     pub fn advance(&mut self, spread: &Spread<'_>) -> Result<(), AllocError> {
         let start = self.crowd.order.len();
         let mut first = start;

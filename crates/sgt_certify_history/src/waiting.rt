@@ -8,7 +8,8 @@ use crate::targets::{ACTS, Target, Way, do_clash, group_of};
 use std::alloc::{AllocError, Global};
 use std::collections::BTreeMap;
 
-/// How far a search from a refused transaction has come, that led to no walk: the way in which it met all that there was.
+/// How far a search from a refused transaction has come, that led to no walk: the way in which it met all that there
+/// was.
 #[derive(Drop)]
 pub struct Waiting {
     way: Way,
@@ -96,7 +97,8 @@ impl Waiting {
         }
     }
 
-    /// Whether there may be a walk now that these are committed: one of those that the search didn't come to closes one.
+    /// Whether there may be a walk now that these are committed: one of those that the search didn't come to closes
+    /// one.
     pub fn may_return(
         &mut self,
         alloc: Global,

@@ -15,8 +15,8 @@ pub struct Link {
     pub conflict: Conflict,
 }
 
-/// What searches keep, one after another: what was met from the transaction on, and what leads to it. Between two of them it is as
-/// it was made.
+/// What searches keep, one after another: what was met from the transaction on, and what leads to it. Between two of
+/// them it is as it was made.
 #[derive(Drop)]
 pub struct Marks {
     onward: Side,
@@ -46,8 +46,8 @@ impl Marks {
         self.back.clear();
     }
 
-    /// Whether a member of the last layer onward closes a cycle: it was met by the other side, or leads to the start, if that side
-    /// has met nobody.
+    /// Whether a member of the last layer onward closes a cycle: it was met by the other side, or leads to the start,
+    /// if that side has met nobody.
     fn closes(&self, spread: &Spread<'_>, tx: u32) -> bool {
         if self.back.depth() == 0 {
             least_conflict(spread.history, tx, spread.start).is_some()
@@ -208,7 +208,8 @@ pub enum Asked {
     Waits(Waiting),
 }
 
-/// The least of the shortest cycles through the transaction, within the bounds, if there is one, when so many were committed.
+/// The least of the shortest cycles through the transaction, within the bounds, if there is one, when so many were
+/// committed.
 pub fn ask(
     alloc: Global,
     spread: &Spread<'_>,

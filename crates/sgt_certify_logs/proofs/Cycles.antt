@@ -10,13 +10,15 @@ use Rattle.sgt_certify_logs.specs.Witness.{IsChain, HasCycle, EndsBefore, Preced
 use Rattle.sgt_certify_logs.proofs.Decisions.{Decides, one-number, ends-rise, conflicts-rise}
 
 -- a chain goes on by one more
-pub chain-on : (R : ℕ → ℕ → Type 0) (between : List ℕ) (a b c : ℕ) → IsChain R a (between ++ b ∷ []) → R b c → IsChain R a ((between ++ b ∷ []) ++ c ∷ [])
+pub chain-on : (R : ℕ → ℕ → Type 0) (between : List ℕ) (a b c : ℕ) → IsChain R a (between ++ b ∷ []) → R b c
+    → IsChain R a ((between ++ b ∷ []) ++ c ∷ [])
 chain-on R [] a b c h step = (h.0, (step, tt))
 chain-on R (d ∷ ds) a b c h step = (h.0, chain-on R ds d b c h.1 step)
 
 module _ (R : ℕ → ℕ → Type 0) (At : ℕ → ℕ → Type 0) (one : (a m n : ℕ) → At a m → At a n → m ≡ n)
     (rise : (a b : ℕ) → R a b → (m : ℕ) × (n : ℕ) × At a m × At b n × (m < n)) where
-  chain-rises : (between : List ℕ) (a c : ℕ) → IsChain R a (between ++ c ∷ []) → (m : ℕ) × (n : ℕ) × At a m × At c n × (m < n)
+  chain-rises : (between : List ℕ) (a c : ℕ) → IsChain R a (between ++ c ∷ []) → (m : ℕ) × (n : ℕ) × At a m × At c n
+      × (m < n)
   chain-rises [] a c h = rise a c h.0
   chain-rises (b ∷ bs) a c h =
       let first = rise a b h.0 in
@@ -33,11 +35,13 @@ module _ (R : ℕ → ℕ → Type 0) (At : ℕ → ℕ → Type 0) (one : (a m 
 pub ends-no_cycle : (sites : List SiteLog) → HaveEndsInACycle sites → AreCertifiable sites → ⊥
 ends-no_cycle sites cycle (c, valid) =
     let b : Parts = record { certificate = c; sites = sites } in
-    no-cycle (EndsBefore sites) (Decides c.decisions) (λ a m n. one-number c.decisions a m n valid.once) (ends-rise b valid) cycle
+    no-cycle (EndsBefore sites) (Decides c.decisions) (λ a m n. one-number c.decisions a m n valid.once)
+    (ends-rise b valid) cycle
 
 pub conflicts-no_cycle : (sites : List SiteLog) → HaveConflictsInACycle sites → AreCertifiable sites → ⊥
 conflicts-no_cycle sites cycle (c, valid) =
     let b : Parts = record { certificate = c; sites = sites } in
     no-cycle (PrecedesCommitted sites) (λ a r. (m : ℕ) × IsCommitted c.decisions m a r)
-    (λ a r s f g. same_Some r s (sym (rank_of-committed c.decisions f.0 a r valid.once f.1) ∙ rank_of-committed c.decisions g.0 a s valid.once g.1))
+    (λ a r s f g. same_Some r s (sym (rank_of-committed c.decisions f.0 a r valid.once f.1)
+    ∙ rank_of-committed c.decisions g.0 a s valid.once g.1))
     (conflicts-rise b valid) cycle

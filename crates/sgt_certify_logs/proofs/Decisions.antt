@@ -24,8 +24,10 @@ pub one-number : (ds : List Decision) (tx m n : ℕ) → IsDecidedOnce ds → De
 one-number ds tx m n once a b =
     elim (cases_order m n) [
       | inl same ↦ same
-      | inr (inl less) ↦ absurd (AllPairs_at (λ d e. decided_tx d ≢ decided_tx e) ds m n a.0 b.0 once less a.1 b.1 (a.2 ∙ sym b.2))
-      | inr (inr more) ↦ absurd (AllPairs_at (λ d e. decided_tx d ≢ decided_tx e) ds n m b.0 a.0 once more b.1 a.1 (b.2 ∙ sym a.2))
+      | inr (inl less) ↦ absurd (AllPairs_at (λ d e. decided_tx d ≢ decided_tx e) ds m n a.0 b.0 once less a.1 b.1
+          (a.2 ∙ sym b.2))
+      | inr (inr more) ↦ absurd (AllPairs_at (λ d e. decided_tx d ≢ decided_tx e) ds n m b.0 a.0 once more b.1 a.1
+          (b.2 ∙ sym a.2))
     ]
 
 -- what suits a commit, and what suits a refusal
@@ -42,8 +44,10 @@ module _ (b : Parts) (valid : IsValid b) where
   log_of log here = All_in (IsValidLog ds) b.sites log valid.logs here
 
   -- an entry of a log is decided
-  pub decided_at : (log : SiteLog) → Contains b.sites log → (p : ℕ) (e : Entry) → slice_get log.entries p ≡ Some e → (number : ℕ) × IsDecided ds e number
-  decided_at log here p e at = All_at (λ e. (number : ℕ) × IsDecided ds e number) log.entries p e (log_of log here).agrees.decided at
+  pub decided_at : (log : SiteLog) → Contains b.sites log → (p : ℕ) (e : Entry) → slice_get log.entries p ≡ Some e
+      → (number : ℕ) × IsDecided ds e number
+  decided_at log here p e at =
+      All_at (λ e. (number : ℕ) × IsDecided ds e number) log.entries p e (log_of log here).agrees.decided at
 
   pub decided_in : (e : Entry) → IsIn b.sites e → (number : ℕ) × IsDecided ds e number
   decided_in e (log, here, there) = let at = Contains_at log.entries e there in decided_at log here at.0 e at.1
@@ -61,9 +65,14 @@ module _ (b : Parts) (valid : IsValid b) where
       let valid_log = log_of h.log h.here in
       let m = decided_at h.log h.here h.p h.e h.first in
       let n = decided_at h.log h.here h.q h.f h.second in
-      let le = AllPairs_at (EndInOrder ds) h.log.entries h.p h.q h.e h.f valid_log.agrees.in_order h.before h.first h.second h.ends.0 h.ends.1 m.0 n.0 m.1 n.1 in
-      let apart = AllPairs_at (λ e f. IsEnd e → tx_of e ≢ tx_of f) h.log.entries h.p h.q h.e h.f valid_log.formed.0.closed h.before h.first h.second h.ends.0 in
-      let ne : m.0 ≢ n.0 = λ same. apart (sym m.1.2 ∙ ap decided_tx (same_Some m.1.0 n.1.0 (sym m.1.1 ∙ ap (slice_get ds) same ∙ n.1.1)) ∙ n.1.2) in
+      let le = AllPairs_at (EndInOrder ds) h.log.entries h.p h.q h.e h.f valid_log.agrees.in_order h.before h.first
+      h.second h.ends.0 h.ends.1 m.0 n.0 m.1 n.1 in
+      let apart =
+      AllPairs_at (λ e f. IsEnd e → tx_of e ≢ tx_of f) h.log.entries h.p h.q h.e h.f valid_log.formed.0.closed
+      h.before h.first h.second h.ends.0 in
+      let ne : m.0 ≢ n.0 =
+      λ same. apart (sym m.1.2
+      ∙ ap decided_tx (same_Some m.1.0 n.1.0 (sym m.1.1 ∙ ap (slice_get ds) same ∙ n.1.1)) ∙ n.1.2) in
       (m.0, n.0, (m.1.0, m.1.1, m.1.2 ∙ h.from), (n.1.0, n.1.1, n.1.2 ∙ h.to), omega (arith, le, ne))
 
   -- conflicts of committed transactions rise in rank
@@ -73,7 +82,8 @@ module _ (b : Parts) (valid : IsValid b) where
       let a = committed_in t h.committed.0 in
       let c = committed_in u h.committed.1 in
       let g = h.conflict in
-      let less = AllPairs_at (RiseInRank ds) h.log.entries g.p g.q g.e g.f (log_of h.log h.here).ranked g.before g.first g.second
+      let less = AllPairs_at (RiseInRank ds) h.log.entries g.p g.q g.e g.f (log_of h.log h.here).ranked g.before
+      g.first g.second
       h.kind h.item a.1 c.1 a.0 c.0 g.clash (λ same. g.apart (sym g.from ∙ same ∙ g.to))
       (subst (λ i. IsCommitted ds a.1 i a.0) (sym g.from) a.2) (subst (λ i. IsCommitted ds c.1 i c.0) (sym g.to) c.2) in
       (a.0, c.0, (a.1, a.2), (c.1, c.2), less)

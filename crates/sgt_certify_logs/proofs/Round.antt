@@ -20,7 +20,8 @@ module _ {S : Type 0} (from to : S → ℕ) (Holds : S → Type 0) where
   lead-more [] a b s h goes holds = (goes ∙ sym h, holds, refl)
   lead-more (t ∷ front) a b s h goes holds = (h.0, h.1, lead-more front (to t) b s h.2 goes holds)
 
-  pub lead-parts : (front rest : List S) (a b c : ℕ) → LeadFrom from to Holds a front b → LeadFrom from to Holds a (front ++ rest) c
+  pub lead-parts : (front rest : List S) (a b c : ℕ) → LeadFrom from to Holds a front b
+      → LeadFrom from to Holds a (front ++ rest) c
       → LeadFrom from to Holds b rest c
   lead-parts [] rest a b c h all = subst (λ x. LeadFrom from to Holds x rest c) h all
   lead-parts (t ∷ front) rest a b c h all = lead-parts front rest (to t) b c h.2 all.2
@@ -45,7 +46,8 @@ stands-in : (sites : List SiteLog) (site place : ℕ) (e : Entry) → StandsAt s
 stands-in sites site place e s =
     (s.log, Contains-from_at sites site s.log s.here, Contains-from_at s.log.entries place e s.there)
 
-second-there : (sites : List SiteLog) (site p q : ℕ) (e f : Entry) (a : StandsAt sites site p e) (b : StandsAt sites site q f) → slice_get a.log.entries q ≡ Some f
+second-there : (sites : List SiteLog) (site p q : ℕ) (e f : Entry) (a : StandsAt sites site p e)
+    (b : StandsAt sites site q f) → slice_get a.log.entries q ≡ Some f
 second-there sites site p q e f a b =
     let one : b.log ≡ a.log = same_Some b.log a.log (sym b.here ∙ a.here) in
     subst (λ (log : SiteLog). slice_get log.entries q ≡ Some f) one b.there
@@ -66,7 +68,8 @@ end-step sites s h = record {
   ends = h.ends;
 }
 
-pub conflict-step : (sites : List SiteLog) (s : ConflictStep) → IsConflictStep sites s → PrecedesCommitted sites s.from s.to
+pub conflict-step : (sites : List SiteLog) (s : ConflictStep) → IsConflictStep sites s
+    → PrecedesCommitted sites s.from s.to
 conflict-step sites s (h, (from_committed, to_committed)) = record {
   committed = (
     stands-in sites s.from_end.site s.from_end.entry (Commit s.from) from_committed,
@@ -94,13 +97,16 @@ conflict-step sites s (h, (from_committed, to_committed)) = record {
 -- ---- one step more, or one that doesn't hold
 
 module _ {S : Type 0} (from to : S → ℕ) (Holds : S → Type 0) where
-  pub lead-next : (steps : List S) (n a b : ℕ) (s : S) → slice_get steps n ≡ Some s → LeadFrom from to Holds a (take n steps) b → from s ≡ b → Holds s
+  pub lead-next : (steps : List S) (n a b : ℕ) (s : S) → slice_get steps n ≡ Some s
+      → LeadFrom from to Holds a (take n steps) b → from s ≡ b → Holds s
       → LeadFrom from to Holds a (take (n + 1) steps) (to s)
   lead-next steps n a b s at h goes holds =
-      subst (λ front. LeadFrom from to Holds a front (to s)) (sym (take_next steps n s at)) (lead-more from to Holds (take n steps) a b s h goes holds)
+      subst (λ front. LeadFrom from to Holds a front (to s)) (sym (take_next steps n s at))
+      (lead-more from to Holds (take n steps) a b s h goes holds)
 
   -- whoever stands at n of steps that lead round goes on from where those before it lead
-  pub holds-at : (steps : List S) (n a b c : ℕ) (s : S) → slice_get steps n ≡ Some s → LeadFrom from to Holds a (take n steps) b
+  pub holds-at : (steps : List S) (n a b c : ℕ) (s : S) → slice_get steps n ≡ Some s
+      → LeadFrom from to Holds a (take n steps) b
       → LeadFrom from to Holds a steps c → (from s ≡ b) × Holds s
   holds-at steps n a b c s at h all =
       let whole = subst (λ xs. LeadFrom from to Holds a xs c) (split_at steps n s at) all in
@@ -108,18 +114,21 @@ module _ {S : Type 0} (from to : S → ℕ) (Holds : S → Type 0) where
       (rest.0, rest.1)
 
   -- all of them lead to one place
-  pub lead-one : (steps : List S) (a b c : ℕ) → LeadFrom from to Holds a steps b → LeadFrom from to Holds a steps c → b ≡ c
+  pub lead-one : (steps : List S) (a b c : ℕ) → LeadFrom from to Holds a steps b → LeadFrom from to Holds a steps c
+      → b ≡ c
   lead-one [] a b c h g = sym h ∙ g
   lead-one (s ∷ steps) a b c h g = lead-one steps (to s) b c h.2 g.2
 
   -- steps lead round exactly where they lead back to where the first begins
-  pub round-from : (steps : List S) (a : ℕ) (s : S) → slice_get steps 0 ≡ Some s → from s ≡ a → LeadFrom from to Holds a steps a → LeadRound from to Holds steps
+  pub round-from : (steps : List S) (a : ℕ) (s : S) → slice_get steps 0 ≡ Some s → from s ≡ a
+      → LeadFrom from to Holds a steps a → LeadRound from to Holds steps
   round-from [] a s at is h = absurd cc
   round-from (t ∷ steps) a s at is h =
       let same : from t ≡ a = h.0 in
       subst (λ x. LeadFrom from to Holds x (t ∷ steps) x) (sym same) h
 
-  pub from-round : (steps : List S) (a : ℕ) (s : S) → slice_get steps 0 ≡ Some s → from s ≡ a → LeadRound from to Holds steps → LeadFrom from to Holds a steps a
+  pub from-round : (steps : List S) (a : ℕ) (s : S) → slice_get steps 0 ≡ Some s → from s ≡ a
+      → LeadRound from to Holds steps → LeadFrom from to Holds a steps a
   from-round [] a s at is h = absurd h
   from-round (t ∷ steps) a s at is h =
       let one : t ≡ s = same_Some t s at in

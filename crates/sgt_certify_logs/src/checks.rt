@@ -16,7 +16,8 @@ pub struct Spot {
     pub entry: usize,
 }
 
-/// A step of a cycle of ends: an end of the first transaction at this spot, and behind it in the same log one of the second.
+/// A step of a cycle of ends: an end of the first transaction at this spot, and behind it in the same log one of the
+/// second.
 #[derive(Clone, Copy)]
 pub struct EndStep {
     pub from: Tx,
@@ -25,8 +26,8 @@ pub struct EndStep {
     pub second: usize,
 }
 
-/// A step of a cycle of conflicts: an entry of the first transaction at this spot, and behind it in the same log one of the second in
-/// conflict with it; and where a log commits each of the two.
+/// A step of a cycle of conflicts: an entry of the first transaction at this spot, and behind it in the same log one
+/// of the second in conflict with it; and where a log commits each of the two.
 #[derive(Clone, Copy)]
 pub struct ConflictStep {
     pub from: Tx,

@@ -19,25 +19,28 @@ pub fn steps_show_cycles()
         → IsConflictCycle sites steps → HaveConflictsInACycle sites }
 {}
 
-/// Where the ends of the logs stand in a cycle, no certificate makes them valid: the decisions would follow one another round it.
+/// Where the ends of the logs stand in a cycle, no certificate makes them valid: the decisions would follow one
+/// another round it.
 pub fn ends_in_a_cycle_have_no_certificate()
     ensures { (sites : List SiteLog) → HaveEndsInACycle sites → AreCertifiable sites → ⊥ }
 {}
 
-/// Where committed transactions conflict in a cycle, no certificate makes the logs valid: the ranks would rise round it.
+/// Where committed transactions conflict in a cycle, no certificate makes the logs valid: the ranks would rise round
+/// it.
 pub fn conflicts_in_a_cycle_have_no_certificate()
     ensures { (sites : List SiteLog) → HaveConflictsInACycle sites → AreCertifiable sites → ⊥ }
 {}
 
-/// Where a set of transactions is stuck, no certificate makes the logs valid: the first decision on one outside it would be on
-/// a refused transaction without a cycle.
+/// Where a set of transactions is stuck, no certificate makes the logs valid: the first decision on one outside it
+/// would be on a refused transaction without a cycle.
 pub fn stuck_logs_have_no_certificate()
     ensures { (sites : List SiteLog) (decided : List ℕ) → IsStuck sites decided
         → AreCertifiable sites → ⊥ }
 {}
 
-/// The text of logs becomes that of a bundle where the line of a certificate of so many sites is put in. Where a line that is put in
-/// makes the bytes the text of a bundle, they spelled its logs, and the line is that of its certificate.
+/// The text of logs becomes that of a bundle where the line of a certificate of so many sites is put in. Where a line
+/// that is put in makes the bytes the text of a bundle, they spelled its logs, and the line is that of its
+/// certificate.
 pub fn logs_are_bundles_without_a_line()
     ensures bundle { (bytes text : List ℕ) (c : Certificate) (sites : List SiteLog)
         → IsWithLine bytes (certificate_text c) text

@@ -96,8 +96,8 @@ fn feed_one(reader: &mut Reader, ahead: &Ahead) -> Result<Option<LineFault>, All
     }
 }
 
-/// Feeds the reader the lines of the text, up to the first with a fault: that, if there is one. Else what is left behind the last LF
-/// is put into `rest`.
+/// Feeds the reader the lines of the text, up to the first with a fault: that, if there is one. Else what is left
+/// behind the last LF is put into `rest`.
 fn feed(
     reader: &mut Reader,
     text: &[u8],

@@ -122,7 +122,8 @@ fn unranked(alloc: Global, history: &History, order: &[u32]) -> Result<Vec<bool>
     Ok(left)
 }
 
-/// The cycle of the least transaction that lies on one, of those that have no rank. Who lies on none is left out from then on.
+/// The cycle of the least transaction that lies on one, of those that have no rank. Who lies on none is left out from
+/// then on.
 fn rank_cycle(alloc: Global, history: &History, order: &[u32]) -> Result<Vec<Link>, AllocError> {
     let mut left = unranked(alloc, history, order)?;
     let targets = Targets::new(alloc, history)?;

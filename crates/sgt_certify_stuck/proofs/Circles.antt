@@ -14,12 +14,14 @@ use Rattle.sgt_certify_stuck.specs.declared.stuck.Circle.{Circle}
 abbrev pub AreAllApart : List SiteLog → (sources barred : BTreeSet ℕ) → Type 0
 AreAllApart sites sources barred = (log : SiteLog) → Contains sites log → AreApart log.entries sources barred
 
-nowhere-from : (sites : List SiteLog) (sources barred : BTreeSet ℕ) (From To : ℕ → Type 0) → ((t : ℕ) → From t → HasTx sources t)
+nowhere-from : (sites : List SiteLog) (sources barred : BTreeSet ℕ) (From To : ℕ → Type 0)
+    → ((t : ℕ) → From t → HasTx sources t)
     → ((t : ℕ) → To t → HasTx barred t) → AreAllApart sites sources barred → LeadNowhere sites From To
 nowhere-from sites sources barred From To from to apart log here kind x p q e f lt at_p at_q source bars clash =
     apart log here kind x p q e f lt at_p at_q (from (tx_of e) source) (to (tx_of f) bars) clash
 
-apart-of : (sites : List SiteLog) (sources barred : BTreeSet ℕ) (From To : ℕ → Type 0) → ((t : ℕ) → HasTx sources t → From t)
+apart-of : (sites : List SiteLog) (sources barred : BTreeSet ℕ) (From To : ℕ → Type 0)
+    → ((t : ℕ) → HasTx sources t → From t)
     → ((t : ℕ) → HasTx barred t → To t) → LeadNowhere sites From To → AreAllApart sites sources barred
 apart-of sites sources barred From To from to nowhere log here kind x p q e f lt at_p at_q source bars clash =
     nowhere log here kind x p q e f lt at_p at_q (from (tx_of e) source) (to (tx_of f) bars) clash
@@ -44,7 +46,8 @@ module _ (sites : List SiteLog) (committed : List ℕ) (circle : Circle) (own me
   far-only : (t : ℕ) → HasTx beyond t → IsBeyond committed circle t
   far-only t has = let b = beyond_only t has in (b.0, λ inside. true≢false (sym (met_has t inside) ∙ b.1))
 
-  pub circle-from : AreAllApart sites own beyond → AreAllApart sites met beyond → AreAllApart sites met own → IsCircle sites committed circle
+  pub circle-from : AreAllApart sites own beyond → AreAllApart sites met beyond → AreAllApart sites met own
+      → IsCircle sites committed circle
   circle-from first onward back = record {
     first = nowhere-from sites own beyond (λ (t : ℕ). t ≡ circle.tx) (IsBeyond committed circle) its far first;
     onward = nowhere-from sites met beyond (Contains circle.met.items) (IsBeyond committed circle) met_has far onward;
@@ -52,10 +55,13 @@ module _ (sites : List SiteLog) (committed : List ℕ) (circle : Circle) (own me
   }
 
   pub first-of-circle : IsCircle sites committed circle → AreAllApart sites own beyond
-  first-of-circle c = apart-of sites own beyond (λ (t : ℕ). t ≡ circle.tx) (IsBeyond committed circle) its-only far-only c.first
+  first-of-circle c =
+      apart-of sites own beyond (λ (t : ℕ). t ≡ circle.tx) (IsBeyond committed circle) its-only far-only c.first
 
   pub onward-of-circle : IsCircle sites committed circle → AreAllApart sites met beyond
-  onward-of-circle c = apart-of sites met beyond (Contains circle.met.items) (IsBeyond committed circle) met_only far-only c.onward
+  onward-of-circle c = apart-of sites met beyond (Contains circle.met.items) (IsBeyond committed circle) met_only
+      far-only c.onward
 
   pub back-of-circle : IsCircle sites committed circle → AreAllApart sites met own
-  back-of-circle c = apart-of sites met own (Contains circle.met.items) (λ (t : ℕ). t ≡ circle.tx) met_only its-only c.back
+  back-of-circle c = apart-of sites met own (Contains circle.met.items) (λ (t : ℕ). t ≡ circle.tx) met_only its-only
+      c.back

@@ -16,27 +16,34 @@ use Rattle.sgt_certify_stuck.specs.declared.apart.Class.TheVariants as class
 
 -- one of the first n entries is of a source and does this to the item
 abbrev pub IsSeen : List Entry → ℕ → BTreeSet ℕ → Class → Name → Type 0
-IsSeen entries n sources first x = (p : ℕ) × (e : Entry) × (p < n) × (slice_get entries p ≡ Some e) × HasTx sources (tx_of e) × Does first x e
+IsSeen entries n sources first x = (p : ℕ) × (e : Entry) × (p < n) × (slice_get entries p ≡ Some e)
+    × HasTx sources (tx_of e) × Does first x e
 
 -- what was seen of the first n entries
-pub record HasSeen (entries : List Entry) (n : ℕ) (sources barred : BTreeSet ℕ) (first second : Class) (seen : BTreeSet (List ℕ)) : Type 0 where
-  pub kept : (p : ℕ) (e : Entry) (x : Name) → p < n → slice_get entries p ≡ Some e → HasTx sources (tx_of e) → Does first x e → HasItem seen x
-  pub clear : (p q : ℕ) (e f : Entry) (x : Name) → p < q → q < n → slice_get entries p ≡ Some e → slice_get entries q ≡ Some f
+pub record HasSeen (entries : List Entry) (n : ℕ) (sources barred : BTreeSet ℕ) (first second : Class)
+    (seen : BTreeSet (List ℕ)) : Type 0 where
+  pub kept : (p : ℕ) (e : Entry) (x : Name) → p < n → slice_get entries p ≡ Some e → HasTx sources (tx_of e)
+      → Does first x e → HasItem seen x
+  pub clear : (p q : ℕ) (e f : Entry) (x : Name) → p < q → q < n → slice_get entries p ≡ Some e
+      → slice_get entries q ≡ Some f
       → HasTx sources (tx_of e) → HasTx barred (tx_of f) → Does first x e → Does second x f → ⊥
   pub only : (x : Name) → HasItem seen x → IsSeen entries n sources first x
 
-seen-later : (entries : List Entry) (n : ℕ) (sources : BTreeSet ℕ) (first : Class) (x : Name) → IsSeen entries n sources first x
+seen-later : (entries : List Entry) (n : ℕ) (sources : BTreeSet ℕ) (first : Class) (x : Name)
+    → IsSeen entries n sources first x
     → IsSeen entries (n + 1) sources first x
 seen-later entries n sources first x (p, e, lt, at, source, does) = (p, e, omega (arith, lt), at, source, does)
 
 -- where a barred entry meets what was seen, the log isn't clear
-pub not-clear : (entries : List Entry) (n : ℕ) (sources barred : BTreeSet ℕ) (first second : Class) (x : Name) (f : Entry)
+pub not-clear : (entries : List Entry) (n : ℕ) (sources barred : BTreeSet ℕ) (first second : Class) (x : Name)
+    (f : Entry)
     → IsSeen entries n sources first x → slice_get entries n ≡ Some f → HasTx barred (tx_of f) → Does second x f
     → IsClear entries sources barred first second → ⊥
 not-clear entries n sources barred first second x f (p, e, lt, at, source, does) here bars then clear =
     clear p n e f x lt at here source bars does then
 
-pub seen-next : (entries : List Entry) (n : ℕ) (sources barred : BTreeSet ℕ) (first second : Class) (seen next : BTreeSet (List ℕ)) (e : Entry)
+pub seen-next : (entries : List Entry) (n : ℕ) (sources barred : BTreeSet ℕ) (first second : Class)
+    (seen next : BTreeSet (List ℕ)) (e : Entry)
     → HasSeen entries n sources barred first second seen → slice_get entries n ≡ Some e
     → ((x : Name) → HasItem seen x → HasTx barred (tx_of e) → Does second x e → ⊥)
     → ((x : Name) → HasItem seen x → HasItem next x)
@@ -48,14 +55,16 @@ seen-next entries n sources barred first second seen next e had at misses kept a
       elim (cases_eq p n) [
         | inl last ↦
             let one : f ≡ e = same_Some f e (sym at_p ∙ ap (slice_get entries) last ∙ at) in
-            added x (subst (λ (g : Entry). HasTx sources (tx_of g)) one source) (subst (λ (g : Entry). Does first x g) one does)
+            added x (subst (λ (g : Entry). HasTx sources (tx_of g)) one source)
+            (subst (λ (g : Entry). Does first x g) one does)
         | inr before ↦ kept x (had.kept p f x (omega arith) at_p source does)
       ];
   clear = λ p q f g x lt within at_p at_q source bars does then.
       elim (cases_eq q n) [
         | inl last ↦
             let one : g ≡ e = same_Some g e (sym at_q ∙ ap (slice_get entries) last ∙ at) in
-            misses x (had.kept p f x (omega arith) at_p source does) (subst (λ (h : Entry). HasTx barred (tx_of h)) one bars)
+            misses x (had.kept p f x (omega arith) at_p source does)
+            (subst (λ (h : Entry). HasTx barred (tx_of h)) one bars)
             (subst (λ (h : Entry). Does second x h) one then)
         | inr before ↦ had.clear p q f g x lt (omega arith) at_p at_q source bars does then
       ];
@@ -67,7 +76,8 @@ seen-next entries n sources barred first second seen next e had at misses kept a
 }
 
 -- the four passes find each clash
-pub apart-from : (entries : List Entry) (sources barred : BTreeSet ℕ) → IsClear entries sources barred class.Change class.Read
+pub apart-from : (entries : List Entry) (sources barred : BTreeSet ℕ)
+    → IsClear entries sources barred class.Change class.Read
     → IsClear entries sources barred class.Read class.Change → IsClear entries sources barred class.Change class.Put
     → IsClear entries sources barred class.Put class.Change → AreApart entries sources barred
 apart-from entries sources barred reads changes puts over Wr x p q e f lt at_p at_q source bars clash =
@@ -76,21 +86,33 @@ apart-from entries sources barred reads changes puts over Rw x p q e f lt at_p a
     changes p q e f x lt at_p at_q source bars clash.0 clash.1
 apart-from entries sources barred reads changes puts over Ww x p q e f lt at_p at_q source bars clash =
     elim (bool_cases (is_increment e)) [
-      | inl adds ↦ puts p q e f x lt at_p at_q source bars clash.0 (clash.1, λ (both : IsTrue (is_increment f)). clash.2 adds both)
-      | inr writes ↦ over p q e f x lt at_p at_q source bars (clash.0, λ (adds : IsTrue (is_increment e)). true≢false (sym adds ∙ writes)) clash.1
+      | inl adds ↦ puts p q e f x lt at_p at_q source bars clash.0 (
+        clash.1,
+        λ (both : IsTrue (is_increment f)). clash.2 adds both,
+      )
+      | inr writes ↦ over p q e f x lt at_p at_q source bars (
+        clash.0,
+        λ (adds : IsTrue (is_increment e)). true≢false (sym adds ∙ writes),
+      ) clash.1
     ]
 
 -- and find nothing else
-pub clear-reads : (entries : List Entry) (sources barred : BTreeSet ℕ) → AreApart entries sources barred → IsClear entries sources barred class.Change class.Read
-clear-reads entries sources barred apart p q e f x lt at_p at_q source bars does then = apart Wr x p q e f lt at_p at_q source bars (does, then)
+pub clear-reads : (entries : List Entry) (sources barred : BTreeSet ℕ) → AreApart entries sources barred
+    → IsClear entries sources barred class.Change class.Read
+clear-reads entries sources barred apart p q e f x lt at_p at_q source bars does then =
+    apart Wr x p q e f lt at_p at_q source bars (does, then)
 
-pub clear-changes : (entries : List Entry) (sources barred : BTreeSet ℕ) → AreApart entries sources barred → IsClear entries sources barred class.Read class.Change
-clear-changes entries sources barred apart p q e f x lt at_p at_q source bars does then = apart Rw x p q e f lt at_p at_q source bars (does, then)
+pub clear-changes : (entries : List Entry) (sources barred : BTreeSet ℕ) → AreApart entries sources barred
+    → IsClear entries sources barred class.Read class.Change
+clear-changes entries sources barred apart p q e f x lt at_p at_q source bars does then =
+    apart Rw x p q e f lt at_p at_q source bars (does, then)
 
-pub clear-puts : (entries : List Entry) (sources barred : BTreeSet ℕ) → AreApart entries sources barred → IsClear entries sources barred class.Change class.Put
+pub clear-puts : (entries : List Entry) (sources barred : BTreeSet ℕ) → AreApart entries sources barred
+    → IsClear entries sources barred class.Change class.Put
 clear-puts entries sources barred apart p q e f x lt at_p at_q source bars does then =
     apart Ww x p q e f lt at_p at_q source bars (does, then.0, λ adds both. then.1 both)
 
-pub clear-over : (entries : List Entry) (sources barred : BTreeSet ℕ) → AreApart entries sources barred → IsClear entries sources barred class.Put class.Change
+pub clear-over : (entries : List Entry) (sources barred : BTreeSet ℕ) → AreApart entries sources barred
+    → IsClear entries sources barred class.Put class.Change
 clear-over entries sources barred apart p q e f x lt at_p at_q source bars does then =
     apart Ww x p q e f lt at_p at_q source bars (does.0, then, λ adds both. does.1 adds)

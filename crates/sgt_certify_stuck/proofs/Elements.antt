@@ -15,7 +15,8 @@ use Rattle.sgt_names.proofs.Elements.{nat_cmp-other, bool_cases}
 
 -- what holds of the first n elements and of the one at n holds of one more
 pub at_more : {A : Type 0} (P : A → Type 0) (xs : List A) (n : ℕ) (a : A) → slice_get xs n ≡ Some a → P a
-    → ((k : ℕ) (x : A) → k < n → slice_get xs k ≡ Some x → P x) → (k : ℕ) (x : A) → k < n + 1 → slice_get xs k ≡ Some x → P x
+    → ((k : ℕ) (x : A) → k < n → slice_get xs k ≡ Some x → P x) → (k : ℕ) (x : A) → k < n + 1
+    → slice_get xs k ≡ Some x → P x
 at_more P xs n a at here before k x lt at_k =
     elim (cases_eq k n) [
       | inl last ↦ subst P (same_Some a x (sym at ∙ ap (slice_get xs) (sym last) ∙ at_k)) here

@@ -31,10 +31,12 @@ pub bool_or : (set : BTreeSet ℕ) (t : ℕ) → (contains nat_cmp set t ≡ tru
 bool_or set t = elim (contains nat_cmp set t) as (λ b. (b ≡ true) ⊎ (b ≡ false)) [ true ↦ inl refl | false ↦ inr refl ]
 
 module _ (sites : List SiteLog) (committed : List ℕ) (circle : Circle) (whole : IsCircle sites committed circle) where
-  leads : (From To : ℕ → Type 0) → LeadNowhere sites From To → (a : ℕ) (s : Step) (log : SiteLog) → slice_get sites s.label.site ≡ Some log
+  leads : (From To : ℕ → Type 0) → LeadNowhere sites From To → (a : ℕ) (s : Step) (log : SiteLog)
+      → slice_get sites s.label.site ≡ Some log
       → Conflicts log.entries s.label.kind s.label.item a s.to → From a → To s.to → ⊥
   leads From To none a s log at c from to =
-      none log (Contains-from_at sites s.label.site log at) s.label.kind s.label.item c.p c.q c.e c.f c.before c.first c.second
+      none log (Contains-from_at sites s.label.site log at) s.label.kind s.label.item c.p c.q c.e c.f c.before c.first
+      c.second
       (subst From (sym c.from) from) (subst To (sym c.to) to) c.clash
 
   -- from one that is met no walk leads back
@@ -43,12 +45,14 @@ module _ (sites : List SiteLog) (committed : List ℕ) (circle : Circle) (whole 
   from_met a [] [] here logged ends through = absurd cc
   from_met a [] (b ∷ bs) here logged ends through = absurd cc
   from_met a (s ∷ walk) [] here logged ends through =
-      leads (Contains circle.met.items) (λ (t : ℕ). t ≡ circle.tx) whole.back a s logged.0.0 logged.0.1 logged.0.2 here (heads _ _ _ _ ends)
+      leads (Contains circle.met.items) (λ (t : ℕ). t ≡ circle.tx) whole.back a s logged.0.0 logged.0.1 logged.0.2
+      here (heads _ _ _ _ ends)
   from_met a (s ∷ walk) (b ∷ bs) here logged ends through =
       let to = heads _ _ _ _ ends in
       elim (contains_cases circle.met.items s.to) [
         | inl inside ↦ from_met s.to walk bs inside logged.1 (tails _ _ _ _ ends) (λ k t at. through (suc k) t at)
-        | inr outside ↦ leads (Contains circle.met.items) (IsBeyond committed circle) whole.onward a s logged.0.0 logged.0.1 logged.0.2 here
+        | inr outside ↦ leads (Contains circle.met.items) (IsBeyond committed circle) whole.onward a s logged.0.0
+            logged.0.1 logged.0.2 here
             (subst (Contains committed) (sym to) (through 0 b refl), outside)
       ]
 
@@ -58,10 +62,12 @@ module _ (sites : List SiteLog) (committed : List ℕ) (circle : Circle) (whole 
   no-walk (s ∷ walk) [] logged ends through = logged.0.2.apart (sym (heads _ _ _ _ ends))
   no-walk (s ∷ walk) (b ∷ bs) logged ends through =
       let to = heads _ _ _ _ ends in
-      let each = λ (k t : ℕ) (at : slice_get (b ∷ bs) k ≡ Some t). All_at (Contains committed) (b ∷ bs) k t through at in
+      let each = λ (k t : ℕ) (at : slice_get (b ∷ bs) k ≡ Some t). All_at (Contains committed) (b ∷ bs) k t through
+      at in
       elim (contains_cases circle.met.items s.to) [
         | inl inside ↦ from_met s.to walk bs inside logged.1 (tails _ _ _ _ ends) (λ k t at. each (suc k) t at)
-        | inr outside ↦ leads (λ (t : ℕ). t ≡ circle.tx) (IsBeyond committed circle) whole.first circle.tx s logged.0.0 logged.0.1 logged.0.2 refl
+        | inr outside ↦ leads (λ (t : ℕ). t ≡ circle.tx) (IsBeyond committed circle) whole.first circle.tx s
+            logged.0.0 logged.0.1 logged.0.2 refl
             (subst (Contains committed) (sym to) (each 0 b refl), outside)
       ]
 
@@ -78,9 +84,12 @@ module _ (sites : List SiteLog) (stuck : StuckSet) (shows : ShowsStuck sites stu
   off-cycles : (t : ℕ) → IsEncircled sites stuck t → LiesOnCycle sites (members_of stuck) t → ⊥
   off-cycles t encircled cycle =
       let circle = encircled.1 in
-      let none : HasNoWalk sites stuck.committed.items t = subst (HasNoWalk sites stuck.committed.items) circle.2 (no-walk sites stuck.committed.items circle.0 circle.3) in
+      let none : HasNoWalk sites stuck.committed.items t =
+      subst (HasNoWalk sites stuck.committed.items) circle.2
+      (no-walk sites stuck.committed.items circle.0 circle.3) in
       none cycle.walk cycle.between cycle.logged cycle.closed
-      (All-weaken (λ (a : ℕ). Contains (members_of stuck) a × IsIn sites (Commit a)) (Contains stuck.committed.items) cycle.between
+      (All-weaken (λ (a : ℕ). Contains (members_of stuck) a × IsIn sites (Commit a)) (Contains stuck.committed.items)
+      cycle.between
       (λ a both. commits a both.0 both.1) cycle.through)
 
   pub shown-stuck : IsStuck sites (members_of stuck)
@@ -96,7 +105,8 @@ module _ (sites : List SiteLog) (stuck : StuckSet) (decided rest : BTreeSet ℕ)
     (only : (t : ℕ) → HasTx decided t → Contains (members_of stuck) t)
     (has_rest : (t : ℕ) → Contains stuck.others.items t → HasTx rest t)
     (only_rest : (t : ℕ) → HasTx rest t → Contains stuck.others.items t) where
-  free-of : (log : SiteLog) → Contains sites log → (k tx : ℕ) → IsFirstLeft log.entries decided k tx → IsNextInAll sites decided tx
+  free-of : (log : SiteLog) → Contains sites log → (k tx : ℕ) → IsFirstLeft log.entries decided k tx
+      → IsNextInAll sites decided tx
       → IsFree sites (members_of stuck) tx
   free-of log here k tx (e, at, end, is, out, before) next = record {
     ends = (e, (log, here, Contains-from_at log.entries k e at), end, is);
@@ -143,7 +153,8 @@ module _ (sites : List SiteLog) (stuck : StuckSet) (decided rest : BTreeSet ℕ)
         ),
       )
 
-  pub shows-stuck : AreUncommitted sites rest → HasFree sites decided → AreShown sites stuck decided → ShowsStuck sites stuck
+  pub shows-stuck : AreUncommitted sites rest → HasFree sites decided → AreShown sites stuck decided
+      → ShowsStuck sites stuck
   shows-stuck none (log, here, (k, tx, first, next)) shown = record {
     others = λ t among is.
         let at = Contains_at is.0.entries (Commit t) is.2 in
@@ -155,7 +166,8 @@ module _ (sites : List SiteLog) (stuck : StuckSet) (decided rest : BTreeSet ℕ)
   }
 
   pub shows-uncommitted : ShowsStuck sites stuck → AreUncommitted sites rest
-  shows-uncommitted shows log here k t at inside = shows.others t (only_rest t inside) (log, here, Contains-from_at log.entries k (Commit t) at)
+  shows-uncommitted shows log here k t at inside =
+      shows.others t (only_rest t inside) (log, here, Contains-from_at log.entries k (Commit t) at)
 
   pub shows-free : ShowsStuck sites stuck → HasFree sites decided
   shows-free shows =
@@ -168,17 +180,20 @@ module _ (sites : List SiteLog) (stuck : StuckSet) (decided rest : BTreeSet ℕ)
   shows-shown shows log here k tx first next = shows.refused tx (free-of log here k tx first next)
 
 -- two that are the first left in a log are one
-pub one-left : (entries : List Entry) (decided : BTreeSet ℕ) (k t n u : ℕ) → IsFirstLeft entries decided k t → IsFirstLeft entries decided n u → t ≡ u
+pub one-left : (entries : List Entry) (decided : BTreeSet ℕ) (k t n u : ℕ) → IsFirstLeft entries decided k t
+    → IsFirstLeft entries decided n u → t ≡ u
 one-left entries decided k t n u (e, at, end, is, out, before) (f, there, ends, its, outside, front) =
     elim (cases_order k n) [
       | inl same ↦ sym is ∙ ap tx_of (same_Some e f (sym at ∙ ap (slice_get entries) same ∙ there)) ∙ its
       | inr (inl less) ↦ absurd (true≢false (sym (front k e less at end) ∙ ap (contains nat_cmp decided) is ∙ out))
-      | inr (inr more) ↦ absurd (true≢false (sym (before n f more there ends) ∙ ap (contains nat_cmp decided) its ∙ outside))
+      | inr (inr more) ↦ absurd (true≢false (sym (before n f more there ends) ∙ ap (contains nat_cmp decided) its
+          ∙ outside))
     ]
 
 -- ---- ends
 
-pub behind-waits : (sites : List SiteLog) (log : SiteLog) (decided : BTreeSet ℕ) (tx : ℕ) → Contains sites log → IsBehind log.entries decided tx
+pub behind-waits : (sites : List SiteLog) (log : SiteLog) (decided : BTreeSet ℕ) (tx : ℕ) → Contains sites log
+    → IsBehind log.entries decided tx
     → (u : ℕ) × EndsBefore sites u tx × (contains nat_cmp decided u ≡ false)
 behind-waits sites log decided tx here (q, f, left, at, end, is) = (
   tx_of left.1,
@@ -205,14 +220,23 @@ pub nobody-waits : (sites : List SiteLog) (decided : BTreeSet ℕ) (tx n : ℕ) 
     → (u : ℕ) → EndsBefore sites u tx → HasTx decided u
 nobody-waits sites decided tx n all next u h =
     subst (HasTx decided) h.from
-    (each-in (λ (log : SiteLog). IsNext log.entries decided tx) sites n all next h.log h.here h.q h.f h.second h.ends.1 h.to h.p h.e h.before h.first h.ends.0)
+    (each-in (λ (log : SiteLog). IsNext log.entries decided tx) sites n all next h.log h.here h.q h.f h.second
+    h.ends.1 h.to h.p h.e h.before h.first h.ends.0)
 
-pub left-behind : (entries : List Entry) (decided : BTreeSet ℕ) (place left tx : ℕ) → IsFirstLeft entries decided place left
+pub left-behind : (entries : List Entry) (decided : BTreeSet ℕ) (place left tx : ℕ)
+    → IsFirstLeft entries decided place left
     → EndsBehind entries place tx → IsBehind entries decided tx
-left-behind entries decided place left tx (e, at, end, is, out, before) (q, f, behind, there, ends, its) =
-    (q, f, (place, e, behind, at, end, subst (λ (t : ℕ). contains nat_cmp decided t ≡ false) (sym is) out), there, ends, its)
+left-behind entries decided place left tx (e, at, end, is, out, before) (q, f, behind, there, ends, its) = (
+  q,
+  f,
+  (place, e, behind, at, end, subst (λ (t : ℕ). contains nat_cmp decided t ≡ false) (sym is) out),
+  there,
+  ends,
+  its,
+)
 
-pub none-behind : (entries : List Entry) (decided : BTreeSet ℕ) (place left tx : ℕ) → IsFirstLeft entries decided place left
+pub none-behind : (entries : List Entry) (decided : BTreeSet ℕ) (place left tx : ℕ)
+    → IsFirstLeft entries decided place left
     → (EndsBehind entries place tx → ⊥) → IsNext entries decided tx
 none-behind entries decided place left tx (e, at, end, is, out, before) none q f there ends its k g lt at-k end-k =
     elim (cases_order k place) [
@@ -221,10 +245,13 @@ none-behind entries decided place left tx (e, at, end, is, out, before) none q f
       | inr (inr behind) ↦ absurd (none (q, f, omega (arith, behind, lt), there, ends, its))
     ]
 
-pub all-next : (entries : List Entry) (decided : BTreeSet ℕ) (tx : ℕ) → AllDecided entries decided (length entries) → IsNext entries decided tx
-all-next entries decided tx all q f there ends its k g lt at-k end-k = all k g (slice_get_within entries k g at-k) at-k end-k
+pub all-next : (entries : List Entry) (decided : BTreeSet ℕ) (tx : ℕ) → AllDecided entries decided (length entries)
+    → IsNext entries decided tx
+all-next entries decided tx all q f there ends its k g lt at-k end-k =
+    all k g (slice_get_within entries k g at-k) at-k end-k
 
 -- where whoever ends in the log is decided, nobody is left
-pub none-left : (entries : List Entry) (decided : BTreeSet ℕ) (k t : ℕ) → AllDecided entries decided (length entries) → IsFirstLeft entries decided k t → ⊥
+pub none-left : (entries : List Entry) (decided : BTreeSet ℕ) (k t : ℕ) → AllDecided entries decided (length entries)
+    → IsFirstLeft entries decided k t → ⊥
 none-left entries decided k t all (e, at, end, is, out, before) =
     true≢false (sym (all k e (slice_get_within entries k e at) at end) ∙ ap (contains nat_cmp decided) is ∙ out)

@@ -1,4 +1,5 @@
-//! Orders of transactions in which ends, or committed conflicts, lead onward: they show that there is no cycle of these.
+//! Orders of transactions in which ends, or committed conflicts, lead onward: they show that there is no cycle of
+//! these.
 
 ghost use Rattle.std.specs.Prelude.{◌≡◌, ◌≤◌, ◌<◌, ◌↔◌, ◌⊎◌, ℕ, Option, Some, None, false, IsTrue, IfOk, OnOk, Contains};
 ghost use Rattle.std.specs.BTreeMap.{get};
@@ -142,7 +143,8 @@ fn raise(
     Ok(())
 }
 
-/// Whether the places of those that do the second of the pair to an item are none before those that did the first to it.
+/// Whether the places of those that do the second of the pair to an item are none before those that did the first to
+/// it.
 fn pair_leads_onward(
     alloc: Global,
     entries: &[Entry],
@@ -245,8 +247,8 @@ fn commits_stand(sites: &[SiteLog], places: &BTreeMap<Tx, usize>) -> bool
     true
 }
 
-/// Whether all committed transactions are in the order, and their conflicts lead onward in it: it then shows that none are in a cycle.
-/// Err: memory ran out.
+/// Whether all committed transactions are in the order, and their conflicts lead onward in it: it then shows that
+/// none are in a cycle. Err: memory ran out.
 pub fn conflicts_follow(alloc: Global, sites: &[SiteLog], order: &[Tx]) -> Result<bool, AllocError>
     ensures exact { IfOk result (λ follow. IsTrue follow ↔ ConflictsFollow sites.now order.now) }
     ensures no_cycle { IfOk result

@@ -21,7 +21,8 @@ pub struct Circle {
     pub met: Vec<Tx>,
 }
 
-/// A set of transactions: those of them that are committed and the others; and the refused ones outside it that can be decided next.
+/// A set of transactions: those of them that are committed and the others; and the refused ones outside it that can
+/// be decided next.
 #[derive(Drop)]
 pub struct StuckSet {
     pub committed: Vec<Tx>,
@@ -161,8 +162,9 @@ fn decided_of(alloc: Global, stuck: &StuckSet) -> Result<BTreeSet<Tx>, AllocErro
     set_of(alloc, all.as_slice())
 }
 
-/// Whether the set is stuck in these logs, and its circles show it: some transaction can be decided next, and each that can is refused
-/// and has a circle. Such a one lies on no cycle of conflicts through committed ones of the set. Err: memory ran out.
+/// Whether the set is stuck in these logs, and its circles show it: some transaction can be decided next, and each
+/// that can is refused and has a circle. Such a one lies on no cycle of conflicts through committed ones of the set.
+/// Err: memory ran out.
 pub fn is_stuck(alloc: Global, sites: &[SiteLog], stuck: &StuckSet) -> Result<bool, AllocError>
     ensures exact { IfOk result (λ is. IsTrue is ↔ ShowsStuck sites.now stuck.now) }
     ensures stuck { IfOk result

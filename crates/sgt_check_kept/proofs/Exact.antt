@@ -24,9 +24,11 @@ use Rattle.sgt_check_kept.proofs.Committed.{told-commit}
 use Rattle.sgt_check_kept.proofs.Telling.{same_history, same_sessions, same_times}
 
 -- where the history that the bytes spell isn't serializable, none that they spell is with what is wanted
-none-keeping : (w : Wanted) (bytes : List ℕ) (ids : List Json) (h : List (Transaction Json Json)) → Spells bytes ids h → (IsSerializable h → ⊥) → SpellsKeeping w bytes → ⊥
+none-keeping : (w : Wanted) (bytes : List ℕ) (ids : List Json) (h : List (Transaction Json Json)) → Spells bytes ids h
+    → (IsSerializable h → ⊥) → SpellsKeeping w bytes → ⊥
 none-keeping w bytes ids h spells none (ids', h', times', sessions', spells', (order, keeps)) =
-    none (subst (λ (k : List (Transaction Json Json)). IsSerializable k) (sym (history-one bytes ids ids' h h' spells spells'.spells).1) (order, keeps.serves))
+    none (subst (λ (k : List (Transaction Json Json)). IsSerializable k)
+    (sym (history-one bytes ids ids' h h' spells spells'.spells).1) (order, keeps.serves))
 
 none-round : (w : Wanted) (bytes text : List ℕ) → IsKeptCycleTold w bytes text → SpellsKeeping w bytes → ⊥
 none-round w bytes text a (ids', h', times', sessions', spells', keeping) =
@@ -41,32 +43,42 @@ none-round w bytes text a (ids', h', times', sessions', spells', keeping) =
     (subst (λ (ts : List (Option Times)). IsSerializableKeeping h' ts a.sessions) (sym two)
     (subst (λ (ss : List (Option Json)). IsSerializableKeeping h' times' ss) (sym three) keeping)))
 
-answer-exact : (w : Wanted) (options : Options) (bytes text : List ℕ) (outcome : Outcome) → IsKeptAnswer w options bytes outcome text
+answer-exact : (w : Wanted) (options : Options) (bytes text : List ℕ) (outcome : Outcome)
+    → IsKeptAnswer w options bytes outcome text
     → (outcome ≡ Yes) ↔ SpellsKeeping w bytes
-answer-exact w options bytes text Yes a = (λ same. (a.ids, a.h, a.times, a.sessions, a.spells, (a.order, a.keeps)), λ spelled. refl)
+answer-exact w options bytes text Yes a = (
+  λ same. (a.ids, a.h, a.times, a.sessions, a.spells, (a.order, a.keeps)),
+  λ spelled. refl,
+)
 answer-exact w options bytes text No (inl a) = (
   λ same. absurd (cc (same)),
-  λ spelled. absurd (none-keeping w bytes a.ids a.h a.spells (fault-excludes a.h a.line a.flaw a.place a.first.faulty) spelled),
+  λ spelled. absurd (none-keeping w bytes a.ids a.h a.spells (fault-excludes a.h a.line a.flaw a.place a.first.faulty)
+      spelled),
 )
 answer-exact w options bytes text No (inr (inl a)) = (
   λ same. absurd (cc (same)),
   λ spelled. absurd (none-keeping w bytes a.ids a.h a.spells (plain.cycle-excludes a.h a.graph a.has) spelled),
 )
-answer-exact w options bytes text No (inr (inr a)) = (λ same. absurd (cc (same)), λ spelled. absurd (none-round w bytes text a spelled))
+answer-exact w options bytes text No (inr (inr a)) =
+    (λ same. absurd (cc (same)), λ spelled. absurd (none-round w bytes text a spelled))
 answer-exact w options bytes text Unreadable a = (
   λ same. absurd (cc (same)),
-  λ (ids, h, times, sessions, spells, keeping). absurd (unreadable-none w bytes a.line a.fault ids h times sessions a.first spells.spells spells.tell),
+  λ (ids, h, times, sessions, spells, keeping). absurd
+      (unreadable-none w bytes a.line a.fault ids h times sessions a.first spells.spells spells.tell),
 )
 
 -- ---- of what a reader told
 
-pub told-answers : (w : Wanted) (options : Options) (told : Option (List ℕ)) (t : HistoryText) (text : List ℕ) (outcome : Outcome)
-    → IfSome told (λ bytes. IsToldOf w bytes t) → ((wanted : Wanted) (bytes : List ℕ) → IsToldOf wanted bytes t → IsKeptAnswer wanted options bytes outcome text)
+pub told-answers : (w : Wanted) (options : Options) (told : Option (List ℕ)) (t : HistoryText) (text : List ℕ)
+    (outcome : Outcome)
+    → IfSome told (λ bytes. IsToldOf w bytes t) → ((wanted : Wanted) (bytes : List ℕ) → IsToldOf wanted bytes t
+    → IsKeptAnswer wanted options bytes outcome text)
     → IfSome told (λ bytes. IsKeptAnswer w options bytes outcome text)
 told-answers w options None t text outcome is answers = tt
 told-answers w options (Some bytes) t text outcome is answers = answers w bytes is
 
-pub told-exact : (w : Wanted) (options : Options) (told : Option (List ℕ)) (text : List ℕ) (outcome : Outcome) → IfSome told (λ bytes. IsKeptAnswer w options bytes outcome text)
+pub told-exact : (w : Wanted) (options : Options) (told : Option (List ℕ)) (text : List ℕ) (outcome : Outcome)
+    → IfSome told (λ bytes. IsKeptAnswer w options bytes outcome text)
     → IfSome told (λ bytes. (outcome ≡ Yes) ↔ SpellsKeeping w bytes)
 told-exact w options None text outcome a = tt
 told-exact w options (Some bytes) text outcome a = answer-exact w options bytes text outcome a

@@ -11,7 +11,8 @@ use Rattle.sgt_history_kept.specs.declared.asked.Asked.{Asked}
 use Rattle.sgt_history_verdict.specs.Decided.{IsDecidedFrom}
 use Rattle.sgt_check_kept.specs.Told.{AreAsked}
 
-pub kept-from : (h : List (Transaction ℕ ℕ)) (lines : ℕ) (touches : List Touch) (p : Parts) (edges : List Edge) (a : Asked) → IsDecidedFrom h lines touches
+pub kept-from : (h : List (Transaction ℕ ℕ)) (lines : ℕ) (touches : List Touch) (p : Parts) (edges : List Edge)
+    (a : Asked) → IsDecidedFrom h lines touches
     → HasEdges h p → edges ≡ part_of p Whole → AreAsked h a → IsKeptFrom h lines edges a
 kept-from h lines touches p edges a from has is are = record {
   size = from.size;

@@ -14,7 +14,8 @@ use Rattle.sgt_check_kept.specs.declared.link.Link.{Link}
 use Rattle.sgt_check_kept.specs.declared.link.Link.TheVariants.{Conflict, Session, Time}
 
 -- where no session asks for it time does
-pub by-time : (asked : Asked) (a b : ℕ) (l : Link) → (IsEarlier asked.sessions.items a b → ⊥) → (IsBefore asked.times.items a b → IsTimeLink asked.times.items a b l)
+pub by-time : (asked : Asked) (a b : ℕ) (l : Link) → (IsEarlier asked.sessions.items a b → ⊥)
+    → (IsBefore asked.times.items a b → IsTimeLink asked.times.items a b l)
     → IsAskedBefore asked a b → IsAskedLink asked a b l
 by-time asked a b (Conflict s) none link (inl earlier) = absurd (none earlier)
 by-time asked a b (Conflict s) none link (inr before) = absurd (link before)
@@ -24,9 +25,13 @@ by-time asked a b (Time from to done begin) none link (inl earlier) = absurd (no
 by-time asked a b (Time from to done begin) none link (inr before) = let is = link before in (is.0, is.1, none, is.2)
 
 -- where they don't conflict it is asked for
-pub by-asking : (h : List (Transaction ℕ ℕ)) (asked : Asked) (ranks : List ℕ) (a b : ℕ) (l : Link) → (ConflictIn h Whole a b → ⊥)
-    → (IsAskedBefore asked a b → IsAskedLink asked a b l) → StandsBefore h asked.times.items asked.sessions.items a b → IsLinkBetween h asked ranks a b l
+pub by-asking : (h : List (Transaction ℕ ℕ)) (asked : Asked) (ranks : List ℕ) (a b : ℕ) (l : Link)
+    → (ConflictIn h Whole a b → ⊥)
+    → (IsAskedBefore asked a b → IsAskedLink asked a b l) → StandsBefore h asked.times.items asked.sessions.items a b
+    → IsLinkBetween h asked ranks a b l
 by-asking h asked ranks a b l none link (inl conflict) = absurd (none conflict)
 by-asking h asked ranks a b (Conflict s) none link (inr is_asked) = absurd (link is_asked)
-by-asking h asked ranks a b (Session from to session) none link (inr is_asked) = let is = link is_asked in (is.0, is.1, none, is.2)
-by-asking h asked ranks a b (Time from to done begin) none link (inr is_asked) = let is = link is_asked in (is.0, is.1, none, is.2, is.3)
+by-asking h asked ranks a b (Session from to session) none link (inr is_asked) = let is = link is_asked in
+    (is.0, is.1, none, is.2)
+by-asking h asked ranks a b (Time from to done begin) none link (inr is_asked) = let is = link is_asked in
+    (is.0, is.1, none, is.2, is.3)

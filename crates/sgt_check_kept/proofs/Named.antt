@@ -45,7 +45,8 @@ use Rattle.sgt_check_kept.proofs.Committed.{told-commit}
 use Rattle.sgt_check_kept.proofs.Sessions.{earlier-back, earlier-on, each-there, of-session-on}
 
 -- how values are written doesn't count in steps
-link-same : (ids items values : List Json) (name : ℕ → List ℕ) (l : Link) → link_text (numbered ids items values) name l ≡ link_text (by_number ids items) name l
+link-same : (ids items values : List Json) (name : ℕ → List ℕ) (l : Link)
+    → link_text (numbered ids items values) name l ≡ link_text (by_number ids items) name l
 link-same ids items values name (link.Conflict s) = refl
 link-same ids items values name (link.Session from to session) = refl
 link-same ids items values name (link.Time from to done begin) = refl
@@ -62,7 +63,12 @@ module _ (w : Wanted) (options : Options) (bytes : List ℕ) (r : Reading) (is :
   naming = record { ids = r.ids; items = r.items; values = r.values }
 
   abbrev setting : Setting
-  setting = record { naming = naming; sessions = r.session_names; asked = record { times = r.times; sessions = r.sessions } }
+  setting = record {
+    naming = naming;
+    sessions = r.session_names;
+    asked =
+        record { times = r.times; sessions = r.sessions };
+  }
 
   abbrev names : List Json
   names = is.sessions_are.names
@@ -72,20 +78,24 @@ module _ (w : Wanted) (options : Options) (bytes : List ℕ) (r : Reading) (is :
 
   -- ---- what is asked
 
-  committed-back : (line : ℕ) → ((t : Transaction Json Json) × IsCommitted named line t) → (t : Transaction ℕ ℕ) × IsCommitted m line t
+  committed-back : (line : ℕ) → ((t : Transaction Json Json) × IsCommitted named line t)
+      → (t : Transaction ℕ ℕ) × IsCommitted m line t
   committed-back line (t, (there, commits)) =
       let at = map_at (renamed (nth is.items) (nth is.values)) m line t there in
       (at.0, (at.1, ap (λ (u : Transaction Json Json). u.commits) at.2 ∙ commits))
 
   are-asked : AreAsked m setting.asked
   are-asked = record {
-    timed = λ line x at. committed-back line (told-commit HasTimes w.real_time is.spells.lines named r.times.items is.tell.timed line x at);
+    timed = λ line x at. committed-back line
+        (told-commit HasTimes w.real_time is.spells.lines named r.times.items is.tell.timed line x at);
     sessioned = λ line n at.
         let s = each-there names r.sessions.items is.sessions is.sessions_are.each line n at in
-        committed-back line (told-commit HasSession w.sessions is.spells.lines named is.sessions is.tell.sessioned line s.j s.at);
+        committed-back line (told-commit HasSession w.sessions is.spells.lines named is.sessions is.tell.sessioned
+        line s.j s.at);
   }
 
-  stands-on : (a b : ℕ) → StandsBefore m r.times.items r.sessions.items a b → StandsBefore named r.times.items is.sessions a b
+  stands-on : (a b : ℕ) → StandsBefore m r.times.items r.sessions.items a b
+      → StandsBefore named r.times.items is.sessions a b
   stands-on a b (inl c) = inl (conflict_in-on (nth is.items) (nth is.values) m is.apart Whole a b c)
   stands-on a b (inr (inl e)) = inr (inl (earlier-on names r.sessions.items is.sessions is.sessions_are.each a b e))
   stands-on a b (inr (inr e)) = inr (inr e)
@@ -110,7 +120,8 @@ module _ (w : Wanted) (options : Options) (bytes : List ℕ) (r : Reading) (is :
       in_time = a.keeps.in_time;
       in_sessions = λ i j first second at at' e.
           a.keeps.in_sessions i j first second at at'
-          (earlier-back names r.sessions.items is.sessions is.sessions_are.each is.sessions_are.kept.once first second e);
+          (earlier-back names r.sessions.items is.sessions is.sessions_are.each is.sessions_are.kept.once first second
+          e);
     };
     text_is = a.text_is
         ∙ ap (λ (s : Spelling ℕ ℕ). counts_text (committed_of m) (aborted_of m) ++ order_part options.order s a.order)
@@ -120,7 +131,9 @@ module _ (w : Wanted) (options : Options) (bytes : List ℕ) (r : Reading) (is :
         ∙ ordered options.order;
   }
     where
-      ordered : (b : Bool) → counts_text (committed_of named) (aborted_of named) ++ order_part b (numbered is.ids is.items is.values) a.order
+      ordered : (b : Bool)
+          → counts_text (committed_of named) (aborted_of named) ++ order_part b (numbered is.ids is.items is.values)
+          a.order
           ≡ counts_text (committed_of named) (aborted_of named) ++ order_part b (compactly is.ids) a.order
       ordered true = refl
       ordered false = refl
@@ -135,10 +148,17 @@ module _ (w : Wanted) (options : Options) (bytes : List ℕ) (r : Reading) (is :
     λ kind x v u c.
         let old = conflict-named (nth is.items) (nth is.values) m is.apart kind a b x v u c in
         let t : Step = record { kind = kind; from = a; to = b; item = old.0; from_version = v; to_version = u } in
-        elim (told t (record { among = tt; conflict = old.1 }) (refl, refl)) [ inl less ↦ omega (arith, less) | inr same ↦ omega (arith, same.0) ],
+        elim (told t (record { among = tt; conflict = old.1 }) (refl, refl)) [
+          | inl less ↦ omega (arith, less)
+          | inr same ↦ omega (arith, same.0)
+        ],
   )
-  link-on ranks a b (link.Session from to session) (one, two, none, of) =
-      (one, two, λ c. none (conflict-back a b c), of-session-on names r.sessions.items is.sessions is.sessions_are.each a b session of)
+  link-on ranks a b (link.Session from to session) (one, two, none, of) = (
+    one,
+    two,
+    λ c. none (conflict-back a b c),
+    of-session-on names r.sessions.items is.sessions is.sessions_are.each a b session of,
+  )
   link-on ranks a b (link.Time from to done begin) (one, two, none, apart, times) = (
     one,
     two,
@@ -150,7 +170,8 @@ module _ (w : Wanted) (options : Options) (bytes : List ℕ) (r : Reading) (is :
   links-text : (links : List Link) → kept_text (spelled naming) (text_at r.session_names) links
       ≡ kept_text (by_number is.ids is.items) (λ n. compact (nth names n)) links
   links-text links =
-      ap (λ (s : Spelling ℕ ℕ). kept_text s (text_at r.session_names) links) (plain.spelled_as w options bytes r is naming refl refl refl)
+      ap (λ (s : Spelling ℕ ℕ). kept_text s (text_at r.session_names) links)
+      (plain.spelled_as w options bytes r is naming refl refl refl)
       ∙ ap (λ (name : ℕ → List ℕ). kept_text (numbered is.ids is.items is.values) name links)
       (fun_ext (text-is r.session_names names is.sessions_are.kept.texts_are))
       ∙ ap (λ (f : Link → List ℕ). class_text (read_writes links) ++ (kind_text (timed links) ++ flat_map f links))
@@ -166,7 +187,8 @@ module _ (w : Wanted) (options : Options) (bytes : List ℕ) (r : Reading) (is :
     faultless = faultless-on (nth is.items) (nth is.values) m is.apart a.faultless;
     alone = λ c. a.alone (cycle-back (nth is.items) (nth is.values) m is.apart Whole c);
     lines = a.lines;
-    cycle = steps-cycle (StandsBefore m r.times.items r.sessions.items) (StandsBefore named r.times.items is.sessions) stands-on a.lines a.cycle;
+    cycle = steps-cycle (StandsBefore m r.times.items r.sessions.items) (StandsBefore named r.times.items is.sessions)
+        stands-on a.lines a.cycle;
     items = is.items;
     names = names;
     links = a.links;
@@ -179,12 +201,15 @@ module _ (w : Wanted) (options : Options) (bytes : List ℕ) (r : Reading) (is :
 
   -- ---- the answer
 
-  kept-answer : (outcome : Outcome) (text : List ℕ) → IsKeptTold options setting m outcome text → IsKeptAnswer w options bytes outcome text
+  kept-answer : (outcome : Outcome) (text : List ℕ) → IsKeptTold options setting m outcome text
+      → IsKeptAnswer w options bytes outcome text
   kept-answer Yes text a = serial-answer text a
   kept-answer No text (inl a) = inl (plain.faulty-answer w options bytes r is naming refl refl refl text a)
   kept-answer No text (inr (inl a)) = inr (inl (plain.cyclic-answer w options bytes r is naming refl refl refl text a))
   kept-answer No text (inr (inr a)) = inr (inr (cycle-answer text a))
   kept-answer Unreadable text a = absurd a
 
-  pub told-answer : (outcome : Outcome) (text : List ℕ) → (AreAsked m setting.asked → IsKeptTold options setting m outcome text) → IsKeptAnswer w options bytes outcome text
+  pub told-answer : (outcome : Outcome) (text : List ℕ)
+      → (AreAsked m setting.asked → IsKeptTold options setting m outcome text)
+      → IsKeptAnswer w options bytes outcome text
   told-answer outcome text told = kept-answer outcome text (told are-asked)

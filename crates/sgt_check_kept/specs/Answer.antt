@@ -42,10 +42,12 @@ pub record IsKeptYes (w : Wanted) (options : Options) (bytes text : List ℕ) : 
 
 -- ---- a cycle with steps of sessions or real time
 
--- the step, whose item or session has a number, leads from line a to line b: a conflict of the least kind; where there is none, by their
--- session; where this isn't one either, by time
-abbrev pub IsLinkOf : {I V S : Type 0} → List (Transaction I V) → List (Option Times) → List (Option S) → (ℕ → I) → (ℕ → S) → (a b : ℕ) → Link → Type 0
-IsLinkOf {I} {V} {S} h times sessions item_of session_of a b (link.Conflict s) = IsStepOf h item_of Whole s × Leads s a b
+-- the step, whose item or session has a number, leads from line a to line b: a conflict of the least kind; where
+-- there is none, by their session; where this isn't one either, by time
+abbrev pub IsLinkOf : {I V S : Type 0} → List (Transaction I V) → List (Option Times) → List (Option S) → (ℕ → I)
+    → (ℕ → S) → (a b : ℕ) → Link → Type 0
+IsLinkOf {I} {V} {S} h times sessions item_of session_of a b (link.Conflict s) = IsStepOf h item_of Whole s
+    × Leads s a b
     × ((kind : Conflict) (x : I) (v w : ℕ) → HaveConflict h kind a b x v w → kind_place s.kind ≤ kind_place kind)
 IsLinkOf {I} {V} {S} h times sessions item_of session_of a b (link.Session from to session) =
     (from ≡ a) × (to ≡ b) × (ConflictIn h Whole a b → ⊥) × IsOfSession sessions a b (session_of session)
@@ -53,11 +55,13 @@ IsLinkOf {I} {V} {S} h times sessions item_of session_of a b (link.Time from to 
     (from ≡ a) × (to ≡ b) × (ConflictIn h Whole a b → ⊥) × (IsEarlier sessions a b → ⊥) × IsTimed times a b done begin
 
 -- so they lead from each of the lines to the next, and from the last to the first
-pub record AreLinksOf {I V S : Type 0} (h : List (Transaction I V)) (times : List (Option Times)) (sessions : List (Option S))
+pub record AreLinksOf {I V S : Type 0} (h : List (Transaction I V)) (times : List (Option Times))
+    (sessions : List (Option S))
     (item_of : ℕ → I) (session_of : ℕ → S) (lines : List ℕ) (links : List Link) : Type 0 where
   pub size : length links ≡ length lines
   pub each : (place a b : ℕ) (l : Link) → slice_get links place ≡ Some l → slice_get lines place ≡ Some a
-      → slice_get lines (place_behind place (length lines)) ≡ Some b → IsLinkOf h times sessions item_of session_of a b l
+      → slice_get lines (place_behind place (length lines)) ≡ Some b
+      → IsLinkOf h times sessions item_of session_of a b l
 
 -- no line has a fault, and conflicts alone have no cycle; but these lines form one, of conflicts and of what is wanted
 pub record IsKeptCycleTold (w : Wanted) (bytes text : List ℕ) : Type 0 where
@@ -85,11 +89,13 @@ IsKeptAnswer w options bytes Unreadable text = IsUnreadable w bytes text
 
 -- the bytes spell a history, and tell what is wanted, so that an order serves and keeps it
 abbrev pub SpellsKeeping : Wanted → List ℕ → Type 0
-SpellsKeeping w bytes = (ids : List Json) × (h : List (Transaction Json Json)) × (times : List (Option Times)) × (sessions : List (Option Json))
+SpellsKeeping w bytes = (ids : List Json) × (h : List (Transaction Json Json)) × (times : List (Option Times))
+    × (sessions : List (Option Json))
     × SpellsWith w bytes ids h times sessions × IsSerializableKeeping h times sessions
 
 -- that text was written
-abbrev pub WroteKeptAnswer : Wanted → Options → (told : Option (List ℕ)) → Outcome → (old new : Option (List ℕ)) → Type 0
+abbrev pub WroteKeptAnswer : Wanted → Options → (told : Option (List ℕ)) → Outcome → (old new : Option (List ℕ))
+    → Type 0
 WroteKeptAnswer w options told outcome old new = (text : List ℕ)
     × IfSome told (λ bytes. IsKeptAnswer w options bytes outcome text) × Appends old new text
 

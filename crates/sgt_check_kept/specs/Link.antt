@@ -38,7 +38,8 @@ IsTimeLink times a b (Time from to done begin) = (from ≡ a) × (to ≡ b) × I
 abbrev pub IsAskedLink : Asked → (a b : ℕ) → Link → Type 0
 IsAskedLink asked a b (Conflict s) = ⊥
 IsAskedLink asked a b (Session from to session) = (from ≡ a) × (to ≡ b) × IsOfSession asked.sessions.items a b session
-IsAskedLink asked a b (Time from to done begin) = (from ≡ a) × (to ≡ b) × (IsEarlier asked.sessions.items a b → ⊥) × IsTimed asked.times.items a b done begin
+IsAskedLink asked a b (Time from to done begin) = (from ≡ a) × (to ≡ b) × (IsEarlier asked.sessions.items a b → ⊥)
+    × IsTimed asked.times.items a b done begin
 
 -- and where they conflict by the least conflict
 abbrev pub IsLinkBetween : List (Transaction ℕ ℕ) → Asked → (ranks : List ℕ) → (a b : ℕ) → Link → Type 0
@@ -46,10 +47,12 @@ IsLinkBetween h asked ranks a b (Conflict s) = IsLeastBetween h ranks a b (Some 
 IsLinkBetween h asked ranks a b (Session from to session) =
     (from ≡ a) × (to ≡ b) × (ConflictIn h Whole a b → ⊥) × IsOfSession asked.sessions.items a b session
 IsLinkBetween h asked ranks a b (Time from to done begin) =
-    (from ≡ a) × (to ≡ b) × (ConflictIn h Whole a b → ⊥) × (IsEarlier asked.sessions.items a b → ⊥) × IsTimed asked.times.items a b done begin
+    (from ≡ a) × (to ≡ b) × (ConflictIn h Whole a b → ⊥) × (IsEarlier asked.sessions.items a b → ⊥)
+    × IsTimed asked.times.items a b done begin
 
 -- so they lead from each of the lines to the next, and from the last to the first
-pub record AreLinksAlong (h : List (Transaction ℕ ℕ)) (asked : Asked) (ranks lines : List ℕ) (links : List Link) : Type 0 where
+pub record AreLinksAlong (h : List (Transaction ℕ ℕ)) (asked : Asked) (ranks lines : List ℕ)
+    (links : List Link) : Type 0 where
   pub size : length links ≡ length lines
   pub each : (place a b : ℕ) (l : Link) → slice_get links place ≡ Some l → slice_get lines place ≡ Some a
       → slice_get lines (place_behind place (length lines)) ≡ Some b → IsLinkBetween h asked ranks a b l

@@ -53,4 +53,5 @@ link_text s name (Session from to session) = session_text s name from to session
 link_text s name (Time from to done begin) = time_text s from to done begin
 
 abbrev pub kept_text : {V : Type 0} → Spelling ℕ V → (ℕ → List ℕ) → List Link → List ℕ
-kept_text s name links = class_text (read_writes links) ++ (kind_text (timed links) ++ flat_map (link_text s name) links)
+kept_text s name links =
+    class_text (read_writes links) ++ (kind_text (timed links) ++ flat_map (link_text s name) links)

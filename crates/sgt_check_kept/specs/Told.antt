@@ -26,10 +26,11 @@ pub record AreAsked (h : List (Transaction ℕ ℕ)) (a : Asked) : Type 0 where
 abbrev pub AreLinked : List (Transaction ℕ ℕ) → Asked → List ℕ → List Link → Type 0
 AreLinked h a lines links = (ranks : List ℕ) × AreLinksAlong h a ranks lines links
 
-pub record IsKeptSerialTold (options : Options) (s : Setting) (h : List (Transaction ℕ ℕ)) (text : List ℕ) : Type 0 where
-  pub order : List ℕ
-  pub keeps : ServesKeeping h s.asked.times.items s.asked.sessions.items order
-  pub text_is : text ≡ counts_text (committed_of h) (aborted_of h) ++ order_part options.order (spelled s.naming) order
+pub record IsKeptSerialTold (options : Options) (s : Setting) (h : List (Transaction ℕ ℕ)) (text : List ℕ) : Type 0
+  where
+    pub order : List ℕ
+    pub keeps : ServesKeeping h s.asked.times.items s.asked.sessions.items order
+    pub text_is : text ≡ counts_text (committed_of h) (aborted_of h) ++ order_part options.order (spelled s.naming) order
 
 pub record IsLinksTold (s : Setting) (h : List (Transaction ℕ ℕ)) (text : List ℕ) : Type 0 where
   pub faultless : IsFaultless h

@@ -62,7 +62,8 @@ fn links_of(
     cycle: &[u32],
 ) -> Result<Vec<Link>, AllocError>
     ensures { IfOk result (λ links. (h : List (Transaction ℕ ℕ)) → IsFaultlessBy h touches.now
-        → IsCycle (StandsBefore h setting.now.asked.times.items setting.now.asked.sessions.items) cycle.now → AreLinked h setting.now.asked cycle.now links.items) }
+        → IsCycle (StandsBefore h setting.now.asked.times.items setting.now.asked.sessions.items) cycle.now
+        → AreLinked h setting.now.asked cycle.now links.items) }
 {
     let ranks = ranks_of(alloc, &setting.naming.items)?;
     let pairs = pairs_of(alloc, touches)?;
@@ -78,7 +79,8 @@ fn links_text(
     cycle: &[u32],
 ) -> Result<Vec<u8>, AllocError>
     ensures { IfOk result (λ text. (h : List (Transaction ℕ ℕ)) → IsFaultlessBy h touches.now → (HasCycle h Whole → ⊥)
-        → IsCycle (StandsBefore h setting.now.asked.times.items setting.now.asked.sessions.items) cycle.now → IsLinksTold setting.now h text.items) }
+        → IsCycle (StandsBefore h setting.now.asked.times.items setting.now.asked.sessions.items) cycle.now
+        → IsLinksTold setting.now h text.items) }
 {
     let links = links_of(alloc, setting, touches, cycle)?;
     cycle_text(alloc, setting, links.as_slice())

@@ -34,7 +34,8 @@ pub(crate) fn decided(
     requires few { lines ≤ 2 ^ 32 }
     requires from { (h : List (Transaction ℕ ℕ)) × IsDecidedFrom h lines touches.now }
     ensures alone { IfOk result (λ d. (h : List (Transaction ℕ ℕ)) → IsDecidedFrom h lines touches.now → IsAlone h d) }
-    ensures kept { IfOk result (λ d. (h : List (Transaction ℕ ℕ)) → IsDecidedFrom h lines touches.now → AreAsked h asked.now → IsDecision h asked.now d) }
+    ensures kept { IfOk result (λ d. (h : List (Transaction ℕ ℕ)) → IsDecidedFrom h lines touches.now
+        → AreAsked h asked.now → IsDecision h asked.now d) }
 {
     let pairs = pairs_of(alloc, touches)?;
     let edges = edges_of(touches, pairs);

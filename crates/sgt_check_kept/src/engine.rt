@@ -10,8 +10,9 @@ use sgt_history_text::{Wanted, read_history};
 use sgt_names::{EngineFail, Outcome, Sink, Source, write_all};
 use std::alloc::Global;
 
-/// Reads a history whose lines tell when transactions ran, or their sessions, or both, as is wanted, and writes what it is: as `check`,
-/// but `yes` only where an order serves that keeps these too; and where a cycle has steps of sessions or of real time, their lines.
+/// Reads a history whose lines tell when transactions ran, or their sessions, or both, as is wanted, and writes what
+/// it is: as `check`, but `yes` only where an order serves that keeps these too; and where a cycle has steps of
+/// sessions or of real time, their lines.
 ///
 /// ReadFault where the reader failed, or no read is left, and Memory where a growth was refused: nothing was written.
 /// WriteFault where the writer failed: a front of the answer may have been written.

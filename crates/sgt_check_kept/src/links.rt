@@ -78,7 +78,8 @@ fn asked_link(asked: &Asked, from: u32, to: u32) -> Link
 /// The step of two lines: their least conflict, if they have one, rather than what is asked.
 fn link_between(asked: &Asked, conflict: Option<Step>, from: u32, to: u32) -> Link
     ensures { (h : List (Transaction ℕ ℕ)) (ranks : List ℕ) → IsLeastBetween h ranks from to conflict
-        → StandsBefore h asked.now.times.items asked.now.sessions.items from to → IsLinkBetween h asked.now ranks from to result }
+        → StandsBefore h asked.now.times.items asked.now.sessions.items from to
+        → IsLinkBetween h asked.now ranks from to result }
 {
     match conflict {
         Some(step) => Link::Conflict(step),
@@ -94,8 +95,10 @@ pub(crate) fn links_along(
     lines: &[u32],
 ) -> Result<Vec<Link>, AllocError>
     requires { length conflicts.now ≡ length lines.now }
-    ensures { IfOk result (λ links. (h : List (Transaction ℕ ℕ)) (ranks : List ℕ) → AreLeastAlong h ranks lines.now conflicts.now
-        → IsCycle (StandsBefore h asked.now.times.items asked.now.sessions.items) lines.now → AreLinksAlong h asked.now ranks lines.now links.items) }
+    ensures { IfOk result (λ links. (h : List (Transaction ℕ ℕ)) (ranks : List ℕ)
+        → AreLeastAlong h ranks lines.now conflicts.now
+        → IsCycle (StandsBefore h asked.now.times.items asked.now.sessions.items) lines.now
+        → AreLinksAlong h asked.now ranks lines.now links.items) }
 {
     let mut links = Vec::new(alloc);
     for place in 0..lines.len() {

@@ -155,7 +155,8 @@ fn push_time(
 
 /// Puts the line of a step.
 pub fn push_link(out: &mut Vec<u8>, setting: &Setting, link: &Link) -> Result<(), AllocError>
-    ensures { OnOk result (out.new.items ≡ out.old.items ++ link_text (spelled setting.now.naming) (text_at setting.now.sessions) link.now) }
+    ensures { OnOk result (out.new.items ≡ out.old.items ++ link_text (spelled setting.now.naming)
+        (text_at setting.now.sessions) link.now) }
 {
     match link {
         Link::Conflict(step) => push_step(out, &setting.naming, step),
@@ -186,7 +187,8 @@ pub(crate) fn cycle_text(
     setting: &Setting,
     links: &[Link],
 ) -> Result<Vec<u8>, AllocError>
-    ensures { IfOk result (λ text. text.items ≡ kept_text (spelled setting.now.naming) (text_at setting.now.sessions) links.now) }
+    ensures { IfOk result (λ text. text.items ≡ kept_text (spelled setting.now.naming) (text_at setting.now.sessions)
+        links.now) }
 {
     let mut text = Vec::from_slice(alloc, class_word(count_rw(links)))?;
     text.extend_from_slice(kind_word(count_rt(links)))?;

@@ -11,6 +11,7 @@ pub counts-cut : (lines : List Line) (ops : List (Operation ℕ ℕ))
     → counts_text (count_by (λ (l : Line). l.commits) lines) (length lines - count_by (λ (l : Line). l.commits) lines)
     ≡ counts_text (committed_of (cut 0 lines ops)) (aborted_of (cut 0 lines ops))
 counts-cut lines ops =
-    sym (append-nil (counts_text (count_by (λ (l : Line). l.commits) lines) (length lines - count_by (λ (l : Line). l.commits) lines)))
+    sym (append-nil (counts_text (count_by (λ (l : Line). l.commits) lines)
+    (length lines - count_by (λ (l : Line). l.commits) lines)))
     ∙ yes-cut (record { order = false }) (record { ids = []; items = []; values = [] }) lines ops []
     ∙ append-nil (counts_text (committed_of (cut 0 lines ops)) (aborted_of (cut 0 lines ops)))

@@ -17,18 +17,25 @@ use Rattle.sgt_check_order.specs.Order.{IsFirstStray, IsStray, NameEach, lines_o
 use Rattle.sgt_check_order.specs.Run.{IsFirstBreak}
 use Rattle.sgt_check_order.proofs.Lines.{each-at, each-front, each-length, each-one}
 
-module _ {I V : Type 0} (h : List (Transaction I V)) (ids : List Json) (bytes : List ℕ) (number : ℕ) (order : List ℕ) (once : StandOnce ids)
+module _ {I V : Type 0} (h : List (Transaction I V)) (ids : List Json) (bytes : List ℕ) (number : ℕ) (order : List ℕ)
+    (once : StandOnce ids)
     (s : IsFirstStray h ids bytes number) (names : NameEach ids (lines_of bytes) order) (serves : Serves h order) where
   -- so many lines are right
   abbrev n : ℕ
   n = length s.before
 
   same : s.before ≡ take n order
-  same = each-one ids once (take n (lines_of bytes)) s.before (take n order) s.names (each-front ids n (lines_of bytes) order names)
+  same = each-one ids once (take n (lines_of bytes)) s.before (take n order) s.names
+      (each-front ids n (lines_of bytes) order names)
 
   none-missing : slice_get (lines_of bytes) n ≡ None → IsStray h ids s.before None → ⊥
   none-missing none (k, t, committed, missing) =
-      let all = take_all n order (omega (arith, slice_get-none (lines_of bytes) n none, each-length ids (lines_of bytes) order names)) in
+      let all =
+      take_all n order (omega (
+        arith,
+        slice_get-none (lines_of bytes) n none,
+        each-length ids (lines_of bytes) order names,
+      )) in
       missing (subst (λ (o : List ℕ). Contains o k) (sym (same ∙ all)) (serves.ordered.all k t committed))
 
   none-again : (line : List ℕ) → slice_get (lines_of bytes) n ≡ Some line → IsStray h ids s.before (Some line) → ⊥
@@ -36,7 +43,8 @@ module _ {I V : Type 0} (h : List (Transaction I V)) (ids : List Json) (bytes : 
       let at = each-at ids (lines_of bytes) order n line names there in
       let c = serves.ordered.committed at.number (Contains-from_at order n at.number at.there) in
       let early = Contains_at s.before at.number (stray at.number c.0 at.names c.1) in
-      let before = slice_get-take order n early.0 at.number (ap (λ (l : List ℕ). slice_get l early.0) (sym same) ∙ early.1) in
+      let before = slice_get-take order n early.0 at.number (ap (λ (l : List ℕ). slice_get l early.0) (sym same)
+      ∙ early.1) in
       omega (arith, before.0, serves.ordered.once early.0 n at.number before.1 at.there)
 
   pub stray-none : ⊥
@@ -49,7 +57,8 @@ pub break-none : {I V : Type 0} (h : List (Transaction I V)) (order : List ℕ) 
     → IsFirstBreak h order line o found → Serves h order → ⊥
 break-none h order line o found b serves = b.breaks.breaks (serves.right _ o b.breaks.there)
 
-step-none : {I V S : Type 0} (h : List (Transaction I V)) (k : Kept S) (order : List ℕ) (place line other : ℕ) → slice_get order place ≡ Some line
+step-none : {I V S : Type 0} (h : List (Transaction I V)) (k : Kept S) (order : List ℕ) (place line other : ℕ)
+    → slice_get order place ≡ Some line
     → ServesKeeping h k.times k.sessions order → (reason : Reason) → IsReason k order place line other reason → ⊥
 step-none h k order place line other at keeps (Session n) g =
     let a = g.among in
@@ -77,6 +86,7 @@ step-none h k order place line other at keeps (Time done begin) (none, l) =
       }),
     )
 
-pub back-none : {I V S : Type 0} (h : List (Transaction I V)) (k : Kept S) (order : List ℕ) (u : Unkept) → IsFirstStep k order u
+pub back-none : {I V S : Type 0} (h : List (Transaction I V)) (k : Kept S) (order : List ℕ) (u : Unkept)
+    → IsFirstStep k order u
     → ServesKeeping h k.times k.sessions order → ⊥
 back-none h k order u first keeps = step-none h k order u.place u.line u.other first.at keeps u.reason first.reason

@@ -33,7 +33,8 @@ rest-empty : (told : Option (List ℕ)) (ahead : Ahead) → ahead.held ≡ [] �
 rest-empty None ahead fresh = tt
 rest-empty (Some bytes) ahead fresh = ap (λ (held : List ℕ). lines_of (held ++ bytes)) (sym fresh)
 
-pub goes-none : (js : List Json) (told : Option (List ℕ)) (ahead : Ahead) (order : List ℕ) → order ≡ [] → ahead.held ≡ [] → Goes js told (coming ahead told) order
+pub goes-none : (js : List Json) (told : Option (List ℕ)) (ahead : Ahead) (order : List ℕ) → order ≡ []
+    → ahead.held ≡ [] → Goes js told (coming ahead told) order
 goes-none js told ahead order none fresh = record {
   lines = [];
   names = subst (λ (o : List ℕ). NameEach js [] o) (sym none) tt;
@@ -51,7 +52,8 @@ seam : (xs : List (List ℕ)) (l : List ℕ) (ys : List (List ℕ)) → xs ++ l 
 seam xs l ys = sym (append_assoc xs (l ∷ []) ys)
 
 module _ (js : List Json) (limit : ℕ) where
-  rest-line : (xs : List (List ℕ)) (told old new : Option (List ℕ)) (l : List ℕ) → HasNoLf l → IsRest xs told old → Gives limit old Line l new
+  rest-line : (xs : List (List ℕ)) (told old new : Option (List ℕ)) (l : List ℕ) → HasNoLf l → IsRest xs told old
+      → Gives limit old Line l new
       → IsRest (xs ++ l ∷ []) told new
   rest-line xs None old new l none rest gives = tt
   rest-line xs (Some bytes) None new l none rest gives = absurd rest
@@ -59,11 +61,13 @@ module _ (js : List Json) (limit : ℕ) where
   rest-line xs (Some bytes) (Some os) (Some ns) l none rest gives =
       rest ∙ ap (λ (ls : List (List ℕ)). xs ++ ls) (first-line os ns l none gives.2) ∙ seam xs l (lines_of ns)
 
-  pub goes-line : (told old new : Option (List ℕ)) (order : List ℕ) (l : List ℕ) (number : ℕ) (next : List ℕ) → Goes js told old order → HasNoLf l
+  pub goes-line : (told old new : Option (List ℕ)) (order : List ℕ) (l : List ℕ) (number : ℕ) (next : List ℕ)
+      → Goes js told old order → HasNoLf l
       → Gives limit old Line l new → Names js l number → next ≡ order ++ number ∷ [] → Goes js told new next
   goes-line told old new order l number next goes none gives names is = record {
     lines = goes.lines ++ l ∷ [];
-    names = subst (λ (o : List ℕ). NameEach js (goes.lines ++ l ∷ []) o) (sym is) (each-push js goes.lines order l number goes.names names);
+    names = subst (λ (o : List ℕ). NameEach js (goes.lines ++ l ∷ []) o) (sym is)
+        (each-push js goes.lines order l number goes.names names);
     rest = rest-line goes.lines told old new l none goes.rest gives;
   }
 
@@ -88,17 +92,21 @@ module _ (js : List Json) (limit : ℕ) where
         → NameEach js (take (length roll.order.items) (lines_of bytes)) roll.order.items
     front-names xs ys bytes is names =
         let front : take (length roll.order.items) (lines_of bytes) ≡ xs =
-        ap (λ n. take n (lines_of bytes)) (sym (each-length js xs roll.order.items names)) ∙ ap (take (length xs)) is ∙ take-append_seam xs ys in
+        ap (λ n. take n (lines_of bytes)) (sym (each-length js xs roll.order.items names)) ∙ ap (take (length xs)) is
+        ∙ take-append_seam xs ys in
         subst (λ (ls : List (List ℕ)). NameEach js ls roll.order.items) (sym front) names
 
-    there-at : (xs : List (List ℕ)) (l : List ℕ) (ys : List (List ℕ)) (bytes : List ℕ) → lines_of bytes ≡ xs ++ l ∷ ys → NameEach js xs roll.order.items
+    there-at : (xs : List (List ℕ)) (l : List ℕ) (ys : List (List ℕ)) (bytes : List ℕ) → lines_of bytes ≡ xs ++ l ∷ ys
+        → NameEach js xs roll.order.items
         → slice_get (lines_of bytes) (length roll.order.items) ≡ Some l
     there-at xs l ys bytes is names =
         ap (λ n. slice_get (lines_of bytes) n) (sym (each-length js xs roll.order.items names))
         ∙ ap (λ (ls : List (List ℕ)). slice_get ls (length xs)) is ∙ middle_at xs l ys
 
-    stray-here : (xs ys : List (List ℕ)) (bytes : List ℕ) (n : ℕ) → n ≡ length roll.order.items + 1 → lines_of bytes ≡ xs ++ ys → NameEach js xs roll.order.items
-        → IsStray h js roll.order.items (slice_get (lines_of bytes) (length roll.order.items)) → IsFirstStray h js bytes n
+    stray-here : (xs ys : List (List ℕ)) (bytes : List ℕ) (n : ℕ) → n ≡ length roll.order.items + 1
+        → lines_of bytes ≡ xs ++ ys → NameEach js xs roll.order.items
+        → IsStray h js roll.order.items (slice_get (lines_of bytes) (length roll.order.items))
+        → IsFirstStray h js bytes n
     stray-here xs ys bytes n number is names stray = record {
       before = roll.order.items;
       names = front-names xs ys bytes is names;
@@ -108,38 +116,47 @@ module _ (js : List Json) (limit : ℕ) where
       number_is = number;
     }
 
-    pub stops : (told old : Option (List ℕ)) (l : List ℕ) (n : ℕ) (new : Roll) → n ≡ length roll.order.items + 1 → Goes js told old roll.order.items → IsFirst l old
+    pub stops : (told old : Option (List ℕ)) (l : List ℕ) (n : ℕ) (new : Roll) → n ≡ length roll.order.items + 1
+        → Goes js told old roll.order.items → IsFirst l old
         → IsStray h js roll.order.items (Some l) → IfSome told (λ bytes. IsRead h js bytes new (Some n))
     stops told old l n new number goes first stray = at told old goes.rest first
       where
-        at : (told old : Option (List ℕ)) → IsRest goes.lines told old → IsFirst l old → IfSome told (λ bytes. IsRead h js bytes new (Some n))
+        at : (told old : Option (List ℕ)) → IsRest goes.lines told old → IsFirst l old
+            → IfSome told (λ bytes. IsRead h js bytes new (Some n))
         at None old rest first = tt
         at (Some bytes) None rest first = absurd rest
         at (Some bytes) (Some os) rest (more, is) =
             let lines = rest ∙ ap (λ (ls : List (List ℕ)). goes.lines ++ ls) is in
             stray-here goes.lines (l ∷ more) bytes n number lines goes.names
-            (subst (λ (o : Option (List ℕ)). IsStray h js roll.order.items o) (sym (there-at goes.lines l more bytes lines goes.names)) stray)
+            (subst (λ (o : Option (List ℕ)). IsStray h js roll.order.items o)
+            (sym (there-at goes.lines l more bytes lines goes.names)) stray)
 
-    pub ends : (told old new : Option (List ℕ)) (l : List ℕ) → Goes js told old roll.order.items → Gives limit old End l new
+    pub ends : (told old new : Option (List ℕ)) (l : List ℕ) → Goes js told old roll.order.items
+        → Gives limit old End l new
         → IfSome told (λ bytes. IsRead h js bytes roll None)
     ends told old new l goes gives = at told old new goes.rest gives
       where
-        at : (told old new : Option (List ℕ)) → IsRest goes.lines told old → Gives limit old End l new → IfSome told (λ bytes. IsRead h js bytes roll None)
+        at : (told old new : Option (List ℕ)) → IsRest goes.lines told old → Gives limit old End l new
+            → IfSome told (λ bytes. IsRead h js bytes roll None)
         at None old new rest gives = tt
         at (Some bytes) None new rest gives = absurd rest
         at (Some bytes) (Some os) None rest gives = absurd gives
         at (Some bytes) (Some os) (Some ns) rest gives =
-            let all : lines_of bytes ≡ goes.lines = rest ∙ ap (λ (b : List ℕ). goes.lines ++ lines_of b) gives.0 ∙ append-nil goes.lines in
+            let all : lines_of bytes ≡ goes.lines = rest ∙ ap (λ (b : List ℕ). goes.lines ++ lines_of b) gives.0
+            ∙ append-nil goes.lines in
             (rolled, subst (λ (ls : List (List ℕ)). NameEach js ls roll.order.items) (sym all) goes.names)
 
     -- ---- the last line
 
-    cut-read : (told old new : Option (List ℕ)) (l : List ℕ) (number : ℕ) (next : Roll) → Goes js told old roll.order.items → HasNoLf l
-        → Gives limit old Cut l new → IsRoll h next → Names js l number → next.order.items ≡ roll.order.items ++ number ∷ []
+    cut-read : (told old new : Option (List ℕ)) (l : List ℕ) (number : ℕ) (next : Roll)
+        → Goes js told old roll.order.items → HasNoLf l
+        → Gives limit old Cut l new → IsRoll h next → Names js l number
+        → next.order.items ≡ roll.order.items ++ number ∷ []
         → IfSome told (λ bytes. IsRead h js bytes next None)
     cut-read told old new l number next goes none gives rolled' names is = at told old new goes.rest gives
       where
-        at : (told old new : Option (List ℕ)) → IsRest goes.lines told old → Gives limit old Cut l new → IfSome told (λ bytes. IsRead h js bytes next None)
+        at : (told old new : Option (List ℕ)) → IsRest goes.lines told old → Gives limit old Cut l new
+            → IfSome told (λ bytes. IsRead h js bytes next None)
         at None old new rest gives = tt
         at (Some bytes) None new rest gives = absurd rest
         at (Some bytes) (Some os) None rest gives = absurd gives
@@ -152,7 +169,8 @@ module _ (js : List Json) (limit : ℕ) where
                   (each-push js goes.lines roll.order.items l number goes.names names)),
             )
 
-    pub stops-cut : (told old new : Option (List ℕ)) (l : List ℕ) (n : ℕ) (next : Roll) (taken : Bool) → n ≡ length roll.order.items + 1
+    pub stops-cut : (told old new : Option (List ℕ)) (l : List ℕ) (n : ℕ) (next : Roll) (taken : Bool)
+        → n ≡ length roll.order.items + 1
         → Goes js told old roll.order.items → HasNoLf l → Gives limit old Cut l new → IsTaken h js roll l taken next
         → IfSome told (λ bytes. IsRead h js bytes next (if taken then None else Some n))
     stops-cut told old new l n next true number goes none gives (rolled', named, names, is) =
@@ -162,19 +180,25 @@ module _ (js : List Json) (limit : ℕ) where
 
 -- ---- the whole order
 
-pub named-each : (h : List (Transaction ℕ ℕ)) (js : List Json) (bytes : List ℕ) (roll : Roll) → IsRead h js bytes roll None
-    → ((line : ℕ) (t : Transaction ℕ ℕ) → IsCommitted h line t → slice_get roll.called.items line ≡ Some true) → IsOrder h roll.order.items
+pub named-each : (h : List (Transaction ℕ ℕ)) (js : List Json) (bytes : List ℕ) (roll : Roll)
+    → IsRead h js bytes roll None
+    → ((line : ℕ) (t : Transaction ℕ ℕ) → IsCommitted h line t → slice_get roll.called.items line ≡ Some true)
+    → IsOrder h roll.order.items
 named-each h js bytes roll (rolled, names) all = record {
   committed = rolled.committed;
   all = λ line t committed. (rolled.called line).0 (all line t committed);
   once = rolled.once;
 }
 
-pub named-stray : (h : List (Transaction ℕ ℕ)) (js : List Json) (bytes : List ℕ) (roll : Roll) (n : ℕ) → n ≡ length roll.order.items + 1
-    → IsRead h js bytes roll None → ((line : ℕ) × (t : Transaction ℕ ℕ) × IsCommitted h line t × (slice_get roll.called.items line ≡ Some true → ⊥))
+pub named-stray : (h : List (Transaction ℕ ℕ)) (js : List Json) (bytes : List ℕ) (roll : Roll) (n : ℕ)
+    → n ≡ length roll.order.items + 1
+    → IsRead h js bytes roll None
+    → ((line : ℕ) × (t : Transaction ℕ ℕ) × IsCommitted h line t × (slice_get roll.called.items line ≡ Some true
+    → ⊥))
     → IsFirstStray h js bytes n
 named-stray h js bytes roll n number (rolled, names) (line, t, committed, missing) =
-    let size : length (lines_of bytes) ≡ length roll.order.items = each-length js (lines_of bytes) roll.order.items names in
+    let size : length (lines_of bytes) ≡ length roll.order.items =
+    each-length js (lines_of bytes) roll.order.items names in
     let whole : take (length roll.order.items) (lines_of bytes) ≡ lines_of bytes =
     ap (λ n. take n (lines_of bytes)) (sym size) ∙ take-length (lines_of bytes) in
     record {
@@ -182,7 +206,8 @@ named-stray h js bytes roll n number (rolled, names) (line, t, committed, missin
       names = subst (λ (ls : List (List ℕ)). NameEach js ls roll.order.items) (sym whole) names;
       committed = rolled.committed;
       once = rolled.once;
-      stray = subst (λ (o : Option (List ℕ)). IsStray h js roll.order.items o) (sym (past (lines_of bytes) (length roll.order.items) size))
+      stray = subst (λ (o : Option (List ℕ)). IsStray h js roll.order.items o)
+          (sym (past (lines_of bytes) (length roll.order.items) size))
           (line, t, committed, λ in_it. missing ((rolled.called line).1 in_it));
       number_is = number;
     }

@@ -28,7 +28,8 @@ use Rattle.sgt_check_order.specs.declared.run.Broken.{Broken}
 -- ---- a step
 
 -- one that isn't the line itself stands before it
-among-before : (order : List ℕ) (place line x : ℕ) → slice_get order place ≡ Some line → (line ≡ x → ⊥) → StandsAmong order (place + 1) x → StandsAmong order place x
+among-before : (order : List ℕ) (place line x : ℕ) → slice_get order place ≡ Some line → (line ≡ x → ⊥)
+    → StandsAmong order (place + 1) x → StandsAmong order place x
 among-before order place line x at apart a = elim (cases_lt a.0 place) [
   | inl less ↦ (a.0, less, a.2)
   | inr ge ↦
@@ -39,8 +40,10 @@ among-before order place line x at apart a = elim (cases_lt a.0 place) [
 among-up : (order : List ℕ) (place x : ℕ) → StandsAmong order place x → StandsAmong order (place + 1) x
 among-up order place x a = (a.0, omega (arith, a.1), a.2)
 
-module _ (s : Setting) (order : List ℕ) (right : AreRuns s.asked.times.items) (u : Unkept) (at : slice_get order u.place ≡ Some u.line) where
-  by-session : PassesInSession s.asked.sessions.items order u → IsReason (kept_of s) order u.place u.line u.other u.reason
+module _ (s : Setting) (order : List ℕ) (right : AreRuns s.asked.times.items) (u : Unkept)
+    (at : slice_get order u.place ≡ Some u.line) where
+  by-session : PassesInSession s.asked.sessions.items order u
+      → IsReason (kept_of s) order u.place u.line u.other u.reason
   by-session p =
       let greatest : IsGreatest s.asked.sessions.items order u.place u.line u.other p.session = record {
         of_session = record { first_at = p.own; second_at = p.of_other; earlier = p.earlier };
@@ -49,7 +52,8 @@ module _ (s : Setting) (order : List ℕ) (right : AreRuns s.asked.times.items) 
       } in
       subst (λ (r : Reason). IsReason (kept_of s) order u.place u.line u.other r) (sym p.reason_is) greatest
 
-  by-time : ((x : ℕ) → StandsAmong order (u.place + 1) x → IsEarlier s.asked.sessions.items u.line x → ⊥) → PassesInTime s.asked.times.items order u
+  by-time : ((x : ℕ) → StandsAmong order (u.place + 1) x → IsEarlier s.asked.sessions.items u.line x → ⊥)
+      → PassesInTime s.asked.times.items order u
       → IsReason (kept_of s) order u.place u.line u.other u.reason
   by-time none p =
       let apart : u.line ≡ u.other → ⊥ = λ same.
@@ -84,11 +88,14 @@ module _ (s : Setting) (order : List ℕ) (right : AreRuns s.asked.times.items) 
 
 -- ---- what is told
 
-module _ (bytes : List ℕ) (js : List Json) (s : Setting) (h : List (Transaction ℕ ℕ)) (faultless : IsFaultless h) (order : List ℕ) (ordered : IsOrder h order)
+module _ (bytes : List ℕ) (js : List Json) (s : Setting) (h : List (Transaction ℕ ℕ)) (faultless : IsFaultless h)
+    (order : List ℕ) (ordered : IsOrder h order)
     (names : NameEach js (lines_of bytes) order) (text : List ℕ) where
-  broken-judged : (broken : Broken) → IsBroken h order broken → KeepsTo (IsBefore s.asked.times.items) order broken.place
+  broken-judged : (broken : Broken) → IsBroken h order broken
+      → KeepsTo (IsBefore s.asked.times.items) order broken.place
       → KeepsTo (IsEarlier s.asked.sessions.items) order broken.place
-      → text ≡ break_text (spelled s.naming) broken.line broken.operation broken.found → IsBreakTold bytes js (spelled s.naming) (kept_of s) h text
+      → text ≡ break_text (spelled s.naming) broken.line broken.operation broken.found
+      → IsBreakTold bytes js (spelled s.naming) (kept_of s) h text
   broken-judged broken b in_time in_sessions is =
       let c = ordered.committed broken.line (Contains-from_at order broken.place broken.line b.in_order) in
       record {
@@ -115,8 +122,10 @@ module _ (bytes : List ℕ) (js : List Json) (s : Setting) (h : List (Transactio
       }
 
   pub first-judged : AreRuns s.asked.times.items → (found : FirstBreak) → IsFirstBroken h s.asked order (Some found)
-      → text ≡ first_text (spelled s.naming) (kept_of s).name found → IsJudged bytes js (spelled s.naming) (kept_of s) h No text
-  first-judged right (Operates broken) (b, (in_time, in_sessions)) is = inr (inl (broken-judged broken b in_time in_sessions is))
+      → text ≡ first_text (spelled s.naming) (kept_of s).name found
+      → IsJudged bytes js (spelled s.naming) (kept_of s) h No text
+  first-judged right (Operates broken) (b, (in_time, in_sessions)) is =
+      inr (inl (broken-judged broken b in_time in_sessions is))
   first-judged right (Step u) (first, runs) is = inr (inr (record {
     faultless = faultless;
     order = order;

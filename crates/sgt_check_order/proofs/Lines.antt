@@ -27,7 +27,8 @@ lines-last (x ∷ y ∷ l) h some = other x (y ∷ l) h.0 ∙ ap (in_front x) (l
 -- ---- numbers
 
 module _ (ids : List Json) where
-  pub each-push : (lines : List (List ℕ)) (order : List ℕ) (line : List ℕ) (number : ℕ) → NameEach ids lines order → Names ids line number
+  pub each-push : (lines : List (List ℕ)) (order : List ℕ) (line : List ℕ) (number : ℕ) → NameEach ids lines order
+      → Names ids line number
       → NameEach ids (lines ++ line ∷ []) (order ++ number ∷ [])
   each-push [] [] line number h k = (k, tt)
   each-push [] (n ∷ order) line number h k = absurd h
@@ -40,7 +41,8 @@ module _ (ids : List Json) where
   each-length (l ∷ lines) [] h = absurd h
   each-length (l ∷ lines) (n ∷ order) h = ap suc (each-length lines order h.1)
 
-  pub each-front : (k : ℕ) (lines : List (List ℕ)) (order : List ℕ) → NameEach ids lines order → NameEach ids (take k lines) (take k order)
+  pub each-front : (k : ℕ) (lines : List (List ℕ)) (order : List ℕ) → NameEach ids lines order
+      → NameEach ids (take k lines) (take k order)
   each-front zero lines order h = tt
   each-front (suc k) [] [] h = tt
   each-front (suc k) [] (n ∷ order) h = absurd h
@@ -53,7 +55,8 @@ module _ (ids : List Json) where
     pub there : slice_get order place ≡ Some number
     pub names : Names ids line number
 
-  pub each-at : (lines : List (List ℕ)) (order : List ℕ) (place : ℕ) (line : List ℕ) → NameEach ids lines order → slice_get lines place ≡ Some line
+  pub each-at : (lines : List (List ℕ)) (order : List ℕ) (place : ℕ) (line : List ℕ) → NameEach ids lines order
+      → slice_get lines place ≡ Some line
       → IsNamedAt order place line
   each-at [] order place line h at = absurd (cc (at))
   each-at (l ∷ lines) [] place line h at = absurd h
@@ -67,7 +70,8 @@ module _ (ids : List Json) where
     pub names-one : (line : List ℕ) (m n : ℕ) → Names ids line m → Names ids line n → m ≡ n
     names-one line m n a b = once m n b.id (a.there ∙ ap Some (same_text a.id b.id line a.is b.is)) b.there
 
-    pub each-one : (lines : List (List ℕ)) (order order' : List ℕ) → NameEach ids lines order → NameEach ids lines order' → order ≡ order'
+    pub each-one : (lines : List (List ℕ)) (order order' : List ℕ) → NameEach ids lines order
+        → NameEach ids lines order' → order ≡ order'
     each-one [] [] [] h k = refl
     each-one [] [] (m ∷ order') h k = absurd k
     each-one [] (n ∷ order) order' h k = absurd h

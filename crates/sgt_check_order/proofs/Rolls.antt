@@ -34,7 +34,8 @@ not-in xs x none in_it = let at = Contains_at xs x in_it in let e = ap (λ l. sl
 none-at : (xs : List ℕ) (i x : ℕ) → xs ≡ [] → slice_get xs i ≡ Some x → ⊥
 none-at xs i x none at = let e = ap (λ (l : List ℕ). slice_get l i) (sym none) ∙ at in cc
 
-pub roll-empty : (lines : List Line) (ops : List (Operation ℕ ℕ)) (roll : Roll) → roll.order.items ≡ [] → roll.called.items ≡ replicate (length lines) false
+pub roll-empty : (lines : List Line) (ops : List (Operation ℕ ℕ)) (roll : Roll) → roll.order.items ≡ []
+    → roll.called.items ≡ replicate (length lines) false
     → IsRoll (cut 0 lines ops) roll
 roll-empty lines ops roll none called = record {
   size = ap length called ∙ length-replicate_false (length lines) ∙ sym (length-cut 0 lines ops);
@@ -56,12 +57,14 @@ commits-there lines ops n l at =
       λ (t, c). ap (λ (u : Transaction ℕ ℕ). u.commits) (same_Some _ t (sym is ∙ c.0)) ∙ c.1,
     )
 
-pub commits-past : (lines : List Line) (ops : List (Operation ℕ ℕ)) (n : ℕ) → length lines ≤ n → ((t : Transaction ℕ ℕ) × IsCommitted (cut 0 lines ops) n t) → ⊥
+pub commits-past : (lines : List Line) (ops : List (Operation ℕ ℕ)) (n : ℕ) → length lines ≤ n
+    → ((t : Transaction ℕ ℕ) × IsCommitted (cut 0 lines ops) n t) → ⊥
 commits-past lines ops n past (t, c) = omega (arith, past, line-within lines ops n t c.0)
 
 -- ---- one more
 
-module _ (h : List (Transaction ℕ ℕ)) (old : Roll) (number : ℕ) (t : Transaction ℕ ℕ) (roll : IsRoll h old) (committed : IsCommitted h number t)
+module _ (h : List (Transaction ℕ ℕ)) (old : Roll) (number : ℕ) (t : Transaction ℕ ℕ) (roll : IsRoll h old)
+    (committed : IsCommitted h number t)
     (fresh : slice_get old.called.items number ≡ Some true → ⊥) where
   pub called-within : number < length old.called.items
   called-within = omega (arith, roll.size, slice_get_within h number t committed.0)
@@ -69,7 +72,8 @@ module _ (h : List (Transaction ℕ ℕ)) (old : Roll) (number : ℕ) (t : Trans
   not-before : Contains old.order.items number → ⊥
   not-before in_it = fresh ((roll.called number).1 in_it)
 
-  module _ (new : Roll) (order : new.order.items ≡ old.order.items ++ number ∷ []) (called : new.called.items ≡ slice_set old.called.items number true) where
+  module _ (new : Roll) (order : new.order.items ≡ old.order.items ++ number ∷ [])
+      (called : new.called.items ≡ slice_set old.called.items number true) where
     in-new : (k : ℕ) → Contains new.order.items k → Contains old.order.items k ⊎ (k ≡ number)
     in-new k in_it =
         let at = Contains_at new.order.items k in_it in
@@ -81,17 +85,20 @@ module _ (h : List (Transaction ℕ ℕ)) (old : Roll) (number : ℕ) (t : Trans
     in-old : (k : ℕ) → Contains old.order.items k → Contains new.order.items k
     in-old k in_it =
         let at = Contains_at old.order.items k in_it in
-        Contains-from_at new.order.items at.0 k (ap (λ (l : List ℕ). slice_get l at.0) order ∙ front_at old.order.items (number ∷ []) at.0 k at.1)
+        Contains-from_at new.order.items at.0 k (ap (λ (l : List ℕ). slice_get l at.0) order
+        ∙ front_at old.order.items (number ∷ []) at.0 k at.1)
 
     in-last : Contains new.order.items number
     in-last = Contains-from_at new.order.items (length old.order.items) number
         (ap (λ (l : List ℕ). slice_get l (length old.order.items)) order ∙ middle_at old.order.items number [])
 
     marked-last : slice_get new.called.items number ≡ Some true
-    marked-last = ap (λ (l : List Bool). slice_get l number) called ∙ get-slice_set_same old.called.items number true called-within
+    marked-last = ap (λ (l : List Bool). slice_get l number) called
+        ∙ get-slice_set_same old.called.items number true called-within
 
     marked-other : (k : ℕ) → k ≢ number → slice_get new.called.items k ≡ slice_get old.called.items k
-    marked-other k apart = ap (λ (l : List Bool). slice_get l k) called ∙ get-slice_set_other old.called.items number k true apart
+    marked-other k apart = ap (λ (l : List Bool). slice_get l k) called
+        ∙ get-slice_set_other old.called.items number k true apart
 
     pub roll-push : IsRoll h new
     roll-push = record {
@@ -101,7 +108,8 @@ module _ (h : List (Transaction ℕ ℕ)) (old : Roll) (number : ℕ) (t : Trans
         | inr is ↦ (t, subst (λ j. IsCommitted h j t) (sym is) committed)
       ];
       once = subst (λ (l : List ℕ). StandOnce l) (sym order)
-          (once-push old.order.items number roll.once (λ n at. not-before (Contains-from_at old.order.items n number at)));
+          (once-push old.order.items number roll.once
+          (λ n at. not-before (Contains-from_at old.order.items n number at)));
       called = λ k. elim (cases_eq k number) [
         | inl is ↦ (
           λ marked. subst (λ j. Contains new.order.items j) (sym is) in-last,
@@ -119,7 +127,8 @@ module _ (h : List (Transaction ℕ ℕ)) (old : Roll) (number : ℕ) (t : Trans
 
 -- ---- who is missing
 
-pub missed : (h : List (Transaction ℕ ℕ)) (called : List Bool) (line : ℕ) (b : Bool) → (b ≡ true) ↔ (slice_get called line ≡ Some true)
+pub missed : (h : List (Transaction ℕ ℕ)) (called : List Bool) (line : ℕ) (b : Bool)
+    → (b ≡ true) ↔ (slice_get called line ≡ Some true)
     → ((t : Transaction ℕ ℕ) × IsCommitted h line t)
     → MatchBool (not b) ((t : Transaction ℕ ℕ) × IsCommitted h line t × (slice_get called line ≡ Some true → ⊥))
     ((t : Transaction ℕ ℕ) → IsCommitted h line t → slice_get called line ≡ Some true)
@@ -135,5 +144,6 @@ called-next h called n before here line t lt committed = elim (cases_eq line n) 
   | inr apart ↦ before line t (omega (arith, lt, apart)) committed
 ]
 
-pub committed-within : (lines : List Line) (ops : List (Operation ℕ ℕ)) (line : ℕ) (t : Transaction ℕ ℕ) → IsCommitted (cut 0 lines ops) line t → line < length lines
+pub committed-within : (lines : List Line) (ops : List (Operation ℕ ℕ)) (line : ℕ) (t : Transaction ℕ ℕ)
+    → IsCommitted (cut 0 lines ops) line t → line < length lines
 committed-within lines ops line t c = line-within lines ops line t c.0

@@ -22,7 +22,8 @@ Op = Operation ℕ ℕ
 
 -- ---- what stands behind changes nothing before
 
-back-in : (run more : List Op) (r : ℕ) (w : Op) → r < length run → slice_get (run ++ more) r ≡ Some w → slice_get run r ≡ Some w
+back-in : (run more : List Op) (r : ℕ) (w : Op) → r < length run → slice_get (run ++ more) r ≡ Some w
+    → slice_get run r ≡ Some w
 back-in run more r w lt e =
     let own = within_at run r lt in
     own.1 ∙ ap Some (same_Some own.0 w (sym (front_at run more r own.0 own.1) ∙ e))
@@ -36,9 +37,15 @@ module _ (run more : List Op) (p : ℕ) (le : p ≤ length run) where
     there = front_at run more a.last a.o a.there;
     writes = a.writes;
     version_is = a.version_is;
-    none = λ r w above below at writes. a.none r w above below (back-in run more r w (omega (arith, below, le)) at) writes;
+    none = λ r w above below at writes. a.none r w above below (back-in run more r w (omega (arith, below, le)) at)
+        writes;
   })
-  has-front x v (inr b) = inr (b.0, λ r w above below at writes. b.1 r w above below (back-in run more r w (omega (arith, below, le)) at) writes)
+  has-front x v (inr b) =
+      inr (
+        b.0,
+        λ r w above below at writes. b.1 r w above below (back-in run more r w (omega (arith, below, le)) at)
+            writes,
+      )
 
   has-back : (x v : ℕ) → Has (run ++ more) p x v → Has run p x v
   has-back x v (inl a) = inl (record {
@@ -66,13 +73,19 @@ module _ (run more : List Op) (p : ℕ) (le : p ≤ length run) where
 
 -- ---- one operation
 
-pub read-exact : (run : List Op) (p : ℕ) (o : Op) (found : ℕ) → o.kind ≡ Read → Has run p o.item found → (o.version ≡ found) ↔ Follows run p o
+pub read-exact : (run : List Op) (p : ℕ) (o : Op) (found : ℕ) → o.kind ≡ Read → Has run p o.item found
+    → (o.version ≡ found) ↔ Follows run p o
 read-exact run p o found kind has = (
-  λ same. record { read = λ e. subst (λ v. Has run p o.item v) (sym same) has; write = λ e. absurd (let f = sym kind ∙ e in cc) },
+  λ same. record {
+    read = λ e. subst (λ v. Has run p o.item v) (sym same) has;
+    write =
+        λ e. absurd (let f = sym kind ∙ e in cc);
+  },
   λ f. one_version run p o.item o.version found (f.read kind) has,
 )
 
-pub write-exact : (run : List Op) (p : ℕ) (o : Op) (found : ℕ) → o.kind ≡ Write → Has run p o.item found → (found < o.version) ↔ Follows run p o
+pub write-exact : (run : List Op) (p : ℕ) (o : Op) (found : ℕ) → o.kind ≡ Write → Has run p o.item found
+    → (found < o.version) ↔ Follows run p o
 write-exact run p o found kind has = (
   λ above. record { read = λ e. absurd (let f = sym kind ∙ e in cc); write = λ e. (found, has, above) },
   λ f. let b = f.write kind in omega (arith, b.2, one_version run p o.item found b.0 has b.1),
@@ -83,7 +96,8 @@ module _ (run : List Op) (o : Op) where
   longer = omega (arith, length-append run (o ∷ []))
 
   -- an item that it doesn't write has the version that it had
-  has-over : (x v : ℕ) → (IsWriteOf o x → ⊥) → Has run (length run) x v → Has (run ++ o ∷ []) (length (run ++ o ∷ [])) x v
+  has-over : (x v : ℕ) → (IsWriteOf o x → ⊥) → Has run (length run) x v
+      → Has (run ++ o ∷ []) (length (run ++ o ∷ [])) x v
   has-over x v not (inl a) = inl (record {
     last = a.last;
     o = a.o;
@@ -116,13 +130,16 @@ module _ (run : List Op) (o : Op) where
   })
 
   pub tells-read : (versions : List ℕ) → o.kind ≡ Read → Tells run versions → Tells (run ++ o ∷ []) versions
-  tells-read versions kind tells x = has-over x (get_or versions x 0) (λ writes. let f = sym kind ∙ writes.write in cc) (tells x)
+  tells-read versions kind tells x = has-over x (get_or versions x 0) (λ writes. let f = sym kind ∙ writes.write in
+      cc) (tells x)
 
   pub tells-write : (old new : List ℕ) → o.kind ≡ Write → get_or new o.item 0 ≡ o.version
-      → ((other : ℕ) → other ≢ o.item → get_or new other 0 ≡ get_or old other 0) → Tells run old → Tells (run ++ o ∷ []) new
+      → ((other : ℕ) → other ≢ o.item → get_or new other 0 ≡ get_or old other 0) → Tells run old
+      → Tells (run ++ o ∷ []) new
   tells-write old new kind here others tells x = elim (cases_eq x o.item) [
     | inl is ↦ subst (λ y. Has (run ++ o ∷ []) (length (run ++ o ∷ [])) y (get_or new y 0)) (sym is)
-        (subst (λ v. Has (run ++ o ∷ []) (length (run ++ o ∷ [])) o.item v) (sym here) (has-written o.item (record { write = kind; item = refl })))
+        (subst (λ v. Has (run ++ o ∷ []) (length (run ++ o ∷ [])) o.item v) (sym here)
+        (has-written o.item (record { write = kind; item = refl })))
     | inr apart ↦ subst (λ v. Has (run ++ o ∷ []) (length (run ++ o ∷ [])) x v) (sym (others x apart))
         (has-over x (get_or old x 0) (λ writes. apart (sym writes.item)) (tells x))
   ]
@@ -133,7 +150,8 @@ module _ (run : List Op) (o : Op) where
         let lt = slice_get_within run p w there in
         follows-front run (o ∷ []) p (omega (arith, lt)) w (right p w there)
     | inr last ↦ subst (λ (u : Op). Follows (run ++ o ∷ []) p u) last.1
-        (subst (λ k. Follows (run ++ o ∷ []) k o) (sym last.0) (follows-front run (o ∷ []) (length run) (omega arith) o follows))
+        (subst (λ k. Follows (run ++ o ∷ []) k o) (sym last.0)
+        (follows-front run (o ∷ []) (length run) (omega arith) o follows))
   ]
 
 -- ---- versions
@@ -151,7 +169,8 @@ tells-none items versions is x = inr (zeros x, λ r w above below at writes. abs
 pub padded : (xs : List ℕ) (n x : ℕ) → get_or (xs ++ replicate n 0) x 0 ≡ get_or xs x 0
 padded xs n x = elim (cases_lt x (length xs)) [
   | inl lt ↦ get_or_append_left xs (replicate n 0) 0 x lt
-  | inr le ↦ get_or-append_right xs (replicate n 0) (length xs) x 0 refl le ∙ zeros (x - length xs) ∙ sym (get_or_past xs x 0 le)
+  | inr le ↦ get_or-append_right xs (replicate n 0) (length xs) x 0 refl le ∙ zeros (x - length xs)
+      ∙ sym (get_or_past xs x 0 le)
 ]
   where
     zeros : (k : ℕ) → ◌≡◌ {A = ℕ} (get_or (replicate n 0) k 0) 0
@@ -161,23 +180,27 @@ padded xs n x = elim (cases_lt x (length xs)) [
     ]
 
 -- so many items have versions now
-pub widened : {T E : Type 0} (r : Result T E) (old new : List ℕ) (n k : ℕ) → length old ≤ n → new ≡ (if is_ok r then take n old ++ replicate k 0 else old)
+pub widened : {T E : Type 0} (r : Result T E) (old new : List ℕ) (n k : ℕ) → length old ≤ n
+    → new ≡ (if is_ok r then take n old ++ replicate k 0 else old)
     → (item : ℕ) → get_or new item 0 ≡ get_or old item 0
 widened (Ok v) old new n k le is item =
-    ap (λ (l : List ℕ). get_or l item 0) (is ∙ ap (λ (l : List ℕ). l ++ replicate k 0) (take_all n old le)) ∙ padded old k item
+    ap (λ (l : List ℕ). get_or l item 0) (is ∙ ap (λ (l : List ℕ). l ++ replicate k 0) (take_all n old le))
+    ∙ padded old k item
 widened (Err e) old new n k le is item = ap (λ (l : List ℕ). get_or l item 0) is
 
 -- ---- many operations
 
 -- the operation behind a right run doesn't follow
-break-here : (run more : List Op) (o : Op) (found : ℕ) → RunsRight run → Has run (length run) o.item found → (Follows run (length run) o → ⊥)
+break-here : (run more : List Op) (o : Op) (found : ℕ) → RunsRight run → Has run (length run) o.item found
+    → (Follows run (length run) o → ⊥)
     → IsBreak (run ++ o ∷ more) (length run) o found
 break-here run more o found right has breaks = record {
   there = middle_at run o more;
   has = has-front run (o ∷ more) (length run) (omega arith) o.item found has;
   breaks = λ f. breaks (follows-back run (o ∷ more) (length run) (omega arith) o f);
   before = λ earlier p lt at.
-      follows-front run (o ∷ more) earlier (omega (arith, lt)) p (right earlier p (back-in run (o ∷ more) earlier p lt at));
+      follows-front run (o ∷ more) earlier (omega (arith, lt)) p
+      (right earlier p (back-in run (o ∷ more) earlier p lt at));
 }
 
 break-more : (run more : List Op) (p : ℕ) (o : Op) (found : ℕ) → IsBreak run p o found → IsBreak (run ++ more) p o found
@@ -188,7 +211,8 @@ break-more run more p o found b =
       has = has-front run more p (omega (arith, lt)) o.item found b.has;
       breaks = λ f. b.breaks (follows-back run more p (omega (arith, lt)) o f);
       before = λ earlier q before at.
-          follows-front run more earlier (omega (arith, before, lt)) q (b.before earlier q before (back-in run more earlier q (omega (arith, before, lt)) at));
+          follows-front run more earlier (omega (arith, before, lt)) q
+          (b.before earlier q before (back-in run more earlier q (omega (arith, before, lt)) at));
     }
 
 -- the run before, and so many of the operations, run right
@@ -202,7 +226,8 @@ ran-none run ops versions right tells = record {
   tells = subst (λ (l : List Op). Tells l versions) (sym (append-nil run)) tells;
 }
 
-module _ (run ops : List Op) (k : ℕ) (o : Op) (at : slice_get ops k ≡ Some o) (old new : List ℕ) (ran : Ran run ops k old) where
+module _ (run ops : List Op) (k : ℕ) (o : Op) (at : slice_get ops k ≡ Some o) (old new : List ℕ)
+    (ran : Ran run ops k old) where
   one-more : run ++ take (k + 1) ops ≡ (run ++ take k ops) ++ o ∷ []
   one-more = ap (λ (l : List Op). run ++ l) (take_next ops k o at) ∙ sym (append_assoc run (take k ops) (o ∷ []))
 
@@ -213,10 +238,12 @@ module _ (run ops : List Op) (k : ℕ) (o : Op) (at : slice_get ops k ≡ Some o
   }
 
   parted : run ++ ops ≡ (run ++ take k ops) ++ o ∷ drop (suc k) ops
-  parted = ap (λ (l : List Op). run ++ l) (split_at ops k o at) ∙ sym (append_assoc run (take k ops) (o ∷ drop (suc k) ops))
+  parted = ap (λ (l : List Op). run ++ l) (split_at ops k o at)
+      ∙ sym (append_assoc run (take k ops) (o ∷ drop (suc k) ops))
 
   so-many : length (run ++ take k ops) ≡ length run + k
-  so-many = omega (arith, length-append run (take k ops), length-take-le k ops (omega (arith, slice_get_within ops k o at)))
+  so-many =
+      omega (arith, length-append run (take k ops), length-take-le k ops (omega (arith, slice_get_within ops k o at)))
 
   pub ran-break : (found : ℕ) → IsRun (run ++ take k ops) o new (Some found) → AreRun run ops new (Some (k, found))
   ran-break found (has, breaks) = (
@@ -227,7 +254,8 @@ module _ (run ops : List Op) (k : ℕ) (o : Op) (at : slice_get ops k ≡ Some o
         (break-here (run ++ take k ops) (drop (suc k) ops) o found ran.right has breaks)),
   )
 
-pub ran-all : (run ops : List Op) (k : ℕ) (versions : List ℕ) → length ops ≤ k → Ran run ops k versions → AreRun run ops versions None
+pub ran-all : (run ops : List Op) (k : ℕ) (versions : List ℕ) → length ops ≤ k → Ran run ops k versions
+    → AreRun run ops versions None
 ran-all run ops k versions le ran = (
   subst (λ (l : List Op). RunsRight (run ++ l)) (take_all k ops le) ran.right,
   subst (λ (l : List Op). Tells (run ++ l) versions) (take_all k ops le) ran.tells,
@@ -239,7 +267,8 @@ module _ (h : List (Transaction ℕ ℕ)) where
   pub run-append : (xs ys : List ℕ) → run_of h (xs ++ ys) ≡ run_of h xs ++ run_of h ys
   run-append [] ys = refl
   run-append (x ∷ xs) ys =
-      ap (λ (l : List Op). operations_in (slice_get h x) ++ l) (run-append xs ys) ∙ sym (append_assoc (operations_in (slice_get h x)) (run_of h xs) (run_of h ys))
+      ap (λ (l : List Op). operations_in (slice_get h x) ++ l) (run-append xs ys)
+      ∙ sym (append_assoc (operations_in (slice_get h x)) (run_of h xs) (run_of h ys))
 
   -- so many of the transactions run right
   pub record RanOrder (order : List ℕ) (k : ℕ) (versions : List ℕ) : Type 0 where
@@ -249,12 +278,14 @@ module _ (h : List (Transaction ℕ ℕ)) where
   pub order-none : (order : List ℕ) (versions : List ℕ) → Tells [] versions → RanOrder order 0 versions
   order-none order versions tells = record { right = λ p o at. absurd (cc (at)); tells = tells }
 
-  module _ (order : List ℕ) (k line : ℕ) (at : slice_get order k ≡ Some line) (ops : List Op) (are : ops ≡ operations_in (slice_get h line)) where
+  module _ (order : List ℕ) (k line : ℕ) (at : slice_get order k ≡ Some line) (ops : List Op)
+      (are : ops ≡ operations_in (slice_get h line)) where
     next-run : run_of h (take (k + 1) order) ≡ run_of h (take k order) ++ ops
     next-run = ap (run_of h) (take_next order k line at) ∙ run-append (take k order) (line ∷ [])
         ∙ ap (λ (l : List Op). run_of h (take k order) ++ l) (append-nil (operations_in (slice_get h line)) ∙ sym are)
 
-    pub order-next : (versions : List ℕ) → AreRun (run_of h (take k order)) ops versions None → RanOrder order (k + 1) versions
+    pub order-next : (versions : List ℕ) → AreRun (run_of h (take k order)) ops versions None
+        → RanOrder order (k + 1) versions
     order-next versions (right, tells) = record {
       right = subst RunsRight (sym next-run) right;
       tells = subst (λ (l : List Op). Tells l versions) (sym next-run) tells;
@@ -265,20 +296,29 @@ module _ (h : List (Transaction ℕ ℕ)) where
         ∙ ap (λ (l : List Op). run_of h (take k order) ++ (l ++ run_of h (drop (suc k) order))) (sym are)
         ∙ sym (append_assoc (run_of h (take k order)) ops (run_of h (drop (suc k) order)))
 
-    pub order-break : (versions : List ℕ) (j found : ℕ) (broken : Broken) → AreRun (run_of h (take k order)) ops versions (Some (j, found))
-        → broken.place ≡ k → broken.line ≡ line → slice_get ops j ≡ Some broken.operation → broken.found ≡ found → IsBroken h order broken
+    pub order-break : (versions : List ℕ) (j found : ℕ) (broken : Broken)
+        → AreRun (run_of h (take k order)) ops versions (Some (j, found))
+        → broken.place ≡ k → broken.line ≡ line → slice_get ops j ≡ Some broken.operation → broken.found ≡ found
+        → IsBroken h order broken
     order-break versions j found broken (o, there, breaks) place_is line_is op_is found_is =
         let same : o ≡ broken.operation = same_Some o broken.operation (sym there ∙ op_is) in
         record {
           in_order = ap (slice_get order) place_is ∙ at ∙ ap Some (sym line_is);
           at = j;
-          there = ap (λ n. slice_get (operations_in (slice_get h n)) j) line_is ∙ ap (λ (l : List Op). slice_get l j) (sym are) ∙ op_is;
-          breaks = subst (λ (n : ℕ). IsBreak (run_of h order) (length (run_of h (take n order)) + j) broken.operation broken.found) (sym place_is)
-              (subst (λ (l : List Op). IsBreak l (length (run_of h (take k order)) + j) broken.operation broken.found) (sym whole-run)
-              (break-more (run_of h (take k order) ++ ops) (run_of h (drop (suc k) order)) (length (run_of h (take k order)) + j) broken.operation broken.found
-              (subst (λ n. IsBreak (run_of h (take k order) ++ ops) (length (run_of h (take k order)) + j) broken.operation n) (sym found_is)
-              (subst (λ (u : Op). IsBreak (run_of h (take k order) ++ ops) (length (run_of h (take k order)) + j) u found) same breaks))));
+          there = ap (λ n. slice_get (operations_in (slice_get h n)) j) line_is
+              ∙ ap (λ (l : List Op). slice_get l j) (sym are) ∙ op_is;
+          breaks = subst (λ (n : ℕ). IsBreak (run_of h order) (length (run_of h (take n order)) + j) broken.operation
+              broken.found) (sym place_is)
+              (subst (λ (l : List Op). IsBreak l (length (run_of h (take k order)) + j) broken.operation broken.found)
+              (sym whole-run)
+              (break-more (run_of h (take k order) ++ ops) (run_of h (drop (suc k) order))
+              (length (run_of h (take k order)) + j) broken.operation broken.found
+              (subst (λ n. IsBreak (run_of h (take k order) ++ ops) (length (run_of h (take k order)) + j)
+              broken.operation n) (sym found_is)
+              (subst (λ (u : Op). IsBreak (run_of h (take k order) ++ ops) (length (run_of h (take k order)) + j) u
+              found) same breaks))));
         }
 
-  pub order-all : (order : List ℕ) (k : ℕ) (versions : List ℕ) → length order ≤ k → RanOrder order k versions → IsRunOf h order None
+  pub order-all : (order : List ℕ) (k : ℕ) (versions : List ℕ) → length order ≤ k → RanOrder order k versions
+      → IsRunOf h order None
   order-all order k versions le ran = subst (λ (l : List ℕ). RunsRight (run_of h l)) (take_all k order le) ran.right

@@ -9,9 +9,12 @@ use Rattle.sgt_check_order.specs.Told.{IsCalled, IsTaken}
 use Rattle.sgt_check_order.specs.declared.roll.Roll.{Roll}
 use Rattle.sgt_check_order.proofs.Lines.{names-one}
 
-pub taken : (h : List (Transaction ℕ ℕ)) (js : List Json) → StandOnce js → (old new : Roll) (line : List ℕ) (number : ℕ) → IsFoundAs js line (Some number)
+pub taken : (h : List (Transaction ℕ ℕ)) (js : List Json) → StandOnce js
+    → (old new : Roll) (line : List ℕ) (number : ℕ) → IsFoundAs js line (Some number)
     → (b : Bool) → IsCalled h old number b new → IsTaken h js old line b new
-taken h js once old new line number is true (rolled, order) = (rolled, number, record { id = is.0; there = is.1; is = is.2 }, order)
+taken h js once old new line number is true (rolled, order) =
+    (rolled, number, record { id = is.0; there = is.1; is = is.2 }, order)
 taken h js once old new line number is false stray = λ n t names committed.
     let same = names-one js once line n number names (record { id = is.0; there = is.1; is = is.2 }) in
-    subst (λ (k : ℕ). Contains old.order.items k) (sym same) (stray t (subst (λ (k : ℕ). IsCommitted h k t) same committed))
+    subst (λ (k : ℕ). Contains old.order.items k) (sym same)
+    (stray t (subst (λ (k : ℕ). IsCommitted h k t) same committed))

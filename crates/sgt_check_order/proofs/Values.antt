@@ -51,16 +51,19 @@ module _ (h : List (Transaction ℕ ℕ)) (faultless : IsFaultless h) (order : L
         | inl e ↦ e
         | inr apart ↦ absurd (elim (cases_order a.found.line b.found.line) [
           | inl line ↦
-              let same = one_transaction b.found.line a.found.t b.found.t (ap (slice_get h) (sym line) ∙ a.is.committed.0) b.is.committed.0 in
+              let same = one_transaction b.found.line a.found.t b.found.t (ap (slice_get h) (sym line)
+              ∙ a.is.committed.0) b.is.committed.0 in
               elim (cases_order a.found.j b.found.j) [
                 | inl j ↦
                     let here = ap (λ (t : Transaction ℕ ℕ). slice_get t.operations a.found.j) (sym same) ∙ a.is.there in
                     let one = one_at b.found.t.operations a.found.j b.found.j o w j here b.is.there in
                     apart (same_Some u v (sym given ∙ ap (λ (x : Operation ℕ ℕ). x.value) one ∙ given'))
                 | inr (inl lt) ↦ value-fault at.0 at'.0 o w a b (inr (line, lt)) item version u v given given' apart
-                | inr (inr gt) ↦ value-fault at'.0 at.0 w o b a (inr (sym line, gt)) (sym item) (sym version) v u given' given (λ e. apart (sym e))
+                | inr (inr gt) ↦ value-fault at'.0 at.0 w o b a (inr (sym line, gt)) (sym item)
+                    (sym version) v u given' given (λ e. apart (sym e))
               ]
           | inr (inl lt) ↦ value-fault at.0 at'.0 o w a b (inl lt) item version u v given given' apart
-          | inr (inr gt) ↦ value-fault at'.0 at.0 w o b a (inl gt) (sym item) (sym version) v u given' given (λ e. apart (sym e))
+          | inr (inr gt) ↦ value-fault at'.0 at.0 w o b a (inl gt) (sym item) (sym version) v u given' given
+              (λ e. apart (sym e))
         ])
       ]

@@ -24,22 +24,25 @@ use Rattle.sgt_check_order.specs.Text.{back_text, break_text, stray_text}
 -- ---- of a history
 
 -- the text of the order names all committed transactions, each once, in an order that serves, and keeps what it is to
-pub record IsServed {I V S : Type 0} (bytes : List ℕ) (ids : List Json) (k : Kept S) (h : List (Transaction I V)) (text : List ℕ) : Type 0 where
+pub record IsServed {I V S : Type 0} (bytes : List ℕ) (ids : List Json) (k : Kept S) (h : List (Transaction I V))
+    (text : List ℕ) : Type 0 where
   pub order : List ℕ
   pub names : NameEach ids (lines_of bytes) order
   pub keeps : ServesKeeping h k.times k.sessions order
   pub text_is : text ≡ counts_text (committed_of h) (aborted_of h)
 
 -- no line has a fault; the order's line of this number is the first that is wrong
-pub record IsStrayTold {I V : Type 0} (bytes : List ℕ) (ids : List Json) (h : List (Transaction I V)) (text : List ℕ) : Type 0 where
+pub record IsStrayTold {I V : Type 0} (bytes : List ℕ) (ids : List Json) (h : List (Transaction I V))
+    (text : List ℕ) : Type 0 where
   pub faultless : IsFaultless h
   pub number : ℕ
   pub first : IsFirstStray h ids bytes number
   pub text_is : text ≡ stray_text number
 
--- no line has a fault; the order names each committed transaction once, and this operation is the first that breaks it; no transaction
--- before has to stand before one in front of it
-pub record IsBreakTold {I V S : Type 0} (bytes : List ℕ) (ids : List Json) (s : Spelling I V) (k : Kept S) (h : List (Transaction I V)) (text : List ℕ) : Type 0 where
+-- no line has a fault; the order names each committed transaction once, and this operation is the first that breaks
+-- it; no transaction before has to stand before one in front of it
+pub record IsBreakTold {I V S : Type 0} (bytes : List ℕ) (ids : List Json) (s : Spelling I V) (k : Kept S)
+    (h : List (Transaction I V)) (text : List ℕ) : Type 0 where
   pub faultless : IsFaultless h
   pub order : List ℕ
   pub names : NameEach ids (lines_of bytes) order
@@ -51,8 +54,10 @@ pub record IsBreakTold {I V S : Type 0} (bytes : List ℕ) (ids : List Json) (s 
   pub before : AreKeptTo k order first.place
   pub text_is : text ≡ break_text s line o found
 
--- the same, but this transaction is the first that has to stand before one in front of it; no operation up to its last breaks the order
-pub record IsBackTold {I V S : Type 0} (bytes : List ℕ) (ids : List Json) (s : Spelling I V) (k : Kept S) (h : List (Transaction I V)) (text : List ℕ) : Type 0 where
+-- the same, but this transaction is the first that has to stand before one in front of it; no operation up to its
+-- last breaks the order
+pub record IsBackTold {I V S : Type 0} (bytes : List ℕ) (ids : List Json) (s : Spelling I V) (k : Kept S)
+    (h : List (Transaction I V)) (text : List ℕ) : Type 0 where
   pub faultless : IsFaultless h
   pub order : List ℕ
   pub names : NameEach ids (lines_of bytes) order
@@ -62,9 +67,11 @@ pub record IsBackTold {I V S : Type 0} (bytes : List ℕ) (ids : List Json) (s :
   pub right : RunsRight (run_of h (take (u.place + 1) order))
   pub text_is : text ≡ back_text s k.name u
 
-abbrev pub IsJudged : {I V S : Type 0} → List ℕ → List Json → Spelling I V → Kept S → List (Transaction I V) → Outcome → List ℕ → Type 0
+abbrev pub IsJudged : {I V S : Type 0} → List ℕ → List Json → Spelling I V → Kept S → List (Transaction I V) → Outcome
+    → List ℕ → Type 0
 IsJudged bytes ids s k h Yes text = IsServed bytes ids k h text
-IsJudged bytes ids s k h No text = IsStrayTold bytes ids h text ⊎ (IsBreakTold bytes ids s k h text ⊎ IsBackTold bytes ids s k h text)
+IsJudged bytes ids s k h No text = IsStrayTold bytes ids h text
+    ⊎ (IsBreakTold bytes ids s k h text ⊎ IsBackTold bytes ids s k h text)
 IsJudged bytes ids s k h Unreadable text = ⊥
 
 -- ---- of bytes
@@ -87,17 +94,21 @@ IsAnswer w order bytes Unreadable text = IsUnreadable w bytes text
 
 -- the order names each committed transaction of the history that the bytes spell once, serves, and keeps what is wanted
 abbrev pub SpellsServed : Wanted → (order bytes : List ℕ) → Type 0
-SpellsServed w order bytes = (ids : List Json) × (h : List (Transaction Json Json)) × (times : List (Option Times)) × (sessions : List (Option Json))
-    × SpellsWith w bytes ids h times sessions × (numbers : List ℕ) × NameEach ids (lines_of order) numbers × ServesKeeping h times sessions numbers
+SpellsServed w order bytes = (ids : List Json) × (h : List (Transaction Json Json)) × (times : List (Option Times))
+    × (sessions : List (Option Json))
+    × SpellsWith w bytes ids h times sessions × (numbers : List ℕ) × NameEach ids (lines_of order) numbers
+    × ServesKeeping h times sessions numbers
 
 -- ---- of what readers tell
 
 abbrev pub IsToldAnswer : Wanted → (order told : Option (List ℕ)) → Outcome → List ℕ → Type 0
-IsToldAnswer w order told outcome text = IfSome told (λ bytes. IfSome order (λ lines. IsAnswer w lines bytes outcome text))
+IsToldAnswer w order told outcome text =
+    IfSome told (λ bytes. IfSome order (λ lines. IsAnswer w lines bytes outcome text))
 
 -- that text was written
 abbrev pub WroteAnswer : Wanted → (order told : Option (List ℕ)) → Outcome → (old new : Option (List ℕ)) → Type 0
-WroteAnswer w order told outcome old new = (text : List ℕ) × IsToldAnswer w order told outcome text × Appends old new text
+WroteAnswer w order told outcome old new = (text : List ℕ) × IsToldAnswer w order told outcome text
+    × Appends old new text
 
 -- nothing was written, or a front of that text, and less than the whole
 abbrev pub WroteAnswerFront : Wanted → (order told old new : Option (List ℕ)) → Type 0

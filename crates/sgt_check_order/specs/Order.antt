@@ -33,11 +33,14 @@ AreCommitted {I} {V} h order = (number : ℕ) → Contains order number → (t :
 
 -- The line names no committed transaction but those before. Where there is no line, one is missing
 abbrev pub IsStray : {I V : Type 0} → List (Transaction I V) → List Json → (before : List ℕ) → Option (List ℕ) → Type 0
-IsStray {I} {V} h ids before None = (number : ℕ) × (t : Transaction I V) × IsCommitted h number t × (Contains before number → ⊥)
-IsStray {I} {V} h ids before (Some line) = (number : ℕ) (t : Transaction I V) → Names ids line number → IsCommitted h number t → Contains before number
+IsStray {I} {V} h ids before None = (number : ℕ) × (t : Transaction I V) × IsCommitted h number t
+    × (Contains before number → ⊥)
+IsStray {I} {V} h ids before (Some line) = (number : ℕ) (t : Transaction I V) → Names ids line number
+    → IsCommitted h number t → Contains before number
 
 -- the lines up to this number, from 1, name committed transactions, each another one; it doesn't
-pub record IsFirstStray {I V : Type 0} (h : List (Transaction I V)) (ids : List Json) (bytes : List ℕ) (number : ℕ) : Type 0 where
+pub record IsFirstStray {I V : Type 0} (h : List (Transaction I V)) (ids : List Json) (bytes : List ℕ)
+    (number : ℕ) : Type 0 where
   pub before : List ℕ
   pub names : NameEach ids (take (length before) (lines_of bytes)) before
   pub committed : AreCommitted h before

@@ -86,7 +86,13 @@ IsRunOf h order (Some broken) = IsBroken h order broken
 
 -- what is asked of it, by numbers
 abbrev pub kept_of : Setting → Kept ℕ
-kept_of s = record { times = s.asked.times.items; sessions = s.asked.sessions.items; session = λ n. n; name = text_at s.sessions }
+kept_of s = record {
+  times = s.asked.times.items;
+  sessions = s.asked.sessions.items;
+  session = λ n. n;
+  name =
+      text_at s.sessions;
+}
 
 -- nobody was done before it began
 abbrev pub AreRuns : List (Option Times) → Type 0
@@ -94,9 +100,11 @@ AreRuns times = (line : ℕ) (x : Times) → slice_get times line ≡ Some (Some
 
 -- of an order that serves and keeps nothing; an operation goes before a step of the same transaction
 abbrev pub IsFirstBroken : List (Transaction ℕ ℕ) → Asked → List ℕ → Option FirstBreak → Type 0
-IsFirstBroken h a order None = RunsRight (run_of h order) × (KeepsRealTime order a.times.items × KeepsSessions order a.sessions.items)
+IsFirstBroken h a order None = RunsRight (run_of h order)
+    × (KeepsRealTime order a.times.items × KeepsSessions order a.sessions.items)
 IsFirstBroken h a order (Some (Operates broken)) =
-    IsBroken h order broken × (KeepsTo (IsBefore a.times.items) order broken.place × KeepsTo (IsEarlier a.sessions.items) order broken.place)
+    IsBroken h order broken × (KeepsTo (IsBefore a.times.items) order broken.place
+    × KeepsTo (IsEarlier a.sessions.items) order broken.place)
 IsFirstBroken h a order (Some (Step u)) = IsFirstUnkept order a u × RunsRight (run_of h (take (u.place + 1) order))
 
 -- how it is told
@@ -108,5 +116,6 @@ first_text s name (Step u) = back_text s name u
 
 abbrev pub IsTold : List ℕ → List Json → Setting → List (Transaction ℕ ℕ) → Outcome → List ℕ → Type 0
 IsTold bytes ids s h Yes text = IsJudged bytes ids (spelled s.naming) (kept_of s) h Yes text
-IsTold bytes ids s h No text = IsFaultyTold s.naming h text ⊎ IsJudged bytes ids (spelled s.naming) (kept_of s) h No text
+IsTold bytes ids s h No text = IsFaultyTold s.naming h text
+    ⊎ IsJudged bytes ids (spelled s.naming) (kept_of s) h No text
 IsTold bytes ids s h Unreadable text = ⊥

@@ -55,7 +55,8 @@ fn faulty_answer(
 
 /// The answer where an order serves and keeps what it is to.
 fn served_answer(alloc: Global, history: &History) -> Result<Answer, AllocError>
-    ensures { IfOk result (λ a. (a.outcome ≡ Yes) × (a.text.items ≡ counts_text (committed_of (closed_of history.now)) (aborted_of (closed_of history.now)))) }
+    ensures { IfOk result (λ a. (a.outcome ≡ Yes)
+        × (a.text.items ≡ counts_text (committed_of (closed_of history.now)) (aborted_of (closed_of history.now)))) }
 {
     let mut text = Vec::new(alloc);
     push_counts(&mut text, history.lines.as_slice())?;
@@ -73,9 +74,11 @@ fn order_answer(
     order: &[u32],
 ) -> Result<Answer, AllocError>
     requires { IsFaultless (closed_of history.now) }
-    ensures { IfOk result (λ a. (js : List Json) (bytes : List ℕ) → IsOrder (closed_of history.now) order.now → NameEach js (lines_of bytes) order.now
+    ensures { IfOk result (λ a. (js : List Json) (bytes : List ℕ) → IsOrder (closed_of history.now) order.now
+        → NameEach js (lines_of bytes) order.now
         → AreRuns setting.now.asked.times.items
-        → IsJudged bytes js (spelled setting.now.naming) (kept_of setting.now) (closed_of history.now) a.outcome a.text.items) }
+        → IsJudged bytes js (spelled setting.now.naming) (kept_of setting.now) (closed_of history.now) a.outcome
+        a.text.items) }
 {
     let told = first_break(alloc, setting, history, order)?;
     match told {
@@ -98,8 +101,10 @@ fn named_answer(
     named: Named,
 ) -> Result<Answer, AllocError>
     requires { IsFaultless (closed_of history.now) }
-    ensures { IfOk result (λ a. (js : List Json) (bytes : List ℕ) → IsNamed (closed_of history.now) js bytes named → AreRuns setting.now.asked.times.items
-        → IsJudged bytes js (spelled setting.now.naming) (kept_of setting.now) (closed_of history.now) a.outcome a.text.items) }
+    ensures { IfOk result (λ a. (js : List Json) (bytes : List ℕ) → IsNamed (closed_of history.now) js bytes named
+        → AreRuns setting.now.asked.times.items
+        → IsJudged bytes js (spelled setting.now.naming) (kept_of setting.now) (closed_of history.now) a.outcome
+        a.text.items) }
 {
     match named {
         Named::Each(order) => order_answer(alloc, setting, history, order.as_slice()),
@@ -122,7 +127,8 @@ fn history_answer<R: Source>(
     history: &History,
 ) -> Result<Answer, EngineFail>
     ensures answer { IfOk result (λ a. (js : List Json) → AreIds ids.now js → AreRuns setting.now.asked.times.items
-        → IfSome (R.tells reader.old) (λ lines. IsTold lines js setting.now (closed_of history.now) a.outcome a.text.items)) }
+        → IfSome (R.tells reader.old)
+        (λ lines. IsTold lines js setting.now (closed_of history.now) a.outcome a.text.items)) }
     ensures quiet { result ≢ Err EngineFail.ReadFault
         → R.failures reader.new ≡ R.failures reader.old }
     ensures read_fault { IsErrOf result EngineFail.ReadFault → ReadFaultIsDue (R.tells reader.old)

@@ -24,7 +24,8 @@ pub enum FirstBreak {
 
 /// The step, if there is one.
 fn only_step(unkept: Option<Unkept>) -> Option<FirstBreak>
-    ensures { (h : List (Transaction ℕ ℕ)) (asked : Asked) (order : List ℕ) → IsRunOf h order None → IsUnkept order asked unkept
+    ensures { (h : List (Transaction ℕ ℕ)) (asked : Asked) (order : List ℕ) → IsRunOf h order None
+        → IsUnkept order asked unkept
         → IsFirstBroken h asked order result }
 {
     match unkept {
@@ -35,7 +36,8 @@ fn only_step(unkept: Option<Unkept>) -> Option<FirstBreak>
 
 /// The one of both that comes first in the order; of one transaction the operation.
 fn first_of(operation: Broken, step: Unkept) -> FirstBreak
-    ensures { (h : List (Transaction ℕ ℕ)) (asked : Asked) (order : List ℕ) → IsBroken h order operation → IsFirstUnkept order asked step
+    ensures { (h : List (Transaction ℕ ℕ)) (asked : Asked) (order : List ℕ) → IsBroken h order operation
+        → IsFirstUnkept order asked step
         → IsFirstBroken h asked order (Some result) }
 {
     if step.place < operation.place {
@@ -47,7 +49,8 @@ fn first_of(operation: Broken, step: Unkept) -> FirstBreak
 
 /// The operation, or a step that comes before it.
 fn with_step(operation: Broken, unkept: Option<Unkept>) -> FirstBreak
-    ensures { (h : List (Transaction ℕ ℕ)) (asked : Asked) (order : List ℕ) → IsBroken h order operation → IsUnkept order asked unkept
+    ensures { (h : List (Transaction ℕ ℕ)) (asked : Asked) (order : List ℕ) → IsBroken h order operation
+        → IsUnkept order asked unkept
         → IsFirstBroken h asked order (Some result) }
 {
     match unkept {
@@ -58,7 +61,8 @@ fn with_step(operation: Broken, unkept: Option<Unkept>) -> FirstBreak
 
 /// What comes first in the order.
 fn earlier(broken: Option<Broken>, unkept: Option<Unkept>) -> Option<FirstBreak>
-    ensures { (h : List (Transaction ℕ ℕ)) (asked : Asked) (order : List ℕ) → IsRunOf h order broken → IsUnkept order asked unkept
+    ensures { (h : List (Transaction ℕ ℕ)) (asked : Asked) (order : List ℕ) → IsRunOf h order broken
+        → IsUnkept order asked unkept
         → IsFirstBroken h asked order result }
 {
     match broken {
@@ -67,7 +71,8 @@ fn earlier(broken: Option<Broken>, unkept: Option<Unkept>) -> Option<FirstBreak>
     }
 }
 
-/// What breaks the order first: an operation that doesn't follow, or a transaction that is to stand before one in front of it.
+/// What breaks the order first: an operation that doesn't follow, or a transaction that is to stand before one in
+/// front of it.
 pub(crate) fn first_break(
     alloc: Global,
     setting: &Setting,

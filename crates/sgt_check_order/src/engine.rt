@@ -9,15 +9,16 @@ use sgt_history_text::{Wanted, read_history};
 use sgt_names::{EngineFail, Outcome, Sink, Source, write_all};
 use std::alloc::Global;
 
-/// Reads a history, a transaction a line, and then an order, an id of a transaction a line, and writes what the order is: `yes` and how
-/// many transactions commit and abort, where it explains the history and keeps what is wanted; the first fault of the history, as `check`
-/// writes it; `no order` and the order's first line that is wrong, or of the first transaction that breaks the order the operation that
-/// does something else in it, or the step to one before it; or the history's first line that can't be read or doesn't tell what is wanted.
-/// No line of the order behind its first wrong one is read, and none at all where the history has a fault. What is needed is read before
-/// anything is written.
+/// Reads a history, a transaction a line, and then an order, an id of a transaction a line, and writes what the order
+/// is: `yes` and how many transactions commit and abort, where it explains the history and keeps what is wanted; the
+/// first fault of the history, as `check` writes it; `no order` and the order's first line that is wrong, or of the
+/// first transaction that breaks the order the operation that does something else in it, or the step to one before
+/// it; or the history's first line that can't be read or doesn't tell what is wanted. No line of the order behind its
+/// first wrong one is read, and none at all where the history has a fault. What is needed is read before anything is
+/// written.
 ///
-/// ReadFault where a reader failed, or no read of it is left, and Memory where a growth was refused: nothing was written.
-/// WriteFault where the writer failed: a front of the answer may have been written.
+/// ReadFault where a reader failed, or no read of it is left, and Memory where a growth was refused: nothing was
+/// written. WriteFault where the writer failed: a front of the answer may have been written.
 pub fn check_against<O: Source, R: Source, W: Sink>(
     alloc: Global,
     order: &mut O,
@@ -26,7 +27,8 @@ pub fn check_against<O: Source, R: Source, W: Sink>(
     wanted: Wanted,
 ) -> Result<Outcome, EngineFail>
     ensures answer { IfOk result
-        (λ outcome. WroteAnswer wanted (O.tells order.old) (R.tells reader.old) outcome (W.holds writer.old) (W.holds writer.new)) }
+        (λ outcome. WroteAnswer wanted (O.tells order.old) (R.tells reader.old) outcome (W.holds writer.old)
+        (W.holds writer.new)) }
     ensures exact { IfOk result
         (λ outcome. IfSome (R.tells reader.old) (λ bytes. IfSome (O.tells order.old)
         (λ lines. outcome ≡ Outcome.Yes ↔ SpellsServed wanted lines bytes))) }
@@ -37,8 +39,10 @@ pub fn check_against<O: Source, R: Source, W: Sink>(
 
     // A fault tells of its device, and no fault of a device is passed over.
     ensures read_fault { IsErrOf result EngineFail.ReadFault
-        → ReadFaultIsDue (R.tells reader.old) (R.failures reader.old) (R.failures reader.new) (R.asked reader.old) (R.asked reader.new)
-        ⊎ ReadFaultIsDue (O.tells order.old) (O.failures order.old) (O.failures order.new) (O.asked order.old) (O.asked order.new) }
+        → ReadFaultIsDue (R.tells reader.old) (R.failures reader.old) (R.failures reader.new) (R.asked reader.old)
+        (R.asked reader.new)
+        ⊎ ReadFaultIsDue (O.tells order.old) (O.failures order.old) (O.failures order.new) (O.asked order.old)
+        (O.asked order.new) }
     ensures write_fault { IsErrOf result EngineFail.WriteFault
         → W.failures writer.old < W.failures writer.new }
     ensures quiet_order { result ≢ Err EngineFail.ReadFault

@@ -17,7 +17,8 @@ ghost use Rattle.sgt_check_order.specs.Run.{IsFirstBreak};
 
 /// Where a line of the text is wrong, it names no order that serves. No two of the ids are equal.
 pub fn a_stray_line_serves_none<I, V>()
-    ensures { (h : List (Transaction I V)) (ids : List Json) (bytes : List ℕ) (number : ℕ) (order : List ℕ) → StandOnce ids
+    ensures { (h : List (Transaction I V)) (ids : List Json) (bytes : List ℕ) (number : ℕ) (order : List ℕ)
+        → StandOnce ids
         → IsFirstStray h ids bytes number → NameEach ids (lines_of bytes) order → Serves h order → ⊥ }
 {}
 
@@ -35,6 +36,7 @@ pub fn a_step_back_keeps_none<I, V, S>()
 
 /// The answer is a yes exactly where the order names each committed transaction once, serves, and keeps what is wanted.
 pub fn a_yes_is_told_exactly_of_what_serves()
-    ensures { (wanted : Wanted) (order bytes text : List ℕ) (outcome : Outcome) → IsAnswer wanted order bytes outcome text
+    ensures { (wanted : Wanted) (order bytes text : List ℕ) (outcome : Outcome)
+        → IsAnswer wanted order bytes outcome text
         → (outcome ≡ Yes ↔ SpellsServed wanted order bytes) }
 {}

@@ -102,7 +102,8 @@ fn read_lines<R: Source>(
     }
 }
 
-/// Reads an order: ids in JSON, a line each. No line is read behind the first that names no committed transaction, or one again.
+/// Reads an order: ids in JSON, a line each. No line is read behind the first that names no committed transaction, or
+/// one again.
 pub(crate) fn read_order<R: Source>(
     alloc: Global,
     reader: &mut R,

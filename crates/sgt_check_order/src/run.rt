@@ -10,7 +10,8 @@ use sgt_history::{History, Kind, Operation};
 use sgt_history_evidence::transaction_of;
 use std::alloc::{AllocError, Global};
 
-/// The first operation that doesn't follow: that of the line's transaction, at this place of the order. Its item has another version.
+/// The first operation that doesn't follow: that of the line's transaction, at this place of the order. Its item has
+/// another version.
 #[derive(Clone, Copy, Debug, PartialEq, Eq)]
 pub struct Broken {
     pub place: usize,
@@ -90,7 +91,8 @@ fn run_one(
     Ok(None)
 }
 
-/// Runs the operations of a transaction, up to the first that doesn't follow: where it stands, and the version that its item has.
+/// Runs the operations of a transaction, up to the first that doesn't follow: where it stands, and the version that
+/// its item has.
 fn run_all(
     versions: &mut Vec<u64>,
     operations: &[Operation<u32, u32>],
@@ -119,7 +121,8 @@ fn operations_of(history: &History, line: u32) -> &[Operation<u32, u32>]
     operations
 }
 
-/// Runs the transactions of the lines one after another, up to the first operation that doesn't follow. There are so many items.
+/// Runs the transactions of the lines one after another, up to the first operation that doesn't follow. There are so
+/// many items.
 pub(crate) fn run_order(
     alloc: Global,
     history: &History,

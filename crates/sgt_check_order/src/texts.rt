@@ -27,7 +27,8 @@ pub(crate) fn stray_line(alloc: Global, number: u64) -> Result<Vec<u8>, AllocErr
 
 /// The text of the first operation that breaks an order.
 fn broken_line(alloc: Global, naming: &Naming, broken: &Broken) -> Result<Vec<u8>, AllocError>
-    ensures { IfOk result (λ text. text.items ≡ break_text (spelled naming.now) broken.now.line broken.now.operation broken.now.found) }
+    ensures { IfOk result (λ text. text.items ≡ break_text (spelled naming.now) broken.now.line broken.now.operation
+        broken.now.found) }
 {
     let mut text = Vec::from_slice(alloc, b"no order\nline ")?;
     push_line_number(&mut text, broken.line)?;
@@ -42,7 +43,8 @@ fn broken_line(alloc: Global, naming: &Naming, broken: &Broken) -> Result<Vec<u8
 
 /// The step that goes back.
 fn link_of(unkept: &Unkept) -> Link
-    ensures { (names : ℕ → List ℕ) (s : Spelling ℕ ℕ) → link_text s names result ≡ reason_text s names unkept.now.line unkept.now.other unkept.now.reason }
+    ensures { (names : ℕ → List ℕ) (s : Spelling ℕ ℕ)
+        → link_text s names result ≡ reason_text s names unkept.now.line unkept.now.other unkept.now.reason }
 {
     let from = unkept.line;
     let to = unkept.other;
@@ -59,7 +61,8 @@ fn link_of(unkept: &Unkept) -> Link
 
 /// The text of the first step that goes back in an order.
 fn back_line(alloc: Global, setting: &Setting, unkept: &Unkept) -> Result<Vec<u8>, AllocError>
-    ensures { IfOk result (λ text. text.items ≡ back_text (spelled setting.now.naming) (text_at setting.now.sessions) unkept.now) }
+    ensures { IfOk result (λ text. text.items ≡ back_text (spelled setting.now.naming) (text_at setting.now.sessions)
+        unkept.now) }
 {
     let mut text = Vec::from_slice(alloc, b"no order\n")?;
     push_link(&mut text, setting, &link_of(unkept))?;
@@ -72,7 +75,8 @@ pub(crate) fn break_lines(
     setting: &Setting,
     found: &FirstBreak,
 ) -> Result<Vec<u8>, AllocError>
-    ensures { IfOk result (λ text. text.items ≡ first_text (spelled setting.now.naming) (text_at setting.now.sessions) found.now) }
+    ensures { IfOk result (λ text. text.items ≡ first_text (spelled setting.now.naming) (text_at setting.now.sessions)
+        found.now) }
 {
     match found {
         FirstBreak::Operation(broken) => broken_line(alloc, &setting.naming, broken),

@@ -1,7 +1,7 @@
 //! What stands behind the fault of a small history.
 
-use sgt_history_evidence::{Evidence, evidence_of, operation_at, transaction_of};
 use sgt_history::{Flaw, History, Kind, Operation};
+use sgt_history_evidence::{Evidence, evidence_of, operation_at, transaction_of};
 use sgt_history_faults::{Fault, Judged, judge};
 use std::alloc::{AllocError, Global};
 use std::test::Fail;

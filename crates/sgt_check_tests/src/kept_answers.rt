@@ -1,7 +1,7 @@
 //! Small histories and their answers.
 
-use sgt_check_kept::check_kept;
 use sgt_check::Options;
+use sgt_check_kept::check_kept;
 use sgt_history_text::Wanted;
 use sgt_names::{EngineFail, MemSink, MemSource, Outcome};
 use std::alloc::{AllocError, Global};

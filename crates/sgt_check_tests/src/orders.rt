@@ -18,7 +18,8 @@ const BOTH: Wanted = Wanted {
     sessions: true,
 };
 
-/// What is written of the order and the history, over readers that give a few bytes at a time; nothing where the outcome is another one.
+/// What is written of the order and the history, over readers that give a few bytes at a time; nothing where the
+/// outcome is another one.
 fn answer_to(
     alloc: Global,
     order: &[u8],

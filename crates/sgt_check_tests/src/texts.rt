@@ -1,7 +1,9 @@
 //! What no clause says: that texts are read where memory can be had.
 
-use sgt_history_text::{HistoryText, LineFault, MAX_HISTORY_LINE, Names, Reading, Wanted, read_history};
 use sgt_history::{Kind, Operation};
+use sgt_history_text::{
+    HistoryText, LineFault, MAX_HISTORY_LINE, Names, Reading, Wanted, read_history,
+};
 use sgt_names::MemSource;
 use std::alloc::Global;
 use std::test::Fail;

@@ -1,8 +1,8 @@
 //! What small histories are decided to be.
 
-use sgt_history_verdict::{Anomaly, Decided, Step, Verdict, anomaly_of, decide, steps_of};
 use sgt_history::{Conflict, Flaw, History, Kind, Operation};
 use sgt_history_faults::Fault;
+use sgt_history_verdict::{Anomaly, Decided, Step, Verdict, anomaly_of, decide, steps_of};
 use std::alloc::{AllocError, Global};
 use std::test::Fail;
 

@@ -224,7 +224,8 @@ module _ (m : Parts) (c : CoreState) (s : StandsFor m c) (tx slot : ℕ) (h : Is
       (everywhere m c s tx slot h.0 allowed) new reply v after.certifier finishes
       (λ t p at due. none (Any-from_at (λ (q : Place). q.part ≡ Due) m.places t p at due)) in
       let all : after ≡ record m { certifier = after.certifier; table = slice_set m.table slot None; step = None } =
-      ends.is ∙ ap (λ (w : Parts). record w { certifier = after.certifier; table = slice_set w.table slot None }) is in (
+      ends.is ∙ ap (λ (w : Parts). record w { certifier = after.certifier; table = slice_set w.table slot None })
+      is in (
         goes.0,
         subst (λ q. MayStep c (Decide tx) q goes.0) (sym same) goes.1,
         subst (λ w. StandsFor w goes.0) (sym all) goes.2,

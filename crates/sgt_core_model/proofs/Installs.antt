@@ -126,7 +126,8 @@ refused-quiet i cs = record {
   commits =
       λ tx m. elim (Contains-append_cases (map (λ (d : Name × Change). want_entry i d.0 d.1) cs) (entry.Refuse i ∷ [])
       (entry.Commit tx) m) [
-        | inl op ↦ let d = of_change (want_entry i) cs (entry.Commit tx) op in subst IsOpen d.2 (want_open i d.0.0 d.0.1)
+        | inl op ↦ let d = of_change (want_entry i) cs (entry.Commit tx) op in
+            subst IsOpen d.2 (want_open i d.0.0 d.0.1)
         | inr end ↦ elim (contains-cases (entry.Refuse i) [] (entry.Commit tx) end) [
           | inl is ↦ absurd cc
           | inr none ↦ contains-none (entry.Commit tx) none

@@ -5,9 +5,11 @@ use Rattle.sgt_draw.specs.Parts.{part_text, parts_text}
 use Rattle.sgt_draw.specs.Picture.{IsBegun, head_of}
 use Rattle.sgt_draw.specs.declared.canvas.Part.{Part}
 
-longer : (is_dot : Bool) (parts : List Part) (p : Part) (text new more : List ℕ) → text ≡ head_of is_dot ++ parts_text parts → more ≡ part_text p
+longer : (is_dot : Bool) (parts : List Part) (p : Part) (text new more : List ℕ)
+    → text ≡ head_of is_dot ++ parts_text parts → more ≡ part_text p
     → new ≡ text ++ more → IsBegun is_dot new
-longer is_dot parts p text new more begun is grown = (parts ++ p ∷ [], grown ∙ (rw (begun, is) (flat_map_more part_text (head_of is_dot) parts p)))
+longer is_dot parts p text new more begun is grown =
+    (parts ++ p ∷ [], grown ∙ (rw (begun, is) (flat_map_more part_text (head_of is_dot) parts p)))
 
 -- what a growth that may fail leaves, where what it writes is what a part is written as
 pub begun-more : (is_dot done : Bool) (p : Part) (text new more : List ℕ) → IsBegun is_dot text → more ≡ part_text p

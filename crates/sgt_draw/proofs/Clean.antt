@@ -15,7 +15,8 @@ pub as-it-is : (b : ℕ) → IsPlain b → written_byte b ≡ b ∷ []
 as-it-is b is = rw (apart b 60 is.0, apart b 62 is.1, apart b 38 is.2, apart b 34 is.3, apart b 39 is.4) refl
 
 plain : (b : ℕ) → IsPlain b → IsPiece (written_byte b)
-plain b is = inr (subst (λ (t : List ℕ). All IsPlain t) (sym (as-it-is b is)) (All-cons IsPlain b [] is (All-nil IsPlain)))
+plain b is =
+    inr (subst (λ (t : List ℕ). All IsPlain t) (sym (as-it-is b is)) (All-cons IsPlain b [] is (All-nil IsPlain)))
 
 pub piece : (b : ℕ) → IsPiece (written_byte b)
 piece b = elim (eqb_tells b 60) [
@@ -40,5 +41,8 @@ pieces [] = All-nil _
 pieces (b ∷ text) = All-cons (λ b. IsPiece (written_byte b)) b text (piece b) (pieces text)
 
 pub written-clean : (text : List ℕ) → IsClean (written text)
-written-clean text =
-    (map written_byte text, All-map IsPiece written_byte text (pieces text), sym (flat_map-map (λ (p : List ℕ). p) written_byte text))
+written-clean text = (
+  map written_byte text,
+  All-map IsPiece written_byte text (pieces text),
+  sym (flat_map-map (λ (p : List ℕ). p) written_byte text),
+)

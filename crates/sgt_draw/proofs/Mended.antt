@@ -17,7 +17,8 @@ pub last-push : (before last : ℕ) (text : List ℕ) (b : ℕ) → last_of befo
 last-push before last [] b = refl
 last-push before last (c ∷ text) b = last-push last c text b
 
-pub before-push : (before last : ℕ) (text : List ℕ) (b : ℕ) → before_of before last (text ++ b ∷ []) ≡ last_of before last text
+pub before-push : (before last : ℕ) (text : List ℕ) (b : ℕ)
+    → before_of before last (text ++ b ∷ []) ≡ last_of before last text
 before-push before last [] b = refl
 before-push before last (c ∷ text) b = before-push last c text b
 
@@ -26,12 +27,15 @@ pub mended-push : (before last : ℕ) (text : List ℕ) (b : ℕ) → mended_beh
 mended-push before last [] b = append-nil (mended_byte before last b)
 mended-push before last (c ∷ text) b =
     ap (λ (t : List ℕ). mended_byte before last c ++ t) (mended-push last c text b)
-    ∙ sym (append_assoc (mended_byte before last c) (mended_behind last c text) (mended_byte (before_of last c text) (last_of last c text) b))
+    ∙ sym (append_assoc (mended_byte before last c) (mended_behind last c text)
+    (mended_byte (before_of last c text) (last_of last c text) b))
 
 -- one more byte of a text
-pub mended-next : (text : List ℕ) (k before last b : ℕ) (old new : List ℕ) → slice_get text k ≡ Some b → old ≡ mended (take k text)
+pub mended-next : (text : List ℕ) (k before last b : ℕ) (old new : List ℕ) → slice_get text k ≡ Some b
+    → old ≡ mended (take k text)
     → before ≡ before_of 0 0 (take k text) → last ≡ last_of 0 0 (take k text) → new ≡ old ++ mended_byte before last b
-    → (new ≡ mended (take (k + 1) text)) × (last ≡ before_of 0 0 (take (k + 1) text)) × (b ≡ last_of 0 0 (take (k + 1) text))
+    → (new ≡ mended (take (k + 1) text)) × (last ≡ before_of 0 0 (take (k + 1) text))
+    × (b ≡ last_of 0 0 (take (k + 1) text))
 mended-next text k before last b old new at so_far is_before is_last grown =
     let more = sym (take_next text k b at) in (
       grown ∙ ap (λ (t : List ℕ). t ++ mended_byte before last b) so_far

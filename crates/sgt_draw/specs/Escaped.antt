@@ -28,8 +28,8 @@ written_byte b =
 abbrev pub written : List ℕ → List ℕ
 written text = flat_map written_byte text
 
--- what stands for a byte of UTF-8 behind these two: U+FFFD for a control byte, and, by its last byte, for U+FFFE and U+FFFF,
--- which XML does not have
+-- what stands for a byte of UTF-8 behind these two: U+FFFD for a control byte, and, by its last byte, for U+FFFE and
+-- U+FFFF, which XML does not have
 abbrev pub mended_byte : (before last b : ℕ) → List ℕ
 mended_byte before last b =
     if ltb b 32 then 239 ∷ 191 ∷ 189 ∷ []

@@ -53,7 +53,8 @@ fn push_byte(out: &mut Vec<u8>, byte: u8) -> Result<(), AllocError>
     }
 }
 
-/// What stands for a byte behind these two: U+FFFD for a control byte, and for U+FFFE and U+FFFF, which XML does not have.
+/// What stands for a byte behind these two: U+FFFD for a control byte, and for U+FFFE and U+FFFF, which XML does not
+/// have.
 fn push_mended(out: &mut Vec<u8>, before: u8, last: u8, byte: u8) -> Result<(), AllocError>
     ensures { OnOk result (out.new.items ≡ out.old.items ++ mended_byte before last byte) }
 {

@@ -94,10 +94,10 @@ fn answer_to(alloc: Global, wanted: Wanted, audited: Audited) -> Result<Answer, 
     }
 }
 
-/// Audits all that the reader gives, as `audit` does. A no is written as its line, and nothing is drawn. For a yes one picture
-/// is written: SVG without scripts and without other files, or Graphviz text. It shows the first 200 transactions by rank, as
-/// many refused and as many withdrawn ones, and a line says so where there are more. The reader is read once, and no further
-/// than the first line with a fault. The bundle and the picture stand in memory.
+/// Audits all that the reader gives, as `audit` does. A no is written as its line, and nothing is drawn. For a yes
+/// one picture is written: SVG without scripts and without other files, or Graphviz text. It shows the first 200
+/// transactions by rank, as many refused and as many withdrawn ones, and a line says so where there are more. The
+/// reader is read once, and no further than the first line with a fault. The bundle and the picture stand in memory.
 ///
 /// ReadFault where the reader failed, or no read is left, and Memory where a growth was refused: nothing was written.
 /// WriteFault where the writer failed: a front of the answer may have been written.

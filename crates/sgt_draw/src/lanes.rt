@@ -14,7 +14,8 @@ fn span(edge: &Edge) -> u32 {
     edge.to.saturating_sub(edge.from)
 }
 
-/// The gaps between places that an edge and its label stand over, a bit each. A short edge's label may be wider than the edge.
+/// The gaps between places that an edge and its label stand over, a bit each. A short edge's label may be wider than
+/// the edge.
 fn gaps_under(edge: &Edge) -> u64 {
     let (from, behind) = if span(edge) < 3 {
         (edge.from, edge.to.saturating_add(2))
@@ -42,7 +43,8 @@ fn take_lane(lanes: &mut Vec<u64>, gaps: u64) -> Result<u64, AllocError> {
     Ok(number)
 }
 
-/// The edges with their heights, short ones below long ones. Where they get no labels, an edge is as high as it is long.
+/// The edges with their heights, short ones below long ones. Where they get no labels, an edge is as high as it is
+/// long.
 pub(crate) fn laid_in(
     alloc: Global,
     edges: &mut Vec<Edge>,

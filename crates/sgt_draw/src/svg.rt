@@ -349,7 +349,8 @@ fn put_pair(canvas: &mut Canvas, scene: &Scene, from: u32, to: u32) -> Result<()
     Ok(())
 }
 
-/// The cycle of one refused transaction alone, each step with its label; of another transaction a line that it has none.
+/// The cycle of one refused transaction alone, each step with its label; of another transaction a line that it has
+/// none.
 pub(crate) fn put_alone(
     canvas: &mut Canvas,
     decisions: &[Decision],

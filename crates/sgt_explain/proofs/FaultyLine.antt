@@ -29,16 +29,19 @@ use Rattle.sgt_notation.proofs.Texts.{line_front}
 abbrev plain : List (ℕ × SectionLine) → List SectionLine
 plain ps = map (λ p. p.1) ps
 
-plain-with : (ps : List (ℕ × SectionLine)) (n : ℕ) (l : SectionLine) → plain (with_line ps (n, l)) ≡ section_with (plain ps) l
+plain-with : (ps : List (ℕ × SectionLine)) (n : ℕ) (l : SectionLine)
+    → plain (with_line ps (n, l)) ≡ section_with (plain ps) l
 plain-with ps n (Site k) = refl
 plain-with ps n (Initial h) = map-append (λ (p : ℕ × SectionLine). p.1) ps ((n, Initial h) ∷ [])
 plain-with ps n (Logged e) = map-append (λ (p : ℕ × SectionLine). p.1) ps ((n, Logged e) ∷ [])
 plain-with ps n (Final h) = map-append (λ (p : ℕ × SectionLine). p.1) ps ((n, Final h) ∷ [])
 plain-with ps n End = map-append (λ (p : ℕ × SectionLine). p.1) ps ((n, End) ∷ [])
 
-plain-from : (ps : List (ℕ × SectionLine)) (n : ℕ) (ls : List SectionLine) → plain (fold with_line ps (enumerate_from n ls)) ≡ fold section_with (plain ps) ls
+plain-from : (ps : List (ℕ × SectionLine)) (n : ℕ) (ls : List SectionLine)
+    → plain (fold with_line ps (enumerate_from n ls)) ≡ fold section_with (plain ps) ls
 plain-from ps n [] = refl
-plain-from ps n (l ∷ ls) = plain-from (with_line ps (n, l)) (n + 1) ls ∙ ap (λ s. fold section_with s ls) (plain-with ps n l)
+plain-from ps n (l ∷ ls) = plain-from (with_line ps (n, l)) (n + 1) ls
+    ∙ ap (λ s. fold section_with s ls) (plain-with ps n l)
 
 plain-open : (before : List SectionLine) → plain (open_lines before) ≡ open_section before
 plain-open before = plain-from [] 3 before
@@ -76,20 +79,27 @@ pub record FaultyLine (bytes : List ℕ) (n : ℕ) (f : Fault) (stage : Stage) (
   pub comes : next ≡ whole (line_text line)
   pub has : HasLine bytes n before line
   pub kept : AllKept second c before
-  pub certified : (first : List ℕ) × (more : List ℕ) × HasNoLf first × (bytes ≡ first ++ 10 ∷ (certificate_text c ++ 10 ∷ more))
+  pub certified : (first : List ℕ) × (more : List ℕ) × HasNoLf first
+      × (bytes ≡ first ++ 10 ∷ (certificate_text c ++ 10 ∷ more))
   pub begun : Keeps c before line fault.Section
   pub known : fault_number fault.Item < fault_number f → Keeps c before line fault.Item
   pub decided : fault_number fault.End < fault_number f → Keeps c before line fault.End
   pub broken : Keeps c before line f → ⊥
 
-split_at : (ls : List SectionLine) (n : ℕ) (l : SectionLine) → slice_get ls n ≡ Some l → ls ≡ take n ls ++ l ∷ drop (n + 1) ls
+split_at : (ls : List SectionLine) (n : ℕ) (l : SectionLine) → slice_get ls n ≡ Some l
+    → ls ≡ take n ls ++ l ∷ drop (n + 1) ls
 split_at ls n l at = sym (take-append-drop n ls) ∙ ap (λ ms. take n ls ++ ms) (drop_next ls n l at)
 
-pub kept-spelled : (second : Bool) (c : Certificate) (before : List SectionLine) → AllKept second c before → All IsLine before
-kept-spelled second c before kept = All-from_at IsLine before (λ n l at. (kept.lines (take n before) (drop (n + 1) before) l (split_at before n l at)).0.0)
+pub kept-spelled : (second : Bool) (c : Certificate) (before : List SectionLine) → AllKept second c before
+    → All IsLine before
+kept-spelled second c before kept =
+    All-from_at IsLine before
+    (λ n l at. (kept.lines (take n before) (drop (n + 1) before) l (split_at before n l at)).0.0)
 
-module _ (bytes rest l : List ℕ) (n : ℕ) (second : Bool) (c : Certificate) (before : List SectionLine) (text : bytes ≡ text_of_lines (lines_so_far (within second c before)) ++ rest)
-    (faultless : IsFaultless (within second c before)) (number : n ≡ length (lines_so_far (within second c before)) + 1) (comes : ComesNext rest (whole l)) where
+module _ (bytes rest l : List ℕ) (n : ℕ) (second : Bool) (c : Certificate) (before : List SectionLine)
+    (text : bytes ≡ text_of_lines (lines_so_far (within second c before)) ++ rest)
+    (faultless : IsFaultless (within second c before))
+    (number : n ≡ length (lines_so_far (within second c before)) + 1) (comes : ComesNext rest (whole l)) where
   abbrev two_lines : List (List ℕ)
   two_lines = format_line second ∷ certificate_text c ∷ []
 
@@ -109,13 +119,16 @@ module _ (bytes rest l : List ℕ) (n : ℕ) (second : Bool) (c : Certificate) (
         one = is;
         text = text ∙ ap (λ t. t ++ rest) (flat_map-append (λ m. m ++ 10 ∷ []) two_lines (map line_text before))
             ∙ append_assoc (text_of_lines two_lines) (text_of_lines (map line_text before)) rest
-            ∙ ap (λ r. text_of_lines two_lines ++ (text_of_lines (map line_text before) ++ r)) (comes.1 ∙ ap (λ m. m ++ 10 ∷ comes.0) e);
+            ∙ ap (λ r. text_of_lines two_lines ++ (text_of_lines (map line_text before) ++ r)) (comes.1
+            ∙ ap (λ m. m ++ 10 ∷ comes.0) e);
         counted = omega (arith, number, lines, long);
       }
 
-  inside : (f : Fault) → Rule (within second c before) (whole l) fault.Notation → Rule (within second c before) (whole l) fault.Section
+  inside : (f : Fault) → Rule (within second c before) (whole l) fault.Notation
+      → Rule (within second c before) (whole l) fault.Section
       → (fault_number fault.Item < fault_number f → Rule (within second c before) (whole l) fault.Item)
-      → (fault_number fault.End < fault_number f → Rule (within second c before) (whole l) fault.End) → (((line : SectionLine) → IsLineIn second line → l ≡ line_text line → Keeps c before line f) → ⊥)
+      → (fault_number fault.End < fault_number f → Rule (within second c before) (whole l) fault.End)
+      → (((line : SectionLine) → IsLineIn second line → l ≡ line_text line → Keeps c before line f) → ⊥)
       → FaultyLine bytes n f (within second c before) (whole l)
   inside f spelled begun known decided broken = record {
     second = second;
@@ -131,17 +144,20 @@ module _ (bytes rest l : List ℕ) (n : ℕ) (second : Bool) (c : Certificate) (
       text_of_lines (map line_text before) ++ rest,
       All-from_recursion (λ b. b ≢ 10) (format_line second) (format-one_line second),
       text ∙ line_front (format_line second) (certificate_text c ∷ map line_text before) rest
-          ∙ ap (λ (r : List ℕ). format_line second ++ 10 ∷ r) (line_front (certificate_text c) (map line_text before) rest),
+          ∙ ap (λ (r : List ℕ). format_line second ++ 10 ∷ r)
+          (line_front (certificate_text c) (map line_text before) rest),
     );
     begun = begun spelled.0 spelled.1 spelled.2;
     known = λ less. known less spelled.0 spelled.1 spelled.2;
     decided = λ less. decided less spelled.0 spelled.1 spelled.2;
-    broken = λ keeps. broken (λ m is e. subst (λ k. Keeps c before k f) (line-one spelled.0 m spelled.1.0 is.0 (sym spelled.2 ∙ e)) keeps);
+    broken = λ keeps. broken
+        (λ m is e. subst (λ k. Keeps c before k f) (line-one spelled.0 m spelled.1.0 is.0 (sym spelled.2 ∙ e)) keeps);
   }
 
 -- of a read, and of a final
 module _ (bytes rest : List ℕ) (n : ℕ) where
-  read-of : (stage : Stage) (next : Piece) → bytes ≡ text_of_lines (lines_so_far stage) ++ rest → IsFaultless stage → n ≡ length (lines_so_far stage) + 1 → ComesNext rest next
+  read-of : (stage : Stage) (next : Piece) → bytes ≡ text_of_lines (lines_so_far stage) ++ rest → IsFaultless stage
+      → n ≡ length (lines_so_far stage) + 1 → ComesNext rest next
       → Breaks (Rule stage next) fault.ReadValue → FaultyLine bytes n fault.ReadValue stage next
   read-of start (whole l) text kept number comes breaks = absurd (breaks.broken tt)
   read-of start (last l) text kept number comes breaks = absurd (breaks.broken tt)
@@ -151,9 +167,12 @@ module _ (bytes rest : List ℕ) (n : ℕ) where
   read-of (complete second c before) (whole l) text kept number comes breaks = absurd (breaks.broken tt)
   read-of (complete second c before) (last l) text kept number comes breaks = absurd (breaks.broken tt)
   read-of (within second c before) (whole l) text kept number comes breaks =
-      inside bytes rest l n second c before text kept number comes fault.ReadValue (breaks.least fault.Notation (omega arith)) (breaks.least fault.Section (omega arith)) (breaks.least fault.Item) (breaks.least fault.End) breaks.broken
+      inside bytes rest l n second c before text kept number comes fault.ReadValue
+      (breaks.least fault.Notation (omega arith)) (breaks.least fault.Section (omega arith))
+      (breaks.least fault.Item) (breaks.least fault.End) breaks.broken
 
-  final-of : (stage : Stage) (next : Piece) → bytes ≡ text_of_lines (lines_so_far stage) ++ rest → IsFaultless stage → n ≡ length (lines_so_far stage) + 1 → ComesNext rest next
+  final-of : (stage : Stage) (next : Piece) → bytes ≡ text_of_lines (lines_so_far stage) ++ rest → IsFaultless stage
+      → n ≡ length (lines_so_far stage) + 1 → ComesNext rest next
       → Breaks (Rule stage next) fault.Final → FaultyLine bytes n fault.Final stage next
   final-of start (whole l) text kept number comes breaks = absurd (breaks.broken tt)
   final-of start (last l) text kept number comes breaks = absurd (breaks.broken tt)
@@ -163,9 +182,12 @@ module _ (bytes rest : List ℕ) (n : ℕ) where
   final-of (complete second c before) (whole l) text kept number comes breaks = absurd (breaks.broken tt)
   final-of (complete second c before) (last l) text kept number comes breaks = absurd (breaks.broken tt)
   final-of (within second c before) (whole l) text kept number comes breaks =
-      inside bytes rest l n second c before text kept number comes fault.Final (breaks.least fault.Notation (omega arith)) (breaks.least fault.Section (omega arith)) (breaks.least fault.Item) (breaks.least fault.End) breaks.broken
+      inside bytes rest l n second c before text kept number comes fault.Final
+      (breaks.least fault.Notation (omega arith)) (breaks.least fault.Section (omega arith))
+      (breaks.least fault.Item) (breaks.least fault.End) breaks.broken
 
-  rank-of : (stage : Stage) (next : Piece) → bytes ≡ text_of_lines (lines_so_far stage) ++ rest → IsFaultless stage → n ≡ length (lines_so_far stage) + 1 → ComesNext rest next
+  rank-of : (stage : Stage) (next : Piece) → bytes ≡ text_of_lines (lines_so_far stage) ++ rest → IsFaultless stage
+      → n ≡ length (lines_so_far stage) + 1 → ComesNext rest next
       → Breaks (Rule stage next) fault.RankOrder → FaultyLine bytes n fault.RankOrder stage next
   rank-of start (whole l) text kept number comes breaks = absurd (breaks.broken tt)
   rank-of start (last l) text kept number comes breaks = absurd (breaks.broken tt)
@@ -175,9 +197,12 @@ module _ (bytes rest : List ℕ) (n : ℕ) where
   rank-of (complete second c before) (whole l) text kept number comes breaks = absurd (breaks.broken tt)
   rank-of (complete second c before) (last l) text kept number comes breaks = absurd (breaks.broken tt)
   rank-of (within second c before) (whole l) text kept number comes breaks =
-      inside bytes rest l n second c before text kept number comes fault.RankOrder (breaks.least fault.Notation (omega arith)) (breaks.least fault.Section (omega arith)) (breaks.least fault.Item) (breaks.least fault.End) breaks.broken
+      inside bytes rest l n second c before text kept number comes fault.RankOrder
+      (breaks.least fault.Notation (omega arith)) (breaks.least fault.Section (omega arith))
+      (breaks.least fault.Item) (breaks.least fault.End) breaks.broken
 
-  step-of : (stage : Stage) (next : Piece) → bytes ≡ text_of_lines (lines_so_far stage) ++ rest → IsFaultless stage → n ≡ length (lines_so_far stage) + 1 → ComesNext rest next
+  step-of : (stage : Stage) (next : Piece) → bytes ≡ text_of_lines (lines_so_far stage) ++ rest → IsFaultless stage
+      → n ≡ length (lines_so_far stage) + 1 → ComesNext rest next
       → Breaks (Rule stage next) fault.WalkStep → FaultyLine bytes n fault.WalkStep stage next
   step-of start (whole l) text kept number comes breaks = absurd (breaks.broken tt)
   step-of start (last l) text kept number comes breaks = absurd (breaks.broken tt)
@@ -187,9 +212,12 @@ module _ (bytes rest : List ℕ) (n : ℕ) where
   step-of (complete second c before) (whole l) text kept number comes breaks = absurd (breaks.broken tt)
   step-of (complete second c before) (last l) text kept number comes breaks = absurd (breaks.broken tt)
   step-of (within second c before) (whole l) text kept number comes breaks =
-      inside bytes rest l n second c before text kept number comes fault.WalkStep (breaks.least fault.Notation (omega arith)) (breaks.least fault.Section (omega arith)) (breaks.least fault.Item) (breaks.least fault.End) breaks.broken
+      inside bytes rest l n second c before text kept number comes fault.WalkStep
+      (breaks.least fault.Notation (omega arith)) (breaks.least fault.Section (omega arith))
+      (breaks.least fault.Item) (breaks.least fault.End) breaks.broken
 
-  item-of : (stage : Stage) (next : Piece) → bytes ≡ text_of_lines (lines_so_far stage) ++ rest → IsFaultless stage → n ≡ length (lines_so_far stage) + 1 → ComesNext rest next
+  item-of : (stage : Stage) (next : Piece) → bytes ≡ text_of_lines (lines_so_far stage) ++ rest → IsFaultless stage
+      → n ≡ length (lines_so_far stage) + 1 → ComesNext rest next
       → Breaks (Rule stage next) fault.Item → FaultyLine bytes n fault.Item stage next
   item-of start (whole l) text kept number comes breaks = absurd (breaks.broken tt)
   item-of start (last l) text kept number comes breaks = absurd (breaks.broken tt)
@@ -199,9 +227,12 @@ module _ (bytes rest : List ℕ) (n : ℕ) where
   item-of (complete second c before) (whole l) text kept number comes breaks = absurd (breaks.broken tt)
   item-of (complete second c before) (last l) text kept number comes breaks = absurd (breaks.broken tt)
   item-of (within second c before) (whole l) text kept number comes breaks =
-      inside bytes rest l n second c before text kept number comes fault.Item (breaks.least fault.Notation (omega arith)) (breaks.least fault.Section (omega arith)) (breaks.least fault.Item) (breaks.least fault.End) breaks.broken
+      inside bytes rest l n second c before text kept number comes fault.Item
+      (breaks.least fault.Notation (omega arith)) (breaks.least fault.Section (omega arith))
+      (breaks.least fault.Item) (breaks.least fault.End) breaks.broken
 
-  twice-of : (stage : Stage) (next : Piece) → bytes ≡ text_of_lines (lines_so_far stage) ++ rest → IsFaultless stage → n ≡ length (lines_so_far stage) + 1 → ComesNext rest next
+  twice-of : (stage : Stage) (next : Piece) → bytes ≡ text_of_lines (lines_so_far stage) ++ rest → IsFaultless stage
+      → n ≡ length (lines_so_far stage) + 1 → ComesNext rest next
       → Breaks (Rule stage next) fault.Twice → FaultyLine bytes n fault.Twice stage next
   twice-of start (whole l) text kept number comes breaks = absurd (breaks.broken tt)
   twice-of start (last l) text kept number comes breaks = absurd (breaks.broken tt)
@@ -211,9 +242,12 @@ module _ (bytes rest : List ℕ) (n : ℕ) where
   twice-of (complete second c before) (whole l) text kept number comes breaks = absurd (breaks.broken tt)
   twice-of (complete second c before) (last l) text kept number comes breaks = absurd (breaks.broken tt)
   twice-of (within second c before) (whole l) text kept number comes breaks =
-      inside bytes rest l n second c before text kept number comes fault.Twice (breaks.least fault.Notation (omega arith)) (breaks.least fault.Section (omega arith)) (breaks.least fault.Item) (breaks.least fault.End) breaks.broken
+      inside bytes rest l n second c before text kept number comes fault.Twice
+      (breaks.least fault.Notation (omega arith)) (breaks.least fault.Section (omega arith))
+      (breaks.least fault.Item) (breaks.least fault.End) breaks.broken
 
-  block-of : (stage : Stage) (next : Piece) → bytes ≡ text_of_lines (lines_so_far stage) ++ rest → IsFaultless stage → n ≡ length (lines_so_far stage) + 1 → ComesNext rest next
+  block-of : (stage : Stage) (next : Piece) → bytes ≡ text_of_lines (lines_so_far stage) ++ rest → IsFaultless stage
+      → n ≡ length (lines_so_far stage) + 1 → ComesNext rest next
       → Breaks (Rule stage next) fault.Block → FaultyLine bytes n fault.Block stage next
   block-of start (whole l) text kept number comes breaks = absurd (breaks.broken tt)
   block-of start (last l) text kept number comes breaks = absurd (breaks.broken tt)
@@ -223,9 +257,12 @@ module _ (bytes rest : List ℕ) (n : ℕ) where
   block-of (complete second c before) (whole l) text kept number comes breaks = absurd (breaks.broken tt)
   block-of (complete second c before) (last l) text kept number comes breaks = absurd (breaks.broken tt)
   block-of (within second c before) (whole l) text kept number comes breaks =
-      inside bytes rest l n second c before text kept number comes fault.Block (breaks.least fault.Notation (omega arith)) (breaks.least fault.Section (omega arith)) (breaks.least fault.Item) (breaks.least fault.End) breaks.broken
+      inside bytes rest l n second c before text kept number comes fault.Block
+      (breaks.least fault.Notation (omega arith)) (breaks.least fault.Section (omega arith))
+      (breaks.least fault.Item) (breaks.least fault.End) breaks.broken
 
-  end-of : (stage : Stage) (next : Piece) → bytes ≡ text_of_lines (lines_so_far stage) ++ rest → IsFaultless stage → n ≡ length (lines_so_far stage) + 1 → ComesNext rest next
+  end-of : (stage : Stage) (next : Piece) → bytes ≡ text_of_lines (lines_so_far stage) ++ rest → IsFaultless stage
+      → n ≡ length (lines_so_far stage) + 1 → ComesNext rest next
       → Breaks (Rule stage next) fault.End → FaultyLine bytes n fault.End stage next
   end-of start (whole l) text kept number comes breaks = absurd (breaks.broken tt)
   end-of start (last l) text kept number comes breaks = absurd (breaks.broken tt)
@@ -235,9 +272,12 @@ module _ (bytes rest : List ℕ) (n : ℕ) where
   end-of (complete second c before) (whole l) text kept number comes breaks = absurd (breaks.broken tt)
   end-of (complete second c before) (last l) text kept number comes breaks = absurd (breaks.broken tt)
   end-of (within second c before) (whole l) text kept number comes breaks =
-      inside bytes rest l n second c before text kept number comes fault.End (breaks.least fault.Notation (omega arith)) (breaks.least fault.Section (omega arith)) (breaks.least fault.Item) (breaks.least fault.End) breaks.broken
+      inside bytes rest l n second c before text kept number comes fault.End
+      (breaks.least fault.Notation (omega arith)) (breaks.least fault.Section (omega arith))
+      (breaks.least fault.Item) (breaks.least fault.End) breaks.broken
 
-  decision-of : (stage : Stage) (next : Piece) → bytes ≡ text_of_lines (lines_so_far stage) ++ rest → IsFaultless stage → n ≡ length (lines_so_far stage) + 1 → ComesNext rest next
+  decision-of : (stage : Stage) (next : Piece) → bytes ≡ text_of_lines (lines_so_far stage) ++ rest
+      → IsFaultless stage → n ≡ length (lines_so_far stage) + 1 → ComesNext rest next
       → Breaks (Rule stage next) fault.DecisionOrder → FaultyLine bytes n fault.DecisionOrder stage next
   decision-of start (whole l) text kept number comes breaks = absurd (breaks.broken tt)
   decision-of start (last l) text kept number comes breaks = absurd (breaks.broken tt)
@@ -247,9 +287,12 @@ module _ (bytes rest : List ℕ) (n : ℕ) where
   decision-of (complete second c before) (whole l) text kept number comes breaks = absurd (breaks.broken tt)
   decision-of (complete second c before) (last l) text kept number comes breaks = absurd (breaks.broken tt)
   decision-of (within second c before) (whole l) text kept number comes breaks =
-      inside bytes rest l n second c before text kept number comes fault.DecisionOrder (breaks.least fault.Notation (omega arith)) (breaks.least fault.Section (omega arith)) (breaks.least fault.Item) (breaks.least fault.End) breaks.broken
+      inside bytes rest l n second c before text kept number comes fault.DecisionOrder
+      (breaks.least fault.Notation (omega arith)) (breaks.least fault.Section (omega arith))
+      (breaks.least fault.Item) (breaks.least fault.End) breaks.broken
 
-  left-of : (stage : Stage) (next : Piece) → bytes ≡ text_of_lines (lines_so_far stage) ++ rest → IsFaultless stage → n ≡ length (lines_so_far stage) + 1 → ComesNext rest next
+  left-of : (stage : Stage) (next : Piece) → bytes ≡ text_of_lines (lines_so_far stage) ++ rest → IsFaultless stage
+      → n ≡ length (lines_so_far stage) + 1 → ComesNext rest next
       → Breaks (Rule stage next) fault.NotEnded → FaultyLine bytes n fault.NotEnded stage next
   left-of start (whole l) text kept number comes breaks = absurd (breaks.broken tt)
   left-of start (last l) text kept number comes breaks = absurd (breaks.broken tt)
@@ -259,10 +302,13 @@ module _ (bytes rest : List ℕ) (n : ℕ) where
   left-of (complete second c before) (whole l) text kept number comes breaks = absurd (breaks.broken tt)
   left-of (complete second c before) (last l) text kept number comes breaks = absurd (breaks.broken tt)
   left-of (within second c before) (whole l) text kept number comes breaks =
-      inside bytes rest l n second c before text kept number comes fault.NotEnded (breaks.least fault.Notation (omega arith)) (breaks.least fault.Section (omega arith)) (breaks.least fault.Item) (breaks.least fault.End) breaks.broken
+      inside bytes rest l n second c before text kept number comes fault.NotEnded
+      (breaks.least fault.Notation (omega arith)) (breaks.least fault.Section (omega arith))
+      (breaks.least fault.Item) (breaks.least fault.End) breaks.broken
 
   -- a line that the section doesn't allow spells one all the same
-  section-of : (stage : Stage) (next : Piece) → bytes ≡ text_of_lines (lines_so_far stage) ++ rest → IsFaultless stage → n ≡ length (lines_so_far stage) + 1 → ComesNext rest next
+  section-of : (stage : Stage) (next : Piece) → bytes ≡ text_of_lines (lines_so_far stage) ++ rest → IsFaultless stage
+      → n ≡ length (lines_so_far stage) + 1 → ComesNext rest next
       → Breaks (Rule stage next) fault.Section → (line : SectionLine) × HasLine bytes n (lines_before stage) line
   section-of start (whole l) text kept number comes breaks = absurd (breaks.broken tt)
   section-of start (last l) text kept number comes breaks = absurd (breaks.broken tt)
@@ -275,35 +321,59 @@ module _ (bytes rest : List ℕ) (n : ℕ) where
       let spelled = breaks.least fault.Notation (omega arith) in
       (spelled.0, has-line bytes rest l n second c before text kept number comes spelled.0 spelled.1.0 spelled.2)
 
-pub section-line : (bytes : List ℕ) (n : ℕ) (first : FirstFault bytes n fault.Section) → (line : SectionLine) × HasLine bytes n (lines_before first.stage) line
-section-line bytes n first = section-of bytes first.rest n first.stage first.next first.text first.faultless first.number first.comes first.breaks
+pub section-line : (bytes : List ℕ) (n : ℕ) (first : FirstFault bytes n fault.Section)
+    → (line : SectionLine) × HasLine bytes n (lines_before first.stage) line
+section-line bytes n first =
+    section-of bytes first.rest n first.stage first.next first.text first.faultless first.number first.comes
+    first.breaks
 
-pub rank-line : (bytes : List ℕ) (n : ℕ) (first : FirstFault bytes n fault.RankOrder) → FaultyLine bytes n fault.RankOrder first.stage first.next
-rank-line bytes n first = rank-of bytes first.rest n first.stage first.next first.text first.faultless first.number first.comes first.breaks
+pub rank-line : (bytes : List ℕ) (n : ℕ) (first : FirstFault bytes n fault.RankOrder)
+    → FaultyLine bytes n fault.RankOrder first.stage first.next
+rank-line bytes n first =
+    rank-of bytes first.rest n first.stage first.next first.text first.faultless first.number first.comes first.breaks
 
-pub read-line : (bytes : List ℕ) (n : ℕ) (first : FirstFault bytes n fault.ReadValue) → FaultyLine bytes n fault.ReadValue first.stage first.next
-read-line bytes n first = read-of bytes first.rest n first.stage first.next first.text first.faultless first.number first.comes first.breaks
+pub read-line : (bytes : List ℕ) (n : ℕ) (first : FirstFault bytes n fault.ReadValue)
+    → FaultyLine bytes n fault.ReadValue first.stage first.next
+read-line bytes n first =
+    read-of bytes first.rest n first.stage first.next first.text first.faultless first.number first.comes first.breaks
 
-pub final-line : (bytes : List ℕ) (n : ℕ) (first : FirstFault bytes n fault.Final) → FaultyLine bytes n fault.Final first.stage first.next
-final-line bytes n first = final-of bytes first.rest n first.stage first.next first.text first.faultless first.number first.comes first.breaks
+pub final-line : (bytes : List ℕ) (n : ℕ) (first : FirstFault bytes n fault.Final)
+    → FaultyLine bytes n fault.Final first.stage first.next
+final-line bytes n first = final-of bytes first.rest n first.stage first.next first.text first.faultless first.number
+    first.comes first.breaks
 
-pub step-line : (bytes : List ℕ) (n : ℕ) (first : FirstFault bytes n fault.WalkStep) → FaultyLine bytes n fault.WalkStep first.stage first.next
-step-line bytes n first = step-of bytes first.rest n first.stage first.next first.text first.faultless first.number first.comes first.breaks
+pub step-line : (bytes : List ℕ) (n : ℕ) (first : FirstFault bytes n fault.WalkStep)
+    → FaultyLine bytes n fault.WalkStep first.stage first.next
+step-line bytes n first =
+    step-of bytes first.rest n first.stage first.next first.text first.faultless first.number first.comes first.breaks
 
-pub item-line : (bytes : List ℕ) (n : ℕ) (first : FirstFault bytes n fault.Item) → FaultyLine bytes n fault.Item first.stage first.next
-item-line bytes n first = item-of bytes first.rest n first.stage first.next first.text first.faultless first.number first.comes first.breaks
+pub item-line : (bytes : List ℕ) (n : ℕ) (first : FirstFault bytes n fault.Item)
+    → FaultyLine bytes n fault.Item first.stage first.next
+item-line bytes n first =
+    item-of bytes first.rest n first.stage first.next first.text first.faultless first.number first.comes first.breaks
 
-pub twice-line : (bytes : List ℕ) (n : ℕ) (first : FirstFault bytes n fault.Twice) → FaultyLine bytes n fault.Twice first.stage first.next
-twice-line bytes n first = twice-of bytes first.rest n first.stage first.next first.text first.faultless first.number first.comes first.breaks
+pub twice-line : (bytes : List ℕ) (n : ℕ) (first : FirstFault bytes n fault.Twice)
+    → FaultyLine bytes n fault.Twice first.stage first.next
+twice-line bytes n first = twice-of bytes first.rest n first.stage first.next first.text first.faultless first.number
+    first.comes first.breaks
 
-pub block-line : (bytes : List ℕ) (n : ℕ) (first : FirstFault bytes n fault.Block) → FaultyLine bytes n fault.Block first.stage first.next
-block-line bytes n first = block-of bytes first.rest n first.stage first.next first.text first.faultless first.number first.comes first.breaks
+pub block-line : (bytes : List ℕ) (n : ℕ) (first : FirstFault bytes n fault.Block)
+    → FaultyLine bytes n fault.Block first.stage first.next
+block-line bytes n first = block-of bytes first.rest n first.stage first.next first.text first.faultless first.number
+    first.comes first.breaks
 
-pub end-line : (bytes : List ℕ) (n : ℕ) (first : FirstFault bytes n fault.End) → FaultyLine bytes n fault.End first.stage first.next
-end-line bytes n first = end-of bytes first.rest n first.stage first.next first.text first.faultless first.number first.comes first.breaks
+pub end-line : (bytes : List ℕ) (n : ℕ) (first : FirstFault bytes n fault.End)
+    → FaultyLine bytes n fault.End first.stage first.next
+end-line bytes n first =
+    end-of bytes first.rest n first.stage first.next first.text first.faultless first.number first.comes first.breaks
 
-pub decision-line : (bytes : List ℕ) (n : ℕ) (first : FirstFault bytes n fault.DecisionOrder) → FaultyLine bytes n fault.DecisionOrder first.stage first.next
-decision-line bytes n first = decision-of bytes first.rest n first.stage first.next first.text first.faultless first.number first.comes first.breaks
+pub decision-line : (bytes : List ℕ) (n : ℕ) (first : FirstFault bytes n fault.DecisionOrder)
+    → FaultyLine bytes n fault.DecisionOrder first.stage first.next
+decision-line bytes n first =
+    decision-of bytes first.rest n first.stage first.next first.text first.faultless first.number first.comes
+    first.breaks
 
-pub left-line : (bytes : List ℕ) (n : ℕ) (first : FirstFault bytes n fault.NotEnded) → FaultyLine bytes n fault.NotEnded first.stage first.next
-left-line bytes n first = left-of bytes first.rest n first.stage first.next first.text first.faultless first.number first.comes first.breaks
+pub left-line : (bytes : List ℕ) (n : ℕ) (first : FirstFault bytes n fault.NotEnded)
+    → FaultyLine bytes n fault.NotEnded first.stage first.next
+left-line bytes n first =
+    left-of bytes first.rest n first.stage first.next first.text first.faultless first.number first.comes first.breaks

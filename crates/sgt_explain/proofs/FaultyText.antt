@@ -16,7 +16,12 @@ use Rattle.sgt_explain.proofs.FaultyLine.{kept-spelled}
 -- the lines before a fault have no LF
 lines_so_far-plain : (stage : Stage) → IsFaultless stage → All HasNoLf (lines_so_far stage)
 lines_so_far-plain start kept = All-from_recursion HasNoLf [] tt
-lines_so_far-plain (headed second) kept = All-from_recursion HasNoLf (format_line second ∷ []) (All-from_recursion (λ b. b ≢ 10) (format_line second) (format-one_line second), tt)
+lines_so_far-plain (headed second) kept =
+    All-from_recursion HasNoLf (format_line second ∷ []) (
+      All-from_recursion (λ b. b ≢ 10) (format_line second)
+          (format-one_line second),
+      tt,
+    )
 lines_so_far-plain (within second c before) kept =
     All-from_recursion HasNoLf (lines_so_far (within second c before)) (
       All-from_recursion (λ b. b ≢ 10) (format_line second) (format-one_line second),
@@ -39,7 +44,8 @@ abbrev pub IsNothing : Piece → Type 0
 IsNothing (whole l) = ⊥
 IsNothing (last l) = l ≡ []
 
-at-piece : (bytes rest : List ℕ) (n : ℕ) (stage : Stage) (next : Piece) → bytes ≡ text_of_lines (lines_so_far stage) ++ rest → IsFaultless stage → n ≡ length (lines_so_far stage) + 1
+at-piece : (bytes rest : List ℕ) (n : ℕ) (stage : Stage) (next : Piece)
+    → bytes ≡ text_of_lines (lines_so_far stage) ++ rest → IsFaultless stage → n ≡ length (lines_so_far stage) + 1
     → ComesNext rest next → (IsNothing next → ⊥) → IsLineAt bytes n (bytes_of next)
 at-piece bytes rest n stage (whole l) text kept number comes some = record {
   before = lines_so_far stage;
@@ -58,8 +64,10 @@ at-piece bytes rest n stage (last l) text kept number comes some = record {
   counted = number;
 }
 
-pub faulty-at : (bytes : List ℕ) (n : ℕ) (f : Fault) (first : FirstFault bytes n f) → (IsNothing first.next → ⊥) → IsLineAt bytes n (bytes_of first.next)
-faulty-at bytes n f first some = at-piece bytes first.rest n first.stage first.next first.text first.faultless first.number first.comes some
+pub faulty-at : (bytes : List ℕ) (n : ℕ) (f : Fault) (first : FirstFault bytes n f) → (IsNothing first.next → ⊥)
+    → IsLineAt bytes n (bytes_of first.next)
+faulty-at bytes n f first some =
+    at-piece bytes first.rest n first.stage first.next first.text first.faultless first.number first.comes some
 
 -- ---- a line is there that has such a fault
 
@@ -112,7 +120,8 @@ format-first (complete second c before) (whole l) broken = absurd (broken tt)
 format-first (complete second c before) (last l) broken = absurd (broken tt)
 
 -- only line 2 has that of a certificate
-certificate-second : (stage : Stage) (next : Piece) → (Rule stage next fault.Certificate → ⊥) → length (lines_so_far stage) ≡ 1
+certificate-second : (stage : Stage) (next : Piece) → (Rule stage next fault.Certificate → ⊥)
+    → length (lines_so_far stage) ≡ 1
 certificate-second start (whole l) broken = absurd (broken tt)
 certificate-second start (last l) broken = absurd (broken tt)
 certificate-second (headed second) next broken = refl
@@ -131,13 +140,18 @@ certificate-some (complete second c before) (last l) broken e = broken tt
 module _ (bytes : List ℕ) (n : ℕ) where
   pub certificate-at : (first : FirstFault bytes n fault.Certificate) → IsLineAt bytes 2 (bytes_of first.next)
   certificate-at first =
-      let two : n ≡ 2 = first.number ∙ ap (λ k. k + 1) (certificate-second first.stage first.next first.breaks.broken) in
-      subst (λ k. IsLineAt bytes k (bytes_of first.next)) two (faulty-at bytes n fault.Certificate first (certificate-some first.stage first.next first.breaks.broken))
+      let two : n ≡ 2 = first.number
+      ∙ ap (λ k. k + 1) (certificate-second first.stage first.next first.breaks.broken) in
+      subst (λ k. IsLineAt bytes k (bytes_of first.next)) two
+      (faulty-at bytes n fault.Certificate first (certificate-some first.stage first.next first.breaks.broken))
 
   pub format-at : (first : FirstFault bytes n fault.Format) → (n ≡ 1) × IsLineAt bytes 1 (bytes_of first.next)
   format-at first =
-      let one : n ≡ 1 = first.number ∙ ap (λ k. k + 1) (format-first first.stage first.next first.breaks.broken) in
-      (one, subst (λ k. IsLineAt bytes k (bytes_of first.next)) one (faulty-at bytes n fault.Format first (format-some first.stage first.next first.breaks.broken)))
+      let one : n ≡ 1 = first.number ∙ ap (λ k. k + 1) (format-first first.stage first.next first.breaks.broken) in (
+        one,
+        subst (λ k. IsLineAt bytes k (bytes_of first.next)) one
+            (faulty-at bytes n fault.Format first (format-some first.stage first.next first.breaks.broken)),
+      )
 
   pub notation-at : (first : FirstFault bytes n fault.Notation) → IsLineAt bytes n (bytes_of first.next)
   notation-at first = faulty-at bytes n fault.Notation first (notation-some first.stage first.next first.breaks.broken)
@@ -151,7 +165,8 @@ module _ (bytes : List ℕ) (n : ℕ) where
   pub trailing-at : (first : FirstFault bytes n fault.Trailing) → IsLineAt bytes n (bytes_of first.next)
   trailing-at first = faulty-at bytes n fault.Trailing first (trailing-some first.stage first.next first.breaks.broken)
 
-  pub truncated-at : (first : FirstFault bytes n fault.Truncated) → bytes_of first.next ≢ [] → IsLineAt bytes n (bytes_of first.next)
+  pub truncated-at : (first : FirstFault bytes n fault.Truncated) → bytes_of first.next ≢ []
+      → IsLineAt bytes n (bytes_of first.next)
   truncated-at first some = faulty-at bytes n fault.Truncated first (nothing first.next some)
     where
       nothing : (next : Piece) → bytes_of next ≢ [] → IsNothing next → ⊥

@@ -28,13 +28,15 @@ use Rattle.sgt_explain_decisions.proofs.Besides.{first-unique, first-decided}
 use Rattle.sgt_explain.proofs.FaultyLine.{entries-same}
 
 -- where each transaction has one decision, that of an entry is the first on its transaction
-pub decided-first : (ds : List Decision) (e : Entry) (n : ℕ) → IsDecidedOnce ds → IsDecided ds e n → IsFirstOn ds (tx_of e) n
+pub decided-first : (ds : List Decision) (e : Entry) (n : ℕ) → IsDecidedOnce ds → IsDecided ds e n
+    → IsFirstOn ds (tx_of e) n
 decided-first ds e n once is = record {
   decision = is.0;
   on = record { there = is.1; on = is.2 };
   before = All-from_at (λ (d : Decision). decided_tx d ≢ tx_of e) (take n ds) (λ m d at same.
       let one = slice_get-take ds n m d at in
-      AllPairs_at (λ (a b : Decision). decided_tx a ≢ decided_tx b) ds m n d is.0 once one.0 one.1 is.1 (same ∙ sym is.2));
+      AllPairs_at (λ (a b : Decision). decided_tx a ≢ decided_tx b) ds m n d is.0 once one.0 one.1 is.1 (same
+      ∙ sym is.2));
 }
 
 pub decided-some : (ds : List Decision) (e : Entry) (n : ℕ) → IsDecided ds e n → IsUndecided ds (tx_of e) → ⊥
@@ -43,13 +45,15 @@ decided-some ds e n is none = All_at (λ (d : Decision). decided_tx d ≢ tx_of 
 -- ---- F14
 
 -- where no end before is decided later, each stands in order
-in-order : (ds : List Decision) (l : LoggedEntry) (e : Entry) (own : ℕ) → IsDecidedOnce ds → IsFirstOn ds (tx_of e) own → IsNotLater ds own l → EndInOrder ds l.entry e
+in-order : (ds : List Decision) (l : LoggedEntry) (e : Entry) (own : ℕ) → IsDecidedOnce ds
+    → IsFirstOn ds (tx_of e) own → IsNotLater ds own l → EndInOrder ds l.entry e
 in-order ds l e own once first not_later = λ end end' m n is is'.
     let low = not_later m (end, decided-first ds l.entry m once is) in
     let same = first-unique ds (tx_of e) own n first (decided-first ds e n once is') in
     omega (arith, low, same)
 
-pub overtaken-by : (c : Certificate) (before : List SectionLine) (l : LoggedEntry) → IsDecidedOnce c.decisions → Keeps c before (Logged l.entry) fault.End
+pub overtaken-by : (c : Certificate) (before : List SectionLine) (l : LoggedEntry) → IsDecidedOnce c.decisions
+    → Keeps c before (Logged l.entry) fault.End
     → (Keeps c before (Logged l.entry) fault.DecisionOrder → ⊥) → IsOvertaken c.decisions (numbered_entries before) l
 overtaken-by c before l once ended broken =
     let ds = c.decisions in
@@ -59,14 +63,16 @@ overtaken-by c before l once ended broken =
       decided = first;
       later = λ all. broken (subst (All (λ f. EndInOrder ds f l.entry)) (entries-same before)
           (All-from_map (λ f. EndInOrder ds f l.entry) (λ (k : LoggedEntry). k.entry) (numbered_entries before)
-          (All-weaken (IsNotLater ds ended.0.0) (λ (k : LoggedEntry). EndInOrder ds k.entry l.entry) (numbered_entries before)
+          (All-weaken (IsNotLater ds ended.0.0) (λ (k : LoggedEntry). EndInOrder ds k.entry l.entry)
+          (numbered_entries before)
           (λ k h. in-order ds k l.entry ended.0.0 once first h) all)));
     }
 
 -- ---- F15
 
 -- what stands in the open section stands among the lines
-open-among : (section ls : List SectionLine) (l : SectionLine) → Contains (fold section_with section ls) l → Contains section l ⊎ Contains ls l
+open-among : (section ls : List SectionLine) (l : SectionLine) → Contains (fold section_with section ls) l
+    → Contains section l ⊎ Contains ls l
 open-among section [] l has = inl has
 open-among section (k ∷ ls) l has =
     elim (open-among (section_with section k) ls l has) [
@@ -94,9 +100,11 @@ open-among section (k ∷ ls) l has =
     one-with End early = pushed End early
 
 entry-among : (ls : List SectionLine) (e : Entry) → Contains (filter_map entry_in ls) e → Contains ls (Logged e)
-entry-among ls e has = let at = Contains_at (filter_map entry_in ls) e has in let found = from ls at.0 at.1 in Contains-from_at ls found.0 (Logged e) found.1
+entry-among ls e has = let at = Contains_at (filter_map entry_in ls) e has in let found = from ls at.0 at.1 in
+    Contains-from_at ls found.0 (Logged e) found.1
   where
-    from : (ks : List SectionLine) (n : ℕ) → slice_get (filter_map entry_in ks) n ≡ Some e → (m : ℕ) × (slice_get ks m ≡ Some (Logged e))
+    from : (ks : List SectionLine) (n : ℕ) → slice_get (filter_map entry_in ks) n ≡ Some e
+        → (m : ℕ) × (slice_get ks m ≡ Some (Logged e))
     from [] n at = absurd (none-some e at)
     from (Logged f ∷ ks) zero at = (0, ap Some (ap Logged (same_Some f e at)))
     from (Logged f ∷ ks) (suc n) at = let more = from ks n at in (suc more.0, more.1)
@@ -117,32 +125,42 @@ entry-line before e has =
 pub all-decided : (second : Bool) (c : Certificate) (before : List SectionLine) → AllKept second c before
     → All (λ (l : LoggedEntry). IsUndecided c.decisions (tx_of l.entry) → ⊥) (numbered_entries before)
 all-decided second c before kept =
-    All-map (λ (e : Entry). IsUndecided c.decisions (tx_of e) → ⊥) (λ (l : LoggedEntry). l.entry) (numbered_entries before)
+    All-map (λ (e : Entry). IsUndecided c.decisions (tx_of e)
+    → ⊥) (λ (l : LoggedEntry). l.entry) (numbered_entries before)
     (subst (All (λ (e : Entry). IsUndecided c.decisions (tx_of e) → ⊥)) (sym (entries-same before))
     (All-from_at (λ (e : Entry). IsUndecided c.decisions (tx_of e) → ⊥) (entries_in before) (λ n e at.
     let has = Contains_at before (Logged e) (entry-line before e (Contains-from_at (entries_in before) n e at)) in
-    let keeps = (kept.lines (take has.0 before) (drop (suc has.0) before) (Logged e) (split_at before has.0 (Logged e) has.1)).1 fault.End in
+    let keeps =
+    (kept.lines (take has.0 before) (drop (suc has.0) before) (Logged e)
+    (split_at before has.0 (Logged e) has.1)).1 fault.End in
     decided-some c.decisions e keeps.0.0 keeps.0.1)))
 
-any-end : (entries : List LoggedEntry) (tx : ℕ) → HasEnd entries tx → Any (λ f. IsEnd f × (tx_of f ≡ tx)) (entries_of entries)
+any-end : (entries : List LoggedEntry) (tx : ℕ) → HasEnd entries tx
+    → Any (λ f. IsEnd f × (tx_of f ≡ tx)) (entries_of entries)
 any-end entries tx has =
     let at = Contains_at entries has.0 has.1 in
     Any-from_at (λ f. IsEnd f × (tx_of f ≡ tx)) (entries_of entries) at.0 has.0.entry (mapped entries at.0 at.1) has.2
   where
-    mapped : (ls : List LoggedEntry) (n : ℕ) → slice_get ls n ≡ Some has.0 → slice_get (entries_of ls) n ≡ Some has.0.entry
+    mapped : (ls : List LoggedEntry) (n : ℕ) → slice_get ls n ≡ Some has.0
+        → slice_get (entries_of ls) n ≡ Some has.0.entry
     mapped [] n at = absurd (none-some has.0 at)
     mapped (l ∷ ls) zero at = ap Some (ap (λ (k : LoggedEntry). k.entry) (same_Some l has.0 at))
     mapped (l ∷ ls) (suc n) at = mapped ls n at
 
-all-ended : (before : List SectionLine) → All (λ (l : LoggedEntry). HasEnd (numbered_entries before) (tx_of l.entry)) (numbered_entries before) → AllEnded (entries_in before)
+all-ended : (before : List SectionLine)
+    → All (λ (l : LoggedEntry). HasEnd (numbered_entries before) (tx_of l.entry)) (numbered_entries before)
+    → AllEnded (entries_in before)
 all-ended before all =
     subst AllEnded (entries-same before)
-    (All-from_map (λ (e : Entry). Any (λ f. IsEnd f × (tx_of f ≡ tx_of e)) (entries_of (numbered_entries before))) (λ (l : LoggedEntry). l.entry) (numbered_entries before)
-    (All-weaken (λ (l : LoggedEntry). HasEnd (numbered_entries before) (tx_of l.entry)) (λ (l : LoggedEntry). Any (λ f. IsEnd f × (tx_of f ≡ tx_of l.entry)) (entries_of (numbered_entries before)))
+    (All-from_map (λ (e : Entry). Any (λ f. IsEnd f × (tx_of f ≡ tx_of e)) (entries_of (numbered_entries before)))
+    (λ (l : LoggedEntry). l.entry) (numbered_entries before)
+    (All-weaken (λ (l : LoggedEntry). HasEnd (numbered_entries before) (tx_of l.entry))
+    (λ (l : LoggedEntry). Any (λ f. IsEnd f × (tx_of f ≡ tx_of l.entry)) (entries_of (numbered_entries before)))
     (numbered_entries before) (λ l h. any-end (numbered_entries before) (tx_of l.entry) h) all))
 
 -- the line before which each transaction has its end keeps the rule
-pub ended-kept : (c : Certificate) (before : List SectionLine) (line : SectionLine) → All (λ (l : LoggedEntry). HasEnd (numbered_entries before) (tx_of l.entry)) (numbered_entries before)
+pub ended-kept : (c : Certificate) (before : List SectionLine) (line : SectionLine)
+    → All (λ (l : LoggedEntry). HasEnd (numbered_entries before) (tx_of l.entry)) (numbered_entries before)
     → Keeps c before line fault.NotEnded
 ended-kept c before (Site k) all = tt
 ended-kept c before (Initial h) all = tt

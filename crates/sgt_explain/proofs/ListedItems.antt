@@ -24,13 +24,16 @@ listed-each front k log shaped = record {
   initial = λ n h at. tt;
   logged = λ n e at. tt;
   final = λ n h at.
-      let name : slice_get (names log.finals) n ≡ Some h.item = slice_get-map (λ (g : Holding). g.item) log.finals n ∙ ap (option_map (λ (g : Holding). g.item)) at in
-      subst (λ (ns : List (List ℕ)). Contains ns h.item) (shaped.finals ∙ ap names (sym (items_in-is front k log.items log.entries (take n log.finals))))
+      let name : slice_get (names log.finals) n ≡ Some h.item = slice_get-map (λ (g : Holding). g.item) log.finals n
+      ∙ ap (option_map (λ (g : Holding). g.item)) at in
+      subst (λ (ns : List (List ℕ)). Contains ns h.item) (shaped.finals
+      ∙ ap names (sym (items_in-is front k log.items log.entries (take n log.finals))))
       (Contains-from_at (names log.finals) n h.item name);
   end = tt;
 }
 
-pub final-listed : (count : ℕ) (before : List SectionLine) (h : Holding) → Begins count (before ++ Final h ∷ []) → Contains (names (items_in before)) h.item
+pub final-listed : (count : ℕ) (before : List SectionLine) (h : Holding) → Begins count (before ++ Final h ∷ [])
+    → Contains (names (items_in before)) h.item
 final-listed count before h begun =
     in_sections IsListed 0 begun.0 [] (λ e last. absurd (none-some (Logged e) last))
     (λ s j log ls at j-is closed. listed-each ls j log (All_at IsShapedLog begun.0 s log begun.2.logs at))

@@ -32,12 +32,14 @@ two-plain second c is = All-from_recursion HasNoLf (two_lines second c) (
 
 -- the lines behind the first two, with what stands behind them
 text-parts : (second : Bool) (c : Certificate) (before : List SectionLine) (rest : List ℕ)
-    → text_of_lines (format_line second ∷ certificate_text c ∷ map line_text before) ++ rest ≡ text_of_lines (two_lines second c) ++ (text_of_lines (map line_text before) ++ rest)
+    → text_of_lines (format_line second ∷ certificate_text c ∷ map line_text before) ++ rest ≡ text_of_lines
+    (two_lines second c) ++ (text_of_lines (map line_text before) ++ rest)
 text-parts second c before rest =
     ap (λ t. t ++ rest) (flat_map-append (λ m. m ++ 10 ∷ []) (two_lines second c) (map line_text before))
     ∙ append_assoc (text_of_lines (two_lines second c)) (text_of_lines (map line_text before)) rest
 
-lines-of : (bytes rest : List ℕ) (n : ℕ) (second : Bool) (c : Certificate) (before : List SectionLine) → bytes ≡ text_of_lines (lines_so_far (within second c before)) ++ rest
+lines-of : (bytes rest : List ℕ) (n : ℕ) (second : Bool) (c : Certificate) (before : List SectionLine)
+    → bytes ≡ text_of_lines (lines_so_far (within second c before)) ++ rest
     → AllKept second c before → n ≡ length (lines_so_far (within second c before)) + 1 → HasLines bytes n before
 lines-of bytes rest n second c before text kept number =
     let lines : length (lines_so_far (within second c before)) ≡ suc (suc (length (map line_text before))) = refl in
@@ -52,17 +54,22 @@ lines-of bytes rest n second c before text kept number =
       ends = inl (omega (arith, number, lines, long));
     }
 
-seen-stage : (bytes rest : List ℕ) (n : ℕ) (stage : Stage) → bytes ≡ text_of_lines (lines_so_far stage) ++ rest → IsFaultless stage → n ≡ length (lines_so_far stage) + 1
+seen-stage : (bytes rest : List ℕ) (n : ℕ) (stage : Stage) → bytes ≡ text_of_lines (lines_so_far stage) ++ rest
+    → IsFaultless stage → n ≡ length (lines_so_far stage) + 1
     → HasBefore bytes n (lines_before stage)
 seen-stage bytes rest n start text kept number = inl (refl, omega (arith, number))
 seen-stage bytes rest n (headed second) text kept number = inl (refl, omega (arith, number))
-seen-stage bytes rest n (within second c before) text kept number = inr (lines-of bytes rest n second c before text kept.0 number)
-seen-stage bytes rest n (complete second c before) text kept number = inr (lines-of bytes rest n second c before text kept.0 number)
+seen-stage bytes rest n (within second c before) text kept number =
+    inr (lines-of bytes rest n second c before text kept.0 number)
+seen-stage bytes rest n (complete second c before) text kept number =
+    inr (lines-of bytes rest n second c before text kept.0 number)
 
-seen-all : (bytes : List ℕ) (b : Parts) → Spells bytes b → length bytes < 18446744073709551615 → HasBefore bytes 18446744073709551615 (sections_from 0 b.sites)
+seen-all : (bytes : List ℕ) (b : Parts) → Spells bytes b → length bytes < 18446744073709551615
+    → HasBefore bytes 18446744073709551615 (sections_from 0 b.sites)
 seen-all bytes b s short =
     let lines = sections_from 0 b.sites in
-    let whole : bytes ≡ text_of_lines (two_lines s.second b.certificate) ++ (text_of_lines (map line_text lines) ++ []) =
+    let whole : bytes ≡ text_of_lines (two_lines s.second b.certificate) ++
+    (text_of_lines (map line_text lines) ++ []) =
     s.text ∙ sym (append-nil (text_in s.second b)) ∙ text-parts s.second b.certificate lines [] in
     let same : length (map line_text lines) ≡ length lines = length-map lines line_text in
     let all = lines-long (format_line s.second ∷ certificate_text b.certificate ∷ map line_text lines) in
@@ -79,14 +86,18 @@ seen-all bytes b s short =
       ends = inr (refl, omega (arith, same, all, size, short));
     })
 
-pub seen-lines : (bytes : List ℕ) (v : Verdict) (lines : List SectionLine) → length bytes < 18446744073709551615 → AreSeen bytes v lines → HasBefore bytes (seen_before v) lines
+pub seen-lines : (bytes : List ℕ) (v : Verdict) (lines : List SectionLine) → length bytes < 18446744073709551615
+    → AreSeen bytes v lines → HasBefore bytes (seen_before v) lines
 seen-lines bytes (No line f) lines short seen =
     let first = seen.0 in
-    subst (HasBefore bytes line) (sym seen.1) (seen-stage bytes first.rest line first.stage first.text first.faultless first.number)
-seen-lines bytes (Yes committed refused withdrawn) lines short seen = subst (HasBefore bytes 18446744073709551615) (sym seen.2) (seen-all bytes seen.0 seen.1 short)
+    subst (HasBefore bytes line) (sym seen.1) (seen-stage bytes first.rest line first.stage first.text first.faultless
+    first.number)
+seen-lines bytes (Yes committed refused withdrawn) lines short seen =
+    subst (HasBefore bytes 18446744073709551615) (sym seen.2) (seen-all bytes seen.0 seen.1 short)
 
 -- what stands before the rest
-pub front-is : (bytes front rest : List ℕ) → bytes ≡ front ++ rest → (n : ℕ) → n ≡ length bytes - length rest → take n bytes ≡ front
+pub front-is : (bytes front rest : List ℕ) → bytes ≡ front ++ rest → (n : ℕ) → n ≡ length bytes - length rest
+    → take n bytes ≡ front
 front-is bytes front rest e n size =
     let long = ap length e ∙ length-append front rest in
     let same : n ≡ length front = omega (arith, size, long) in

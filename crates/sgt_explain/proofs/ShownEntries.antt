@@ -53,9 +53,13 @@ no-writes x (Refuse tx) none is = is
 no-writes x (Withdraw tx) none is = is
 
 repeats-none : (f e : Entry) → item_of e ≡ None → (x : Name) → Repeats x f e → ⊥
-repeats-none f e none x repeats = elim repeats.1 [ inl reads ↦ no-reads x e none reads.1 | inr writes ↦ no-writes x e none writes.1 ]
+repeats-none f e none x repeats = elim repeats.1 [
+  | inl reads ↦ no-reads x e none reads.1
+  | inr writes ↦ no-writes x e none writes.1
+]
 
-item-keeps : (c : Certificate) (before : List SectionLine) (e : Entry) → item_of e ≡ None → Keeps c before (Logged e) fault.Item
+item-keeps : (c : Certificate) (before : List SectionLine) (e : Entry) → item_of e ≡ None
+    → Keeps c before (Logged e) fault.Item
 item-keeps c before (Read tx y v) none = absurd (none-some y (sym none))
 item-keeps c before (Write tx y v) none = absurd (none-some y (sym none))
 item-keeps c before (Add tx y v) none = absurd (none-some y (sym none))
@@ -65,28 +69,35 @@ item-keeps c before (Commit tx) none = search rules
 item-keeps c before (Refuse tx) none = search rules
 item-keeps c before (Withdraw tx) none = search rules
 
-twice-keeps : (c : Certificate) (before : List SectionLine) (e : Entry) → item_of e ≡ None → Keeps c before (Logged e) fault.Twice
-twice-keeps c before e none = All-from_at (λ (f : Entry). (x : Name) → Repeats x f e → ⊥) (entries_in before) (λ k f at. repeats-none f e none)
+twice-keeps : (c : Certificate) (before : List SectionLine) (e : Entry) → item_of e ≡ None
+    → Keeps c before (Logged e) fault.Twice
+twice-keeps c before e none = All-from_at (λ (f : Entry). (x : Name) → Repeats x f e
+    → ⊥) (entries_in before) (λ k f at. repeats-none f e none)
 
 -- ---- F8 and F9
 
-no-item_line : (n : ℕ) (c : Certificate) (before : List SectionLine) (l : SectionLine) → None ≡ logged_in (n, l) → Keeps c before l fault.Item
+no-item_line : (n : ℕ) (c : Certificate) (before : List SectionLine) (l : SectionLine) → None ≡ logged_in (n, l)
+    → Keeps c before l fault.Item
 no-item_line n c before (Logged e) none = absurd (none-some (record { line = n; entry = e }) none)
 no-item_line n c before l none = tt
 
-no-twice_line : (n : ℕ) (c : Certificate) (before : List SectionLine) (l : SectionLine) → None ≡ logged_in (n, l) → Keeps c before l fault.Twice
+no-twice_line : (n : ℕ) (c : Certificate) (before : List SectionLine) (l : SectionLine) → None ≡ logged_in (n, l)
+    → Keeps c before l fault.Twice
 no-twice_line n c before (Logged e) none = absurd (none-some (record { line = n; entry = e }) none)
 no-twice_line n c before l none = tt
 
 -- the entry of a line, with its item
-record HasEntry (n : ℕ) (f : Fault) (c : Certificate) (before : List SectionLine) (line : SectionLine) (logged : LoggedEntry) : Type 0 where
+record HasEntry (n : ℕ) (f : Fault) (c : Certificate) (before : List SectionLine) (line : SectionLine)
+    (logged : LoggedEntry) : Type 0 where
   is : line ≡ Logged logged.entry
   counted : logged.line ≡ n
   item : Name
   on : item_of logged.entry ≡ Some item
 
-has-entry : (n : ℕ) (f : Fault) (c : Certificate) (before : List SectionLine) (line : SectionLine) (logged : LoggedEntry) → (Keeps c before line f → ⊥)
-    → Some logged ≡ logged_in (n, line) → (item_of logged.entry ≡ None → Keeps c before (Logged logged.entry) f) → HasEntry n f c before line logged
+has-entry : (n : ℕ) (f : Fault) (c : Certificate) (before : List SectionLine) (line : SectionLine)
+    (logged : LoggedEntry) → (Keeps c before line f → ⊥)
+    → Some logged ≡ logged_in (n, line) → (item_of logged.entry ≡ None → Keeps c before (Logged logged.entry) f)
+    → HasEntry n f c before line logged
 has-entry n f c before line logged broken at keeps =
     let parts = logged-parts n line logged at in
     elim (option_cases (item_of logged.entry)) [
@@ -98,70 +109,88 @@ module _ (bytes : List ℕ) (n : ℕ) (first : FirstFault bytes n fault.Item) wh
   here : FaultyLine bytes n fault.Item first.stage first.next
   here = item-line bytes n first
 
-  pub item-entry : ((before : List SectionLine) (l : SectionLine) → HasLine bytes n before l → None ≡ logged_in (n, l)) → ⊥
+  pub item-entry : ((before : List SectionLine) (l : SectionLine) → HasLine bytes n before l
+      → None ≡ logged_in (n, l)) → ⊥
   item-entry at = here.broken (no-item_line n here.c here.before here.line (at here.before here.line here.has))
 
   pub shows-unlisted : {T E : Type 0} (r : Result T E) (section : Section) (logged : LoggedEntry) (old new : List ℕ)
       → ((before : List SectionLine) (l : SectionLine) → HasLine bytes n before l → IsSectionOf before section)
       → ((before : List SectionLine) (l : SectionLine) → HasLine bytes n before l → Some logged ≡ logged_in (n, l))
-      → ((x : Name) → item_of logged.entry ≡ Some x → OnOk r (ShowsNearest section.items.items x (unwrap_or section.site 0) logged old new))
+      → ((x : Name) → item_of logged.entry ≡ Some x
+      → OnOk r (ShowsNearest section.items.items x (unwrap_or section.site 0) logged old new))
       → OnOk r (ShowsUnlisted (lines_before first.stage) (bytes_of first.next) n old new)
   shows-unlisted (Err e) section logged old new are at shows = tt
   shows-unlisted (Ok t) section logged old new are at shows =
       let is = are here.before here.line here.has in
-      let e = has-entry n fault.Item here.c here.before here.line logged here.broken (at here.before here.line here.has) (item-keeps here.c here.before logged.entry) in
+      let e = has-entry n fault.Item here.c here.before here.line logged here.broken
+      (at here.before here.line here.has) (item-keeps here.c here.before logged.entry) in
       subst (λ s. ShowsUnlisted (lines_before s) (bytes_of first.next) n old new) (sym here.at) (record {
         logged = logged;
         item = e.item;
         entry = record { spelled = ap bytes_of here.comes ∙ ap line_text e.is; counted = e.counted };
         on = e.on;
-        told = subst (λ k. ShowsNearest (numbered_items here.before) e.item k logged old new) (ap (λ o. unwrap_or o 0) is.site)
-            (subst (λ (hs : List Stated). ShowsNearest hs e.item (unwrap_or section.site 0) logged old new) is.items (shows e.item e.on));
+        told = subst (λ k. ShowsNearest (numbered_items here.before) e.item k logged old new)
+            (ap (λ o. unwrap_or o 0) is.site)
+            (subst (λ (hs : List Stated). ShowsNearest hs e.item (unwrap_or section.site 0) logged old new) is.items
+            (shows e.item e.on));
       })
 
 module _ (bytes : List ℕ) (n : ℕ) (first : FirstFault bytes n fault.Twice) where
   there : FaultyLine bytes n fault.Twice first.stage first.next
   there = twice-line bytes n first
 
-  pub twice-entry : ((before : List SectionLine) (l : SectionLine) → HasLine bytes n before l → None ≡ logged_in (n, l)) → ⊥
+  pub twice-entry : ((before : List SectionLine) (l : SectionLine) → HasLine bytes n before l
+      → None ≡ logged_in (n, l)) → ⊥
   twice-entry at = there.broken (no-twice_line n there.c there.before there.line (at there.before there.line there.has))
 
   pub shows-repeating : {T E : Type 0} (r : Result T E) (section : Section) (logged : LoggedEntry) (old new : List ℕ)
       → ((before : List SectionLine) (l : SectionLine) → HasLine bytes n before l → IsSectionOf before section)
       → ((before : List SectionLine) (l : SectionLine) → HasLine bytes n before l → Some logged ≡ logged_in (n, l))
-      → ((x : Name) → item_of logged.entry ≡ Some x → OnOk r (ShowsTwice section.entries.items x (unwrap_or section.site 0) logged old new))
+      → ((x : Name) → item_of logged.entry ≡ Some x
+      → OnOk r (ShowsTwice section.entries.items x (unwrap_or section.site 0) logged old new))
       → OnOk r (ShowsRepeating (lines_before first.stage) (bytes_of first.next) n old new)
   shows-repeating (Err e) section logged old new are at shows = tt
   shows-repeating (Ok t) section logged old new are at shows =
       let is = are there.before there.line there.has in
-      let e = has-entry n fault.Twice there.c there.before there.line logged there.broken (at there.before there.line there.has) (twice-keeps there.c there.before logged.entry) in
+      let e = has-entry n fault.Twice there.c there.before there.line logged there.broken
+      (at there.before there.line there.has) (twice-keeps there.c there.before logged.entry) in
       subst (λ s. ShowsRepeating (lines_before s) (bytes_of first.next) n old new) (sym there.at) (record {
         logged = logged;
         item = e.item;
         entry = record { spelled = ap bytes_of there.comes ∙ ap line_text e.is; counted = e.counted };
         on = e.on;
-        told = subst (λ k. ShowsTwice (numbered_entries there.before) e.item k logged old new) (ap (λ o. unwrap_or o 0) is.site)
-            (subst (λ (ls : List LoggedEntry). ShowsTwice ls e.item (unwrap_or section.site 0) logged old new) is.entries (shows e.item e.on));
+        told = subst (λ k. ShowsTwice (numbered_entries there.before) e.item k logged old new)
+            (ap (λ o. unwrap_or o 0) is.site)
+            (subst (λ (ls : List LoggedEntry). ShowsTwice ls e.item (unwrap_or section.site 0) logged old new)
+            is.entries (shows e.item e.on));
       })
 
 -- ---- F12
 
-last-split : (o : Option SectionLine) (ls : List SectionLine) (l : SectionLine) → last_or o ls ≡ Some l → (ls ≡ []) ⊎ ((front : List SectionLine) × (ls ≡ front ++ l ∷ []))
+last-split : (o : Option SectionLine) (ls : List SectionLine) (l : SectionLine) → last_or o ls ≡ Some l
+    → (ls ≡ []) ⊎ ((front : List SectionLine) × (ls ≡ front ++ l ∷ []))
 last-split o [] l e = inl refl
 last-split o (x ∷ xs) l e =
     elim (last-split (Some x) xs l e) [
-      | inl none ↦ inr ([], ap (λ ys. x ∷ ys) none ∙ ap (λ y. y ∷ []) (same_Some x l (sym (ap (last_or (Some x)) none) ∙ e)))
+      | inl none ↦ inr (
+        [],
+        ap (λ ys. x ∷ ys) none
+            ∙ ap (λ y. y ∷ []) (same_Some x l (sym (ap (last_or (Some x)) none) ∙ e)),
+      )
       | inr some ↦ inr (x ∷ some.0, ap (λ ys. x ∷ ys) some.1)
     ]
 
 entries-more : (front : List SectionLine) (f : Entry) → entries_in (front ++ Logged f ∷ []) ≡ entries_in front ++ f ∷ []
-entries-more front f = ap (filter_map entry_in) (fold-append section_with [] front (Logged f ∷ [])) ∙ filter_map-append entry_in (open_section front) (Logged f ∷ [])
+entries-more front f = ap (filter_map entry_in) (fold-append section_with [] front (Logged f ∷ []))
+    ∙ filter_map-append entry_in (open_section front) (Logged f ∷ [])
 
-last-entry : (before : List SectionLine) (f : Entry) → last_or None before ≡ Some (Logged f) → numbered_entries before ≡ [] → ⊥
+last-entry : (before : List SectionLine) (f : Entry) → last_or None before ≡ Some (Logged f)
+    → numbered_entries before ≡ [] → ⊥
 last-entry before f e none =
     elim (last-split None before (Logged f) e) [
       | inl nothing ↦ none-some (Logged f) (sym (ap (last_or None) nothing) ∙ e)
-      | inr some ↦ (let long = ap length (sym (entries-more some.0 f) ∙ sym (ap entries_in some.1) ∙ sym (entries-same before) ∙ ap entries_of none) in
+      | inr some ↦ (let long = ap length (sym (entries-more some.0 f) ∙ sym (ap entries_in some.1)
+          ∙ sym (entries-same before) ∙ ap entries_of none) in
           let more = length-append (entries_in some.0) (f ∷ []) in
           omega (arith, long, more))
     ]
@@ -175,8 +204,10 @@ module _ (bytes : List ℕ) (n : ℕ) (first : FirstFault bytes n fault.Block) w
   cut = block-line bytes n first
 
   pub shows-cut : {T E : Type 0} (r : Result T E) (section : Section) (text : List ℕ) (old new : List ℕ)
-      → ((before : List SectionLine) (l : SectionLine) → HasLine bytes n before l → IsSectionOf before section) → text ≡ bytes_of first.next
-      → ((last : LoggedEntry) → slice_get section.entries.items (length section.entries.items - 1) ≡ Some last → OnOk r (ShowsBlock last n text old new))
+      → ((before : List SectionLine) (l : SectionLine) → HasLine bytes n before l → IsSectionOf before section)
+      → text ≡ bytes_of first.next
+      → ((last : LoggedEntry) → slice_get section.entries.items (length section.entries.items - 1) ≡ Some last
+      → OnOk r (ShowsBlock last n text old new))
       → OnOk r (ShowsCut (lines_before first.stage) (bytes_of first.next) n old new)
   shows-cut (Err e) section text old new are same shows = tt
   shows-cut (Ok t) section text old new are same shows =
@@ -185,7 +216,8 @@ module _ (bytes : List ℕ) (n : ℕ) (first : FirstFault bytes n fault.Block) w
       elim (list-cases entries) [
         | inl none ↦ absurd (cut.broken (λ f at opens. absurd (last-entry cut.before f at none)))
         | inr some ↦ (let last = within_at entries (length entries - 1) (omega (arith, some)) in
-            let at : slice_get section.entries.items (length section.entries.items - 1) ≡ Some last.0 = ap (λ (ls : List LoggedEntry). slice_get ls (length ls - 1)) is.entries ∙ last.1 in
+            let at : slice_get section.entries.items (length section.entries.items - 1) ≡ Some last.0 =
+            ap (λ (ls : List LoggedEntry). slice_get ls (length ls - 1)) is.entries ∙ last.1 in
             subst (λ s. ShowsCut (lines_before s) (bytes_of first.next) n old new) (sym cut.at) (record {
               last = last.0;
               at = last.1;

@@ -8,10 +8,13 @@ use Rattle.sgt_notation.specs.declared.SectionLine.{SectionLine}
 use Rattle.sgt_explain_lines.specs.Numbered.{open_site, with_site}
 use Rattle.sgt_explain.specs.Steps.{EndsAt, NoneEnds}
 
-pub open-next : (lines : List SectionLine) (n : ℕ) (one : SectionLine) → slice_get lines n ≡ Some one → open_site (take (n + 1) lines) ≡ with_site (open_site (take n lines)) one
-open-next lines n one at = ap open_site (take_next lines n one at) ∙ fold-append with_site None (take n lines) (one ∷ [])
+pub open-next : (lines : List SectionLine) (n : ℕ) (one : SectionLine) → slice_get lines n ≡ Some one
+    → open_site (take (n + 1) lines) ≡ with_site (open_site (take n lines)) one
+open-next lines n one at = ap open_site (take_next lines n one at)
+    ∙ fold-append with_site None (take n lines) (one ∷ [])
 
-pub none-next : (lines : List SectionLine) (site n : ℕ) → NoneEnds lines site n → (EndsAt lines site n → ⊥) → NoneEnds lines site (n + 1)
+pub none-next : (lines : List SectionLine) (site n : ℕ) → NoneEnds lines site n → (EndsAt lines site n → ⊥)
+    → NoneEnds lines site (n + 1)
 none-next lines site n none here place less ends =
     elim (cases_order place n) [
       | inl same ↦ here (subst (EndsAt lines site) same ends)

@@ -46,32 +46,38 @@ some-and P o a e h = subst (λ q. IsSomeAnd q P) e h
 pub none-and : {A Q : Type 0} (P : A → Type 0) (o : Option A) → o ≡ None → IsSomeAnd o P → Q
 none-and {A} {Q} P o e h = absurd (subst (λ q. IsSomeAnd q P) e h)
 
-pub if-both : {T E : Type 0} {P Q R : T → Type 0} (r : Result T E) → ((t : T) → P t → Q t → R t) → IfOk r P → IfOk r Q → IfOk r R
+pub if-both : {T E : Type 0} {P Q R : T → Type 0} (r : Result T E) → ((t : T) → P t → Q t → R t) → IfOk r P → IfOk r Q
+    → IfOk r R
 if-both (Ok t) f p q = f t p q
 if-both (Err e) f p q = tt
 
 -- ---- what is told of what was found
 
 pub tells-read : (bytes : List ℕ) (n : ℕ) (found : Option (ℕ × Misvalued)) (old new : List ℕ)
-    → ((first : FirstFault bytes n fault.ReadValue) → IsSomeAnd found (λ m. ShowsRead (lines_before first.stage) (bytes_of first.next) m.0 m.1))
+    → ((first : FirstFault bytes n fault.ReadValue)
+    → IsSomeAnd found (λ m. ShowsRead (lines_before first.stage) (bytes_of first.next) m.0 m.1))
     → IfSome found (λ m. new ≡ old ++ read_text m.0 m.1) → Tells bytes (No n fault.ReadValue) old new
 tells-read bytes n (Some m) old new shows text = λ first. (m.0, m.1, shows first, text)
 tells-read bytes n None old new shows text = λ first. absurd (shows first)
 
 pub tells-final : (bytes : List ℕ) (n : ℕ) (found : Option Misvalued) (old new : List ℕ)
-    → ((first : FirstFault bytes n fault.Final) → IsSomeAnd found (ShowsFinal (lines_before first.stage) (bytes_of first.next)))
+    → ((first : FirstFault bytes n fault.Final)
+    → IsSomeAnd found (ShowsFinal (lines_before first.stage) (bytes_of first.next)))
     → IfSome found (λ m. new ≡ old ++ final_text m) → Tells bytes (No n fault.Final) old new
 tells-final bytes n (Some m) old new shows text = λ first. (m, shows first, text)
 tells-final bytes n None old new shows text = λ first. absurd (shows first)
 
 pub tells-ranks : (bytes : List ℕ) (n : ℕ) (found : Option RanksShown) (old new : List ℕ)
-    → ((first : FirstFault bytes n fault.RankOrder) → IsSomeAnd found (ShowsRanks (decisions_before first.stage) (lines_before first.stage) (bytes_of first.next) n))
+    → ((first : FirstFault bytes n fault.RankOrder)
+    → IsSomeAnd found (ShowsRanks (decisions_before first.stage) (lines_before first.stage) (bytes_of first.next)
+    n))
     → IfSome found (λ m. new ≡ old ++ rank_order_text m) → Tells bytes (No n fault.RankOrder) old new
 tells-ranks bytes n (Some m) old new shows text = λ first. (m, shows first, text)
 tells-ranks bytes n None old new shows text = λ first. absurd (shows first)
 
 pub tells-step : (bytes : List ℕ) (n : ℕ) (found : Option Unmet) (old new : List ℕ)
-    → ((first : FirstFault bytes n fault.WalkStep) → IsSomeAnd found (ShowsStep (decisions_before first.stage) (lines_before first.stage) (bytes_of first.next)))
+    → ((first : FirstFault bytes n fault.WalkStep)
+    → IsSomeAnd found (ShowsStep (decisions_before first.stage) (lines_before first.stage) (bytes_of first.next)))
     → IfSome found (λ u. new ≡ old ++ walk_step_text u) → Tells bytes (No n fault.WalkStep) old new
 tells-step bytes n (Some u) old new shows text = λ first. (u, shows first, text)
 tells-step bytes n None old new shows text = λ first. absurd (shows first)
@@ -82,7 +88,9 @@ pub if-ok : {T E : Type 0} {P Q : T → Type 0} (r : Result T E) → ((t : T) �
 if-ok (Ok t) f p = f t p
 if-ok (Err e) f p = tt
 
-pub means-both : (bytes : List ℕ) (asked : Option ℕ) (v : Verdict) (told more meaning : List ℕ) → Tells bytes v [] told → TellsIfYes bytes asked v [] told → TellsAsked bytes v asked [] more → meaning ≡ told ++ more → MeansOf bytes asked v meaning
+pub means-both : (bytes : List ℕ) (asked : Option ℕ) (v : Verdict) (told more meaning : List ℕ)
+    → Tells bytes v [] told → TellsIfYes bytes asked v [] told → TellsAsked bytes v asked [] more
+    → meaning ≡ told ++ more → MeansOf bytes asked v meaning
 means-both bytes asked v told more meaning tells each dealings text = record {
   said = told;
   more = more;
@@ -92,14 +100,18 @@ means-both bytes asked v told more meaning tells each dealings text = record {
   dealings = dealings;
 }
 
-explained : (asked : Option ℕ) (told : Option (List ℕ)) (v : Verdict) (meaning : List ℕ) → IfSome told (λ bytes. IsVerdict bytes v × MeansOf bytes asked v meaning) → IfSome told (λ bytes. IsVerdict bytes v × Means bytes v meaning)
+explained : (asked : Option ℕ) (told : Option (List ℕ)) (v : Verdict) (meaning : List ℕ)
+    → IfSome told (λ bytes. IsVerdict bytes v × MeansOf bytes asked v meaning)
+    → IfSome told (λ bytes. IsVerdict bytes v × Means bytes v meaning)
 explained asked None v meaning h = tt
 explained asked (Some bytes) v meaning h = (h.0, (asked, h.1))
 
 -- whether one was asked for or not
-pub is-explained : (asked : Option ℕ) (told : Option (List ℕ)) (ended : Outcome) (text : List ℕ) → IsExplainedOf asked told ended text → IsExplained told ended text
+pub is-explained : (asked : Option ℕ) (told : Option (List ℕ)) (ended : Outcome) (text : List ℕ)
+    → IsExplainedOf asked told ended text → IsExplained told ended text
 is-explained asked told ended text h = (h.0, h.1, explained asked told h.0 h.1 h.2, h.3, h.4)
 
-pub wrote-explained : {E : Type 0} (r : Result Outcome E) (asked : Option ℕ) (told old new : Option (List ℕ)) → IfOk r (λ ended. WroteExplainedOf asked told ended old new) → IfOk r (λ ended. WroteExplained told ended old new)
+pub wrote-explained : {E : Type 0} (r : Result Outcome E) (asked : Option ℕ) (told old new : Option (List ℕ))
+    → IfOk r (λ ended. WroteExplainedOf asked told ended old new) → IfOk r (λ ended. WroteExplained told ended old new)
 wrote-explained (Ok ended) asked told old new h = (h.0, is-explained asked told ended h.0 h.1, h.2)
 wrote-explained (Err e) asked told old new h = tt

@@ -64,26 +64,37 @@ some-and : (o : Option LoggedEntry) (P : LoggedEntry → Type 0) → IsSomeAnd o
 some-and (Some g) P h = (g, refl, h)
 some-and None P h = absurd h
 
-part-there : (lines : List SectionLine) (k : Key) (reads : Bool) (o : Option Found) (l : LoggedEntry) → IfSome o (IsFoundIn lines (length lines) k)
+part-there : (lines : List SectionLine) (k : Key) (reads : Bool) (o : Option Found) (l : LoggedEntry)
+    → IfSome o (IsFoundIn lines (length lines) k)
     → part reads (unwrap_or o nothing) ≡ Some l → OwnAt lines k reads l
 part-there lines k true (Some f) l is e =
-    let t = subst (λ o. IfSome o (λ m. StandsAt lines k.0 m × (m.line < length lines + 3) × ((tx_of m.entry ≡ k.2) × Reads k.1 m.entry))) e is.read.there in
+    let t = subst (λ o. IfSome o (λ m. StandsAt lines k.0 m × (m.line < length lines + 3)
+    × ((tx_of m.entry ≡ k.2) × Reads k.1 m.entry))) e is.read.there in
     record { stands = t.0; own = t.2.0; does = t.2.1 }
 part-there lines k false (Some f) l is e =
-    let t = subst (λ o. IfSome o (λ m. StandsAt lines k.0 m × (m.line < length lines + 3) × ((tx_of m.entry ≡ k.2) × Writes k.1 m.entry))) e is.change.there in
+    let t = subst (λ o. IfSome o (λ m. StandsAt lines k.0 m × (m.line < length lines + 3)
+    × ((tx_of m.entry ≡ k.2) × Writes k.1 m.entry))) e is.change.there in
     record { stands = t.0; own = t.2.0; does = t.2.1 }
 part-there lines k reads None l is e = absurd (none-there reads l e)
 
-within-lines : (lines : List SectionLine) (site : ℕ) (l : LoggedEntry) → StandsAt lines site l → l.line < length lines + 3
+within-lines : (lines : List SectionLine) (site : ℕ) (l : LoggedEntry) → StandsAt lines site l
+    → l.line < length lines + 3
 within-lines lines site l stands =
     let within = slice_get_within lines stands.place (Logged l.entry) stands.there in
     let counted = stands.counted in
     omega (arith, within, counted)
 
-part-last : (lines : List SectionLine) (k : Key) (reads : Bool) (o : Option Found) (l : LoggedEntry) → IfSome o (IsFoundIn lines (length lines) k) → IsSome o
+part-last : (lines : List SectionLine) (k : Key) (reads : Bool) (o : Option Found) (l : LoggedEntry)
+    → IfSome o (IsFoundIn lines (length lines) k) → IsSome o
     → OwnAt lines k reads l → (g : LoggedEntry) × (part reads (unwrap_or o nothing) ≡ Some g) × (l.line ≤ g.line)
-part-last lines k true (Some f) l is some own = some-and f.read (λ g. l.line ≤ g.line) (is.read.last l own.stands (within-lines lines k.0 l own.stands) (own.own, own.does))
-part-last lines k false (Some f) l is some own = some-and f.change (λ g. l.line ≤ g.line) (is.change.last l own.stands (within-lines lines k.0 l own.stands) (own.own, own.does))
+part-last lines k true (Some f) l is some own =
+    some-and f.read (λ g. l.line ≤ g.line) (is.read.last l own.stands (within-lines lines k.0 l own.stands) (
+      own.own,
+      own.does,
+    ))
+part-last lines k false (Some f) l is some own =
+    some-and f.change (λ g. l.line ≤ g.line) (is.change.last l own.stands (within-lines lines k.0 l own.stands)
+    (own.own, own.does))
 part-last lines k reads None l is some own = absurd (false≢true some)
 
 -- ---- two operations in conflict
@@ -108,12 +119,14 @@ clash-first Wr x e f clash = clash.0
 clash-first Rw x e f clash = clash.0
 clash-first Ww x e f clash = clash.0
 
-clash-of : (kind : Kind) (x : Name) (e f : Entry) → Does (begins_with_read kind) x e → Does (ends_with_read kind) x f → (IsIncrement e → IsIncrement f → ⊥) → Clash kind x e f
+clash-of : (kind : Kind) (x : Name) (e f : Entry) → Does (begins_with_read kind) x e → Does (ends_with_read kind) x f
+    → (IsIncrement e → IsIncrement f → ⊥) → Clash kind x e f
 clash-of Wr x e f own other apart = (own, other)
 clash-of Rw x e f own other apart = (own, other)
 clash-of Ww x e f own other apart = (own, other, apart)
 
-repeats-of : (reads : Bool) (x : Name) (e f : Entry) → tx_of e ≡ tx_of f → Does reads x e → Does reads x f → Repeats x e f
+repeats-of : (reads : Bool) (x : Name) (e f : Entry) → tx_of e ≡ tx_of f → Does reads x e → Does reads x f
+    → Repeats x e f
 repeats-of true x e f same one other = (same, inl (one, other))
 repeats-of false x e f same one other = (same, inr (one, other))
 
@@ -123,22 +136,26 @@ abbrev NoneRepeats : List Entry → Type 0
 NoneRepeats entries = AllPairs (λ e f. (x : Name) → Repeats x e f → ⊥) entries
 
 -- lines that keep the rules have no entry twice
-pub none-repeats : (second : Bool) (c : Certificate) (before : List SectionLine) → AllKept second c before → (logs : List SiteLog) → sections_from 0 logs ≡ before ++ End ∷ []
+pub none-repeats : (second : Bool) (c : Certificate) (before : List SectionLine) → AllKept second c before
+    → (logs : List SiteLog) → sections_from 0 logs ≡ before ++ End ∷ []
     → (s : ℕ) (log : SiteLog) → slice_get logs s ≡ Some log → NoneRepeats log.entries
-none-repeats second c before kept logs all s log at = AllPairs-from_at (λ (e f : Entry). (x : Name) → Repeats x e f → ⊥) log.entries (λ p q e f less at-p at-q.
+none-repeats second c before kept logs all s log at = AllPairs-from_at (λ (e f : Entry). (x : Name) → Repeats x e f
+    → ⊥) log.entries (λ p q e f less at-p at-q.
     let a = around 0 logs s log at in
     let front = up_to a.front (0 + s) log.items (take q log.entries) [] in
     let cut = at_logged a.front a.back (0 + s) log q f at-q in
     let here = in-before front cut.0 f (sym all ∙ a.whole ∙ cut.1) in
     let keeps = (kept.lines front here.0 (Logged f) here.1).1 fault.Twice in
     All_at (λ (g : Entry). (x : Name) → Repeats x g f → ⊥) (take q log.entries) p e
-    (subst (All (λ (g : Entry). (x : Name) → Repeats x g f → ⊥)) (entries_in-is a.front (0 + s) log.items (take q log.entries) []) keeps)
+    (subst (All (λ (g : Entry). (x : Name) → Repeats x g f → ⊥))
+    (entries_in-is a.front (0 + s) log.items (take q log.entries) []) keeps)
     (slice_get-take_at log.entries q p e less at-p))
   where
     end-logged : (f : Entry) → End ≡ Logged f → ⊥
     end-logged f same = cc
 
-    in-before : (front later : List SectionLine) (f : Entry) → before ++ End ∷ [] ≡ front ++ Logged f ∷ later → (rest : List SectionLine) × (before ≡ front ++ Logged f ∷ rest)
+    in-before : (front later : List SectionLine) (f : Entry) → before ++ End ∷ [] ≡ front ++ Logged f ∷ later
+        → (rest : List SectionLine) × (before ≡ front ++ Logged f ∷ rest)
     in-before front later f e = elim (cut_append before (End ∷ []) front later (Logged f) e) [
       | inl first ↦ first
       | inr last ↦ (let l = last_cut End last.0 later (Logged f) last.2 in absurd (end-logged f l.0))
@@ -146,30 +163,40 @@ none-repeats second c before kept logs all s log at = AllPairs-from_at (λ (e f 
 
 module _ (logs : List SiteLog) (before : List SectionLine) (all : sections_from 0 logs ≡ before ++ End ∷ []) where
   -- an entry is one alone
-  one-own : ((s : ℕ) (log : SiteLog) → slice_get logs s ≡ Some log → NoneRepeats log.entries) → (k : Key) (reads : Bool) (l g : LoggedEntry) → OwnAt before k reads l → OwnAt before k reads g → l.line ≤ g.line
+  one-own : ((s : ℕ) (log : SiteLog) → slice_get logs s ≡ Some log → NoneRepeats log.entries)
+      → (k : Key) (reads : Bool) (l g : LoggedEntry) → OwnAt before k reads l → OwnAt before k reads g → l.line ≤ g.line
       → (l.line ≡ g.line) × (l.entry ≡ g.entry)
   one-own once k reads l g one other low =
       let a = stands-in logs before all k.0 l one.stands in
       let b = stands-in logs before all k.0 g other.stands in
       let same : b.log ≡ a.log = same_Some b.log a.log (sym b.at ∙ a.at) in
-      let there : slice_get a.log.entries b.j ≡ Some g.entry = ap (λ (m : SiteLog). slice_get m.entries b.j) (sym same) ∙ b.there in
+      let there : slice_get a.log.entries b.j ≡ Some g.entry =
+      ap (λ (m : SiteLog). slice_get m.entries b.j) (sym same) ∙ b.there in
       let here = a.line in
       let line = b.line in
       elim (cases_order a.j b.j) [
-        | inl even ↦ (omega (arith, here, line, even), same_Some l.entry g.entry (sym a.there ∙ ap (slice_get a.log.entries) even ∙ there))
-        | inr (inl less) ↦ absurd (AllPairs_at (λ (e f : Entry). (x : Name) → Repeats x e f → ⊥) a.log.entries a.j b.j l.entry g.entry (once k.0 a.log a.at) less a.there there k.1
+        | inl even ↦ (
+          omega (arith, here, line, even),
+          same_Some l.entry g.entry (sym a.there
+              ∙ ap (slice_get a.log.entries) even ∙ there),
+        )
+        | inr (inl less) ↦ absurd (AllPairs_at (λ (e f : Entry). (x : Name) → Repeats x e f
+            → ⊥) a.log.entries a.j b.j l.entry g.entry (once k.0 a.log a.at) less a.there there k.1
             (repeats-of reads k.1 l.entry g.entry (one.own ∙ sym other.own) one.does other.does))
         | inr (inr more) ↦ absurd (omega (arith, here, line, low, more))
       ]
 
   -- a step that is shown is a conflict of the logs
-  pub shown-logged : (sought : Sought) (from : ℕ) (step : Step) (one other : LoggedEntry) → AreFoundIn before (length before) sought → from ≢ step.to
+  pub shown-logged : (sought : Sought) (from : ℕ) (step : Step) (one other : LoggedEntry)
+      → AreFoundIn before (length before) sought → from ≢ step.to
       → IsShownStep sought from step one other → IsLogged logs from step
   shown-logged sought from step one other found apart shown =
       let kind = step.label.kind in
-      let own = part-there before (key_of step from) (begins_with_read kind) (found_at sought (key_of step from)) one (found (key_of step from))
+      let own = part-there before (key_of step from) (begins_with_read kind) (found_at sought (key_of step from)) one
+      (found (key_of step from))
       (sym (begun-part kind (found_of sought step from)) ∙ shown.first) in
-      let its = part-there before (key_of step step.to) (ends_with_read kind) (found_at sought (key_of step step.to)) other (found (key_of step step.to))
+      let its = part-there before (key_of step step.to) (ends_with_read kind) (found_at sought (key_of step step.to))
+      other (found (key_of step step.to))
       (sym (ended-part kind (found_of sought step step.to)) ∙ shown.second) in
       let a = stands-in logs before all step.label.site one own.stands in
       let b = stands-in logs before all step.label.site other its.stands in
@@ -195,7 +222,8 @@ module _ (logs : List SiteLog) (before : List SectionLine) (all : sections_from 
       )
 
   -- and one that is sought and not shown is none
-  pub unshown-none : ((s : ℕ) (log : SiteLog) → slice_get logs s ≡ Some log → NoneRepeats log.entries) → (sought : Sought) (from : ℕ) (step : Step) → AreFoundIn before (length before) sought
+  pub unshown-none : ((s : ℕ) (log : SiteLog) → slice_get logs s ≡ Some log → NoneRepeats log.entries)
+      → (sought : Sought) (from : ℕ) (step : Step) → AreFoundIn before (length before) sought
       → IsSoughtFor sought from step → IsUnshown sought from step → IsLogged logs from step → ⊥
   unshown-none once sought from step found both unshown (log, at, met) =
       let kind = step.label.kind in
@@ -217,8 +245,12 @@ module _ (logs : List SiteLog) (before : List SectionLine) (all : sections_from 
       } in
       let g = part-last before k (begins_with_read kind) (found_at sought k) l (found k) both.0 own in
       let h = part-last before m (ends_with_read kind) (found_at sought m) r (found m) both.1 its in
-      let same = one-own once k (begins_with_read kind) l g.0 own (part-there before k (begins_with_read kind) (found_at sought k) g.0 (found k) g.1) g.2 in
-      let same' = one-own once m (ends_with_read kind) r h.0 its (part-there before m (ends_with_read kind) (found_at sought m) h.0 (found m) h.1) h.2 in
+      let same =
+      one-own once k (begins_with_read kind) l g.0 own
+      (part-there before k (begins_with_read kind) (found_at sought k) g.0 (found k) g.1) g.2 in
+      let same' =
+      one-own once m (ends_with_read kind) r h.0 its
+      (part-there before m (ends_with_read kind) (found_at sought m) h.0 (found m) h.1) h.2 in
       let less = met.before in
       let line : start 0 logs site + met.p + 3 ≡ g.0.line = same.0 in
       let line' : start 0 logs site + met.q + 3 ≡ h.0.line = same'.0 in
@@ -227,17 +259,23 @@ module _ (logs : List SiteLog) (before : List SectionLine) (all : sections_from 
         second = ended-part kind (found_of sought step step.to) ∙ h.1;
         order = record {
           before = omega (arith, less, line, line');
-          apart = subst (λ e. IsIncrement e → IsIncrement h.0.entry → ⊥) same.1 (subst (λ f. IsIncrement met.e → IsIncrement f → ⊥) same'.1 (clash-apart kind x met.e met.f met.clash));
+          apart = subst (λ e. IsIncrement e → IsIncrement h.0.entry
+              → ⊥) same.1 (subst (λ f. IsIncrement met.e → IsIncrement f
+              → ⊥) same'.1 (clash-apart kind x met.e met.f met.clash));
         };
       })
 
 -- ---- walks
 
-pub start-stop : (tx : ℕ) (walk : List Step) (place : ℕ) (step : Step) → slice_get walk place ≡ Some step → slice_get (tx ∷ stops walk) place ≡ Some (last_stop tx (take place walk))
+pub start-stop : (tx : ℕ) (walk : List Step) (place : ℕ) (step : Step) → slice_get walk place ≡ Some step
+    → slice_get (tx ∷ stops walk) place ≡ Some (last_stop tx (take place walk))
 start-stop tx [] place step at = absurd (none-some step at)
 start-stop tx (s ∷ walk) zero step at = refl
 start-stop tx (s ∷ walk) (suc n) step at = start-stop s.to walk n step at
 
-pub walk-logged : (logs : List SiteLog) (tx : ℕ) (walk : List Step) → ((place : ℕ) (step : Step) → slice_get walk place ≡ Some step → IsLogged logs (last_stop tx (take place walk)) step) → AreLogged logs tx walk
+pub walk-logged : (logs : List SiteLog) (tx : ℕ) (walk : List Step)
+    → ((place : ℕ) (step : Step) → slice_get walk place ≡ Some step
+    → IsLogged logs (last_stop tx (take place walk)) step) → AreLogged logs tx walk
 walk-logged logs tx [] each = tt
-walk-logged logs tx (s ∷ walk) each = (each 0 s refl, walk-logged logs s.to walk (λ place step at. each (suc place) step at))
+walk-logged logs tx (s ∷ walk) each =
+    (each 0 s refl, walk-logged logs s.to walk (λ place step at. each (suc place) step at))

@@ -31,7 +31,8 @@ SpellsCertificate line c = IsCertificate c × (line ≡ certificate_text c)
 
 -- the entry of the line is shown with the end of its transaction in the section, if it has one, and
 -- the decision
-pub record ShowsAgainstEnd (decisions : List Decision) (before : List SectionLine) (line : List ℕ) (n : ℕ) (old new : List ℕ) : Type 0 where
+pub record ShowsAgainstEnd (decisions : List Decision) (before : List SectionLine) (line : List ℕ) (n : ℕ)
+    (old new : List ℕ) : Type 0 where
   pub logged : Logged
   pub entry : IsEntryOf line n logged
   pub placed : List Placed
@@ -39,7 +40,8 @@ pub record ShowsAgainstEnd (decisions : List Decision) (before : List SectionLin
   pub told : TellsEnd decisions placed (numbered_entries before) logged old new
 
 -- the end of the line is shown, and before it the first of the section that was decided later
-pub record ShowsMisplaced (decisions : List Decision) (before : List SectionLine) (line : List ℕ) (n : ℕ) (old new : List ℕ) : Type 0 where
+pub record ShowsMisplaced (decisions : List Decision) (before : List SectionLine) (line : List ℕ) (n : ℕ)
+    (old new : List ℕ) : Type 0 where
   pub logged : Logged
   pub entry : IsEntryOf line n logged
   pub told : TellsDecisionOrder decisions (numbered_entries before) logged old new

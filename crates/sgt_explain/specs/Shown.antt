@@ -59,7 +59,8 @@ pub record ShowsFinal (before : List SectionLine) (line : List ℕ) (shown : Mis
 -- its section, with its line, that it is
 -- in conflict with, and whose transaction has no smaller rank; and both ranks, with the numbers of
 -- the decisions
-pub record ShowsRanks (decisions : List Decision) (before : List SectionLine) (line : List ℕ) (number : ℕ) (shown : RanksShown) : Type 0 where
+pub record ShowsRanks (decisions : List Decision) (before : List SectionLine) (line : List ℕ) (number : ℕ)
+    (shown : RanksShown) : Type 0 where
   pub site : shown.site ≡ unwrap_or (open_site before) 0
   pub entry : line ≡ line_text (Logged shown.second.logged.entry)
   pub counted : shown.second.logged.line ≡ number

@@ -35,22 +35,23 @@ AllMetBefore decisions logs u = (number tx : ℕ) (walk : List Step) (place from
 -- of the end of the last section: the first step of the refusals' walks that is no conflict of the
 -- logs, and of the entries of its site the two that the step is about, as far as they are there, and
 -- a conflict of another kind, if there is one, of the same transactions on the item
-pub record ShowsStep (decisions : List Decision) (before : List SectionLine) (line : List ℕ) (shown : Unmet) : Type 0 where
-  pub last : line ≡ line_text End
-  pub at : IsStepAt decisions shown
-  pub unmet : (logs : List SiteLog) → sections_from 0 logs ≡ before ++ End ∷ []
-      → IsLogged logs shown.from shown.step → ⊥
-  pub earlier : (logs : List SiteLog) → sections_from 0 logs ≡ before ++ End ∷ []
-      → AllMetBefore decisions logs shown
-  pub upto : List SectionLine
-  pub section : EndsSite (before ++ End ∷ []) shown.step.label.site upto
-  pub first : ShowsOwn (numbered_entries upto) shown.from
-      (begins_with_read shown.step.label.kind) shown.step.label.item shown.first
-  pub second : ShowsOwn (numbered_entries upto) shown.step.to
-      (ends_with_read shown.step.label.kind) shown.step.label.item shown.second
-  pub misfit : (one other : Logged) → shown.first ≡ Some one → shown.second ≡ Some other
-      → AreMisfit (numbered_entries upto) one other
-  pub other : ShowsOther (numbered_entries upto) shown.from shown.step shown.other
+pub record ShowsStep (decisions : List Decision) (before : List SectionLine) (line : List ℕ) (shown : Unmet) : Type 0
+  where
+    pub last : line ≡ line_text End
+    pub at : IsStepAt decisions shown
+    pub unmet : (logs : List SiteLog) → sections_from 0 logs ≡ before ++ End ∷ []
+        → IsLogged logs shown.from shown.step → ⊥
+    pub earlier : (logs : List SiteLog) → sections_from 0 logs ≡ before ++ End ∷ []
+        → AllMetBefore decisions logs shown
+    pub upto : List SectionLine
+    pub section : EndsSite (before ++ End ∷ []) shown.step.label.site upto
+    pub first : ShowsOwn (numbered_entries upto) shown.from
+        (begins_with_read shown.step.label.kind) shown.step.label.item shown.first
+    pub second : ShowsOwn (numbered_entries upto) shown.step.to
+        (ends_with_read shown.step.label.kind) shown.step.label.item shown.second
+    pub misfit : (one other : Logged) → shown.first ≡ Some one → shown.second ≡ Some other
+        → AreMisfit (numbered_entries upto) one other
+    pub other : ShowsOther (numbered_entries upto) shown.from shown.step shown.other
 
 -- ---- for private clauses
 

@@ -1,8 +1,9 @@
-//! What the answers of a check of a history mean: the anomalies of the field, and which isolation levels let them happen.
+//! What the answers of a check of a history mean: the anomalies of the field, and which isolation levels let them
+//! happen.
 //!
-//! Definitions of G0 to G2-item: A. Adya, Weak Consistency, PhD thesis, MIT 1999. Lost update, read skew and write skew: Berenson
-//! et al., A Critique of ANSI SQL Isolation Levels, SIGMOD 1995. With sessions and real time: the names of Elle (Kingsbury and
-//! Alvaro, VLDB 2020).
+//! Definitions of G0 to G2-item: A. Adya, Weak Consistency, PhD thesis, MIT 1999. Lost update, read skew and write
+//! skew: Berenson et al., A Critique of ANSI SQL Isolation Levels, SIGMOD 1995. With sessions and real time: the
+//! names of Elle (Kingsbury and Alvaro, VLDB 2020).
 
 ghost use Rattle.sgt_explain.specs.Topics.{anomaly_name, IsRuleOf};
 

@@ -79,13 +79,14 @@ fn explain_asked<R: Source, W: Sink>(
     }
 }
 
-/// Explains all that the reader gives: first the verdict's line as `audit` writes it, and behind it what the verdict means. Of a
-/// no that are ten lines at most: the rule, the lines concerned, what was found and what is wanted. Of a yes each refused
-/// transaction with its cycle, every step with its site, its item, its kind in words and its two lines. The input is read whole
-/// and kept in memory, also behind a fault.
+/// Explains all that the reader gives: first the verdict's line as `audit` writes it, and behind it what the verdict
+/// means. Of a no that are ten lines at most: the rule, the lines concerned, what was found and what is wanted. Of a
+/// yes each refused transaction with its cycle, every step with its site, its item, its kind in words and its two
+/// lines. The input is read whole and kept in memory, also behind a fault.
 ///
-/// ReadFault where the reader failed, or too many reads were needed (`MOST_READS` of sgt_names), and Memory where a growth
-/// was refused: nothing was written. WriteFault where the writer failed: a front of the answer may have been written.
+/// ReadFault where the reader failed, or too many reads were needed (`MOST_READS` of sgt_names), and Memory where a
+/// growth was refused: nothing was written. WriteFault where the writer failed: a front of the answer may have been
+/// written.
 pub fn explain<R: Source, W: Sink>(
     alloc: Global,
     reader: &mut R,
@@ -116,9 +117,9 @@ pub fn explain<R: Source, W: Sink>(
     explain_asked(alloc, None, reader, writer)
 }
 
-/// The same, and behind it what the transaction did: its decision and rank, or the cycle where it was refused, its entries at
-/// each site with their lines, and whom it is in conflict with, in which direction. Of a text with a fault by line 2 and the
-/// lines of logs before that. In place of the cycles of a yes: of this transaction alone.
+/// The same, and behind it what the transaction did: its decision and rank, or the cycle where it was refused, its
+/// entries at each site with their lines, and whom it is in conflict with, in which direction. Of a text with a fault
+/// by line 2 and the lines of logs before that. In place of the cycles of a yes: of this transaction alone.
 pub fn explain_transaction<R: Source, W: Sink>(
     alloc: Global,
     tx: Tx,
@@ -150,8 +151,8 @@ pub fn explain_transaction<R: Source, W: Sink>(
     explain_asked(alloc, Some(tx), reader, writer)
 }
 
-/// Writes the rule of the topic, with an example of a line that breaks it. WriteFault where the writer failed: a front of the
-/// text may have been written.
+/// Writes the rule of the topic, with an example of a line that breaks it. WriteFault where the writer failed: a
+/// front of the text may have been written.
 pub fn explain_topic<W: Sink>(topic: Topic, writer: &mut W) -> Result<Outcome, EngineFail>
     ensures ok { IfOk result (λ outcome. outcome ≡ Outcome.Yes) }
     ensures text { OnOk result

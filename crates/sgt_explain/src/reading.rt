@@ -40,8 +40,8 @@ fn take_some<R: Source>(
     }
 }
 
-/// All that the reader gives. ReadFault where a read failed or too many were needed (`MOST_READS` of sgt_names); Memory where
-/// a growth was refused.
+/// All that the reader gives. ReadFault where a read failed or too many were needed (`MOST_READS` of sgt_names);
+/// Memory where a growth was refused.
 pub fn read_all<R: Source>(alloc: Global, reader: &mut R) -> Result<Vec<u8>, EngineFail>
     ensures all { IfOk result (λ text. IfSome (R.tells reader.old) (λ bytes. text.items ≡ bytes)) }
     ensures quiet { result ≢ Err EngineFail.ReadFault

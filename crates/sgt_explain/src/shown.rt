@@ -1,4 +1,5 @@
-//! What is shown of a line that gives an item another value than the item has there, and of one that stands against the ranks.
+//! What is shown of a line that gives an item another value than the item has there, and of one that stands against
+//! the ranks.
 
 ghost use Rattle.std.specs.Prelude.{◌≡◌, ◌≤◌, ◌+◌, ℕ, List, ◌∷◌, ◌++◌, All, Some, length, take, IfOk, OnOk, IfSome, IsSomeAnd, string_bytes};
 ghost use Rattle.sgt_notation.specs.Spelling.{HasNoLf, text_of_lines};

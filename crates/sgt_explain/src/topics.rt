@@ -72,8 +72,8 @@ pub enum Anomaly {
     RealTimeItem,
 }
 
-/// A rule that can be asked about: of a fault of a bundle, F1 to F19, or of why a line is no certificate, K1 to K4; what a
-/// reply of a replay, a run or a service says; or an anomaly of a history.
+/// A rule that can be asked about: of a fault of a bundle, F1 to F19, or of why a line is no certificate, K1 to K4;
+/// what a reply of a replay, a run or a service says; or an anomaly of a history.
 #[derive(Clone, Copy, Debug, PartialEq, Eq)]
 pub enum Topic {
     /// The rule of a bundle that this fault breaks.
@@ -214,7 +214,8 @@ impl Topic {
     ghost use Rattle.sgt_explain.specs.declared.topics.Topic.{Topic as Named};
     ghost use Rattle.sgt_explain.specs.Topics.{topic_name};
 
-    /// The topic of this name: `F1` to `F19`, `K1` to `K4`; `E1` to `E12`, `L1` to `L3`, `V1` to `V10`, `P1` to `P3`, `C1`;
+    /// The topic of this name: `F1` to `F19`, `K1` to `K4`; `E1` to `E12`, `L1` to `L3`, `V1` to `V10`, `P1` to `P3`,
+    /// `C1`;
     /// `internal` to `G2-item`, and those of cycles with `-process` or `-realtime`. Names are compared byte by byte. None where no topic has the name.
     pub fn find(word: &str) -> Option<Topic>
         ensures some { IfSome result (λ topic. word.now ≡ topic_name topic) }

@@ -42,7 +42,8 @@ pub(crate) fn push_yes(
     }
 }
 
-/// The line behind the last that may be shown of a transaction: all lines of a valid bundle, else those before the first fault.
+/// The line behind the last that may be shown of a transaction: all lines of a valid bundle, else those before the
+/// first fault.
 fn end_of(verdict: Verdict) -> u64
     ensures { result ≡ seen_before verdict }
 {

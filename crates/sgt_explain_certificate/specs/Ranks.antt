@@ -33,14 +33,17 @@ pub record AreDoubled (one other : Given) : Type 0 where
 
 -- of one rank there is one decision alone
 abbrev pub AreSingle : List Given → Type 0
-AreSingle given = (one other : Given) → Contains given one → Contains given other → one.rank ≡ other.rank → one.number ≡ other.number
+AreSingle given = (one other : Given) → Contains given one → Contains given other → one.rank ≡ other.rank
+    → one.number ≡ other.number
 
--- what is found wrong with the ranks: two that are one, one that is too great, and one that nobody has. Where none is missing, each is given; where
--- none are one, no two decisions give one rank; and where none is too great, each is below their count
+-- what is found wrong with the ranks: two that are one, one that is too great, and one that nobody has. Where none is
+-- missing, each is given; where none are one, no two decisions give one rank; and where none is too great, each is
+-- below their count
 pub record AreRanksFound (decisions : List Decision) (found : RanksFound) : Type 0 where
   pub commits : found.commits ≡ length (ranks decisions)
   pub doubled : IfSome found.doubled (λ two. IsGiven decisions two.0 × IsGiven decisions two.1 × AreDoubled two.0 two.1)
-  pub single : IfNone found.doubled ((one other : Given) → IsGiven decisions one → IsGiven decisions other → AreDoubled one other → ⊥)
+  pub single : IfNone found.doubled ((one other : Given) → IsGiven decisions one → IsGiven decisions other
+      → AreDoubled one other → ⊥)
   pub above : IfSome found.above (λ g. IsGiven decisions g × (length (ranks decisions) ≤ g.rank))
   pub below : IfNone found.above ((g : Given) → IsGiven decisions g → g.rank < length (ranks decisions))
   pub missing : IfSome found.missing (λ rank. (rank < length (ranks decisions)) × (Contains (ranks decisions) rank → ⊥))
@@ -72,7 +75,8 @@ if_missing (Some rank) = missing_text rank
 if_missing None = codes ""
 
 abbrev pub ranks_text : RanksFound → List ℕ
-ranks_text found = ranks_head found.commits ++ (if_doubled found.doubled ++ (if_above found.above ++ if_missing found.missing))
+ranks_text found =
+    ranks_head found.commits ++ (if_doubled found.doubled ++ (if_above found.above ++ if_missing found.missing))
 
 abbrev pub TellsRanks : List Decision → (old new : List ℕ) → Type 0
 TellsRanks decisions old new = (found : RanksFound) × AreRanksFound decisions found × (new ≡ old ++ ranks_text found)

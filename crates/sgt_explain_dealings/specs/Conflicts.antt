@@ -16,8 +16,8 @@ pub record IsClash (one other : Logged) (p : Pair) : Type 0 where
   pub clash : Clash kind p.item p.first.entry p.second.entry
   pub apart : tx_of p.first.entry ≢ tx_of p.second.entry
 
--- two entries in conflict on the item, in the order of the log, of which one is the transaction's; where the lines are known, both stand
--- in them, at the site and in the lines of their numbers
+-- two entries in conflict on the item, in the order of the log, of which one is the transaction's; where the lines
+-- are known, both stand in them, at the site and in the lines of their numbers
 pub record IsOwnConflict (known : Option (List SectionLine)) (tx : ℕ) (p : Pair) : Type 0 where
   pub clashes : IsClash p.first p.second p
   pub order : p.first.line ≤ p.second.line
@@ -32,4 +32,5 @@ pairs_text pairs = flat_map pair_text pairs
 
 -- conflicts of the transaction are told behind the old text, a line each
 abbrev pub AddsConflicts : Option (List SectionLine) → ℕ → (old new : List ℕ) → Type 0
-AddsConflicts known tx old new = (pairs : List Pair) × All (IsOwnConflict known tx) pairs × (new ≡ old ++ pairs_text pairs)
+AddsConflicts known tx old new = (pairs : List Pair) × All (IsOwnConflict known tx) pairs
+    × (new ≡ old ++ pairs_text pairs)

@@ -20,7 +20,8 @@ IsOwnIn known tx own = IsOwn tx own × IfSome known (λ lines. StandsAt lines ow
 
 -- the entry with its site and the number of its line, where it is one of the transaction
 abbrev pub own_from : (tx site line : ℕ) → Option Entry → Option Own
-own_from tx site line (Some e) = if tx_of e == tx then Some (record { site = site; logged = record { line = line; entry = e } }) else None
+own_from tx site line (Some e) =
+    if tx_of e == tx then Some (record { site = site; logged = record { line = line; entry = e } }) else None
 own_from tx site line None = None
 
 -- the entry of the line at a place, with the site that is open there
@@ -47,16 +48,21 @@ own_text last (one ∷ own) = one_text last one ++ own_text (Some one.site) own
 abbrev pub own_head : List Own → List ℕ
 own_head own = own_text None own ++ codes "in conflict:\n"
 
--- entries of the transaction are shown, site by site, and conflicts of it, each in its direction, and more is said; or that it has none
+-- entries of the transaction are shown, site by site, and conflicts of it, each in its direction, and more is said;
+-- or that it has none
 abbrev pub TellsDealings : ℕ → (old new : List ℕ) → Type 0
 TellsDealings tx old new = (new ≡ old ++ codes "it has no entry\n")
-    ⊎ ((own : List Own) × (pairs : List Pair) × All (IsOwn tx) own × All (IsOwnConflict None tx) pairs × Adds (old ++ (own_head own ++ pairs_text pairs)) new)
+    ⊎ ((own : List Own) × (pairs : List Pair) × All (IsOwn tx) own × All (IsOwnConflict None tx) pairs
+    × Adds (old ++ (own_head own ++ pairs_text pairs)) new)
 
--- of these entries, which are all that the transaction has in these lines, each is shown, and conflicts in the lines; or that it has none
+-- of these entries, which are all that the transaction has in these lines, each is shown, and conflicts in the lines;
+-- or that it has none
 abbrev pub TellsOwn : List SectionLine → ℕ → List Own → (old new : List ℕ) → Type 0
 TellsOwn lines tx [] old new = new ≡ old ++ codes "it has no entry\n"
-TellsOwn lines tx (one ∷ own) old new = (pairs : List Pair) × All (IsOwnConflict (Some lines) tx) pairs × Adds (old ++ (own_head (one ∷ own) ++ pairs_text pairs)) new
+TellsOwn lines tx (one ∷ own) old new = (pairs : List Pair) × All (IsOwnConflict (Some lines) tx) pairs
+    × Adds (old ++ (own_head (one ∷ own) ++ pairs_text pairs)) new
 
 -- the same of the lines that a text has before the line of this number
 abbrev pub TellsAllOwn : (bytes : List ℕ) (number tx : ℕ) → (old new : List ℕ) → Type 0
-TellsAllOwn bytes number tx old new = (lines : List SectionLine) → HasBefore bytes number lines → TellsOwn lines tx (own_of tx lines) old new
+TellsAllOwn bytes number tx old new = (lines : List SectionLine) → HasBefore bytes number lines
+    → TellsOwn lines tx (own_of tx lines) old new

@@ -18,10 +18,18 @@ pub last_stop-next : (from : ℕ) (walk : List Step) (step : Step) → last_stop
 last_stop-next from [] step = refl
 last_stop-next from (s ∷ walk) step = last_stop-next s.to walk step
 
-pub cycle-next : (sought : Sought) (from : ℕ) (walk : List Step) (step : Step) (told : List ℕ) (shown : Option (Logged × Logged)) → TellsCycle sought from walk told
-    → Shows sought (last_stop from walk) step shown → TellsCycle sought from (walk ++ step ∷ []) (told ++ step_text (last_stop from walk) step shown)
-cycle-next sought from [] step told shown tells there =
-    (shown, [], there, refl, ap (λ t. t ++ step_text from step shown) tells ∙ sym (append-nil (step_text from step shown)))
+pub cycle-next : (sought : Sought) (from : ℕ) (walk : List Step) (step : Step) (told : List ℕ)
+    (shown : Option (Logged × Logged)) → TellsCycle sought from walk told
+    → Shows sought (last_stop from walk) step shown
+    → TellsCycle sought from (walk ++ step ∷ []) (told ++ step_text (last_stop from walk) step shown)
+cycle-next sought from [] step told shown tells there = (
+  shown,
+  [],
+  there,
+  refl,
+  ap (λ t. t ++ step_text from step shown) tells
+      ∙ sym (append-nil (step_text from step shown)),
+)
 cycle-next sought from (s ∷ walk) step told shown tells there =
     let more = step_text (last_stop s.to walk) step shown in (
       tells.0,
@@ -31,7 +39,8 @@ cycle-next sought from (s ∷ walk) step told shown tells there =
       ap (λ t. t ++ more) tells.4 ∙ append_assoc (step_text from s tells.0) tells.1 more,
     )
 
-pub cycles-next : (sought : Sought) (n : ℕ) (ds : List Decision) (d : Decision) (told one : List ℕ) → TellsCycles sought n ds told
+pub cycles-next : (sought : Sought) (n : ℕ) (ds : List Decision) (d : Decision) (told one : List ℕ)
+    → TellsCycles sought n ds told
     → TellsRefusal sought (n + length ds) d one → TellsCycles sought n (ds ++ d ∷ []) (told ++ one)
 cycles-next sought n [] d told one tells refusal =
     let e : n + 0 ≡ n = omega arith in
@@ -47,27 +56,35 @@ cycles-next sought n (e ∷ ds) d told one tells refusal =
 
 -- ---- which step isn't shown
 
-pub shown-pair : (sought : Sought) (from : ℕ) (step : Step) (shown : Option (Logged × Logged)) → Shows sought from step shown → is_some shown ≡ true
+pub shown-pair : (sought : Sought) (from : ℕ) (step : Step) (shown : Option (Logged × Logged))
+    → Shows sought from step shown → is_some shown ≡ true
     → (two : Logged × Logged) × IsShownStep sought from step two.0 two.1
 shown-pair sought from step (Some two) shows some = (two, shows.some)
 shown-pair sought from step None shows some = absurd (false≢true some)
 
 -- a step that is shown, behind others that are
-pub shown-next : (sought : Sought) (tx from place : ℕ) (walk : List Step) (step : Step) (two : Logged × Logged) → slice_get walk place ≡ Some step → from ≡ last_stop tx (take place walk)
+pub shown-next : (sought : Sought) (tx from place : ℕ) (walk : List Step) (step : Step) (two : Logged × Logged)
+    → slice_get walk place ≡ Some step → from ≡ last_stop tx (take place walk)
     → IsShownStep sought from step two.0 two.1 → AreShown sought tx walk place → AreShown sought tx walk (place + 1)
 shown-next sought tx from place walk step two at is shown before q s less at' =
     elim (cases_order q place) [
       | inl here ↦ (let same = same_Some step s (sym at ∙ ap (slice_get walk) (sym here) ∙ at') in
           let own = subst (λ k. IsShownStep sought k step two.0 two.1) is shown in
-          let there = subst (λ n. IsShownStep sought (last_stop tx (take n walk)) step two.0 two.1) (sym here) own in
-          (two.0, two.1, subst (λ (t : Step). IsShownStep sought (last_stop tx (take q walk)) t two.0 two.1) same there))
+          let there = subst (λ n. IsShownStep sought (last_stop tx (take n walk)) step two.0 two.1) (sym here) own in (
+            two.0,
+            two.1,
+            subst (λ (t : Step). IsShownStep sought (last_stop tx (take q walk)) t two.0 two.1) same
+                there,
+          ))
       | inr (inl earlier) ↦ before q s earlier at'
       | inr (inr later) ↦ absurd (omega (arith, less, later))
     ]
 
 -- ---- what is sought
 
-pub sought-whole : {E : Type 0} (r : Result Sought E) (decisions : List Decision) (bytes : List ℕ) → IfOk r AreFound → IfOk r (λ s. WalksAreSought s decisions (length decisions))
-    → ((lines : List SectionLine) → HasBefore bytes 18446744073709551615 lines → IfOk r (AreFoundIn lines (length lines))) → IfOk r (AreSoughtIn decisions bytes)
+pub sought-whole : {E : Type 0} (r : Result Sought E) (decisions : List Decision) (bytes : List ℕ) → IfOk r AreFound
+    → IfOk r (λ s. WalksAreSought s decisions (length decisions))
+    → ((lines : List SectionLine) → HasBefore bytes 18446744073709551615 lines
+    → IfOk r (AreFoundIn lines (length lines))) → IfOk r (AreSoughtIn decisions bytes)
 sought-whole (Ok s) decisions bytes found walks lines = record { found = found; walks = walks; lines = lines }
 sought-whole (Err e) decisions bytes found walks lines = tt

@@ -18,12 +18,13 @@ pub record StandAgainst (first second : Ranked) (kind : Kind) (item : Name) : Ty
   pub falls : second.rank ≤ first.rank
 
 -- this entry of the site k is shown against the other, with the rank of its transaction
-pub record IsAgainst (decisions : List Decision) (k : ℕ) (one : Logged) (second : Ranked) (s : RanksShown) : Type 0 where
-  pub site : s.site ≡ k
-  pub own : s.first.logged ≡ one
-  pub other : s.second ≡ second
-  pub committed : IsCommitted decisions s.first.number (tx_of s.first.logged.entry) s.first.rank
-  pub stand : StandAgainst s.first s.second s.kind s.item
+pub record IsAgainst (decisions : List Decision) (k : ℕ) (one : Logged) (second : Ranked) (s : RanksShown) : Type 0
+  where
+    pub site : s.site ≡ k
+    pub own : s.first.logged ≡ one
+    pub other : s.second ≡ second
+    pub committed : IsCommitted decisions s.first.number (tx_of s.first.logged.entry) s.first.rank
+    pub stand : StandAgainst s.first s.second s.kind s.item
 
 -- one of these entries, before which each rises in rank to this one
 pub record IsFirstAgainst (decisions : List Decision) (entries : List Logged) (one : Logged) (e : Entry) : Type 0 where

@@ -16,7 +16,8 @@ pub record AreInOrder (one other : Logged) : Type 0 where
   pub before : one.line < other.line
   pub apart : IsIncrement one.entry → IsIncrement other.entry → ⊥
 
--- two entries that show a step from this transaction: its own, and behind it that of the transaction that the step leads to
+-- two entries that show a step from this transaction: its own, and behind it that of the transaction that the step
+-- leads to
 pub record IsShownStep (sought : Sought) (from : ℕ) (step : Step) (one other : Logged) : Type 0 where
   pub first : begun_by step.label.kind (found_of sought step from) ≡ Some one
   pub second : ended_by step.label.kind (found_of sought step step.to) ≡ Some other
@@ -50,7 +51,8 @@ refusal_head number tx = codes "transaction " ++ (decimal tx ++ (codes " was ref
 
 -- a refusal is told with its cycle, and nothing of another decision
 abbrev pub TellsRefusal : Sought → ℕ → Decision → List ℕ → Type 0
-TellsRefusal sought number (Refuse tx walk) told = (cycle : List ℕ) × TellsCycle sought tx walk cycle × (told ≡ refusal_head number tx ++ cycle)
+TellsRefusal sought number (Refuse tx walk) told = (cycle : List ℕ) × TellsCycle sought tx walk cycle
+    × (told ≡ refusal_head number tx ++ cycle)
 TellsRefusal sought number _ told = told ≡ []
 
 -- all decisions from this number on

@@ -13,7 +13,8 @@ IsDecidedEnd decisions d = IsEnd d.logged.entry × IsFirstOn decisions (tx_of d.
 
 -- the entry is no end that was decided later than by the decision of this number
 abbrev pub IsNotLater : List Decision → ℕ → Logged → Type 0
-IsNotLater decisions own l = (number : ℕ) → IsDecidedEnd decisions (record { logged = l; number = number }) → number ≤ own
+IsNotLater decisions own l = (number : ℕ) → IsDecidedEnd decisions (record { logged = l; number = number })
+    → number ≤ own
 
 -- of these entries the first end that was decided later than by the decision of this number
 pub record IsFirstLater (decisions : List Decision) (entries : List Logged) (own : ℕ) (d : Decided) : Type 0 where
@@ -36,7 +37,8 @@ abbrev pub decision_order_head : List ℕ
 decision_order_head = codes "DecisionOrder: the ends of a log stand in the order of their decisions\n"
 
 -- the end, and the first of the entries that was decided later, each with the number of its decision
-pub record AreMisplaced (decisions : List Decision) (entries : List Logged) (l : Logged) (first own : Decided) : Type 0 where
+pub record AreMisplaced (decisions : List Decision) (entries : List Logged) (l : Logged) (first own : Decided) : Type
+    0 where
   pub same : own.logged ≡ l
   pub decided : IsFirstOn decisions (tx_of l.entry) own.number
   pub there : IsFirstLater decisions entries own.number first

@@ -52,11 +52,13 @@ reason_text n d has_ended = if has_ended then ended_text (decided_tx d) else let
 abbrev pub IsReason : List Decision → List Placed → (tx : ℕ) → Bool → List ℕ → Type 0
 IsReason decisions placed tx has_ended reason =
     ((ArePlaced decisions placed → IsUndecided decisions tx) × (reason ≡ no_decision_text tx))
-    ⊎ ((number : ℕ) × (decision : Decision) × IsDecisionOn decisions tx number decision × (reason ≡ reason_text number decision has_ended))
+    ⊎ ((number : ℕ) × (decision : Decision) × IsDecisionOn decisions tx number decision
+    × (reason ≡ reason_text number decision has_ended))
 
 -- the end of its transaction is shown, if it has one, and the entry; and why it may not stand there
 abbrev pub TellsEnd : List Decision → List Placed → List Logged → Logged → (old new : List ℕ) → Type 0
-TellsEnd decisions placed entries l old new = (ended : Option Logged) × (reason : List ℕ) × IsEndOf entries (tx_of l.entry) ended
+TellsEnd decisions placed entries l old new = (ended : Option Logged) × (reason : List ℕ)
+    × IsEndOf entries (tx_of l.entry) ended
     × IsReason decisions placed (tx_of l.entry) (is_some ended) reason × (new ≡ old ++ (end_head ended l ++ reason))
 
 -- ---- a transaction with no end
@@ -78,9 +80,10 @@ pub record IsFirstUnended (entries : List Logged) (l : Logged) : Type 0 where
   pub none : HasNoEnd entries (tx_of l.entry)
   pub before : All (λ o. HasEnd entries (tx_of o.entry)) (take place entries)
 
--- an end that it has to stand beside, where there is one: of the ends that Q holds of, by the numbers of their decisions, none
--- comes behind it as R has it
-pub record IsBeside (Q : ℕ → Type 0) (R : ℕ → ℕ → Type 0) (decisions : List Decision) (entries : List Logged) (found : Option Decided) : Type 0 where
+-- an end that it has to stand beside, where there is one: of the ends that Q holds of, by the numbers of their
+-- decisions, none comes behind it as R has it
+pub record IsBeside (Q : ℕ → Type 0) (R : ℕ → ℕ → Type 0) (decisions : List Decision) (entries : List Logged)
+    (found : Option Decided) : Type 0 where
   pub there : IfSome found (λ d. Contains entries d.logged × IsDecidedEnd decisions d × Q d.number)
   pub nearest : All (λ l. (number : ℕ) → IsDecidedEnd decisions (record { logged = l; number = number }) → Q number
       → IsSomeAnd found (λ d. R number d.number)) entries

@@ -14,9 +14,11 @@ all_placed decisions = map placed_of (enumerate_from 0 decisions)
 
 -- neighbours of one transaction stand by their numbers
 abbrev pub TiesRise : List Placed → Type 0
-TiesRise placed = (k : ℕ) (p q : Placed) → slice_get placed k ≡ Some p → slice_get placed (k + 1) ≡ Some q → p.tx ≡ q.tx → p.number ≤ q.number
+TiesRise placed = (k : ℕ) (p q : Placed) → slice_get placed k ≡ Some p → slice_get placed (k + 1) ≡ Some q
+    → p.tx ≡ q.tx → p.number ≤ q.number
 
--- these are all decisions, each once with its number, by their transactions, and those of one transaction by their numbers
+-- these are all decisions, each once with its number, by their transactions, and those of one transaction by their
+-- numbers
 pub record ArePlaced (decisions : List Decision) (placed : List Placed) : Type 0 where
   pub all : IsPermutation (all_placed decisions) placed
   pub rising : IsNonDecreasingBy (λ p. p.tx) placed

@@ -46,12 +46,14 @@ abbrev pub ChangesAs : Key → Entry → Type 0
 ChangesAs k e = (tx_of e ≡ k.2) × Writes k.1 e
 
 -- of the first so many lines the last entry at the site that P holds of
-pub record IsLastAt (P : Entry → Type 0) (lines : List SectionLine) (site count : ℕ) (found : Option Logged) : Type 0 where
-  pub there : IfSome found (λ l. StandsAt lines site l × (l.line < count + 3) × P l.entry)
-  pub last : (l : Logged) → StandsAt lines site l → l.line < count + 3 → P l.entry → IsSomeAnd found (λ g. l.line ≤ g.line)
+pub record IsLastAt (P : Entry → Type 0) (lines : List SectionLine) (site count : ℕ) (found : Option Logged) : Type 0
+  where
+    pub there : IfSome found (λ l. StandsAt lines site l × (l.line < count + 3) × P l.entry)
+    pub last : (l : Logged) → StandsAt lines site l → l.line < count + 3 → P l.entry
+        → IsSomeAnd found (λ g. l.line ≤ g.line)
 
--- what was found in the first so many lines is the transaction's read of the item and its change, the last where there are more, each in its line,
--- and none where there is none
+-- what was found in the first so many lines is the transaction's read of the item and its change, the last where
+-- there are more, each in its line, and none where there is none
 pub record IsFoundIn (lines : List SectionLine) (count : ℕ) (k : Key) (f : Found) : Type 0 where
   pub read : IsLastAt (ReadsAs k) lines k.0 count f.read
   pub change : IsLastAt (ChangesAs k) lines k.0 count f.change
@@ -74,7 +76,8 @@ key_of step tx = (step.label.site, step.label.item, tx)
 
 -- both transactions of a step that starts from this one are sought on its item
 abbrev pub IsSoughtFor : Sought → ℕ → Step → Type 0
-IsSoughtFor sought from step = IsSome (found_at sought (key_of step from)) × IsSome (found_at sought (key_of step step.to))
+IsSoughtFor sought from step = IsSome (found_at sought (key_of step from))
+    × IsSome (found_at sought (key_of step step.to))
 
 -- where a walk leads
 abbrev pub last_stop : ℕ → List Step → ℕ
@@ -88,7 +91,8 @@ AreSoughtFor sought tx walk count = (place : ℕ) (step : Step) → place < coun
 
 -- of each step of the walk of each of so many first decisions
 abbrev pub WalksAreSought : Sought → List Decision → ℕ → Type 0
-WalksAreSought sought decisions count = (number tx : ℕ) (walk : List Step) → number < count → slice_get decisions number ≡ Some (Refuse tx walk)
+WalksAreSought sought decisions count = (number tx : ℕ) (walk : List Step) → number < count
+    → slice_get decisions number ≡ Some (Refuse tx walk)
     → AreSoughtFor sought tx walk (length walk)
 
 -- ---- what is shown of a step

@@ -24,11 +24,12 @@ IsCommittedBefore decisions number tx = (m : ℕ) × (rank : ℕ) × (m < number
 abbrev pub MayBePassed : List Decision → (number tx : ℕ) → ℕ → Type 0
 MayBePassed decisions number tx stop = (stop ≢ tx) × IsCommittedBefore decisions number stop
 
--- what is wrong with a step between, counted from 1, which leads to this transaction: that is the refused one, has no decision, or the first
--- decision on it doesn't commit it, or not before
+-- what is wrong with a step between, counted from 1, which leads to this transaction: that is the refused one, has no
+-- decision, or the first decision on it doesn't commit it, or not before
 abbrev pub IsFlawOfStep : List Decision → (number tx : ℕ) → (step stop : ℕ) → Flaw → Type 0
 IsFlawOfStep decisions number tx step stop (flaw.Closed k) = (k ≡ step) × (stop ≡ tx)
-IsFlawOfStep decisions number tx step stop (flaw.Undecided k a) = (k ≡ step) × (a ≡ stop) × (stop ≢ tx) × IsUndecided decisions stop
+IsFlawOfStep decisions number tx step stop (flaw.Undecided k a) = (k ≡ step) × (a ≡ stop) × (stop ≢ tx)
+    × IsUndecided decisions stop
 IsFlawOfStep decisions number tx step stop (flaw.NotBefore k m) = (k ≡ step) × (stop ≢ tx) × IsFirstOn decisions stop m
     × ((rank : ℕ) → IsCommitted decisions m stop rank → number ≤ m)
 IsFlawOfStep decisions number tx step stop _ = ⊥
@@ -64,7 +65,8 @@ pub record IsFirstAgain (between : List Step) (stop : ℕ) : Type 0 where
   pub earlier : (m : ℕ) × (s : Step) × (m < place) × (slice_get between m ≡ Some s) × (s.to ≡ stop)
   pub before : AreApart (take place between)
 
--- the walk is too short; or else it doesn't lead back; or else something is wrong with a step between; or else two of these lead to one transaction
+-- the walk is too short; or else it doesn't lead back; or else something is wrong with a step between; or else two of
+-- these lead to one transaction
 abbrev pub IsFlaw : List Decision → (number tx : ℕ) → List Step → Flaw → Type 0
 IsFlaw decisions number tx walk flaw.Short = length walk < 2
 IsFlaw decisions number tx walk (flaw.Elsewhere a) = LeadsTo walk a × (a ≢ tx)
@@ -74,7 +76,8 @@ IsFlaw decisions number tx walk f = LeadsTo walk tx × IsFirstFlaw decisions num
 
 -- each refusal before the decision of this number has a cycle
 abbrev pub HaveCycles : List Decision → ℕ → Type 0
-HaveCycles decisions count = (number tx : ℕ) (walk : List Step) → number < count → IsRefusal decisions number tx walk → IsCycle decisions number tx walk
+HaveCycles decisions count = (number tx : ℕ) (walk : List Step) → number < count → IsRefusal decisions number tx walk
+    → IsCycle decisions number tx walk
 
 -- the first refusal whose walk is no cycle, and what is wrong with that
 pub record IsFirstFlawed (decisions : List Decision) (f : Flawed) : Type 0 where
@@ -110,5 +113,6 @@ walk_shape_rule = codes "it has to lead through transactions that earlier decisi
 
 -- the first refusal is told whose walk is no cycle, and what is wrong with that
 abbrev pub TellsWalk : List Decision → (old new : List ℕ) → Type 0
-TellsWalk decisions old new = (f : Flawed) × IsFirstFlawed decisions f × (told : List ℕ) × TellsFlaw decisions f.flaw told
+TellsWalk decisions old new = (f : Flawed) × IsFirstFlawed decisions f × (told : List ℕ)
+    × TellsFlaw decisions f.flaw told
     × (new ≡ old ++ (walk_shape_head f.number f.tx ++ (told ++ walk_shape_rule)))

@@ -18,7 +18,8 @@ use Rattle.sgt_explain_lines.specs.declared.slips.Slip.{Slip}
 use Rattle.sgt_explain_lines.specs.Slips.{IsSlip, slip_text, notation_head, TellsSlip, EndsWith, Spells, IsDigit, IsFirstOther, IsCutAt, Lacks, HasAccess, SpellsAccess, is_operation_letter, is_end_letter}
 use Rattle.sgt_names.proofs.Elements.{none-weaker, ok-taken}
 
-pub first-other : (text : List ℕ) (i b : ℕ) → slice_get text i ≡ Some b → All IsDigit (take i text) → (IsDigit b → ⊥) → IsFirstOther text b
+pub first-other : (text : List ℕ) (i b : ℕ) → slice_get text i ≡ Some b → All IsDigit (take i text) → (IsDigit b → ⊥)
+    → IsFirstOther text b
 first-other text i b at digits other = (take i text, drop (suc i) text, split_at text i b at, digits, other)
 
 pub if-digit : (b : ℕ) (r : Bool) → IsTrue r ↔ IsDigit b → r ≡ true → IsDigit b
@@ -37,8 +38,10 @@ ends-some line b ends none =
 
 last-one : (f g : List ℕ) (a b : ℕ) → f ++ a ∷ [] ≡ g ++ b ∷ [] → a ≡ b
 last-one [] [] a b e = heads a b [] [] e
-last-one [] (y ∷ g) a b e = (let size = length-append g (b ∷ []) in let same = ap length e in absurd (omega (arith, size, same)))
-last-one (x ∷ f) [] a b e = (let size = length-append f (a ∷ []) in let same = ap length e in absurd (omega (arith, size, same)))
+last-one [] (y ∷ g) a b e = (let size = length-append g (b ∷ []) in let same = ap length e in
+    absurd (omega (arith, size, same)))
+last-one (x ∷ f) [] a b e = (let size = length-append f (a ∷ []) in let same = ap length e in
+    absurd (omega (arith, size, same)))
 last-one (x ∷ f) (y ∷ g) a b e = last-one f g a b (tails x y (f ++ a ∷ []) (g ++ b ∷ []) e)
 
 pub ends-one : (line : List ℕ) (a b : ℕ) → EndsWith a line → EndsWith b line → a ≡ b
@@ -46,27 +49,36 @@ ends-one line a b one other = last-one one.0 other.0 a b (sym one.1 ∙ other.1)
 
 -- ---- names with numbers
 
-pub spells-holding : (text name value : List ℕ) → IsCutAt 61 text name value → IsName name → Spells IsValue decimal value
+pub spells-holding : (text name value : List ℕ) → IsCutAt 61 text name value → IsName name
+    → Spells IsValue decimal value
     → Spells IsHolding (λ h. assignment h.item h.value) text
-spells-holding text name value cut is v =
-    (record { item = name; value = v.0 }, (is, v.1), cut.0 ∙ ap (λ t. name ++ 61 ∷ t) v.2 ∙ sym (append_assoc name (61 ∷ []) (decimal v.0)))
+spells-holding text name value cut is v = (
+  record { item = name; value = v.0 },
+  (is, v.1),
+  cut.0 ∙ ap (λ t. name ++ 61 ∷ t) v.2
+      ∙ sym (append_assoc name (61 ∷ []) (decimal v.0)),
+)
 
-pub spells-operation : (text tx behind : List ℕ) → IsCutAt 91 text tx behind → Spells IsTx decimal tx → SpellsAccess behind → Spells IsOperation operation_text text
+pub spells-operation : (text tx behind : List ℕ) → IsCutAt 91 text tx behind → Spells IsTx decimal tx
+    → SpellsAccess behind → Spells IsOperation operation_text text
 spells-operation text tx behind cut t a =
     ((t.0, a.0, a.1), (t.1, a.2, a.3), cut.0 ∙ ap₂ (λ s u. s ++ 91 ∷ u) t.2 a.4 ∙ sym (operation-is t.0 a.0 a.1))
 
 pub lacks-access : (text : List ℕ) → Lacks 93 text → HasAccess text → ⊥
 lacks-access text lacks has = never 93 text has.0 (61 ∷ has.1) lacks has.2.0
 
-pub no-access : (text name behind : List ℕ) → IsCutAt 93 text name behind → ((more : List ℕ) → behind ≢ 61 ∷ more) → HasAccess text → ⊥
+pub no-access : (text name behind : List ℕ) → IsCutAt 93 text name behind → ((more : List ℕ) → behind ≢ 61 ∷ more)
+    → HasAccess text → ⊥
 no-access text name behind cut other has =
-    let same = cut_at_byte 93 name has.0 behind (61 ∷ has.1) (recursion_from_All (λ c. c ≢ 93) name cut.1) (recursion_from_All (λ c. c ≢ 93) has.0 has.2.1)
+    let same = cut_at_byte 93 name has.0 behind (61 ∷ has.1) (recursion_from_All (λ c. c ≢ 93) name cut.1)
+    (recursion_from_All (λ c. c ≢ 93) has.0 has.2.1)
     (sym cut.0 ∙ has.2.0) in
     other has.1 same.1
 
 -- ---- entries
 
-pub spells-entry : (l : ℕ) (line behind : List ℕ) → is_operation_letter l ≡ true → line ≡ l ∷ behind → Spells IsOperation operation_text behind → Spells IsEntry entry_text line
+pub spells-entry : (l : ℕ) (line behind : List ℕ) → is_operation_letter l ≡ true → line ≡ l ∷ behind
+    → Spells IsOperation operation_text behind → Spells IsEntry entry_text line
 spells-entry l line behind is e o =
     let text = λ (b : ℕ) (same : l ≡ b). e ∙ ap₂ (λ c t. c ∷ t) same o.2 in
     elim (or_cases (l == 114) ((l == 119) || ((l == 112) || ((l == 100) || (l == 113)))) is) [
@@ -83,7 +95,8 @@ spells-entry l line behind is e o =
       ]
     ]
 
-pub spells-end : (l : ℕ) (line behind : List ℕ) → is_end_letter l ≡ true → line ≡ l ∷ behind → Spells IsTx decimal behind → Spells IsEntry entry_text line
+pub spells-end : (l : ℕ) (line behind : List ℕ) → is_end_letter l ≡ true → line ≡ l ∷ behind
+    → Spells IsTx decimal behind → Spells IsEntry entry_text line
 spells-end l line behind is e t =
     let text = λ (b : ℕ) (same : l ≡ b). e ∙ ap₂ (λ c s. c ∷ s) same t.2 in
     elim (or_cases (l == 99) ((l == 110) || (l == 97)) is) [
@@ -113,7 +126,8 @@ spells-logged line e = (Logged e.0, e.1, e.2)
 pub adds-slip : (line old new : List ℕ) → (s : Slip) × IsSlip line s × (new ≡ old ++ slip_text s) → Adds old new
 adds-slip line old new told = (slip_text told.0, told.2)
 
-pub tells-slip : (n : ℕ) (line given old a b new : List ℕ) → a ≡ old ++ notation_head → given ≡ line → ShowsNumbered n given a b
+pub tells-slip : (n : ℕ) (line given old a b new : List ℕ) → a ≡ old ++ notation_head → given ≡ line
+    → ShowsNumbered n given a b
     → (s : Slip) × IsSlip given s × (new ≡ b ++ slip_text s) → TellsSlip n line old new
 tells-slip n line given old a b new head same shows told = (
   shows.0,

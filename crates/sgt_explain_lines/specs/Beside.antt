@@ -20,8 +20,8 @@ ComesBefore x y = slice_cmp nat_cmp x y ≡ Less
 abbrev pub name_at : List Stated → ℕ → Option Name
 name_at items n = option_map (λ s. s.holding.item) (slice_get items n)
 
--- of items whose names rise, so many don't come behind the name: the nearest before it is the last of them, and the nearest behind it is the one
--- that follows. So none is near only where there are no items
+-- of items whose names rise, so many don't come behind the name: the nearest before it is the last of them, and the
+-- nearest behind it is the one that follows. So none is near only where there are no items
 pub record AreNearest (items : List Stated) (x : Name) (before behind : Option Name) : Type 0 where
   pub count : ℕ
   pub within : count ≤ length items
@@ -71,7 +71,8 @@ twice_text x site first l = twice_head l.entry x site ++ (line_if_there first ++
 
 -- the entry is shown with the one that it repeats
 abbrev pub ShowsTwice : List Logged → Name → ℕ → Logged → (old new : List ℕ) → Type 0
-ShowsTwice entries x site l old new = (first : Option Logged) × IsRepeated entries x l.entry first × (new ≡ old ++ twice_text x site first l)
+ShowsTwice entries x site l old new = (first : Option Logged) × IsRepeated entries x l.entry first
+    × (new ≡ old ++ twice_text x site first l)
 
 -- ---- a line that cuts a block
 

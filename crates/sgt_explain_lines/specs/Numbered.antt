@@ -15,7 +15,8 @@ pub record IsLineAt (bytes : List ℕ) (number : ℕ) (line : List ℕ) : Type 0
   pub rest : List ℕ
   pub whole : All HasNoLf before
   pub one : HasNoLf line
-  pub text : (bytes ≡ text_of_lines before ++ (line ++ 10 ∷ rest)) ⊎ ((bytes ≡ text_of_lines before ++ line) × (line ≢ []))
+  pub text : (bytes ≡ text_of_lines before ++ (line ++ 10 ∷ rest))
+      ⊎ ((bytes ≡ text_of_lines before ++ line) × (line ≢ []))
   pub counted : number ≡ length before + 1
 
 -- the text has, behind two lines and these lines of sections, this one, which is the line of this number

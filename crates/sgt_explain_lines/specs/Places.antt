@@ -83,10 +83,12 @@ falling_text x y = codes "the names of items rise by their bytes, and " ++ (x ++
 abbrev pub last_name : List Stated → Option Name
 last_name items = name_at items (length items - 1)
 
--- why an item of this name isn't allowed behind these: they are as many as there can be, or else the last doesn't come before it
+-- why an item of this name isn't allowed behind these: they are as many as there can be, or else the last doesn't
+-- come before it
 abbrev pub IsItemRule : List Stated → Name → List ℕ → Type 0
 IsItemRule items x told = ((1024 ≤ length items) × (told ≡ codes "a site has at most 1024 items\n"))
-    ⊎ ((length items < 1024) × (((y : Name) × (last_name items ≡ Some y) × (ComesBefore y x → ⊥) × (told ≡ falling_text x y))
+    ⊎ ((length items < 1024)
+    × (((y : Name) × (last_name items ≡ Some y) × (ComesBefore y x → ⊥) × (told ≡ falling_text x y))
     ⊎ (((y : Name) → last_name items ≡ Some y → ComesBefore y x) × (told ≡ codes ""))))
 
 abbrev pub initial_in : SectionLine → Option Name
@@ -95,7 +97,8 @@ initial_in _ = None
 
 -- why it isn't allowed, of an item's line, and what may stand there
 abbrev pub IsSectionRule : Section → List ℕ → List ℕ → Type 0
-IsSectionRule s line told = ((h : Holding) × (rule : List ℕ) × IsLine (Line.Initial h) × (line ≡ line_text (Line.Initial h))
+IsSectionRule s line told =
+    ((h : Holding) × (rule : List ℕ) × IsLine (Line.Initial h) × (line ≡ line_text (Line.Initial h))
     × IsItemRule s.items.items h.item rule × (told ≡ rule ++ allowed_text s))
     ⊎ (((h : Holding) → IsLine (Line.Initial h) → line ≡ line_text (Line.Initial h) → ⊥) × (told ≡ allowed_text s))
 
@@ -106,7 +109,8 @@ pub record IsLineBefore (bytes : List ℕ) (n : ℕ) (told : List ℕ) : Type 0 
       → (shown : List ℕ) × IsShown line shown × (told ≡ bar (n - 1) ++ (shown ++ codes "\n"))
 
 abbrev pub TellsSection : List ℕ → ℕ → Section → (line old new : List ℕ) → Type 0
-TellsSection bytes n s line old new = (before : List ℕ) × (told : List ℕ) × IsLineBefore bytes n before × IsSectionRule s line told
+TellsSection bytes n s line old new = (before : List ℕ) × (told : List ℕ) × IsLineBefore bytes n before
+    × IsSectionRule s line told
     × TellsLine (section_head ++ before) n line told old new
 
 -- ---- the end of a bundle
@@ -128,10 +132,12 @@ pub record IsAwaited (n : ℕ) (s : Section) (told : List ℕ) : Type 0 where
 
 -- the line in which a text ends, and what has to stand there; or that there is none of that number
 abbrev pub TellsBroken : ℕ → Section → (line old new : List ℕ) → Type 0
-TellsBroken n s line old new = (told : List ℕ) × IsAwaited n s told × TellsLine truncated_head n line (no_lf_text n ++ told) old new
+TellsBroken n s line old new = (told : List ℕ) × IsAwaited n s told
+    × TellsLine truncated_head n line (no_lf_text n ++ told) old new
 
 abbrev pub TellsMissing : ℕ → Section → (old new : List ℕ) → Type 0
-TellsMissing n s old new = (told : List ℕ) × IsAwaited n s told × (new ≡ old ++ (truncated_head ++ (not_there_text n ++ told)))
+TellsMissing n s old new = (told : List ℕ) × IsAwaited n s told
+    × (new ≡ old ++ (truncated_head ++ (not_there_text n ++ told)))
 
 -- the text is these lines, and has none of this number
 abbrev pub HasUpTo : List ℕ → ℕ → Type 0

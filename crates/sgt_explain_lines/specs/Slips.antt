@@ -22,15 +22,17 @@ IsDigit b = (48 ≤ b) × (b ≤ 57)
 
 -- the first byte that is no digit
 abbrev pub IsFirstOther : List ℕ → ℕ → Type 0
-IsFirstOther text b = (front : List ℕ) × (behind : List ℕ) × (text ≡ front ++ b ∷ behind) × All IsDigit front × (IsDigit b → ⊥)
+IsFirstOther text b = (front : List ℕ) × (behind : List ℕ) × (text ≡ front ++ b ∷ behind) × All IsDigit front
+    × (IsDigit b → ⊥)
 
--- why the bytes are no number below 2^64: a byte that is no digit, the first such; no bytes; digits with a zero before them; and else
--- digits of too great a number
+-- why the bytes are no number below 2^64: a byte that is no digit, the first such; no bytes; digits with a zero
+-- before them; and else digits of too great a number
 abbrev pub IsNumberSlip : List ℕ → Slip → Type 0
 IsNumberSlip text (NoDigit b) = IsFirstOther text b
 IsNumberSlip text NoNumber = text ≡ []
 IsNumberSlip text LeadingZero = All IsDigit text × (rest : List ℕ) × (text ≡ 48 ∷ rest) × (rest ≢ [])
-IsNumberSlip text TooGreat = All IsDigit text × (d : ℕ) × (rest : List ℕ) × (text ≡ d ∷ rest) × (d ≢ 48) × SpellsNone IsValue decimal text
+IsNumberSlip text TooGreat = All IsDigit text × (d : ℕ) × (rest : List ℕ) × (text ≡ d ∷ rest) × (d ≢ 48)
+    × SpellsNone IsValue decimal text
 IsNumberSlip _ _ = ⊥
 
 -- a number below 2^64 that isn't such a one
@@ -86,7 +88,8 @@ SpellsAccess text = (x : Name) × (v : ℕ) × IsName x × IsValue v × (text �
 -- why they are no `TX[NAME]=NUM`: of a transaction first
 abbrev pub IsOperationSlip : List ℕ → Slip → Type 0
 IsOperationSlip text s =
-    ((tx : List ℕ) × (behind : List ℕ) × IsCutAt 91 text tx behind × (IsTxSlip tx s ⊎ (Spells IsTx decimal tx × IsAccessSlip behind s)))
+    ((tx : List ℕ) × (behind : List ℕ) × IsCutAt 91 text tx behind
+    × (IsTxSlip tx s ⊎ (Spells IsTx decimal tx × IsAccessSlip behind s)))
     ⊎ ((s ≡ Form) × Lacks 91 text)
 
 -- ---- lines
@@ -106,7 +109,8 @@ Begins is line behind = (letter : ℕ) × IsTrue (is letter) × (line ≡ letter
 abbrev pub IsEntrySlip : List ℕ → Slip → Type 0
 IsEntrySlip line s = ((behind : List ℕ) × Begins is_operation_letter line behind × IsOperationSlip behind s)
     ⊎ (((behind : List ℕ) × Begins is_end_letter line behind × IsTxSlip behind s)
-    ⊎ ((s ≡ Form) × ((behind : List ℕ) → Begins is_operation_letter line behind → ⊥) × ((behind : List ℕ) → Begins is_end_letter line behind → ⊥)))
+    ⊎ ((s ≡ Form) × ((behind : List ℕ) → Begins is_operation_letter line behind → ⊥) × ((behind : List ℕ)
+    → Begins is_end_letter line behind → ⊥)))
 
 -- the line is this word and what stands behind it
 abbrev pub HasWord : (word line behind : List ℕ) → Type 0
@@ -124,7 +128,8 @@ IsWordsSlip line s = ((behind : List ℕ) × HasWord (codes "site ") line behind
 abbrev pub EndsWith : ℕ → List ℕ → Type 0
 EndsWith b line = (front : List ℕ) × (line ≡ front ++ b ∷ [])
 
--- why a line that isn't too long is none of a section of its format: its last byte, or its words; and where neither is wrong, it is an increment's
+-- why a line that isn't too long is none of a section of its format: its last byte, or its words; and where neither
+-- is wrong, it is an increment's
 abbrev pub IsSlipWithin : List ℕ → Slip → Type 0
 IsSlipWithin line s = ((s ≡ CarriageReturn) × EndsWith 13 line)
     ⊎ (((s ≡ EndsWithSpace) × EndsWith 32 line)

@@ -47,7 +47,8 @@ pub record IsShown (text shown : List ℕ) : Type 0 where
 abbrev pub ShowsNumbered : ℕ → List ℕ → (old new : List ℕ) → Type 0
 ShowsNumbered n text old new = (shown : List ℕ) × IsShown text shown × (new ≡ old ++ (bar n ++ (shown ++ codes "\n")))
 
--- the line of an entry with its number, and with the spaces before a note, which bring its column to one behind a multiple of four
+-- the line of an entry with its number, and with the spaces before a note, which bring its column to one behind a
+-- multiple of four
 abbrev pub shown_line : Logged → List ℕ
 shown_line l = bar l.line ++ entry_text l.entry
 

@@ -1,4 +1,5 @@
--- The value of an item after some entries of a section, the entry that made it, and up to which line it had another one.
+-- The value of an item after some entries of a section, the entry that made it, and up to which line it had another
+-- one.
 use Rattle.std.specs.Prelude.{◌≡◌, ℕ, ◌-◌, ◌<◌, ◌≤◌, List, length, map, fold, take, slice_get, Option, Some, None, is_some, if◌then◌else◌}
 use Rattle.sgt_names.specs.Name.{Name}
 use Rattle.sgt_names.specs.Entry.{change_of}
@@ -31,7 +32,8 @@ stated_as n x v = record { line = n; holding = record { item = x; value = v } }
 abbrev pub HasBehind : Option ℕ → List Logged → Name → (value count : ℕ) → Type 0
 HasBehind first entries x v n = value_after first (entries_of (take n entries)) x ≡ Some v
 
--- the last place where the item has the value is before an entry, whose line follows this one; none where it never has it
+-- the last place where the item has the value is before an entry, whose line follows this one; none where it never
+-- has it
 abbrev pub HadUntil : Option ℕ → List Logged → Name → ℕ → Option ℕ → Type 0
 HadUntil first entries x v (Some line) = (p : ℕ) × (l : Logged) × (slice_get entries p ≡ Some l) × (line ≡ l.line - 1)
     × HasBehind first entries x v p × ((q : ℕ) → p < q → q ≤ length entries → HasBehind first entries x v q → ⊥)

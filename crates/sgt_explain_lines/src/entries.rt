@@ -11,8 +11,8 @@ use sgt_names::{Entry, Item, Kind};
 use std::alloc::AllocError;
 use std::fmt::Write;
 
-/// The item and the kind of the conflict that the second entry is in with the first, which stands before it and is another
-/// transaction's.
+/// The item and the kind of the conflict that the second entry is in with the first, which stands before it and is
+/// another transaction's.
 pub fn clash(first: &Entry, second: &Entry) -> Option<(Item, Kind)>
     ensures clash { IfSome result (λ c. Clash c.1 c.0 first.now second.now) }
     ensures apart { IfSome result (λ _. tx_of first.now ≢ tx_of second.now) }
@@ -82,7 +82,8 @@ pub fn push_conflict(
     first: &Logged,
     second: &Logged,
 ) -> Result<(), AllocError>
-    ensures { OnOk result (string_bytes out.new ≡ string_bytes out.old ++ conflict_text site item.now first.now second.now) }
+    ensures { OnOk result (string_bytes out.new ≡ string_bytes out.old ++ conflict_text site item.now first.now
+        second.now) }
 {
     push_order(out, item, &first.entry, &second.entry)?;
     let one = first.line;

@@ -1,4 +1,5 @@
-//! What is said of a line by itself, or by its place: of line 1, of a line that spells nothing, of the end of the input.
+//! What is said of a line by itself, or by its place: of line 1, of a line that spells nothing, of the end of the
+//! input.
 
 ghost use Rattle.std.specs.Prelude.{◌≡◌, ℕ, ◌-◌, ◌<◌, List, [], ◌++◌, IfNone, IfSome, IsFalse, IsTrue, None, OnOk, Some, codes, string_bytes};
 ghost use Rattle.sgt_names.specs.Name.{Name};
@@ -354,8 +355,10 @@ fn initial_item(line: &SectionLine) -> Option<Item>
 
 /// The name of the item, if the line is an item's.
 fn item_in(line: &[u8]) -> Option<Item>
-    ensures some { IfSome result (λ x. (h : AnyHolding) × IsLine (Line.Initial h) × (line.now ≡ line_text (Line.Initial h)) × (x ≡ h.item)) }
-    ensures none { IfNone result ((h : AnyHolding) → IsLine (Line.Initial h) → line.now ≡ line_text (Line.Initial h) → ⊥) }
+    ensures some { IfSome result (λ x. (h : AnyHolding) × IsLine (Line.Initial h)
+        × (line.now ≡ line_text (Line.Initial h)) × (x ≡ h.item)) }
+    ensures none { IfNone result ((h : AnyHolding) → IsLine (Line.Initial h) → line.now ≡ line_text (Line.Initial h)
+        → ⊥) }
 {
     match read_section(line) {
         Ok(read) => initial_item(&read),

@@ -81,7 +81,8 @@ pub fn push_item(out: &mut String, section: &Section, logged: &Logged) -> Result
     push_nearest(out, before, behind)
 }
 
-/// Whether the one entry reads the item as the other does, or changes it as the other does, and both are of one transaction.
+/// Whether the one entry reads the item as the other does, or changes it as the other does, and both are of one
+/// transaction.
 fn repeats(one: &Entry, other: &Entry, item: &Item) -> bool
     ensures { IsTrue result ↔ Repeats item.now one.now other.now }
 {

@@ -1,5 +1,5 @@
-//! What an explanation says of the lines of a bundle: how they are shown, why one spells nothing, and what the lines before it
-//! in its section left.
+//! What an explanation says of the lines of a bundle: how they are shown, why one spells nothing, and what the lines
+//! before it in its section left.
 #![tactic(auto)]
 
 mod entries;

@@ -88,7 +88,8 @@ impl Section {
 
     /// What one more line says. A line that spells nothing is left out.
     fn add_text(&mut self, line: u64, text: &[u8]) -> Result<(), AllocError>
-        ensures { OnOk result ((read : SectionLine) → IsLine read → text.now ≡ line_text read → HasOneMore self.old self.new line read) }
+        ensures { OnOk result ((read : SectionLine) → IsLine read → text.now ≡ line_text read
+            → HasOneMore self.old self.new line read) }
     {
         match read_section(text) {
             Ok(read) => self.add(line, read),
@@ -107,8 +108,8 @@ impl Section {
     }
 }
 
-/// The section that is open before the line of this number: what its lines say, from line 3 on. Lines that spell nothing are
-/// left out.
+/// The section that is open before the line of this number: what its lines say, from line 3 on. Lines that spell
+/// nothing are left out.
 pub fn section_before(alloc: Global, bytes: &[u8], number: u64) -> Result<Section, AllocError>
     ensures { IfOk result (λ s. (before : List SectionLine) (line : SectionLine) → HasLine bytes.now number before line
         → IsSectionOf before s) }
@@ -125,7 +126,8 @@ pub fn section_before(alloc: Global, bytes: &[u8], number: u64) -> Result<Sectio
 
 /// What the line of this number spells as a line of a section.
 pub fn section_line_at(bytes: &[u8], number: u64) -> Option<SectionLine>
-    ensures { (before : List SectionLine) (line : SectionLine) → HasLine bytes.now number before line → result ≡ Some line }
+    ensures { (before : List SectionLine) (line : SectionLine) → HasLine bytes.now number before line
+        → result ≡ Some line }
 {
     let (text, _) = cut_line(after_line(bytes, number.saturating_sub(1)));
     match read_section(text) {
@@ -134,7 +136,8 @@ pub fn section_line_at(bytes: &[u8], number: u64) -> Option<SectionLine>
     }
 }
 
-/// The entry that the line spells, if it is an entry's. Where it begins a section, the site becomes that of the section.
+/// The entry that the line spells, if it is an entry's. Where it begins a section, the site becomes that of the
+/// section.
 pub fn entry_of(site: &mut u8, text: &[u8]) -> Option<Entry>
     ensures spelled { (read : SectionLine) → IsLine read → text.now ≡ line_text read
         → (result ≡ entry_in read) × (site.new ≡ site_behind site.old read) }

@@ -9,7 +9,8 @@ use sgt_names::{Entry, Item, Tx, Value};
 use std::alloc::AllocError;
 use std::fmt::Write;
 
-// The columns that the text of a line takes at most, before it is cut by two dots: with the number of its line before it, 80.
+// The columns that the text of a line takes at most, before it is cut by two dots: with the number of its line before
+// it, 80.
 const COLUMNS: usize = 71;
 
 /// The columns that a byte takes.
@@ -51,8 +52,8 @@ fn push_dots(out: &mut String) -> Result<(), AllocError>
     out.push_str("..")
 }
 
-/// Shows these bytes in at most 73 columns: control characters, backslashes and bytes that are no ASCII as escapes, and two
-/// dots where more follow.
+/// Shows these bytes in at most 73 columns: control characters, backslashes and bytes that are no ASCII as escapes,
+/// and two dots where more follow.
 pub fn push_shown(out: &mut String, text: &[u8]) -> Result<(), AllocError>
     ensures { OnOk result ((shown : List ℕ) × IsShown text.now shown
         × (string_bytes out.new ≡ string_bytes out.old ++ shown)) }
@@ -136,8 +137,8 @@ fn push_entry(out: &mut String, entry: &Entry) -> Result<(), AllocError>
     }
 }
 
-/// The spaces behind a text of so many columns: five, and as many more as bring the next column to one behind a multiple of
-/// four.
+/// The spaces behind a text of so many columns: five, and as many more as bring the next column to one behind a
+/// multiple of four.
 fn push_gap(out: &mut String, width: usize) -> Result<(), AllocError>
     ensures { OnOk result (string_bytes out.new ≡ string_bytes out.old ++ gap width) }
 {

@@ -16,8 +16,8 @@ pub struct Made {
     pub by: Option<Logged>,
 }
 
-/// A value that a line gives an item of its section, and what the item has before that line: its value there and the entry that
-/// made it, and the last line up to which it had the value given, where there is one.
+/// A value that a line gives an item of its section, and what the item has before that line: its value there and the
+/// entry that made it, and the last line up to which it had the value given, where there is one.
 #[derive(Clone, Copy)]
 pub struct Misvalued {
     pub site: u8,
@@ -76,7 +76,8 @@ fn made_by_all(first: &Made, entries: &[Logged], item: &Item) -> Made
     made
 }
 
-/// The last line up to which an item had this value, behind an entry of this line that brings it from one value to another.
+/// The last line up to which an item had this value, behind an entry of this line that brings it from one value to
+/// another.
 fn last_behind(last: Option<u64>, step: (Value, Value), value: Value, line: u64) -> Option<u64>
     ensures changed { step.0 ≡ value → step.1 ≢ value → result ≡ Some (line - 1) }
     ensures kept { step.0 ≢ value → result ≡ last }
@@ -104,7 +105,8 @@ fn last_had(first: &Made, entries: &[Logged], item: &Item, value: Value) -> Opti
     last
 }
 
-/// What is shown of this value of the item, given behind the entries of the section. `None` where the section lists no such item.
+/// What is shown of this value of the item, given behind the entries of the section. `None` where the section lists
+/// no such item.
 pub fn value_against(section: &Section, item: &Item, given: Value) -> Option<Misvalued>
     ensures given { IfSome result (λ m. (m.item ≡ item.now) × (m.given ≡ given)) }
     ensures site { IfSome result (λ m. m.site ≡ unwrap_or section.now.site 0) }
@@ -114,7 +116,8 @@ pub fn value_against(section: &Section, item: &Item, given: Value) -> Option<Mis
     ensures listed { IfSome result (λ m. m.made.by ≡ None
         → Contains section.now.items.items (stated_as m.made.listed m.item m.made.value)) }
     ensures until { IfSome result (λ m. m.made.value ≢ m.given
-        → HadUntil (value_in (holdings_of section.now.items.items) m.item) section.now.entries.items m.item m.given m.until) }
+        → HadUntil (value_in (holdings_of section.now.items.items) m.item) section.now.entries.items m.item m.given
+        m.until) }
     ensures none { IfNone result (value_in (holdings_of section.now.items.items) item.now ≡ None) }
 {
     let Some(first) = initial_of(section.items.as_slice(), item) else {

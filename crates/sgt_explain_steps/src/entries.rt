@@ -50,7 +50,8 @@ fn clashes(step: &Step, from: Tx, first: &Entry, second: &Entry) -> bool
     first.tx() == from && first.clashes(step.label.kind, &step.label.item, second)
 }
 
-/// Whether the second entry is of the transaction that the step leads to, and one of these is in conflict with it as the step says.
+/// Whether the second entry is of the transaction that the step leads to, and one of these is in conflict with it as
+/// the step says.
 fn clashes_with(entries: &[Logged], from: Tx, step: &Step, second: &Entry) -> bool
     ensures to { IsTrue result → tx_of second.now ≡ step.now.to }
     ensures among { IsTrue result → Any (λ l. StepsTo from step.now l.entry second.now) entries.now }

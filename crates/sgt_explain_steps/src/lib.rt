@@ -1,4 +1,5 @@
-//! Steps of the walks of refused transactions that are no conflicts of the logs: what is there in their place, and how it is told.
+//! Steps of the walks of refused transactions that are no conflicts of the logs: what is there in their place, and
+//! how it is told.
 #![tactic(auto)]
 
 mod entries;

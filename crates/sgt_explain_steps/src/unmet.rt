@@ -14,9 +14,9 @@ pub struct Met {
     pub second: Logged,
 }
 
-/// A step of the walk of a refused transaction: the number of the decision, the place of the step from 0 and the count of steps,
-/// the transaction that it starts from; of the entries of its two transactions those that there are; and the conflict of another
-/// kind that the log has there.
+/// A step of the walk of a refused transaction: the number of the decision, the place of the step from 0 and the
+/// count of steps, the transaction that it starts from; of the entries of its two transactions those that there are;
+/// and the conflict of another kind that the log has there.
 #[derive(Clone, Copy)]
 pub struct Unmet {
     pub tx: Tx,

@@ -53,7 +53,8 @@ taken-below whose done n items size old new same t before these =
     All-from_at (IsTouchBelow size) new (λ k e at. elim (cases_lt k (length old)) [
       | inl less ↦
           let a = within_at old k less in
-          let e_is = same_Some a.0 e (sym (front_at old t.more k a.0 a.1) ∙ ap (λ xs. slice_get xs k) (sym t.is) ∙ at) in
+          let e_is = same_Some a.0 e (sym (front_at old t.more k a.0 a.1) ∙ ap (λ xs. slice_get xs k) (sym t.is)
+          ∙ at) in
           let low = All_at (IsTouchBelow items) old k a.0 before a.1 in
           omega (arith, low, ap (λ (u : Touch). u.item) e_is, same)
       | inr more ↦

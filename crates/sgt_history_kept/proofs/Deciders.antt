@@ -104,7 +104,14 @@ module _ (h : List (Transaction ℕ ℕ)) (lines : ℕ) (edges : List Edge) (a :
             let both = both-commit first second (inr (inr e)) in
             let i = place-of order places are first (slice_get_within h first both.0.0 both.0.1.0) in
             let j = place-of order places are second (slice_get_within h second both.1.0 both.1.1.0) in
-            record { i = i.0; j = j.0; before = in_time i.0 j.0 first second i.1 j.1 e; first_at = i.1; second_at = j.1 }
+            record {
+              i = i.0;
+              j = j.0;
+              before = in_time i.0 j.0 first second i.1 j.1 e;
+              first_at = i.1;
+              second_at =
+                  j.1;
+            }
 
     -- ---- an order or a cycle of all pairs
 

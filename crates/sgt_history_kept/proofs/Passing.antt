@@ -120,7 +120,8 @@ last-next order sessions last new n line so here behind comes = record { most = 
         → StandsAmong order (n + 1) x × (slice_get sessions x ≡ Some (Some session))
     met session x at = elim (same-session (slice_get sessions line) session) [
       | inl own ↦
-          let same : line ≡ x = same_Some line x (same_Some (Some line) (Some x) (sym (comes.own session own) ∙ at)) in (
+          let same : line ≡ x =
+          same_Some line x (same_Some (Some line) (Some x) (sym (comes.own session own) ∙ at)) in (
             subst (StandsAmong order (n + 1)) same (among-here order n line here),
             ap (slice_get sessions) (sym same)
                 ∙ own,

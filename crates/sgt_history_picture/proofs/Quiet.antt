@@ -48,7 +48,8 @@ byte b rest = elim (eqb_tells b 60) [
         | inr q ↦ elim (eqb_tells b 39) [
           | inl is ↦ (let e : written_byte b ≡ codes "&#39;" = rw (l.0, g.0, a.0, q.0, is.0) refl in ap (λ (t : List ℕ). sees Elsewhere (t ++ rest)) e)
           | inr s ↦ (let e : written_byte b ≡ b ∷ [] = rw (l.0, g.0, a.0, q.0, s.0) refl in
-              let f : sees Elsewhere (b ∷ rest) ≡ sees Elsewhere rest = rw l.0 refl in ap (λ (t : List ℕ). sees Elsewhere (t ++ rest)) e ∙ f)
+              let f : sees Elsewhere (b ∷ rest) ≡ sees Elsewhere rest = rw l.0 refl in
+              ap (λ (t : List ℕ). sees Elsewhere (t ++ rest)) e ∙ f)
         ]
       ]
     ]
@@ -58,7 +59,8 @@ byte b rest = elim (eqb_tells b 60) [
 bytes : (text rest : List ℕ) → sees Elsewhere (written text ++ rest) ≡ sees Elsewhere rest
 bytes [] rest = refl
 bytes (b ∷ text) rest =
-    ap (sees Elsewhere) (append_assoc (written_byte b) (written text) rest) ∙ byte b (written text ++ rest) ∙ bytes text rest
+    ap (sees Elsewhere) (append_assoc (written_byte b) (written text) rest) ∙ byte b (written text ++ rest)
+    ∙ bytes text rest
 
 -- a name, and what stands behind it
 pub quiet-name : (name rest : List ℕ) → sees Elsewhere (escaped name ++ rest) ≡ sees Elsewhere rest

@@ -15,13 +15,16 @@ kind-word Session = ((λ _ is. absurd (omega (arith, is)), (λ _ is. absurd (ome
 kind-word Moment = ((λ _ is. absurd (omega (arith, is)), (λ _ is. absurd (omega (arith, is)), tt)), refl)
 
 -- behind its first word
-pub behind-from : (line from behind : List ℕ) (s : Step) → IsWord from → line ≡ from ++ 32 ∷ behind → IsStep s → line ≡ step_text s
+pub behind-from : (line from behind : List ℕ) (s : Step) → IsWord from → line ≡ from ++ 32 ∷ behind → IsStep s
+    → line ≡ step_text s
     → (from ≡ s.from) × (behind ≡ kind_text s.kind ++ 32 ∷ (s.to ++ 32 ∷ s.about))
 behind-from line from behind s word cut is whole =
-    one-word Outside from s.from behind (kind_text s.kind ++ 32 ∷ (s.to ++ 32 ∷ s.about)) word.0 word.1 is.0.0 is.0.1 (sym cut ∙ whole)
+    one-word Outside from s.from behind (kind_text s.kind ++ 32 ∷ (s.to ++ 32 ∷ s.about)) word.0 word.1 is.0.0 is.0.1
+    (sym cut ∙ whole)
 
 -- behind the kind
-pub behind-kind : (behind kind rest : List ℕ) (s : Step) → IsWord kind → behind ≡ kind ++ 32 ∷ rest → behind ≡ kind_text s.kind ++ 32 ∷ (s.to ++ 32 ∷ s.about)
+pub behind-kind : (behind kind rest : List ℕ) (s : Step) → IsWord kind → behind ≡ kind ++ 32 ∷ rest
+    → behind ≡ kind_text s.kind ++ 32 ∷ (s.to ++ 32 ∷ s.about)
     → (kind ≡ kind_text s.kind) × (rest ≡ s.to ++ 32 ∷ s.about)
 behind-kind behind kind rest s word cut whole =
     let is = kind-word s.kind in
@@ -56,7 +59,8 @@ same-step s t from kind to about =
 
 pub one-step : (s t : Step) → IsStep s → IsStep t → step_text s ≡ step_text t → s ≡ t
 one-step s t is is' same =
-    let first = behind-from (step_text s) s.from (kind_text s.kind ++ 32 ∷ (s.to ++ 32 ∷ s.about)) t is.0 refl is' same in
+    let first = behind-from (step_text s) s.from (kind_text s.kind ++ 32 ∷ (s.to ++ 32 ∷ s.about)) t is.0 refl is'
+    same in
     let second = behind-kind _ (kind_text s.kind) (s.to ++ 32 ∷ s.about) t (kind-word s.kind) refl first.1 in
     let third = one-word Outside s.to t.to s.about t.about is.1.0 is.1.1 is'.1.0 is'.1.1 second.1 in
     same-step s t first.0 (kind-one s.kind t.kind second.0) third.0 third.1

@@ -19,7 +19,8 @@ AreDrawn text (s ∷ steps) = (front : List ℕ) × (arrow : List ℕ) × (gap :
 abbrev pub IsHeaded : (name text : List ℕ) → Type 0
 IsHeaded name text = (front : List ℕ) × (behind : List ℕ) × (text ≡ front ++ (headline_text name ++ behind))
 
--- a picture of the cycle that the answer tells: its name stands there, and each of its steps is drawn once, in this order, and no other
+-- a picture of the cycle that the answer tells: its name stands there, and each of its steps is drawn once, in this
+-- order, and no other
 pub record IsPictureOf (answer text : List ℕ) : Type 0 where
   pub name : List ℕ
   pub steps : List Step

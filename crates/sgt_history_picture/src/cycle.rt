@@ -70,7 +70,8 @@ fn behind<'a>(text: &'a [u8], word: &[u8]) -> Option<&'a [u8]>
 /// The cycle that an answer tells.
 pub(crate) fn cycle_in<'a>(alloc: Global, answer: &'a [u8]) -> Result<Option<Cycle<'a>>, AllocError>
     ensures some { IfOk result (λ r. IfSome r (λ cycle. IsCycleTold answer.now cycle.name.now (map step_of cycle.steps.items))) }
-    ensures none { IfOk result (λ r. IfNone r ((name : List ℕ) (steps : List Step) → IsCycleTold answer.now name steps → ⊥)) }
+    ensures none { IfOk result (λ r. IfNone r ((name : List ℕ) (steps : List Step) → IsCycleTold answer.now name steps
+        → ⊥)) }
 {
     let Some(told) = behind(answer, b"no ") else {
         return Ok(None);

@@ -1,4 +1,5 @@
-//! The picture of a cycle: its transactions one below the other, an arrow for each step, and the last one's way back to the first.
+//! The picture of a cycle: its transactions one below the other, an arrow for each step, and the last one's way back
+//! to the first.
 
 ghost use Rattle.std.specs.Prelude.{◌≡◌, ◌++◌, List, ℕ, IfNone, IfOk, IfSome, OnOk, map};
 ghost use Rattle.sgt_draw.specs.Picture.{IsPicture};
@@ -242,8 +243,8 @@ fn picture(alloc: Global, cycle: &Cycle<'_>) -> Result<Vec<u8>, AllocError>
     canvas.into_text()
 }
 
-/// The picture of the cycle that an answer of `sgt check` tells, as SVG: its name stands there, and each of its steps is drawn once, in the
-/// order in which it is told, and no other. None where it tells no cycle.
+/// The picture of the cycle that an answer of `sgt check` tells, as SVG: its name stands there, and each of its steps
+/// is drawn once, in the order in which it is told, and no other. None where it tells no cycle.
 pub fn picture_of(alloc: Global, answer: &[u8]) -> Result<Option<Vec<u8>>, AllocError>
     ensures some { IfOk result (λ r. IfSome r (λ text. IsPictureOf answer.now text.items)) }
     ensures none { IfOk result

@@ -18,7 +18,8 @@ module _ {A : Type 0} (P : A → Type 0) (w : A) (ws : List A) where
   of_the_first xs e holds = subst (Any P) (sym e) (0, w, omega arith, refl, holds)
 
   -- where the first does not, one of the others does
-  pub of_the_others : (xs : List A) (S : Type 0) → xs ≡ w ∷ ws → (P w → ⊥) → (S → Any P ws) × (Any P ws → S) → (S → Any P xs) × (Any P xs → S)
+  pub of_the_others : (xs : List A) (S : Type 0) → xs ≡ w ∷ ws → (P w → ⊥) → (S → Any P ws) × (Any P ws → S)
+      → (S → Any P xs) × (Any P xs → S)
   of_the_others xs S e other both =
       (λ some. subst (Any P) (sym e) (any_later (both.0 some)), λ has. both.1 (any_behind other (subst (Any P) e has)))
 
@@ -42,7 +43,8 @@ nothing_clashes p over beside text (inl order) = beside text order
 nothing_clashes p over beside text (inr (writes, is)) = over writes
 
 -- the file that is written is among these words, which are those that are read
-pub over_input : (p : Parts) (word : List ℕ) (words : List (List ℕ)) (S : Type 0) → p.place ≡ Some word → words ≡ p.files
+pub over_input : (p : Parts) (word : List ℕ) (words : List (List ℕ)) (S : Type 0) → p.place ≡ Some word
+    → words ≡ p.files
     → (S → HasWord word words) × (HasWord word words → S) → (S → WritesOverInput p) × (WritesOverInput p → S)
 over_input p word words S at same both = (
   λ yes. (word, at, subst (HasWord word) same (both.0 yes)),

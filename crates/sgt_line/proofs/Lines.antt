@@ -17,14 +17,17 @@ drop_front front rest = grind (arith, common_steps)
 drop_both : (front head behind : List ℕ) → drop (length front + length head) (front ++ (head ++ behind)) ≡ behind
 drop_both front head behind =
     ap (drop (length front + length head)) (sym (append_assoc front head behind))
-    ∙ (ap (λ n. drop n ((front ++ head) ++ behind)) (sym (length-append front head)) ∙ drop_front (front ++ head) behind)
+    ∙ (ap (λ n. drop n ((front ++ head) ++ behind)) (sym (length-append front head))
+    ∙ drop_front (front ++ head) behind)
 
 whole : (xs : List ℕ) (n : ℕ) → n ≡ length xs → take n xs ≡ xs
 whole xs n e = grind (arith, common_steps)
 
 -- the text is cut at the place where a line begins so
 pub cut_there : (text head : List ℕ) (place : ℕ) → BeginsAt text head place
-    → AreLines (take place text) × (text ≡ take place text ++ (head ++ take (length text - (place + length head)) (drop (place + length head) text)))
+    → AreLines (take place text)
+    × (text ≡ take place text ++
+    (head ++ take (length text - (place + length head)) (drop (place + length head) text)))
 cut_there text head place begins =
     let front = begins.0 in
     let behind = begins.1 in
@@ -36,8 +39,11 @@ cut_there text head place begins =
     let size : length text - (place + length head) ≡ length behind =
     omega (arith, ap length begins.4, length-append front (head ++ behind), length-append head behind, begins.3) in
     let last : take (length text - (place + length head)) (drop (place + length head) text) ≡ behind =
-    ap (take (length text - (place + length head))) dropped ∙ whole behind _ size in
-    (subst AreLines (sym taken) begins.2, begins.4 ∙ (ap (λ l. l ++ (head ++ behind)) (sym taken) ∙ ap (λ l. take place text ++ (head ++ l)) (sym last)))
+    ap (take (length text - (place + length head))) dropped ∙ whole behind _ size in (
+      subst AreLines (sym taken) begins.2,
+      begins.4
+          ∙ (ap (λ l. l ++ (head ++ behind)) (sym taken) ∙ ap (λ l. take place text ++ (head ++ l)) (sym last)),
+    )
 
 -- at the start
 pub begins_first : (text head rest : List ℕ) → text ≡ head ++ rest → FindsLine text head (Some 0)
@@ -54,10 +60,12 @@ begins_behind text head place occurs =
       behind,
       inr (front, refl),
       grind (arith, common_steps),
-      sym (take-append-drop place text) ∙ (ap (λ l. front ++ l) split ∙ sym (append_assoc front (10 ∷ []) (head ++ behind))),
+      sym (take-append-drop place text)
+          ∙ (ap (λ l. front ++ l) split ∙ sym (append_assoc front (10 ∷ []) (head ++ behind))),
     )
 
-occurs_there : (text head before behind : List ℕ) → text ≡ (before ++ (10 ∷ [])) ++ (head ++ behind) → OccursAt text (10 ∷ head) (length before)
+occurs_there : (text head before behind : List ℕ) → text ≡ (before ++ (10 ∷ [])) ++ (head ++ behind)
+    → OccursAt text (10 ∷ head) (length before)
 occurs_there text head before behind e =
     let other : text ≡ before ++ (10 ∷ (head ++ behind)) = e ∙ append_assoc before (10 ∷ []) (head ++ behind) in
     let dropped : drop (length before) text ≡ 10 ∷ (head ++ behind) =
@@ -67,8 +75,10 @@ occurs_there text head before behind e =
     (ap (take (length (10 ∷ head))) dropped ∙ take_front (10 ∷ head) behind)
 
 -- where no line begins so at the start, the first that does is behind the first such LF
-pub begins_later : (text head : List ℕ) (found : Option ℕ) → ((rest : List ℕ) → text ≡ head ++ rest → ⊥) → FindsNeedle text (10 ∷ head) 0 found
-    → (place : ℕ) → BeginsAt text head place → (before : List ℕ) × (length before + 1 ≡ place) × OccursAt text (10 ∷ head) (length before)
+pub begins_later : (text head : List ℕ) (found : Option ℕ) → ((rest : List ℕ) → text ≡ head ++ rest → ⊥)
+    → FindsNeedle text (10 ∷ head) 0 found
+    → (place : ℕ) → BeginsAt text head place → (before : List ℕ) × (length before + 1 ≡ place)
+    × OccursAt text (10 ∷ head) (length before)
 begins_later text head found start finds place (front, behind, inl none, size, e) =
     absurd (start behind (e ∙ ap (λ l. l ++ (head ++ behind)) none))
 begins_later text head found start finds place (front, behind, inr (before, last), size, e) = (
@@ -77,7 +87,8 @@ begins_later text head found start finds place (front, behind, inr (before, last
   occurs_there text head before behind (e ∙ ap (λ l. l ++ (head ++ behind)) last),
 )
 
-pub finds_line : (text head : List ℕ) (place : ℕ) → ((rest : List ℕ) → text ≡ head ++ rest → ⊥) → FindsNeedle text (10 ∷ head) 0 (Some place)
+pub finds_line : (text head : List ℕ) (place : ℕ) → ((rest : List ℕ) → text ≡ head ++ rest → ⊥)
+    → FindsNeedle text (10 ∷ head) 0 (Some place)
     → FindsLine text head (Some (place + 1))
 finds_line text head place start finds = (
   begins_behind text head place finds.1,
@@ -89,7 +100,8 @@ finds_line text head place start finds = (
       ],
 )
 
-pub finds_none : (text head : List ℕ) → ((rest : List ℕ) → text ≡ head ++ rest → ⊥) → FindsNeedle text (10 ∷ head) 0 None
+pub finds_none : (text head : List ℕ) → ((rest : List ℕ) → text ≡ head ++ rest → ⊥)
+    → FindsNeedle text (10 ∷ head) 0 None
     → FindsLine text head None
 finds_none text head start finds = λ place begins.
     let later = begins_later text head None start finds place begins in

@@ -42,7 +42,8 @@ same_tail : {A : Type 0} (a b c d : A) (x y : List A) → a ∷ b ∷ x ≡ c �
 same_tail a b c d x y e = (cc, cc, ap (drop 2) e)
 
 -- the parts behind a command's name are those of the line
-pub named_line : (words behind : List (List ℕ)) (name : List ℕ) (command : CommandName) (p : Parts) → words ≡ name ∷ command_text command ∷ behind
+pub named_line : (words behind : List (List ℕ)) (name : List ℕ) (command : CommandName) (p : Parts)
+    → words ≡ name ∷ command_text command ∷ behind
     → ((other : CommandName) → command_text command ≡ command_text other → other ≡ command)
     → IsRead command (bare (name ∷ command_text command ∷ [])) behind p → IsLineOf words p
 named_line words behind name command p is one reading = record {
@@ -59,35 +60,55 @@ named_line words behind name command p is one reading = record {
 
 -- one more word behind those taken
 module _ (command : CommandName) (first : Parts) (taken : List (List ℕ)) (p : Parts) (w : List ℕ) where
-  pub dashed : (kind : Kind) → kind ≡ Dashes → IsKind command w kind → Reads command first taken p → IsReadTo command first (taken ++ (w ∷ [])) kind p
+  pub dashed : (kind : Kind) → kind ≡ Dashes → IsKind command w kind → Reads command first taken p
+      → IsReadTo command first (taken ++ (w ∷ [])) kind p
   dashed kind e is reading =
-      subst (λ k. IsReadTo command first (taken ++ (w ∷ [])) k p) (sym e) (reads.dashes w reading (subst (λ k. IsKind command w k) e is))
+      subst (λ k. IsReadTo command first (taken ++ (w ∷ [])) k p) (sym e)
+      (reads.dashes w reading (subst (λ k. IsKind command w k) e is))
 
-  pub numbered : (kind : Kind) (q : Parts) → kind ≡ Numbered → IsKind command w kind → q ≡ left p w → Reads command first taken p
+  pub numbered : (kind : Kind) (q : Parts) → kind ≡ Numbered → IsKind command w kind → q ≡ left p w
+      → Reads command first taken p
       → IsReadTo command first (taken ++ (w ∷ [])) kind q
   numbered kind q e is more reading =
-      subst (λ k. IsReadTo command first (taken ++ (w ∷ [])) k q) (sym e)
-      (p, (record { before = taken; option = w; cut = refl; is_kind = subst (λ k. IsKind command w k) e is; reads = reading }, more))
+      subst (λ k. IsReadTo command first (taken ++ (w ∷ [])) k q) (sym e) (
+        p,
+        (
+          record {
+            before = taken;
+            option = w;
+            cut = refl;
+            is_kind = subst (λ k. IsKind command w k) e is;
+            reads =
+                reading;
+          },
+          more,
+        ),
+      )
 
-  pub filed : (kind : Kind) (q : Parts) → kind ≡ File → IsKind command w kind → Adds command p (with_file p w) w q → Reads command first taken p
+  pub filed : (kind : Kind) (q : Parts) → kind ≡ File → IsKind command w kind → Adds command p (with_file p w) w q
+      → Reads command first taken p
       → Reads command first (taken ++ (w ∷ [])) q
   filed kind q e is added reading =
       let here : IsKind command w File = subst (λ k. IsKind command w k) e is in
       elim added [
         | inl room ↦ subst (Reads command first (taken ++ (w ∷ []))) (sym room.1) (reads.file w reading here room.0)
-        | inr none ↦ subst (Reads command first (taken ++ (w ∷ []))) (sym none.1) (reads.extra w reading (inl here) none.0)
+        | inr none ↦ subst (Reads command first (taken ++ (w ∷ []))) (sym none.1)
+            (reads.extra w reading (inl here) none.0)
       ]
 
-  pub ruled : (kind : Kind) (q : Parts) → kind ≡ RuleName → IsKind command w kind → Adds command p (with_rule p w) w q → Reads command first taken p
+  pub ruled : (kind : Kind) (q : Parts) → kind ≡ RuleName → IsKind command w kind → Adds command p (with_rule p w) w q
+      → Reads command first taken p
       → Reads command first (taken ++ (w ∷ [])) q
   ruled kind q e is added reading =
       let here : IsKind command w RuleName = subst (λ k. IsKind command w k) e is in
       elim added [
         | inl room ↦ subst (Reads command first (taken ++ (w ∷ []))) (sym room.1) (reads.rule w reading here room.0)
-        | inr none ↦ subst (Reads command first (taken ++ (w ∷ []))) (sym none.1) (reads.extra w reading (inr here) none.0)
+        | inr none ↦ subst (Reads command first (taken ++ (w ∷ []))) (sym none.1)
+            (reads.extra w reading (inr here) none.0)
       ]
 
-  pub filed_behind : (before : Kind) (q : Parts) → before ≡ Dashes → Adds command p (with_file p w) w q → IsReadTo command first taken before p
+  pub filed_behind : (before : Kind) (q : Parts) → before ≡ Dashes → Adds command p (with_file p w) w q
+      → IsReadTo command first taken before p
       → Behind command first (taken ++ (w ∷ [])) q
   filed_behind before q e added state =
       let reading : Behind command first taken p = subst (λ k. IsReadTo command first taken k p) e state in
@@ -103,25 +124,31 @@ module _ (command : CommandName) (first : Parts) (taken : List (List ℕ)) (p : 
       let wait : Waits command first taken Numbered waiting.0 = waiting.1.0 in
       let whole : q ≡ left (left waiting.0 wait.option) w = more ∙ ap (λ o. left o w) waiting.1.1 in
       subst (λ ws. Reads command first (ws ++ (w ∷ [])) q) (sym wait.cut)
-      (subst (Reads command first ((wait.before ++ (wait.option ∷ [])) ++ (w ∷ []))) (sym whole) (reads.number wait.option w wait.reads wait.is_kind))
+      (subst (Reads command first ((wait.before ++ (wait.option ∷ [])) ++ (w ∷ []))) (sym whole)
+      (reads.number wait.option w wait.reads wait.is_kind))
 
-  pub put : (before : Kind) (q : Parts) → before ≡ Place → q ≡ record p { place = Some w } → IsReadTo command first taken before p
+  pub put : (before : Kind) (q : Parts) → before ≡ Place → q ≡ record p { place = Some w }
+      → IsReadTo command first taken before p
       → Reads command first (taken ++ (w ∷ [])) q
   put before q e whole state =
       let waiting : IsReadTo command first taken Place p = subst (λ k. IsReadTo command first taken k p) e state in
       let wait : Waits command first taken Place p = waiting.0 in
       subst (λ ws. Reads command first (ws ++ (w ∷ [])) q) (sym wait.cut)
-      (subst (Reads command first ((wait.before ++ (wait.option ∷ [])) ++ (w ∷ []))) (sym whole) (reads.place wait.option w wait.reads wait.is_kind waiting.1))
+      (subst (Reads command first ((wait.before ++ (wait.option ∷ [])) ++ (w ∷ []))) (sym whole)
+      (reads.place wait.option w wait.reads wait.is_kind waiting.1))
 
-  pub ordered : (before : Kind) (q : Parts) → before ≡ Against → q ≡ record p { against = Some w } → IsReadTo command first taken before p
+  pub ordered : (before : Kind) (q : Parts) → before ≡ Against → q ≡ record p { against = Some w }
+      → IsReadTo command first taken before p
       → Reads command first (taken ++ (w ∷ [])) q
   ordered before q e whole state =
       let waiting : IsReadTo command first taken Against p = subst (λ k. IsReadTo command first taken k p) e state in
       let wait : Waits command first taken Against p = waiting.0 in
       subst (λ ws. Reads command first (ws ++ (w ∷ [])) q) (sym wait.cut)
-      (subst (Reads command first ((wait.before ++ (wait.option ∷ [])) ++ (w ∷ []))) (sym whole) (reads.against wait.option w wait.reads wait.is_kind waiting.1))
+      (subst (Reads command first ((wait.before ++ (wait.option ∷ [])) ++ (w ∷ []))) (sym whole)
+      (reads.against wait.option w wait.reads wait.is_kind waiting.1))
 
-  pub waits_place : (kind after : Kind) (q : Parts) → kind ≡ Place → IsKind command w kind → WaitsForPlace p w after q → Reads command first taken p
+  pub waits_place : (kind after : Kind) (q : Parts) → kind ≡ Place → IsKind command w kind → WaitsForPlace p w after q
+      → Reads command first taken p
       → IsReadTo command first (taken ++ (w ∷ [])) after q
   waits_place kind after q e is waits reading =
       let here : IsKind command w Place = subst (λ k. IsKind command w k) e is in
@@ -130,10 +157,12 @@ module _ (command : CommandName) (first : Parts) (taken : List (List ℕ)) (p : 
             (subst (IsReadTo command first (taken ++ (w ∷ [])) Place) (sym waiting.2)
             (record { before = taken; option = w; cut = refl; is_kind = here; reads = reading }, waiting.1))
         | inr more ↦ subst (λ k. IsReadTo command first (taken ++ (w ∷ [])) k q) (sym more.0)
-            (subst (Reads command first (taken ++ (w ∷ []))) (sym more.2) (reads.plain w reading (inr (inl (here, more.1)))))
+            (subst (Reads command first (taken ++ (w ∷ []))) (sym more.2)
+            (reads.plain w reading (inr (inl (here, more.1)))))
       ]
 
-  pub waits_order : (kind after : Kind) (q : Parts) → kind ≡ Against → IsKind command w kind → WaitsForOrder p w after q → Reads command first taken p
+  pub waits_order : (kind after : Kind) (q : Parts) → kind ≡ Against → IsKind command w kind
+      → WaitsForOrder p w after q → Reads command first taken p
       → IsReadTo command first (taken ++ (w ∷ [])) after q
   waits_order kind after q e is waits reading =
       let here : IsKind command w Against = subst (λ k. IsKind command w k) e is in
@@ -142,5 +171,6 @@ module _ (command : CommandName) (first : Parts) (taken : List (List ℕ)) (p : 
             (subst (IsReadTo command first (taken ++ (w ∷ [])) Against) (sym waiting.2)
             (record { before = taken; option = w; cut = refl; is_kind = here; reads = reading }, waiting.1))
         | inr more ↦ subst (λ k. IsReadTo command first (taken ++ (w ∷ [])) k q) (sym more.0)
-            (subst (Reads command first (taken ++ (w ∷ []))) (sym more.2) (reads.plain w reading (inr (inr (here, more.1)))))
+            (subst (Reads command first (taken ++ (w ∷ []))) (sym more.2)
+            (reads.plain w reading (inr (inr (here, more.1)))))
       ]

@@ -14,24 +14,30 @@ IsLeft command p word = IsKind command word Plain
 -- these words, behind those that the first parts are of, are read as these parts
 pub data Reads (command : CommandName) (first : Parts) : List (List ℕ) → Parts → Type 0 where
   none : Reads command first [] first
-  plain : {ws : List (List ℕ)} {p : Parts} (w : List ℕ) → Reads command first ws p → IsLeft command p w → Reads command first (ws ++ (w ∷ [])) (left p w)
+  plain : {ws : List (List ℕ)} {p : Parts} (w : List ℕ) → Reads command first ws p → IsLeft command p w
+      → Reads command first (ws ++ (w ∷ [])) (left p w)
   -- `--workers N`: both words are left
   number : {ws : List (List ℕ)} {p : Parts} (o n : List ℕ) → Reads command first ws p → IsKind command o Numbered
       → Reads command first ((ws ++ (o ∷ [])) ++ (n ∷ [])) (left (left p o) n)
   -- `--workers=N` as two words
   joined : {ws : List (List ℕ)} {p : Parts} (w n : List ℕ) → Reads command first ws p → IsKind command w Joined → w ≡ codes "--workers=" ++ n
       → Reads command first (ws ++ (w ∷ [])) (left (left p (codes "--workers")) n)
-  file : {ws : List (List ℕ)} {p : Parts} (w : List ℕ) → Reads command first ws p → IsKind command w File → HasRoom command p
+  file : {ws : List (List ℕ)} {p : Parts} (w : List ℕ) → Reads command first ws p → IsKind command w File
+      → HasRoom command p
       → Reads command first (ws ++ (w ∷ [])) (with_file p w)
-  rule : {ws : List (List ℕ)} {p : Parts} (w : List ℕ) → Reads command first ws p → IsKind command w RuleName → HasRoom command p
+  rule : {ws : List (List ℕ)} {p : Parts} (w : List ℕ) → Reads command first ws p → IsKind command w RuleName
+      → HasRoom command p
       → Reads command first (ws ++ (w ∷ [])) (with_rule p w)
-  extra : {ws : List (List ℕ)} {p : Parts} (w : List ℕ) → Reads command first ws p → IsKind command w File ⊎ IsKind command w RuleName
+  extra : {ws : List (List ℕ)} {p : Parts} (w : List ℕ) → Reads command first ws p
+      → IsKind command w File ⊎ IsKind command w RuleName
       → (HasRoom command p → ⊥) → Reads command first (ws ++ (w ∷ [])) (with_extra p w)
   -- `--bundle FILE`: neither word is left
-  place : {ws : List (List ℕ)} {p : Parts} (o f : List ℕ) → Reads command first ws p → IsKind command o Place → p.place ≡ None
+  place : {ws : List (List ℕ)} {p : Parts} (o f : List ℕ) → Reads command first ws p → IsKind command o Place
+      → p.place ≡ None
       → Reads command first ((ws ++ (o ∷ [])) ++ (f ∷ [])) (record p { place = Some f })
   -- `--against ORDER` likewise
-  against : {ws : List (List ℕ)} {p : Parts} (o f : List ℕ) → Reads command first ws p → IsKind command o Against → p.against ≡ None
+  against : {ws : List (List ℕ)} {p : Parts} (o f : List ℕ) → Reads command first ws p → IsKind command o Against
+      → p.against ≡ None
       → Reads command first ((ws ++ (o ∷ [])) ++ (f ∷ [])) (record p { against = Some f })
   quiet : {ws : List (List ℕ)} {p : Parts} (w : List ℕ) → Reads command first ws p → IsKind command w Quiet
       → Reads command first (ws ++ (w ∷ [])) (record p { is_quiet = true })
@@ -46,7 +52,8 @@ pub data Reads (command : CommandName) (first : Parts) : List (List ℕ) → Par
 pub data Behind (command : CommandName) (first : Parts) : List (List ℕ) → Parts → Type 0 where
   dashes : {ws : List (List ℕ)} {p : Parts} (w : List ℕ) → Reads command first ws p → IsKind command w Dashes
       → Behind command first (ws ++ (w ∷ [])) p
-  file_behind : {ws : List (List ℕ)} {p : Parts} (w : List ℕ) → Behind command first ws p → HasRoom command p → Behind command first (ws ++ (w ∷ [])) (with_file p w)
+  file_behind : {ws : List (List ℕ)} {p : Parts} (w : List ℕ) → Behind command first ws p → HasRoom command p
+      → Behind command first (ws ++ (w ∷ [])) (with_file p w)
   extra_behind : {ws : List (List ℕ)} {p : Parts} (w : List ℕ) → Behind command first ws p → (HasRoom command p → ⊥)
       → Behind command first (ws ++ (w ∷ [])) (with_extra p w)
 

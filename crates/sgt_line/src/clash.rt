@@ -84,8 +84,8 @@ fn clash_of(line: &Line) -> Option<&'static str>
 }
 
 impl Line {
-    /// The line; where an option of a check clashes with an order that is given, or the file to be written is read, with a
-    /// text that says so for a word more, which no command takes.
+    /// The line; where an option of a check clashes with an order that is given, or the file to be written is read,
+    /// with a text that says so for a word more, which no command takes.
     pub fn settled(self, alloc: Global) -> Result<Line, AllocError>
         ensures { IfOk result (λ line. Settles (parts_of self) (parts_of line)) }
     {

@@ -1,4 +1,5 @@
-//! What the words of the command line say of files, and what is left for the program; what a replay or a run wrote, cut.
+//! What the words of the command line say of files, and what is left for the program; what a replay or a run wrote,
+//! cut.
 #![tactic(auto)]
 
 mod clash;

@@ -19,8 +19,8 @@ pub struct Line {
     pub words: Vec<String>,
     /// The files to read, in their order; `-` is standard input.
     pub files: Vec<String>,
-    /// Where the bundle of a replay or a run goes, if not behind `---`; the folder of a server's bundles; where a history's cycle is
-    /// drawn.
+    /// Where the bundle of a replay or a run goes, if not behind `---`; the folder of a server's bundles; where a
+    /// history's cycle is drawn.
     pub place: Option<String>,
     /// The file of the order that a history is held against.
     pub against: Option<String>,
@@ -272,7 +272,8 @@ impl Line {
         Ok(line)
     }
 
-    // The line of `help`, behind the program's name, with these words behind it; all words, where they are no such line.
+    // The line of `help`, behind the program's name, with these words behind it; all words, where they are no such
+    // line.
     fn of_help(
         alloc: Global,
         name: &str,

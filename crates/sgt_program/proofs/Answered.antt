@@ -23,7 +23,8 @@ use Rattle.sgt_program.specs.Commands.{Answers, AnswersAudit, AnswersRule, Answe
 use Rattle.sgt_program.specs.Ending.{status_of}
 use Rattle.sgt_program.specs.declared.ending.Ending.TheVariants.{Ran}
 
-pub verdict-answers : (told old new : Option (List ℕ)) (v : Verdict) → IfSome told (λ bytes. IsVerdict bytes v) → IfSome told (λ bytes. SaysHeadline bytes v) → Appends old new (text_of v)
+pub verdict-answers : (told old new : Option (List ℕ)) (v : Verdict) → IfSome told (λ bytes. IsVerdict bytes v)
+    → IfSome told (λ bytes. SaysHeadline bytes v) → Appends old new (text_of v)
     → AnswersAudit (status_of (Ran (Ok (outcome v)))) told old new
 verdict-answers told old new (Yes c r w) is headline wrote = record {
   yes = λ e. (headline, (c, r, w, (is, wrote)));
@@ -55,7 +56,8 @@ audit-fails told old new fail front =
       front = λ le. front;
     }
 
-pub serial-answers : (told old new : Option (List ℕ)) (r : Result Outcome EngineFail) → IfOk r (λ o. serial.WroteAnswer told o old new)
+pub serial-answers : (told old new : Option (List ℕ)) (r : Result Outcome EngineFail)
+    → IfOk r (λ o. serial.WroteAnswer told o old new)
     → OnErr r (serial.WroteAnswerFront told old new) → AnswersSerial (status_of (Ran r)) told old new
 serial-answers told old new (Ok Outcome_.Yes) wrote front = record {
   run = λ e. wrote;
@@ -79,7 +81,8 @@ serial-answers told old new (Err fail) wrote front =
       front = λ le. front;
     }
 
-pub status-answers : (Wrote : Outcome → Type 0) (Front : Type 0) (r : Result Outcome EngineFail) → IfOk r Wrote → OnErr r Front
+pub status-answers : (Wrote : Outcome → Type 0) (Front : Type 0) (r : Result Outcome EngineFail) → IfOk r Wrote
+    → OnErr r Front
     → ByStatus Wrote Front (status_of (Ran r))
 status-answers Wrote Front (Ok Outcome_.Yes) wrote front = record {
   yes = λ e. wrote;
@@ -109,24 +112,32 @@ status-answers Wrote Front (Err fail) wrote front =
     }
 
 -- a yes is 0, and no other answer is
-yes_is_zero : (o : Outcome) (status : ℕ) (S : Type 0) → status ≡ status_of (Ran (Ok o)) → o ≡ Outcome_.Yes ↔ S → status ≡ 0 ↔ S
+yes_is_zero : (o : Outcome) (status : ℕ) (S : Type 0) → status ≡ status_of (Ran (Ok o)) → o ≡ Outcome_.Yes ↔ S
+    → status ≡ 0 ↔ S
 yes_is_zero Outcome_.Yes status S is both = (λ zero. both.0 refl, λ s. is)
 yes_is_zero Outcome_.No status S is both =
     (λ zero. absurd (omega (arith, is, zero)), λ s. absurd (let bad : Outcome_.No ≡ Outcome_.Yes = both.1 s in cc))
-yes_is_zero Outcome_.Unreadable status S is both =
-    (λ zero. absurd (omega (arith, is, zero)), λ s. absurd (let bad : Outcome_.Unreadable ≡ Outcome_.Yes = both.1 s in cc))
+yes_is_zero Outcome_.Unreadable status S is both = (
+  λ zero. absurd (omega (arith, is, zero)),
+  λ s. absurd (let bad : Outcome_.Unreadable ≡ Outcome_.Yes = both.1 s in
+      cc),
+)
 
 -- the status of an answer says what the outcome says of both texts
-pub exact_status : (r : Result Outcome EngineFail) (status : ℕ) (told order : Option (List ℕ)) (Is : List ℕ → List ℕ → Type 0)
-    → status ≡ status_of (Ran r) → IfOk r (λ o. IfSome told (λ bytes. IfSome order (λ lines. o ≡ Outcome_.Yes ↔ Is lines bytes)))
+pub exact_status : (r : Result Outcome EngineFail) (status : ℕ) (told order : Option (List ℕ)) (Is : List ℕ → List ℕ
+    → Type 0)
+    → status ≡ status_of (Ran r)
+    → IfOk r (λ o. IfSome told (λ bytes. IfSome order (λ lines. o ≡ Outcome_.Yes ↔ Is lines bytes)))
     → status < 3 → IfSome told (λ bytes. IfSome order (λ lines. status ≡ 0 ↔ Is lines bytes))
 exact_status (Ok o) status None order Is is said few = tt
 exact_status (Ok o) status (Some bytes) None Is is said few = tt
 exact_status (Ok o) status (Some bytes) (Some lines) Is is said few = yes_is_zero o status (Is lines bytes) is said
-exact_status (Err fail) status told order Is is said few = absurd (let high = failing fail in omega (arith, high, is, few))
+exact_status (Err fail) status told order Is is said few =
+    absurd (let high = failing fail in omega (arith, high, is, few))
 
 -- nothing was written for want of memory
-pub memory-answers : (words : List (List ℕ)) (status : ℕ) (held : Option (List ℕ)) → status ≡ 3 → AnswersOthers words status held held
+pub memory-answers : (words : List (List ℕ)) (status : ℕ) (held : Option (List ℕ)) → status ≡ 3
+    → AnswersOthers words status held held
 memory-answers words status held is = record {
   help = λ e. absurd (omega arith);
   usage = λ e. absurd (omega arith);
@@ -135,7 +146,8 @@ memory-answers words status held is = record {
 }
 
 -- of a run too
-pub run-memory : (choice : Choice) (status : ℕ) (told held : Option (List ℕ)) → command_of choice ≡ command.Run → status ≡ 3 → Answers choice status told held held
+pub run-memory : (choice : Choice) (status : ℕ) (told held : Option (List ℕ)) → command_of choice ≡ command.Run
+    → status ≡ 3 → Answers choice status told held held
 run-memory (Run workers tries) status told held is three = record {
   yes = λ e. absurd (omega arith);
   no = λ e. absurd (omega arith);
@@ -145,8 +157,10 @@ run-memory (Run workers tries) status told held is three = record {
 run-memory choice status told held is three = absurd cc
 
 -- the help was shown, or the writer failed
-pub help-answers : (words : List (List ℕ)) (old new : Option (List ℕ)) (text : List ℕ) (Quiet : Type 0) (r : Result Outcome EngineFail) → AsksHelp words
-    → 0 < length text → OnOk r (Appends old new text) → OnErr r (WritesFront old new text) → IfOk r (λ o. (o ≡ Outcome_.Yes) × Quiet)
+pub help-answers : (words : List (List ℕ)) (old new : Option (List ℕ)) (text : List ℕ) (Quiet : Type 0)
+    (r : Result Outcome EngineFail) → AsksHelp words
+    → 0 < length text → OnOk r (Appends old new text) → OnErr r (WritesFront old new text)
+    → IfOk r (λ o. (o ≡ Outcome_.Yes) × Quiet)
     → AnswersOthers words (status_of (Ran r)) old new
 help-answers words old new text Quiet (Ok Outcome_.Yes) asks some shown front is = record {
   help = λ e. (asks, (text, some, shown));
@@ -154,7 +168,8 @@ help-answers words old new text Quiet (Ok Outcome_.Yes) asks some shown front is
   known = λ e. absurd (omega arith);
   front = λ le. absurd (omega arith);
 }
-help-answers words old new text Quiet (Ok Outcome_.No) asks some shown front is = absurd (let e : Outcome_.No ≡ Outcome_.Yes = is.0 in cc)
+help-answers words old new text Quiet (Ok Outcome_.No) asks some shown front is =
+    absurd (let e : Outcome_.No ≡ Outcome_.Yes = is.0 in cc)
 help-answers words old new text Quiet (Ok Outcome_.Unreadable) asks some shown front is =
     absurd (let e : Outcome_.Unreadable ≡ Outcome_.Yes = is.0 in cc)
 help-answers words old new text Quiet (Err fail) asks some shown front is =
@@ -178,7 +193,8 @@ help_four (Err ReadFault) Quiet Failed is failed high = absurd (let e : ReadFaul
 help_four (Err WriteFault) Quiet Failed is failed high = refl
 
 -- no help was asked for
-pub usage-answers : (words : List (List ℕ)) (status : ℕ) (old new : Option (List ℕ)) → (AsksHelp words → ⊥) → status ≡ 2 → AnswersOthers words status old new
+pub usage-answers : (words : List (List ℕ)) (status : ℕ) (old new : Option (List ℕ)) → (AsksHelp words → ⊥)
+    → status ≡ 2 → AnswersOthers words status old new
 usage-answers words status old new no_help is = record {
   help = λ e. absurd (omega arith);
   usage = λ e. no_help;
@@ -187,7 +203,8 @@ usage-answers words status old new no_help is = record {
 }
 
 -- a rule was shown, or the writer failed
-pub rule-answers : (topic : Topic) (old new : Option (List ℕ)) (r : Result Outcome EngineFail) → IfOk r (λ o. o ≡ Outcome_.Yes)
+pub rule-answers : (topic : Topic) (old new : Option (List ℕ)) (r : Result Outcome EngineFail)
+    → IfOk r (λ o. o ≡ Outcome_.Yes)
     → OnOk r ((text : List ℕ) × IsRuleOf (topic_name topic) text × Appends old new text)
     → OnErr r ((text : List ℕ) × WritesFront old new text) → AnswersRule topic (status_of (Ran r)) old new
 rule-answers topic old new (Ok Outcome_.Yes) is shown front = record {
@@ -196,7 +213,8 @@ rule-answers topic old new (Ok Outcome_.Yes) is shown front = record {
   front = λ le. absurd (omega arith);
 }
 rule-answers topic old new (Ok Outcome_.No) is shown front = absurd (let e : Outcome_.No ≡ Outcome_.Yes = is in cc)
-rule-answers topic old new (Ok Outcome_.Unreadable) is shown front = absurd (let e : Outcome_.Unreadable ≡ Outcome_.Yes = is in cc)
+rule-answers topic old new (Ok Outcome_.Unreadable) is shown front =
+    absurd (let e : Outcome_.Unreadable ≡ Outcome_.Yes = is in cc)
 rule-answers topic old new (Err fail) is shown front =
     let high = failing fail in
     record {

@@ -42,7 +42,8 @@ is_refusal (Ok choice) = false
 is_refusal (Err refusal) = not (is_memory refusal)
 
 -- words that ask for a command are refused for want of memory alone
-pub no_refusal : (r : Result Choice NoChoice) (x : Choice) (refusal : NoChoice) (Q : Type 0) → (r ≡ Ok x) ⊎ ((r ≡ Err Memory) × Q)
+pub no_refusal : (r : Result Choice NoChoice) (x : Choice) (refusal : NoChoice) (Q : Type 0)
+    → (r ≡ Ok x) ⊎ ((r ≡ Err Memory) × Q)
     → r ≡ Err refusal → is_memory refusal ≡ false → ⊥
 no_refusal r x refusal Q either is other =
     let refused : is_refusal r ≡ true = ap is_refusal is ∙ ap not other in
@@ -52,14 +53,16 @@ no_refusal r x refusal Q either is other =
     ]
 
 -- and that comes of a run
-pub of_a_run : (r : Result Choice NoChoice) (x : Choice) (Q : Type 0) → (r ≡ Ok x) ⊎ ((r ≡ Err Memory) × Q) → r ≡ Err Memory → Q
+pub of_a_run : (r : Result Choice NoChoice) (x : Choice) (Q : Type 0) → (r ≡ Ok x) ⊎ ((r ≡ Err Memory) × Q)
+    → r ≡ Err Memory → Q
 of_a_run r x Q either is = elim either [
   | inl e ↦ (let bad : true ≡ false = sym (ap is_chosen e) ∙ ap is_chosen is in absurd cc)
   | inr e ↦ e.1
 ]
 
 -- who asks for an explanation names `explain`
-pub names_explain : (words : List (List ℕ)) (choice : Choice) → AsksFor words choice → command_of choice ≡ command.Explain → NamesExplain words
+pub names_explain : (words : List (List ℕ)) (choice : Choice) → AsksFor words choice
+    → command_of choice ≡ command.Explain → NamesExplain words
 names_explain words choice (inl none) is =
     absurd (let bad : command.Audit ≡ command.Explain = sym (ap command_of none.1) ∙ is in cc)
 names_explain words choice (inr (options, named, says)) is = (options, named ∙ ap (λ c. command_text c ∷ options) is)

@@ -22,7 +22,8 @@ use Rattle.sgt_program.specs.Ending.{AsksWorkers, LeavesDevices, ReadFailed, Rea
 use Rattle.sgt_program.specs.declared.ending.Ending.{Ending}
 use Rattle.sgt_program.specs.declared.ending.Ending.TheVariants.{Ran}
 
-pub wrote_or_failed : {A E : Type 0} (r : Result A E) (Wrote Front : Type 0) (failures failures' : ℕ) → OnOk r Wrote → CountsFailures r failures failures' → OnErr r Front
+pub wrote_or_failed : {A E : Type 0} (r : Result A E) (Wrote Front : Type 0) (failures failures' : ℕ) → OnOk r Wrote
+    → CountsFailures r failures failures' → OnErr r Front
     → Wrote ⊎ ((failures < failures') × Front)
 wrote_or_failed (Ok a) Wrote Front failures failures' wrote counts front = inl wrote
 wrote_or_failed (Err e) Wrote Front failures failures' wrote counts front = inr (omega arith, front)
@@ -34,20 +35,25 @@ tells-errors (Ok outcome) Silent Tells silent told = silent refl
 tells-errors (Err fail) Silent Tells silent told = told
 
 -- how the devices come out of the help
-pub helped : (r : Result Outcome EngineFail) (On : Type 0) (n : ℕ) (Quiet ReadFailed WriteFailed Unwritten : Type 0) → IfOk r (λ outcome. (outcome ≡ Yes) × Quiet)
-    → IfErr r (λ fail. (fail ≡ WriteFault) × WriteFailed) → LeavesDevices (Ran r) (ReaderIsQuiet On (Ran r) n n × Quiet) ReadFailed WriteFailed Unwritten
+pub helped : (r : Result Outcome EngineFail) (On : Type 0) (n : ℕ) (Quiet ReadFailed WriteFailed Unwritten : Type 0)
+    → IfOk r (λ outcome. (outcome ≡ Yes) × Quiet)
+    → IfErr r (λ fail. (fail ≡ WriteFault) × WriteFailed)
+    → LeavesDevices (Ran r) (ReaderIsQuiet On (Ran r) n n × Quiet) ReadFailed WriteFailed Unwritten
 helped (Ok outcome) On n Quiet ReadFailed WriteFailed Unwritten done failed = (inl refl, done.1)
 helped (Err fail) On n Quiet ReadFailed WriteFailed Unwritten done failed =
-    subst (λ f. LeavesDevices (Ran (Err f)) (ReaderIsQuiet On (Ran (Err f)) n n × Quiet) ReadFailed WriteFailed Unwritten) (sym failed.0) failed.1
+    subst (λ f. LeavesDevices (Ran (Err f)) (ReaderIsQuiet On (Ran (Err f)) n n × Quiet) ReadFailed WriteFailed
+    Unwritten) (sym failed.0) failed.1
 
 -- a read failed as an engine says, or, where the bytes are kept, for their number
-pub due : (K : Type 0) (told : Option (List ℕ)) (failures failures' asked asked' : ℕ) → ReadFaultIsDue told failures failures' asked asked'
+pub due : (K : Type 0) (told : Option (List ℕ)) (failures failures' asked asked' : ℕ)
+    → ReadFaultIsDue told failures failures' asked asked'
     → ReadFailed K told failures failures' asked asked'
 due K told failures failures' asked asked' (inl failed) = inl failed
 due K told failures failures' asked asked' (inr (all, long)) = inr (long, inl all)
 
 pub kept : (K : Type 0) (told : Option (List ℕ)) (failures failures' asked asked' : ℕ) → K
-    → (failures < failures') ⊎ IfSome told (λ bytes. most_reads ≤ length bytes) → ReadFailed K told failures failures' asked asked'
+    → (failures < failures') ⊎ IfSome told (λ bytes. most_reads ≤ length bytes)
+    → ReadFailed K told failures failures' asked asked'
 kept K told failures failures' asked asked' is (inl failed) = inl failed
 kept K told failures failures' asked asked' is (inr long) = inr (long, inr is)
 
@@ -55,12 +61,16 @@ kept K told failures failures' asked asked' is (inr long) = inr (long, inr is)
 pub due_of_two : (told lines : Option (List ℕ)) (failures failures' asked asked' fails fails' calls calls' : ℕ)
     → ReadFaultIsDue told failures failures' asked asked' ⊎ ReadFaultIsDue lines fails fails' calls calls'
     → ReadFailed ⊥ told failures failures' asked asked' ⊎ ReadFailed ⊥ lines fails fails' calls calls'
-due_of_two told lines failures failures' asked asked' fails fails' calls calls' (inl one) = inl (due ⊥ told failures failures' asked asked' one)
-due_of_two told lines failures failures' asked asked' fails fails' calls calls' (inr other) = inr (due ⊥ lines fails fails' calls calls' other)
+due_of_two told lines failures failures' asked asked' fails fails' calls calls' (inl one) =
+    inl (due ⊥ told failures failures' asked asked' one)
+due_of_two told lines failures failures' asked asked' fails fails' calls calls' (inr other) =
+    inr (due ⊥ lines fails fails' calls calls' other)
 
 -- how the devices come out of an engine
-pub leaves : (r : Result Outcome EngineFail) (Reader Writer Due Read Wrote Unwritten : Type 0) → (Due → Read) → (r ≢ Err ReadFault → Reader) → (r ≢ Err WriteFault → Writer)
-    → (IsErrOf r ReadFault → Due) → (IsErrOf r WriteFault → Wrote) → (IsErrOf r ReadFault → Unwritten) → (IsErrOf r Memory → Unwritten)
+pub leaves : (r : Result Outcome EngineFail) (Reader Writer Due Read Wrote Unwritten : Type 0) → (Due → Read)
+    → (r ≢ Err ReadFault → Reader) → (r ≢ Err WriteFault → Writer)
+    → (IsErrOf r ReadFault → Due) → (IsErrOf r WriteFault → Wrote) → (IsErrOf r ReadFault → Unwritten)
+    → (IsErrOf r Memory → Unwritten)
     → LeavesDevices (Ran r) (Reader × Writer) Read Wrote Unwritten
 leaves (Ok outcome) Reader Writer Due Read Wrote Unwritten so reader writer read write unwritten untouched =
     (reader (λ e. cc), writer (λ e. cc))
@@ -68,23 +78,29 @@ leaves (Err Memory) Reader Writer Due Read Wrote Unwritten so reader writer read
     ((reader (λ e. cc), writer (λ e. cc)), untouched refl)
 leaves (Err ReadFault) Reader Writer Due Read Wrote Unwritten so reader writer read write unwritten untouched =
     (so (read refl), unwritten refl)
-leaves (Err WriteFault) Reader Writer Due Read Wrote Unwritten so reader writer read write unwritten untouched = write refl
+leaves (Err WriteFault) Reader Writer Due Read Wrote Unwritten so reader writer read write unwritten untouched =
+    write refl
 
 abbrev pub failing : (T : Type 0) → EngineFail → Result T EngineFail
 failing T fail = Err fail
 
 -- and of one that failed with this fault, whatever it answers else
 pub leaves_fail : (T : Type 0) (fail : EngineFail) (Reader Writer Due Read Wrote Unwritten : Type 0) → (Due → Read)
-    → (failing T fail ≢ failing T ReadFault → Reader) → (failing T fail ≢ failing T WriteFault → Writer) → (IsErrOf (failing T fail) ReadFault → Due)
-    → (IsErrOf (failing T fail) WriteFault → Wrote) → (IsErrOf (failing T fail) ReadFault → Unwritten) → (IsErrOf (failing T fail) Memory → Unwritten)
+    → (failing T fail ≢ failing T ReadFault → Reader) → (failing T fail ≢ failing T WriteFault → Writer)
+    → (IsErrOf (failing T fail) ReadFault → Due)
+    → (IsErrOf (failing T fail) WriteFault → Wrote) → (IsErrOf (failing T fail) ReadFault → Unwritten)
+    → (IsErrOf (failing T fail) Memory → Unwritten)
     → LeavesDevices (Ran (Err fail)) (Reader × Writer) Read Wrote Unwritten
 leaves_fail T Memory Reader Writer Due Read Wrote Unwritten so reader writer read write unwritten untouched =
     ((reader (λ e. cc), writer (λ e. cc)), untouched refl)
-leaves_fail T ReadFault Reader Writer Due Read Wrote Unwritten so reader writer read write unwritten untouched = (so (read refl), unwritten refl)
-leaves_fail T WriteFault Reader Writer Due Read Wrote Unwritten so reader writer read write unwritten untouched = write refl
+leaves_fail T ReadFault Reader Writer Due Read Wrote Unwritten so reader writer read write unwritten untouched =
+    (so (read refl), unwritten refl)
+leaves_fail T WriteFault Reader Writer Due Read Wrote Unwritten so reader writer read write unwritten untouched =
+    write refl
 
 -- and of one that reads nothing
-pub leaves_topic : (r : Result Outcome EngineFail) (On : Type 0) (n : ℕ) (Writer Read Wrote Unwritten : Type 0) → OnErr r (r ≡ Err WriteFault) → OnErr r Wrote → OnOk r Writer
+pub leaves_topic : (r : Result Outcome EngineFail) (On : Type 0) (n : ℕ) (Writer Read Wrote Unwritten : Type 0)
+    → OnErr r (r ≡ Err WriteFault) → OnErr r Wrote → OnOk r Writer
     → LeavesDevices (Ran r) (ReaderIsQuiet On (Ran r) n n × Writer) Read Wrote Unwritten
 leaves_topic (Ok outcome) On n Writer Read Wrote Unwritten only failed writer = (inl refl, writer)
 leaves_topic (Err Memory) On n Writer Read Wrote Unwritten only failed writer = cc
@@ -93,19 +109,26 @@ leaves_topic (Err WriteFault) On n Writer Read Wrote Unwritten only failed write
 
 -- and of one whose reader may have failed at an answer
 pub leaves_audit : (T : Type 0) (fail : EngineFail) (Reader Writer Due Read Wrote Unwritten : Type 0) → (Due → Read)
-    → (IsErrOf (failing T fail) Memory → Reader) → (failing T fail ≢ failing T WriteFault → Writer) → (IsErrOf (failing T fail) ReadFault → Due)
-    → (IsErrOf (failing T fail) WriteFault → Wrote) → (IsErrOf (failing T fail) ReadFault → Unwritten) → (IsErrOf (failing T fail) Memory → Unwritten)
+    → (IsErrOf (failing T fail) Memory → Reader) → (failing T fail ≢ failing T WriteFault → Writer)
+    → (IsErrOf (failing T fail) ReadFault → Due)
+    → (IsErrOf (failing T fail) WriteFault → Wrote) → (IsErrOf (failing T fail) ReadFault → Unwritten)
+    → (IsErrOf (failing T fail) Memory → Unwritten)
     → LeavesDevices (Ran (Err fail)) (Reader × Writer) Read Wrote Unwritten
 leaves_audit T Memory Reader Writer Due Read Wrote Unwritten so reader writer read write unwritten untouched =
     ((reader refl, writer (λ e. cc)), untouched refl)
-leaves_audit T ReadFault Reader Writer Due Read Wrote Unwritten so reader writer read write unwritten untouched = (so (read refl), unwritten refl)
-leaves_audit T WriteFault Reader Writer Due Read Wrote Unwritten so reader writer read write unwritten untouched = write refl
+leaves_audit T ReadFault Reader Writer Due Read Wrote Unwritten so reader writer read write unwritten untouched =
+    (so (read refl), unwritten refl)
+leaves_audit T WriteFault Reader Writer Due Read Wrote Unwritten so reader writer read write unwritten untouched =
+    write refl
 
-pub verdict-quiet : (v : Verdict) (o : Outcome) (failures failures' : ℕ) → o ≡ outcome v → (IsYes v → failures' ≡ failures) → failures' ≤ failures + 1 → ReaderIsQuiet ⊤ (Ran (Ok o)) failures failures'
+pub verdict-quiet : (v : Verdict) (o : Outcome) (failures failures' : ℕ) → o ≡ outcome v
+    → (IsYes v → failures' ≡ failures) → failures' ≤ failures + 1 → ReaderIsQuiet ⊤ (Ran (Ok o)) failures failures'
 verdict-quiet (audit.Yes committed refused withdrawn) o failures failures' same quiet few = inl (quiet tt)
-verdict-quiet (audit.No line f) o failures failures' same quiet few = inr (tt, ap (λ (p : Outcome). Ran (Ok p)) same, few)
+verdict-quiet (audit.No line f) o failures failures' same quiet few =
+    inr (tt, ap (λ (p : Outcome). Ran (Ok p)) same, few)
 
-pub quiet_more : (On On' : Type 0) (ending : Ending) (failures failures' : ℕ) (Writer : Type 0) → (On → On') → ReaderIsQuiet On ending failures failures' × Writer → ReaderIsQuiet On' ending failures failures' × Writer
+pub quiet_more : (On On' : Type 0) (ending : Ending) (failures failures' : ℕ) (Writer : Type 0) → (On → On')
+    → ReaderIsQuiet On ending failures failures' × Writer → ReaderIsQuiet On' ending failures failures' × Writer
 quiet_more On On' ending failures failures' Writer so (inl same, writer) = (inl same, writer)
 quiet_more On On' ending failures failures' Writer so (inr (on, is, few), writer) = (inr (so on, is, few), writer)
 
@@ -129,7 +152,8 @@ failed_more K K' told failures failures' asked asked' so (inl failed) = inl fail
 failed_more K K' told failures failures' asked asked' so (inr (long, inl all)) = inr (long, inl all)
 failed_more K K' told failures failures' asked asked' so (inr (long, inr is)) = inr (long, inr (so is))
 
-pub leaves_more : (r : Result Outcome EngineFail) (Quiet Quiet' Read Read' Wrote Unwritten : Type 0) → (Quiet → Quiet') → (Read → Read') → LeavesDevices (Ran r) Quiet Read Wrote Unwritten
+pub leaves_more : (r : Result Outcome EngineFail) (Quiet Quiet' Read Read' Wrote Unwritten : Type 0)
+    → (Quiet → Quiet') → (Read → Read') → LeavesDevices (Ran r) Quiet Read Wrote Unwritten
     → LeavesDevices (Ran r) Quiet' Read' Wrote Unwritten
 leaves_more (Ok outcome) Quiet Quiet' Read Read' Wrote Unwritten quiet so devices = quiet devices
 leaves_more (Err Memory) Quiet Quiet' Read Read' Wrote Unwritten quiet so devices = (quiet devices.0, devices.1)
@@ -137,21 +161,24 @@ leaves_more (Err ReadFault) Quiet Quiet' Read Read' Wrote Unwritten quiet so dev
 leaves_more (Err WriteFault) Quiet Quiet' Read Read' Wrote Unwritten quiet so devices = devices
 
 -- what the status 1 says of an engine that answers no alone
-pub told_no : (r : Result Outcome EngineFail) (status : ℕ) (P : Type 0) → status ≡ 1 → status ≡ status_of (Ran r) → IfOk r (λ outcome. (outcome ≡ No) × P) → P
+pub told_no : (r : Result Outcome EngineFail) (status : ℕ) (P : Type 0) → status ≡ 1 → status ≡ status_of (Ran r)
+    → IfOk r (λ outcome. (outcome ≡ No) × P) → P
 told_no (Ok outcome) status P one is said = said.1
 told_no (Err Memory) status P one is said = absurd (omega arith)
 told_no (Err ReadFault) status P one is said = absurd (omega arith)
 told_no (Err WriteFault) status P one is said = absurd (omega arith)
 
 -- and the status 0 of one that answers yes alone
-pub told_yes : (r : Result Outcome EngineFail) (status : ℕ) (P : Type 0) → status ≡ 0 → status ≡ status_of (Ran r) → IfOk r (λ outcome. (outcome ≡ Yes) × P) → P
+pub told_yes : (r : Result Outcome EngineFail) (status : ℕ) (P : Type 0) → status ≡ 0 → status ≡ status_of (Ran r)
+    → IfOk r (λ outcome. (outcome ≡ Yes) × P) → P
 told_yes (Ok outcome) status P zero is said = said.1
 told_yes (Err Memory) status P zero is said = absurd (omega arith)
 told_yes (Err ReadFault) status P zero is said = absurd (omega arith)
 told_yes (Err WriteFault) status P zero is said = absurd (omega arith)
 
 -- an engine that answers no alone has no other status of an answer
-pub never_yes : (r : Result Outcome EngineFail) (status : ℕ) (P : Type 0) → status ≡ status_of (Ran r) → IfOk r (λ outcome. (outcome ≡ No) × P)
+pub never_yes : (r : Result Outcome EngineFail) (status : ℕ) (P : Type 0) → status ≡ status_of (Ran r)
+    → IfOk r (λ outcome. (outcome ≡ No) × P)
     → (status ≢ 0) × (status ≢ 2)
 never_yes (Ok Yes) status P is said = absurd (let e : Yes ≡ No = said.0 in cc)
 never_yes (Ok No) status P is said = (λ e. absurd (omega (arith, is, e)), λ e. absurd (omega (arith, is, e)))
@@ -161,7 +188,8 @@ never_yes (Err ReadFault) status P is said = (λ e. absurd (omega (arith, is, e)
 never_yes (Err WriteFault) status P is said = (λ e. absurd (omega (arith, is, e)), λ e. absurd (omega (arith, is, e)))
 
 -- nor has one that answers yes alone
-pub never_no : (r : Result Outcome EngineFail) (status : ℕ) (P : Type 0) → status ≡ status_of (Ran r) → IfOk r (λ outcome. (outcome ≡ Yes) × P)
+pub never_no : (r : Result Outcome EngineFail) (status : ℕ) (P : Type 0) → status ≡ status_of (Ran r)
+    → IfOk r (λ outcome. (outcome ≡ Yes) × P)
     → (status ≢ 1) × (status ≢ 2)
 never_no (Ok Yes) status P is said = (λ e. absurd (omega (arith, is, e)), λ e. absurd (omega (arith, is, e)))
 never_no (Ok No) status P is said = absurd (let e : No ≡ Yes = said.0 in cc)
@@ -171,14 +199,16 @@ never_no (Err ReadFault) status P is said = (λ e. absurd (omega (arith, is, e))
 never_no (Err WriteFault) status P is said = (λ e. absurd (omega (arith, is, e)), λ e. absurd (omega (arith, is, e)))
 
 -- at 3 and 4 there is no answer
-pub front_at : (r : Result Outcome EngineFail) (status : ℕ) (Front : Type 0) → status ≡ status_of (Ran r) → OnErr r Front → 3 ≤ status → Front
+pub front_at : (r : Result Outcome EngineFail) (status : ℕ) (Front : Type 0) → status ≡ status_of (Ran r)
+    → OnErr r Front → 3 ≤ status → Front
 front_at (Ok Yes) status Front is front high = absurd (omega (arith, is, high))
 front_at (Ok No) status Front is front high = absurd (omega (arith, is, high))
 front_at (Ok Unreadable) status Front is front high = absurd (omega (arith, is, high))
 front_at (Err fail) status Front is front high = front
 
 -- and at 4 a write failed, where no read is blamed
-pub failed_at : (r : Result Outcome EngineFail) (status : ℕ) (Front : Type 0) → status ≡ status_of (Ran r) → (r ≢ Err ReadFault)
+pub failed_at : (r : Result Outcome EngineFail) (status : ℕ) (Front : Type 0) → status ≡ status_of (Ran r)
+    → (r ≢ Err ReadFault)
     → (IsErrOf r WriteFault → Front) → status ≡ 4 → Front
 failed_at (Ok Yes) status Front is read front four = absurd (omega (arith, is, four))
 failed_at (Ok No) status Front is read front four = absurd (omega (arith, is, four))
@@ -192,7 +222,8 @@ pub wrote_none : (name : List ℕ) (held : Option (List ℕ)) → WroteBrokenFro
 wrote_none name held = (0, Broken, (0, omega (arith, length-append (codes "no ") (name ++ (codes " line " ++ (decimal 0 ++ (codes " C1" ++ codes "\n"))))), wrote_nothing held))
 
 -- how the writer comes out of an engine that reads nothing
-pub writes : (r : Result Outcome EngineFail) (Writer Wrote Unwritten : Type 0) → (r ≢ Err ReadFault) → (r ≢ Err WriteFault → Writer)
+pub writes : (r : Result Outcome EngineFail) (Writer Wrote Unwritten : Type 0) → (r ≢ Err ReadFault)
+    → (r ≢ Err WriteFault → Writer)
     → (IsErrOf r WriteFault → Wrote) → (IsErrOf r Memory → Unwritten) → LeavesDevices (Ran r) Writer ⊥ Wrote Unwritten
 writes (Ok outcome) Writer Wrote Unwritten read writer write untouched = writer (λ e. cc)
 writes (Err Memory) Writer Wrote Unwritten read writer write untouched = (writer (λ e. cc), untouched refl)

@@ -117,9 +117,11 @@ AsksKept wanted = IsTrue wanted.real_time ⊎ IsTrue wanted.sessions
 -- the verdict on a history: a yes at 0, with an order where it is asked for; at 1 a no with what shows
 -- it; at 2 the line that can't be read
 pub record AnswersCheck (wanted : CheckWanted) (status : ℕ) (told written written' : Option (List ℕ)) : Type 0 where
-  pub plain : (AsksKept wanted → ⊥) → ByStatus (λ outcome. check.WroteAnswer (options_of wanted) told outcome written written')
+  pub plain : (AsksKept wanted → ⊥)
+      → ByStatus (λ outcome. check.WroteAnswer (options_of wanted) told outcome written written')
       (check.WroteAnswerFront (options_of wanted) told written written') status
-  pub kept : AsksKept wanted → ByStatus (λ outcome. keeping.WroteKeptAnswer (kept_of wanted) (options_of wanted) told outcome written written')
+  pub kept : AsksKept wanted
+      → ByStatus (λ outcome. keeping.WroteKeptAnswer (kept_of wanted) (options_of wanted) told outcome written written')
       (keeping.WroteKeptAnswerFront (kept_of wanted) (options_of wanted) told written written') status
 
 -- the verdict on an order that is given, which is to keep what is wanted: a yes at 0; at 1 the history's first
@@ -179,13 +181,14 @@ pub record AnswersOthers (words : List (List ℕ)) (status : ℕ) (written writt
   -- what was written before stays
   pub front : 3 ≤ status → (text : List ℕ) × WritesFront written written' text
 
--- what comes of the words: a command that they ask for is answered; or, where they ask for none, or memory is wanting for help or to
--- read a run's words, nothing is read
+-- what comes of the words: a command that they ask for is answered; or, where they ask for none, or memory is wanting
+-- for help or to read a run's words, nothing is read
 pub data ComesOf (words : List (List ℕ)) (status : ℕ) (told written written' : Option (List ℕ))
     (unread : Type 0) : Type 0 where
   command : (choice : Choice) → AsksFor words choice → Answers choice status told written written'
       → ComesOf words status told written written' unread
-  other : AsksNone words → (3 ≤ status → (status ≡ 4) × AsksHelp words) → unread → AnswersOthers words status written written'
+  other : AsksNone words → (3 ≤ status → (status ≡ 4) × AsksHelp words) → unread
+      → AnswersOthers words status written written'
       → ComesOf words status told written written' unread
   memory : status ≡ 3 → MayLackMemory words → unread → AnswersOthers words status written written'
       → ComesOf words status told written written' unread

@@ -40,8 +40,9 @@ fn tell_broken<W: Sink>(
     }
 }
 
-/// Audits what the reader gives as the next bundle of a chain. None: it is a valid bundle, which goes on where the one before
-/// ended. Else the exit status: 1 it doesn't, and its line was written, which has the file's name; 3 and 4 as in `program`.
+/// Audits what the reader gives as the next bundle of a chain. None: it is a valid bundle, which goes on where the
+/// one before ended. Else the exit status: 1 it doesn't, and its line was written, which has the file's name; 3 and 4
+/// as in `program`.
 pub fn audit_next<R: Source, W: Sink, E: Sink>(
     auditor: &mut ChainAuditor,
     alloc: Global,

@@ -55,16 +55,18 @@ fn refuse<E: Sink>(errors: &mut E, text: &str) -> u8
 /// Says that the words are no text, and gives the exit status.
 pub fn refuse_words<E: Sink>(errors: &mut E) -> u8
     ensures status { result ≡ status_of NoCommand }
-    ensures told { WroteOrFailed (E.holds errors.old) (E.holds errors.new) (E.failures errors.old) (E.failures errors.new)
+    ensures told { WroteOrFailed (E.holds errors.old) (E.holds errors.new) (E.failures errors.old)
+        (E.failures errors.new)
         (codes "sgt: the arguments are not UTF-8\n") }
 {
     refuse(errors, "sgt: the arguments are not UTF-8\n")
 }
 
-/// Does what the words ask for, and gives the exit status: 0 yes or done (or help was shown); 1 no, a replay that ended with a
-/// transaction active, a script that was not committed, or a fault that ended a run; 2 the words are no command (nothing is read or
-/// written then) or a line of a replay's or a run's input can't be read; 3 want of memory; 4 a read or a write failed. The first word
-/// is the program's name. For help and for a rule nothing is read. Only a run and an audit by workers start threads; they are joined when this returns.
+/// Does what the words ask for, and gives the exit status: 0 yes or done (or help was shown); 1 no, a replay that
+/// ended with a transaction active, a script that was not committed, or a fault that ended a run; 2 the words are no
+/// command (nothing is read or written then) or a line of a replay's or a run's input can't be read; 3 want of
+/// memory; 4 a read or a write failed. The first word is the program's name. For help and for a rule nothing is read.
+/// Only a run and an audit by workers start threads; they are joined when this returns.
 pub fn program<H: Threads + Wait + Sync, R: Source, W: Sink, E: Sink>(
     rt: &H,
     alloc: Global,

@@ -14,8 +14,8 @@ pub enum Ending {
     NoCommand,
 }
 
-/// The exit status: 0 yes or done, 1 no, 2 the words are no command or the input can't be read, 3 want of memory, 4 a read or a
-/// write failed.
+/// The exit status: 0 yes or done, 1 no, 2 the words are no command or the input can't be read, 3 want of memory, 4 a
+/// read or a write failed.
 pub fn status(ending: Ending) -> u8
     ensures { result ≡ status_of ending }
 {

@@ -13,9 +13,10 @@ use sgt_names::{Sink, Source};
 use sgt_words::CheckWanted;
 use std::alloc::Global;
 
-/// Judges the order that `order` gives by the history that `reader` gives, and gives the exit status: 0 it explains the history, and
-/// keeps real time and sessions where that is wanted; 1 it doesn't, or the history has a fault; 2 a line of the history can't be read, or
-/// doesn't tell what is wanted; 3 and 4 as in `program`. Whether an order is wanted counts for nothing.
+/// Judges the order that `order` gives by the history that `reader` gives, and gives the exit status: 0 it explains
+/// the history, and keeps real time and sessions where that is wanted; 1 it doesn't, or the history has a fault; 2 a
+/// line of the history can't be read, or doesn't tell what is wanted; 3 and 4 as in `program`. Whether an order is
+/// wanted counts for nothing.
 pub fn check_order<O: Source, R: Source, W: Sink, E: Sink>(
     alloc: Global,
     wanted: CheckWanted,

@@ -211,8 +211,8 @@ fn answered<H: Threads + Wait + Sync>(
     }
 }
 
-/// The program's answer to the row, read in pieces of so many bytes: without the bundle that goes to a file, and without a word where
-/// the line asks for the status alone.
+/// The program's answer to the row, read in pieces of so many bytes: without the bundle that goes to a file, and
+/// without a word where the line asks for the status alone.
 pub(crate) fn answer_to<H: Threads + Wait + Sync>(
     rt: &H,
     alloc: Global,

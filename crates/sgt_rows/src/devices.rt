@@ -7,8 +7,8 @@ use std::alloc::{AllocError, Global};
 use std::sync::Wait;
 use std::thread::Threads;
 
-/// The words' status, if nothing is written and the error stream, which takes so many bytes, is told something as far as it can be. The
-/// first read would fail.
+/// The words' status, if nothing is written and the error stream, which takes so many bytes, is told something as far
+/// as it can be. The first read would fail.
 fn status_of<H: Threads + Wait + Sync>(
     rt: &H,
     alloc: Global,
@@ -45,8 +45,8 @@ pub(crate) fn are_no_command<H: Threads + Wait + Sync>(
     Ok(true)
 }
 
-/// Whether the program says that a device failed, having written a front of the row's output: nothing where a read failed, and else all
-/// that the writer takes.
+/// Whether the program says that a device failed, having written a front of the row's output: nothing where a read
+/// failed, and else all that the writer takes.
 fn gives_up<H: Threads + Wait + Sync>(
     rt: &H,
     alloc: Global,
@@ -72,8 +72,8 @@ fn gives_up<H: Threads + Wait + Sync>(
     Ok(status == 4 && front && errors.bytes() == told.as_bytes())
 }
 
-/// Whether the program gives up at each read that fails, with the read that would tell the end, and at each byte that the writer doesn't
-/// take.
+/// Whether the program gives up at each read that fails, with the read that would tell the end, and at each byte that
+/// the writer doesn't take.
 pub(crate) fn devices_tell<H: Threads + Wait + Sync>(
     rt: &H,
     alloc: Global,

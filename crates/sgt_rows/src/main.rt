@@ -1,5 +1,5 @@
-//! Runs the program over memory on the worked rows, on words that are no command, and on devices that fail, and says of how many
-//! rows the answer differs.
+//! Runs the program over memory on the worked rows, on words that are no command, and on devices that fail, and says
+//! of how many rows the answer differs.
 #![tactic(auto)]
 
 mod desk;

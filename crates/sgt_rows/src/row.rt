@@ -127,8 +127,8 @@ fn wanted_of<R: Files + AllocGlobal>(rt: &R, name: &str, line: &Line) -> io::Res
 }
 
 impl Row {
-    /// The row in the folder of this name, with the files `args` (none: no words), `stdin`, `stdout`, `status` (none: 0) and `must`,
-    /// and those that `args` names: to be read, or as they must be written.
+    /// The row in the folder of this name, with the files `args` (none: no words), `stdin`, `stdout`, `status` (none:
+    /// 0) and `must`, and those that `args` names: to be read, or as they must be written.
     pub(crate) fn read<R: Files + AllocGlobal>(rt: &R, name: &str) -> io::Result<Row> {
         let given = given_of(rt, name)?;
         let wanted = wanted_of(rt, name, &given.line)?;

@@ -20,8 +20,8 @@ fn verdict_of<H: Threads + Wait + Sync>(
     run(rt, alloc, words.as_slice(), source)
 }
 
-/// Whether the bundle behind `---`, if there is one, audits as yes, and as the output says where it says so. (Behind that of a check
-/// there is an order, which the row's output has.)
+/// Whether the bundle behind `---`, if there is one, audits as yes, and as the output says where it says so. (Behind
+/// that of a check there is an order, which the row's output has.)
 fn has_a_valid_bundle<H: Threads + Wait + Sync>(
     rt: &H,
     alloc: Global,
@@ -39,7 +39,8 @@ fn has_a_valid_bundle<H: Threads + Wait + Sync>(
     Ok(answer.status == 0 && (!told || front.as_bytes().ends_with(verdict)))
 }
 
-/// How many of the scripts were committed, where each line of a script, the verdict and the last value of x agree on that.
+/// How many of the scripts were committed, where each line of a script, the verdict and the last value of x agree on
+/// that.
 fn agreed_count(alloc: Global, output: &str, scripts: usize) -> Result<Option<usize>, AllocError> {
     let mut committed = 0usize;
     for line in output.lines().take(scripts) {
@@ -105,8 +106,8 @@ fn has_cut(answer: &Answer, row: &Row) -> bool {
     told.len() == wanted.len() && pairs.all(|(text, wanted)| text.as_slice() == wanted.as_bytes())
 }
 
-/// Whether the program, which reads so many bytes at once, answers as the row says. The error stream is told something exactly where
-/// the words are no command.
+/// Whether the program, which reads so many bytes at once, answers as the row says. The error stream is told
+/// something exactly where the words are no command.
 fn answers<H: Threads + Wait + Sync>(
     rt: &H,
     alloc: Global,

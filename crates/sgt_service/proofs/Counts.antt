@@ -13,7 +13,8 @@ added_many (c ∷ cs) [] = refl
 added_many (c ∷ cs) (t ∷ ts) = ap suc (added_many cs ts)
 
 module _ {L : Type 0} where
-  fold_many : (cs : List EntryCounts) (seats : List (Seat L)) → length (fold (λ counts (s : Seat L). added counts s.counts.items) cs seats) ≡ length cs
+  fold_many : (cs : List EntryCounts) (seats : List (Seat L))
+      → length (fold (λ counts (s : Seat L). added counts s.counts.items) cs seats) ≡ length cs
   fold_many cs [] = refl
   fold_many cs (s ∷ seats) = fold_many (added cs s.counts.items) seats ∙ added_many cs s.counts.items
 

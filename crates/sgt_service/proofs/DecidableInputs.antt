@@ -28,13 +28,15 @@ use Rattle.sgt_names.proofs.Elements.{take-front, drop-front, length-take_within
 
 -- the lines are those of sites that are numbered from k
 abbrev AreSites : ℕ → List (List ℕ) → Type 0
-AreSites k xs = (ss : List SiteLine) × All IsSiteLine ss × (map (λ l. l.site) ss ≡ range_with_len k (length ss)) × (xs ≡ map site_text ss)
+AreSites k xs = (ss : List SiteLine) × All IsSiteLine ss × (map (λ l. l.site) ss ≡ range_with_len k (length ss))
+    × (xs ≡ map site_text ss)
 
 abbrev IsSiteAt : ℕ → List ℕ → SiteLine → Type 0
 IsSiteAt k x l = (l.site ≡ k) × (x ≡ site_text l)
 
 site-found : (k : ℕ) (x : List ℕ) → Decidable ((l : SiteLine) × IsSiteLine l × IsSiteAt k x l)
-site-found k x = searched-site_lines (IsSiteAt k x) (λ l. decidable-both (cases_eq l.site k) (decidable-text x (site_text l)))
+site-found k x =
+    searched-site_lines (IsSiteAt k x) (λ l. decidable-both (cases_eq l.site k) (decidable-text x (site_text l)))
 
 known-sites : (k : ℕ) (xs : List (List ℕ)) → Decidable (AreSites k xs)
 known-sites k [] = inl ([], All-nil IsSiteLine, refl, refl)
@@ -48,13 +50,15 @@ known-sites k (x ∷ xs) = both (site-found k x) (known-sites (k + 1) xs)
     later ([], all, number, text) = absurd cc
     later (l ∷ ss, all, number, text) = (ss, All-tail IsSiteLine l ss all, tails _ _ _ _ number, tails _ _ _ _ text)
 
-    both : Decidable ((l : SiteLine) × IsSiteLine l × IsSiteAt k x l) → Decidable (AreSites (k + 1) xs) → Decidable (AreSites k (x ∷ xs))
+    both : Decidable ((l : SiteLine) × IsSiteLine l × IsSiteAt k x l) → Decidable (AreSites (k + 1) xs)
+        → Decidable (AreSites k (x ∷ xs))
     both (inr never) rest = inr (λ is. never (first is))
     both (inl l) (inr never) = inr (λ is. never (later is))
     both (inl (l, is, at)) (inl (ss, all, number, text)) =
         inl (l ∷ ss, All-cons IsSiteLine l ss is all, ap₂ (λ n ns. n ∷ ns) at.0 number, ap₂ (λ y ys. y ∷ ys) at.1 text)
 
-sites-same : (ss ts : List SiteLine) → All IsSiteLine ss → All IsSiteLine ts → map site_text ss ≡ map site_text ts → ss ≡ ts
+sites-same : (ss ts : List SiteLine) → All IsSiteLine ss → All IsSiteLine ts → map site_text ss ≡ map site_text ts
+    → ss ≡ ts
 sites-same [] [] a b e = refl
 sites-same [] (t ∷ ts) a b e = absurd cc
 sites-same (s ∷ ss) [] a b e = absurd cc
@@ -70,7 +74,8 @@ decidable-place sites s x = from (slice_get sites s) refl
     from : (o : Option SiteLine) → slice_get sites s ≡ o → Decidable (HasPlace sites s x)
     from None none = inr (λ h. let same : None ≡ Some h.0 = sym none ∙ h.1 in cc)
     from (Some l) is =
-        decidable-as (λ p. (l, is, p)) (λ h. subst (λ (m : SiteLine). Any (λ (g : Holding). g.item ≡ x) m.items) (same_Some h.0 l (sym h.1 ∙ is)) h.2)
+        decidable-as (λ p. (l, is, p)) (λ h. subst (λ (m : SiteLine). Any (λ (g : Holding). g.item ≡ x) m.items)
+        (same_Some h.0 l (sym h.1 ∙ is)) h.2)
         (decidable-Any (λ (g : Holding). g.item ≡ x) (λ g. decidable-text g.item x) l.items)
 
 decidable-placed : (sites : List SiteLine) (op : Op) → Decidable (IsPlaced sites op)
@@ -90,9 +95,11 @@ module _ (sites : List SiteLine) where
   script-found : (x : List ℕ) → Decidable ((s : Script) × IsScript s × IsOverAt sites x s)
   script-found x =
       searched-scripts (IsOverAt sites x)
-      (λ s. decidable-both (decidable-All (IsPlaced sites) (decidable-placed sites) s.operations) (decidable-text x (script_text s)))
+      (λ s. decidable-both (decidable-All (IsPlaced sites) (decidable-placed sites) s.operations)
+      (decidable-text x (script_text s)))
 
-  first-script : (x : List ℕ) (xs : List (List ℕ)) → AreScripts sites (x ∷ xs) → (s : Script) × IsScript s × IsOverAt sites x s
+  first-script : (x : List ℕ) (xs : List (List ℕ)) → AreScripts sites (x ∷ xs)
+      → (s : Script) × IsScript s × IsOverAt sites x s
   first-script x xs ([], all, text) = absurd cc
   first-script x xs (s ∷ es, all, text) =
       let is = All-head (IsScriptOver sites) s es all in
@@ -102,7 +109,8 @@ module _ (sites : List SiteLine) where
   later-scripts x xs ([], all, text) = absurd cc
   later-scripts x xs (s ∷ es, all, text) = (es, All-tail (IsScriptOver sites) s es all, tails _ _ _ _ text)
 
-  both-scripts : (x : List ℕ) (xs : List (List ℕ)) → Decidable ((s : Script) × IsScript s × IsOverAt sites x s) → Decidable (AreScripts sites xs)
+  both-scripts : (x : List ℕ) (xs : List (List ℕ)) → Decidable ((s : Script) × IsScript s × IsOverAt sites x s)
+      → Decidable (AreScripts sites xs)
       → Decidable (AreScripts sites (x ∷ xs))
   both-scripts x xs (inr never) rest = inr (λ is. never (first-script x xs is))
   both-scripts x xs (inl s) (inr never) = inr (λ is. never (later-scripts x xs is))
@@ -126,7 +134,8 @@ known-parts fs bs = from (known-sites 0 fs)
     from (inr never) = inr (λ p. never p.0)
     from (inl s) =
         decidable-as (λ (es : AreScripts s.0 bs). (s, es))
-        (λ p. subst (λ (ss : List SiteLine). AreScripts ss bs) (sites-same p.0.0 s.0 p.0.1 s.1 (sym p.0.3 ∙ s.3)) p.1) (known-scripts s.0 bs)
+        (λ p. subst (λ (ss : List SiteLine). AreScripts ss bs) (sites-same p.0.0 s.0 p.0.1 s.1 (sym p.0.3 ∙ s.3)) p.1)
+        (known-scripts s.0 bs)
 
 -- the first n lines are those of sites, and the others those of scripts
 record Splits (xs : List (List ℕ)) (n : ℕ) : Type 0 where
@@ -137,7 +146,8 @@ record Splits (xs : List (List ℕ)) (n : ℕ) : Type 0 where
 known-split : (xs : List (List ℕ)) (n : ℕ) → Decidable (Splits xs n)
 known-split xs n =
     decidable-as (λ p. record { parts = p.0; few = p.1.0; count = p.1.1 }) (λ s. (s.parts, (s.few, s.count)))
-    (decidable-both (known-parts (take n xs) (drop n xs)) (decidable-both (decidable-most n max_sites) (decidable-most (length (drop n xs)) max_scripts)))
+    (decidable-both (known-parts (take n xs) (drop n xs))
+    (decidable-both (decidable-most n max_sites) (decidable-most (length (drop n xs)) max_scripts)))
 
 begins-from : (xs : List (List ℕ)) (n : ℕ) → n ≤ length xs → Splits xs n → Begins xs
 begins-from xs n within s =
@@ -161,7 +171,8 @@ begins-from xs n within s =
       sym (take-append-drop n xs) ∙ ap₂ (λ fs bs. fs ++ bs) sites.3 scripts.2,
     )
 
-splits-of : (xs : List (List ℕ)) (input : Input) → IsBegun input → xs ≡ input_lines input → Splits xs (length input.sites)
+splits-of : (xs : List (List ℕ)) (input : Input) → IsBegun input → xs ≡ input_lines input
+    → Splits xs (length input.sites)
 splits-of xs input is same =
     let fs = map site_text input.sites in
     let bs = map script_text input.scripts in

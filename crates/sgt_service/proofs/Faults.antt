@@ -20,12 +20,14 @@ use Rattle.sgt_service.specs.Operations.{IsOfOperation}
 use Rattle.sgt_service.specs.Tries.{IsStopped}
 pub use Rattle.sgt_service_locks.proofs.Faults.{commit_of_call, withdraw_of_call}
 
-pub item_of_change : (names : List (List Name)) (s : ℕ) (x : Name) (f : ServiceFault) → RefusesItem names s x f → IsOfChange f
+pub item_of_change : (names : List (List Name)) (s : ℕ) (x : Name) (f : ServiceFault) → RefusesItem names s x f
+    → IsOfChange f
 item_of_change names s x (fault.Site site.UnknownItem) r = tt
 item_of_change names s x fault.Memory r = tt
 item_of_change names s x _ r = absurd r
 
-pub item_of_operation : (names : List (List Name)) (s : ℕ) (x : Name) (f : ServiceFault) → RefusesItem names s x f → IsOfOperation f
+pub item_of_operation : (names : List (List Name)) (s : ℕ) (x : Name) (f : ServiceFault) → RefusesItem names s x f
+    → IsOfOperation f
 item_of_operation names s x f r = inr (item_of_change names s x f r)
 
 -- a read, and a change
@@ -43,39 +45,47 @@ pub operation_of_call : (f : ServiceFault) → IsOfOperation f → IsOfCall f
 operation_of_call f h = elim h [ inl read ↦ inr (inl read) | inr change ↦ inr (inr (inl change)) ]
 
 -- what the tickets tell, where there is no memory for the sites
-pub alone_told : {A : Type 0} (c : Kept) (dones : List Done) (told : Result A ServiceFault) (f : ServiceFault) → OnOk told (AreTickets c.state.rulings dones)
-    → IfErr told (λ g. (r : Run) → r.certifier ≡ c → r.dones ≡ dones → IsUnsettled r g) → MatchResult told (λ done. f ≡ fault.Memory) (λ g. f ≡ g)
+pub alone_told : {A : Type 0} (c : Kept) (dones : List Done) (told : Result A ServiceFault) (f : ServiceFault)
+    → OnOk told (AreTickets c.state.rulings dones)
+    → IfErr told (λ g. (r : Run) → r.certifier ≡ c → r.dones ≡ dones → IsUnsettled r g)
+    → MatchResult told (λ done. f ≡ fault.Memory) (λ g. f ≡ g)
     → IsToldAlone c dones f
 alone_told c dones (Ok done) f tickets each is = inl (is, tickets)
-alone_told c dones (Err g) f tickets each is = inr (subst (λ (k : ServiceFault). (r : Run) → r.certifier ≡ c → r.dones ≡ dones → IsUnsettled r k) (sym is) each)
+alone_told c dones (Err g) f tickets each is =
+    inr (subst (λ (k : ServiceFault). (r : Run) → r.certifier ≡ c → r.dones ≡ dones → IsUnsettled r k) (sym is) each)
 
 -- and want of memory is told of good tickets alone
 abbrev pub fault_in : {A : Type 0} → Result A ServiceFault → ServiceFault
 fault_in (Ok done) = fault.Memory
 fault_in (Err f) = f
 
-pub memory_told : {A : Type 0} (c : Kept) (dones : List Done) (told : Result A ServiceFault) (f : ServiceFault) → OnOk told (AreTickets c.state.rulings dones)
+pub memory_told : {A : Type 0} (c : Kept) (dones : List Done) (told : Result A ServiceFault) (f : ServiceFault)
+    → OnOk told (AreTickets c.state.rulings dones)
     → IfErr told (λ g. g ≢ fault.Memory) → MatchResult told (λ done. f ≡ fault.Memory) (λ g. f ≡ g)
     → f ≡ fault.Memory → AreTickets c.state.rulings dones
 memory_told c dones (Ok done) f tickets not is want = tickets
 memory_told c dones (Err g) f tickets not is want = absurd (not (sym is ∙ want))
 
 module _ {L : Type 0} where
-  stopped_by : (decided : Ending → Type 0) (active : Active) (old mid new : Seat L) (o : Option Active) (f : ServiceFault) → mid.share ≡ old.share
+  stopped_by : (decided : Ending → Type 0) (active : Active) (old mid new : Seat L) (o : Option Active)
+      (f : ServiceFault) → mid.share ≡ old.share
       → IsBack decided active mid new (record { active = o; fault = f }) → IsStopped old new f
   stopped_by decided active old mid new None f same h = inr (h.1, h.3, h.4.1.1 ∙ (λ i. (same i).amount + 1))
   stopped_by decided active old mid new (Some a) f same h = inl (h.1.0 ∙ same)
 
   -- what comes back of a transaction that began and read at the seat
-  pub back_stopped : (decided : Ending → Type 0) (active : Active) (old mid new : Seat L) (b : Back) → mid.share ≡ old.share
+  pub back_stopped : (decided : Ending → Type 0) (active : Active) (old mid new : Seat L) (b : Back)
+      → mid.share ≡ old.share
       → IsBack decided active mid new b → IsStopped old new b.fault
   back_stopped decided active old mid new b same h = stopped_by decided active old mid new b.active b.fault same h
 
-  parts_by : (decided : Ending → Type 0) (active : Active) (old mid new : Seat L) (o : Option Active) (f : ServiceFault) → mid.share ≡ old.share
+  parts_by : (decided : Ending → Type 0) (active : Active) (old mid new : Seat L) (o : Option Active)
+      (f : ServiceFault) → mid.share ≡ old.share
       → IsBack decided active mid new (record { active = o; fault = f }) → new.share.parts ≡ old.share.parts
   parts_by decided active old mid new None f same h = h.4.1.0 ∙ (λ t. (same t).parts)
   parts_by decided active old mid new (Some a) f same h = λ t. ((h.1.0 ∙ same) t).parts
 
-  pub back_parts : (decided : Ending → Type 0) (active : Active) (old mid new : Seat L) (b : Back) → mid.share ≡ old.share
+  pub back_parts : (decided : Ending → Type 0) (active : Active) (old mid new : Seat L) (b : Back)
+      → mid.share ≡ old.share
       → IsBack decided active mid new b → new.share.parts ≡ old.share.parts
   back_parts decided active old mid new b same h = parts_by decided active old mid new b.active b.fault same h

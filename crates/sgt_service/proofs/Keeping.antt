@@ -35,12 +35,15 @@ abbrev Rises : Touch → Touch → Type 0
 Rises t u = place_cmp (place_of t) (place_of u) ≡ Less
 
 -- in a draft that rises the items in front of one are others, and so are those behind it
-front_apart : (front rest : List Touch) (t : Touch) → AreRising (front ++ t ∷ rest) → find (is_here (place_of t)) front ≡ None
+front_apart : (front rest : List Touch) (t : Touch) → AreRising (front ++ t ∷ rest)
+    → find (is_here (place_of t)) front ≡ None
 front_apart front rest t rising = find_none (is_here (place_of t)) front (λ m b at.
-    here_false (place_of t) b (less_apart (place_of b) (place_of t) (AllPairs_at Rises (front ++ t ∷ rest) m (length front) b t rising
+    here_false (place_of t) b
+    (less_apart (place_of b) (place_of t) (AllPairs_at Rises (front ++ t ∷ rest) m (length front) b t rising
     (slice_get_within front m b at) (front_at front (t ∷ rest) m b at) (middle_at front t rest))))
 
-rest_apart : (front rest : List Touch) (t : Touch) → AreRising (front ++ t ∷ rest) → find (is_here (place_of t)) rest ≡ None
+rest_apart : (front rest : List Touch) (t : Touch) → AreRising (front ++ t ∷ rest)
+    → find (is_here (place_of t)) rest ≡ None
 rest_apart front rest t rising = find_none (is_here (place_of t)) rest (λ m b at.
     let before : Rises t b = AllPairs_at Rises (front ++ t ∷ rest) (length front) (length front + suc m) t b rising
     (omega arith) (middle_at front t rest) (back_at front (t ∷ rest) (suc m) ∙ at) in
@@ -51,7 +54,8 @@ found : (there : Option Touch) (rest : List Touch) (t : Touch) → IfSome there 
 found None rest t place none = none
 found (Some u) rest t place none = rw (here_true (place_of t) u place) refl
 
-was_there : (old new : List Touch) (t : Touch) → AreRising new → (c : ChangesOnly old new t) → touched_at old (place_of t) ≡ c.there
+was_there : (old new : List Touch) (t : Touch) → AreRising new → (c : ChangesOnly old new t)
+    → touched_at old (place_of t) ≡ c.there
 was_there old new t rising c =
     let rises : AreRising (c.front ++ t ∷ c.rest) = subst AreRising c.is rising in
     let rest = option_to_list c.there ++ c.rest in
@@ -64,7 +68,8 @@ was_there old new t rising c =
 reads-append : (s : ℕ) (xs ys : List Touch) → reads_at s (xs ++ ys) ≡ reads_at s xs + reads_at s ys
 reads-append s xs ys =
     ap (λ ts. length (kept_in ts)) (filter-append (λ (t : Touch). t.site == s) xs ys)
-    ∙ ap length (filter_map-append kept_of (at_site s xs) (at_site s ys)) ∙ length-append (kept_in (at_site s xs)) (kept_in (at_site s ys))
+    ∙ ap length (filter_map-append kept_of (at_site s xs) (at_site s ys))
+    ∙ length-append (kept_in (at_site s xs)) (kept_in (at_site s ys))
 
 -- of one item
 abbrev one_read : ℕ → ℕ → Option Seen → ℕ
@@ -89,10 +94,12 @@ reads_changed s k old new t c one =
     ap (reads_at s) c.was ∙ reads-append s c.front (option_to_list c.there ++ c.rest)
     ∙ ap (λ n. reads_at s c.front + n) (reads-append s (option_to_list c.there) c.rest) in
     let is : reads_at s new ≡ reads_at s c.front + (reads_at s (t ∷ []) + reads_at s c.rest) =
-    ap (reads_at s) c.is ∙ reads-append s c.front (t ∷ c.rest) ∙ ap (λ n. reads_at s c.front + n) (reads-append s (t ∷ []) c.rest) in
+    ap (reads_at s) c.is ∙ reads-append s c.front (t ∷ c.rest)
+    ∙ ap (λ n. reads_at s c.front + n) (reads-append s (t ∷ []) c.rest) in
     omega (arith, one, was, is)
 
-same_one : (s : ℕ) (there : Option Touch) (t : Touch) → IfSome there (λ u. place_of u ≡ place_of t) → t.seen ≡ option_and_then (λ (u : Touch). u.seen) there
+same_one : (s : ℕ) (there : Option Touch) (t : Touch) → IfSome there (λ u. place_of u ≡ place_of t)
+    → t.seen ≡ option_and_then (λ (u : Touch). u.seen) there
     → reads_at s (t ∷ []) ≡ reads_at s (option_to_list there) + 0
 same_one s None t place seen = omega (arith, reads_one s t None seen)
 same_one s (Some u) t place seen =
@@ -110,7 +117,8 @@ changes_keep s x w old new rising c site =
     omega (arith, reads_changed site 0 old new t c (same_one site c.there t c.place seen))
 
 -- an item that shows nothing wasn't read
-unseen : (seen : Option Seen) (w : Option Change) → value_with_any (option_map (λ (s : Seen). s.value) seen) w ≡ None → seen ≡ None
+unseen : (seen : Option Seen) (w : Option Change) → value_with_any (option_map (λ (s : Seen). s.value) seen) w ≡ None
+    → seen ≡ None
 unseen None w none = refl
 unseen (Some seen) None none = absurd cc
 unseen (Some seen) (Some (change.Put v)) none = absurd cc
@@ -133,18 +141,21 @@ turned here s = elim (cases_Bool (here == s)) [
 ]
 
 -- a read of what a draft doesn't show is one more at its site
-gained_one : (here : ℕ) (x : Name) (old new : List Touch) → AreRising new → look_in old here x ≡ None → GainsRead here x old new
+gained_one : (here : ℕ) (x : Name) (old new : List Touch) → AreRising new → look_in old here x ≡ None
+    → GainsRead here x old new
     → (site : ℕ) → reads_at site new ≡ reads_at site old + one_at here site
 gained_one here x old new rising none gained site =
     let t : Touch = record { site = here; item = x; seen = Some gained.0; change = change_at old (here, x) } in
     let c = gained.1 in
-    let before : option_and_then look_of c.there ≡ None = ap (option_and_then look_of) (sym (was_there old new t rising c)) ∙ none in
+    let before : option_and_then look_of c.there ≡ None =
+    ap (option_and_then look_of) (sym (was_there old new t rising c)) ∙ none in
     let one : reads_at site (t ∷ []) ≡ one_at here site = reads_one site t (Some gained.0) refl ∙ turned here site in
     reads_changed site (one_at here site) old new t c (omega (arith, one, unread site c.there before))
 
 -- ---- the reads that are counted
 
-counted_none : (old new : List Touch) (cs ds : List EntryCounts) → ((site : ℕ) → reads_at site new ≡ reads_at site old) → ds ≡ cs
+counted_none : (old new : List Touch) (cs ds : List EntryCounts)
+    → ((site : ℕ) → reads_at site new ≡ reads_at site old) → ds ≡ cs
     → CountsReads old new cs ds
 counted_none old new cs ds kept same =
     (λ site. 0, λ site. omega (arith, kept site), (ap length same, λ site c at. ap (λ xs. slice_get xs site) same ∙ at))
@@ -152,7 +163,8 @@ counted_none old new cs ds kept same =
 pub counted_same : (old new : List Touch) (cs ds : List EntryCounts) → new ≡ old → ds ≡ cs → CountsReads old new cs ds
 counted_same old new cs ds kept same = counted_none old new cs ds (λ site. ap (reads_at site) kept) same
 
-counted_one : (here : ℕ) (old new : List Touch) (cs ds : List EntryCounts) → ((site : ℕ) → reads_at site new ≡ reads_at site old + one_at here site)
+counted_one : (here : ℕ) (old new : List Touch) (cs ds : List EntryCounts)
+    → ((site : ℕ) → reads_at site new ≡ reads_at site old + one_at here site)
     → AreCounted (only_at here with_read) cs ds → CountsReads old new cs ds
 counted_one here old new cs ds one counted = (
   one_at here,
@@ -177,30 +189,37 @@ reads_sum (suc a) (suc b) c =
     let both : c.reads + suc a + suc b ≡ c.reads + suc (a + suc b) = omega arith in
     ap (λ n. record c { reads = n }) (once ∙ ap capped both) ∙ ap (λ n. with_reads n c) (sym sum)
 
-pub reads_on : (old mid new : List Touch) (cs ds es : List EntryCounts) → CountsReads old mid cs ds → CountsReads mid new ds es → CountsReads old new cs es
+pub reads_on : (old mid new : List Touch) (cs ds es : List EntryCounts) → CountsReads old mid cs ds
+    → CountsReads mid new ds es → CountsReads old new cs es
 reads_on old mid new cs ds es one next = (
   λ site. one.0 site + next.0 site,
   λ site. omega (arith, one.1 site, next.1 site),
   (
     next.2.0 ∙ one.2.0,
-    λ site c at. next.2.1 site (with_reads (one.0 site) c) (one.2.1 site c at) ∙ ap Some (reads_sum (one.0 site) (next.0 site) c),
+    λ site c at. next.2.1 site (with_reads (one.0 site) c) (one.2.1 site c at)
+        ∙ ap Some (reads_sum (one.0 site) (next.0 site) c),
   ),
 )
 
 -- an operation counts what its draft keeps more
-pub op_counts : (op : Op) (old new : List Touch) (heard heard' : List ℕ) (cs ds : List EntryCounts) → AreRising new → Does op old new heard heard'
+pub op_counts : (op : Op) (old new : List Touch) (heard heard' : List ℕ) (cs ds : List EntryCounts) → AreRising new
+    → Does op old new heard heard'
     → CountsOp op old cs ds → CountsReads old new cs ds
 op_counts (Read s x) old new heard heard' cs ds rising does counts = elim (option_cases (look_in old s x)) [
   | inl none ↦ counted_one s old new cs ds (gained_one s x old new rising none (does.0.0 none)) (counts.0 none)
-  | inr shown ↦ let is : IsSome (look_in old s x) = rw shown.1 refl in counted_same old new cs ds (does.0.1 is) (counts.1 is)
+  | inr shown ↦ let is : IsSome (look_in old s x) = rw shown.1 refl in
+      counted_same old new cs ds (does.0.1 is) (counts.1 is)
 ]
-op_counts (Put s x v) old new heard heard' cs ds rising does counts = counted_none old new cs ds (changes_keep s x _ old new rising does.0) counts
-op_counts (Add s x v) old new heard heard' cs ds rising does counts = counted_none old new cs ds (changes_keep s x _ old new rising does.0) counts
+op_counts (Put s x v) old new heard heard' cs ds rising does counts =
+    counted_none old new cs ds (changes_keep s x _ old new rising does.0) counts
+op_counts (Add s x v) old new heard heard' cs ds rising does counts =
+    counted_none old new cs ds (changes_keep s x _ old new rising does.0) counts
 op_counts (Sum s x t y v) old new heard heard' cs ds rising does counts =
     counted_none old new cs ds (changes_keep s x _ old new rising does.0.2) counts
 
 -- a sum that is too large counts nothing
-pub unfit_counts : (op : Op) (touched : List Touch) (cs ds : List EntryCounts) → op_fits touched op ≡ false → CountsOp op touched cs ds → ds ≡ cs
+pub unfit_counts : (op : Op) (touched : List Touch) (cs ds : List EntryCounts) → op_fits touched op ≡ false
+    → CountsOp op touched cs ds → ds ≡ cs
 unfit_counts (Read s x) touched cs ds unfit counts = absurd (true≢false unfit)
 unfit_counts (Put s x v) touched cs ds unfit counts = absurd (true≢false unfit)
 unfit_counts (Add s x v) touched cs ds unfit counts = absurd (true≢false unfit)

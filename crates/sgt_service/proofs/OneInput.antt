@@ -70,10 +70,12 @@ module _ (over : List SiteLine) where
   scripts-more (x ∷ es) (f ∷ fs) line a b e =
       let there = All-head (IsScriptOver over) f fs b in
       let head = script-one x f (All-head IsScript x es a) there.0 (heads _ _ _ _ e) in
-      let rest = scripts-more es fs line (All-tail IsScript x es a) (All-tail (IsScriptOver over) f fs b) (tails _ _ _ _ e) in
+      let rest = scripts-more es fs line (All-tail IsScript x es a) (All-tail (IsScriptOver over) f fs b)
+      (tails _ _ _ _ e) in
       (rest.0, rest.1, rest.2, ap₂ (λ y ys. y ∷ ys) (sym head) rest.3)
 
-  lines-more : (ss ts : List SiteLine) (es fs : List Script) (line : List ℕ) → All IsSiteLine ss → All IsSiteLine ts → All IsScript es → All (IsScriptOver over) fs
+  lines-more : (ss ts : List SiteLine) (es fs : List Script) (line : List ℕ) → All IsSiteLine ss → All IsSiteLine ts
+      → All IsScript es → All (IsScriptOver over) fs
       → (map site_text ss ++ map script_text es) ++ line ∷ [] ≡ map site_text ts ++ map script_text fs
       → ((site : SiteLine) × IsSiteLine site × (line ≡ site_text site) × (ts ≡ ss ++ site ∷ []) × (es ≡ []))
       ⊎ ((f : Script) × IsScriptOver over f × (line ≡ script_text f) × (ts ≡ ss) × (fs ≡ es ++ f ∷ []))
@@ -82,14 +84,18 @@ module _ (over : List SiteLine) where
       inr (next.0, next.1, next.2, refl, next.3)
   lines-more [] (t ∷ []) [] fs line a b c d e = inl (t, All-head IsSiteLine t [] b, heads _ _ _ _ e, refl, refl)
   lines-more [] (t ∷ u ∷ ts) [] fs line a b c d e = let rest = tails _ _ _ _ e in absurd cc
-  lines-more [] (t ∷ ts) (x ∷ es) fs line a b c d e = absurd (script-no_site t x (All-head IsScript x es c) (sym (heads _ _ _ _ e)))
+  lines-more [] (t ∷ ts) (x ∷ es) fs line a b c d e =
+      absurd (script-no_site t x (All-head IsScript x es c) (sym (heads _ _ _ _ e)))
   lines-more (s ∷ ss) [] es [] line a b c d e = absurd cc
-  lines-more (s ∷ ss) [] es (f ∷ fs) line a b c d e = absurd (script-no_site s f (All-head (IsScriptOver over) f fs d).0 (heads _ _ _ _ e))
+  lines-more (s ∷ ss) [] es (f ∷ fs) line a b c d e =
+      absurd (script-no_site s f (All-head (IsScriptOver over) f fs d).0 (heads _ _ _ _ e))
   lines-more (s ∷ ss) (t ∷ ts) es fs line a b c d e =
       let head = site-one s t (All-head IsSiteLine s ss a) (All-head IsSiteLine t ts b) (heads _ _ _ _ e) in
-      longer head (lines-more ss ts es fs line (All-tail IsSiteLine s ss a) (All-tail IsSiteLine t ts b) c d (tails _ _ _ _ e))
+      longer head (lines-more ss ts es fs line (All-tail IsSiteLine s ss a) (All-tail IsSiteLine t ts b) c d
+      (tails _ _ _ _ e))
     where
-      longer : s ≡ t → ((site : SiteLine) × IsSiteLine site × (line ≡ site_text site) × (ts ≡ ss ++ site ∷ []) × (es ≡ []))
+      longer : s ≡ t
+          → ((site : SiteLine) × IsSiteLine site × (line ≡ site_text site) × (ts ≡ ss ++ site ∷ []) × (es ≡ []))
           ⊎ ((f : Script) × IsScriptOver over f × (line ≡ script_text f) × (ts ≡ ss) × (fs ≡ es ++ f ∷ []))
           → ((site : SiteLine) × IsSiteLine site × (line ≡ site_text site) × (t ∷ ts ≡ s ∷ ss ++ site ∷ []) × (es ≡ []))
           ⊎ ((f : Script) × IsScriptOver over f × (line ≡ script_text f) × (t ∷ ts ≡ s ∷ ss) × (fs ≡ es ++ f ∷ []))
@@ -99,36 +105,42 @@ module _ (over : List SiteLine) where
 -- ---- the lines
 
 -- a site is kept
-pub took-site : (old new : Input) (line : List ℕ) → old.scripts ≡ [] → new.scripts ≡ old.scripts → TakesSite old.sites line new.sites true → Takes old line new true
+pub took-site : (old new : Input) (line : List ℕ) → old.scripts ≡ [] → new.scripts ≡ old.scripts
+    → TakesSite old.sites line new.sites true → Takes old line new true
 took-site old new line none kept (l, is, number, text, more) begun =
     let size : length new.sites ≡ length old.sites + 1 = ap length more ∙ length-append old.sites (l ∷ []) in
     let low = is.site in
     let empty : new.scripts ≡ [] = kept ∙ none in (
       record {
         few = omega arith;
-        numbered = subst (λ ss. map (λ k. k.site) ss ≡ range_with_len 0 (length ss)) (sym more) (more-numbers 0 old.sites l begun.numbered (omega arith));
+        numbered = subst (λ ss. map (λ k. k.site) ss ≡ range_with_len 0 (length ss)) (sym more)
+            (more-numbers 0 old.sites l begun.numbered (omega arith));
         each = subst (λ ss. All IsSiteLine ss) (sym more) (All-push IsSiteLine old.sites l begun.each is);
         scripts = subst (λ es. All (IsScriptOver new.sites) es) (sym empty) (All-nil (IsScriptOver new.sites));
         count = omega (arith, ap length empty);
       },
-      ap₂ (λ ss es. map site_text ss ++ map script_text es) more (kept ∙ none) ∙ append-nil (map site_text (old.sites ++ l ∷ []))
+      ap₂ (λ ss es. map site_text ss ++ map script_text es) more (kept ∙ none)
+          ∙ append-nil (map site_text (old.sites ++ l ∷ []))
           ∙ map-push site_text old.sites l ∙ ap (λ t. map site_text old.sites ++ t ∷ []) (sym text)
           ∙ ap (λ ls. ls ++ line ∷ []) (sym (append-nil (map site_text old.sites)))
           ∙ ap (λ es. (map site_text old.sites ++ map script_text es) ++ line ∷ []) (sym none),
     )
 
 -- a script is kept
-pub took-script : (old new : Input) (line : List ℕ) → new.sites ≡ old.sites → TakesScript old.sites old.scripts line new.scripts true → Takes old line new true
+pub took-script : (old new : Input) (line : List ℕ) → new.sites ≡ old.sites
+    → TakesScript old.sites old.scripts line new.scripts true → Takes old line new true
 took-script old new line kept (s, is, text, more, room) begun = (
   record {
     few = subst (λ (ss : List SiteLine). length ss ≤ 64) (sym kept) begun.few;
     numbered = subst (λ ss. map (λ k. k.site) ss ≡ range_with_len 0 (length ss)) (sym kept) begun.numbered;
     each = subst (λ ss. All IsSiteLine ss) (sym kept) begun.each;
     scripts = subst (λ ss. All (IsScriptOver ss) new.scripts) (sym kept)
-        (subst (λ es. All (IsScriptOver old.sites) es) (sym more) (All-push (IsScriptOver old.sites) old.scripts s begun.scripts is));
+        (subst (λ es. All (IsScriptOver old.sites) es) (sym more)
+        (All-push (IsScriptOver old.sites) old.scripts s begun.scripts is));
     count = room;
   },
-  ap₂ (λ ss es. map site_text ss ++ map script_text es) kept more ∙ ap (λ ls. map site_text old.sites ++ ls) (map-push script_text old.scripts s)
+  ap₂ (λ ss es. map site_text ss ++ map script_text es) kept more
+      ∙ ap (λ ls. map site_text old.sites ++ ls) (map-push script_text old.scripts s)
       ∙ ap (λ t. map site_text old.sites ++ (map script_text old.scripts ++ t ∷ [])) (sym text)
       ∙ sym (append_assoc (map site_text old.sites) (map script_text old.scripts) (line ∷ [])),
 )
@@ -139,13 +151,16 @@ scripts-plain over es all = All-weaken (IsScriptOver over) IsScript es (λ s is.
 -- a line that spells neither may not stand there
 pub took-none : (old : Input) (line : List ℕ)
     → (old.scripts ≡ [] → (l : SiteLine) → IsSiteLine l → l.site ≡ length old.sites → line ≢ site_text l)
-    → SpellsNone (IsScriptOver old.sites) script_text line ⊎ (max_scripts ≤ length old.scripts) → IsBegun old → Begins (input_lines old ++ line ∷ []) → ⊥
+    → SpellsNone (IsScriptOver old.sites) script_text line ⊎ (max_scripts ≤ length old.scripts) → IsBegun old
+    → Begins (input_lines old ++ line ∷ []) → ⊥
 took-none old line no_site no_script begun (whole, is, same) =
     stands (lines-more whole.sites old.sites whole.sites old.scripts whole.scripts line begun.each is.each
     (scripts-plain old.sites old.scripts begun.scripts) is.scripts same)
   where
-    stands : ((site : SiteLine) × IsSiteLine site × (line ≡ site_text site) × (whole.sites ≡ old.sites ++ site ∷ []) × (old.scripts ≡ []))
-        ⊎ ((f : Script) × IsScriptOver whole.sites f × (line ≡ script_text f) × (whole.sites ≡ old.sites) × (whole.scripts ≡ old.scripts ++ f ∷ [])) → ⊥
+    stands : ((site : SiteLine) × IsSiteLine site × (line ≡ site_text site) × (whole.sites ≡ old.sites ++ site ∷ [])
+        × (old.scripts ≡ []))
+        ⊎ ((f : Script) × IsScriptOver whole.sites f × (line ≡ script_text f) × (whole.sites ≡ old.sites)
+        × (whole.scripts ≡ old.scripts ++ f ∷ [])) → ⊥
     stands (inl n) =
         let number : n.0.site ≡ 0 + length old.sites = last-number 0 old.sites n.0
         (subst (λ ss. map (λ k. k.site) ss ≡ range_with_len 0 (length ss)) n.3 is.numbered) in

@@ -51,7 +51,8 @@ module _ (Q : Op → Type 0) where
   abbrev None_of : {A : Type 0} → (A → Type 0) → (A → Op) → Type 0
   None_of {A} Is make = ((a : A) × Is a × Q (make a)) → ⊥
 
-  no-op : None_of IsPlace read_of → None_of IsUpdate put_of → None_of IsUpdate add_of → None_of IsSum sum_of → (op : Op) → IsOp op → Q op → ⊥
+  no-op : None_of IsPlace read_of → None_of IsUpdate put_of → None_of IsUpdate add_of → None_of IsSum sum_of
+      → (op : Op) → IsOp op → Q op → ⊥
   no-op r p d u (Read s x) is q = r ((s, x), is, q)
   no-op r p d u (Put s x v) is q = p (((s, x), v), is, q)
   no-op r p d u (Add s x v) is q = d (((s, x), v), is, q)
@@ -95,7 +96,8 @@ decidable-source earlier (Sum s x t y v) = decidable-Any (Names t y) (decidable-
 decidable-source earlier _ = inl tt
 
 decidable-sources : (ops : List Op) → Decidable (AreSourcesNamed ops)
-decidable-sources ops = decidable-each (λ n op. HasSource (take n ops) op) (λ n op. decidable-source (take n ops) op) ops
+decidable-sources ops = decidable-each (λ n op. HasSource (take n ops) op) (λ n op. decidable-source (take n ops) op)
+    ops
 
 -- what makes operations a script
 abbrev IsWhole : List Op → Type 0
@@ -104,7 +106,8 @@ IsWhole ops = (1 ≤ length ops) × (AreSourcesNamed ops × (length (script_text
 decidable-whole : (ops : List Op) → Decidable (IsWhole ops)
 decidable-whole ops =
     decidable-both (decidable-most 1 (length ops))
-    (decidable-both (decidable-sources ops) (decidable-most (length (script_text (record { operations = ops }))) max_line))
+    (decidable-both (decidable-sources ops)
+    (decidable-most (length (script_text (record { operations = ops }))) max_line))
 
 few-ops : (s : Script) → IsScript s → length s.operations ≤ max_line
 few-ops s is = let room = ops-room s.operations in let most = is.room in omega (arith, room, most)
@@ -121,6 +124,11 @@ searched-scripts Q each =
       },
       r.2.1,
     ))
-    (λ r. (r.0.operations, up_to IsOp max_line r.0.operations (recursion_from_All IsOp r.0.operations r.1.each) (few-ops r.0 r.1), ((r.1.some, (r.1.named, r.1.room)), r.2)))
+    (λ r. (
+      r.0.operations,
+      up_to IsOp max_line r.0.operations (recursion_from_All IsOp r.0.operations r.1.each)
+          (few-ops r.0 r.1),
+      ((r.1.some, (r.1.named, r.1.room)), r.2),
+    ))
     (searched-lists IsOp max_line searched-ops (λ (ops : List Op). IsWhole ops × Q (record { operations = ops }))
     (λ ops. decidable-both (decidable-whole ops) (each (record { operations = ops }))))

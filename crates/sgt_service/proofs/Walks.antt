@@ -31,61 +31,91 @@ module _ (P : Label → Type 0) where
 
   arcs-hold : (s : State) (edges : List Edge) → All (λ e. P e.label) edges → All (λ arc. P arc.label) (arcs_of s edges)
   arcs-hold s edges all =
-      All-from_map (λ (arc : Arc). P arc.label) (λ (e : Edge). record { from = tx_under s e.from; to = tx_under s e.to; label = e.label })
+      All-from_map (λ (arc : Arc). P arc.label) (λ (e : Edge). record {
+        from = tx_under s e.from;
+        to =
+            tx_under s e.to;
+        label = e.label;
+      })
       (filter (λ (e : Edge). e.from.generation == s.generation) edges)
       (All-filter (λ (e : Edge). e.from.generation == s.generation) (λ (e : Edge). P e.label) edges all)
 
-  walk-holds : (arcs : List Arc) (a : ℕ) (walk : List Step) → All (λ arc. P arc.label) arcs → Walks arcs a walk → AllByRecursion (λ step. P step.label) walk
+  walk-holds : (arcs : List Arc) (a : ℕ) (walk : List Step) → All (λ arc. P arc.label) arcs → Walks arcs a walk
+      → AllByRecursion (λ step. P step.label) walk
   walk-holds arcs a [] all walks = tt
-  walk-holds arcs a (step ∷ steps) all walks =
-      (All_in (λ (arc : Arc). P arc.label) arcs (record { from = a; to = step.to; label = step.label }) all walks.0, walk-holds arcs step.to steps all walks.1)
+  walk-holds arcs a (step ∷ steps) all walks = (
+    All_in (λ (arc : Arc). P arc.label) arcs (record { from = a; to = step.to; label = step.label }) all walks.0,
+    walk-holds arcs step.to steps all walks.1,
+  )
 
-  edges-hold : (edges : List Edge) (n : ℕ) → All (λ (h : Handed). P h.edge.label) (map (with_number n) edges) → All (λ (e : Edge). P e.label) edges
+  edges-hold : (edges : List Edge) (n : ℕ) → All (λ (h : Handed). P h.edge.label) (map (with_number n) edges)
+      → All (λ (e : Edge). P e.label) edges
   edges-hold edges n all = All-map (λ (h : Handed). P h.edge.label) (with_number n) edges all
 
-  step-holds : (old : State) (c : Call) (new : State) → Serves old c new → All (λ (h : Handed). P h.edge.label) (handed_by c) → Holds old → Holds new
-  step-holds old (call.Begin tx h) new serves all holds = subst Holds (sym serves.1.2) (record { arcs = holds.arcs; walks = holds.walks })
+  step-holds : (old : State) (c : Call) (new : State) → Serves old c new
+      → All (λ (h : Handed). P h.edge.label) (handed_by c) → Holds old → Holds new
+  step-holds old (call.Begin tx h) new serves all holds =
+      subst Holds (sym serves.1.2) (record { arcs = holds.arcs; walks = holds.walks })
   step-holds old (call.Decide h edges (Committed n)) new serves all holds =
       subst Holds (sym serves.1.1.after) (record {
-        arcs = All-append (λ (arc : Arc). P arc.label) old.arcs (arcs_of old edges) holds.arcs (arcs-hold old edges (edges-hold edges n all));
+        arcs = All-append (λ (arc : Arc). P arc.label) old.arcs (arcs_of old edges) holds.arcs
+            (arcs-hold old edges (edges-hold edges n all));
         walks = All-push HasWalk old.rulings (committed (tx_under old h)) holds.walks tt;
       })
   step-holds old (call.Decide h edges (Refused n walk)) new serves all holds =
-      let arcs = All-append (λ (arc : Arc). P arc.label) old.arcs (arcs_of old edges) holds.arcs (arcs-hold old edges (edges-hold edges n all)) in
+      let arcs = All-append (λ (arc : Arc). P arc.label) old.arcs (arcs_of old edges) holds.arcs
+      (arcs-hold old edges (edges-hold edges n all)) in
       subst Holds (sym serves.1.1.after) (record {
         arcs = holds.arcs;
         walks = All-push HasWalk old.rulings (refused (tx_under old h) walk) holds.walks
-            (All-from_recursion (λ (step : Step). P step.label) walk (walk-holds (old.arcs ++ arcs_of old edges) (tx_under old h) walk arcs serves.1.1.cycle.steps));
+            (All-from_recursion (λ (step : Step). P step.label) walk
+            (walk-holds (old.arcs ++ arcs_of old edges) (tx_under old h) walk arcs serves.1.1.cycle.steps));
       })
-  step-holds old (call.Finish tx) new serves all holds = subst Holds (sym serves.1) (record { arcs = holds.arcs; walks = holds.walks })
+  step-holds old (call.Finish tx) new serves all holds =
+      subst Holds (sym serves.1) (record { arcs = holds.arcs; walks = holds.walks })
   step-holds old (call.Withdraw h n) new serves all holds =
-      subst Holds (sym serves.1.1) (record { arcs = holds.arcs; walks = All-push HasWalk old.rulings (withdrawn (tx_under old h)) holds.walks tt })
+      subst Holds (sym serves.1.1) (record {
+        arcs = holds.arcs;
+        walks =
+            All-push HasWalk old.rulings (withdrawn (tx_under old h)) holds.walks tt;
+      })
   step-holds old (call.Close n) new serves all holds =
       subst Holds (sym serves.1.1) (record { arcs = All-nil (λ (arc : Arc). P arc.label); walks = holds.walks })
-  step-holds old (call.Installed tx site items) new serves all holds = subst Holds (sym serves.1) (record { arcs = holds.arcs; walks = holds.walks })
+  step-holds old (call.Installed tx site items) new serves all holds =
+      subst Holds (sym serves.1) (record { arcs = holds.arcs; walks = holds.walks })
 
   all-left : {A : Type 0} (Q : A → Type 0) (xs ys : List A) → All Q (xs ++ ys) → All Q xs
   all-left Q [] ys all = All-nil Q
-  all-left Q (x ∷ xs) ys all = All-cons Q x xs (All-head Q x (xs ++ ys) all) (all-left Q xs ys (All-tail Q x (xs ++ ys) all))
+  all-left Q (x ∷ xs) ys all =
+      All-cons Q x xs (All-head Q x (xs ++ ys) all) (all-left Q xs ys (All-tail Q x (xs ++ ys) all))
 
   all-right : {A : Type 0} (Q : A → Type 0) (xs ys : List A) → All Q (xs ++ ys) → All Q ys
   all-right Q [] ys all = all
   all-right Q (x ∷ xs) ys all = all-right Q xs ys (All-tail Q x (xs ++ ys) all)
 
-  run-holds : (old : State) (cs : List Call) (new : State) → RunsFrom old cs new → All (λ (h : Handed). P h.edge.label) (handed_in cs) → Holds old → Holds new
+  run-holds : (old : State) (cs : List Call) (new : State) → RunsFrom old cs new
+      → All (λ (h : Handed). P h.edge.label) (handed_in cs) → Holds old → Holds new
   run-holds old [] new runs all holds = subst Holds (sym runs) holds
   run-holds old (c ∷ cs) new runs all holds =
       let Q : Handed → Type 0 = λ h. P h.edge.label in
       run-holds runs.0 cs new runs.2 (all-right Q (handed_by c) (handed_in cs) all)
       (step-holds old c runs.0 runs.1 (all-left Q (handed_by c) (handed_in cs) all) holds)
 
-  pub walks-hold : (history : List Call) (s : State) → Replays history s → All (λ (h : Handed). P h.edge.label) (handed_in history) → All HasWalk s.rulings
+  pub walks-hold : (history : List Call) (s : State) → Replays history s
+      → All (λ (h : Handed). P h.edge.label) (handed_in history) → All HasWalk s.rulings
   walks-hold history s replays all =
-      (run-holds opening history s replays all (record { arcs = All-nil (λ (arc : Arc). P arc.label); walks = All-nil HasWalk })).walks
+      (run-holds opening history s replays all (record {
+        arcs = All-nil (λ (arc : Arc). P arc.label);
+        walks =
+            All-nil HasWalk;
+      })).walks
 
 -- so walks go over sites that are there
-pub steps-within : (count : ℕ) (serials : List ℕ) (rs : List Ruling) → All (HasWalk (λ label. label.site < count)) rs → All (HasStepsWithin count) (map (ranked serials) rs)
-steps-within count serials rs all = All-from_map (HasStepsWithin count) (ranked serials) rs (All-weaken (HasWalk (λ label. label.site < count)) (λ r. HasStepsWithin count (ranked serials r)) rs has all)
+pub steps-within : (count : ℕ) (serials : List ℕ) (rs : List Ruling) → All (HasWalk (λ label. label.site < count)) rs
+    → All (HasStepsWithin count) (map (ranked serials) rs)
+steps-within count serials rs all =
+    All-from_map (HasStepsWithin count) (ranked serials) rs
+    (All-weaken (HasWalk (λ label. label.site < count)) (λ r. HasStepsWithin count (ranked serials r)) rs has all)
   where
     has : (r : Ruling) → HasWalk (λ label. label.site < count) r → HasStepsWithin count (ranked serials r)
     has (committed tx) h = tt

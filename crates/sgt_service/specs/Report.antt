@@ -128,13 +128,14 @@ pub record BeganOtherwise (given found : List (List Holding)) (number : ℕ) : T
   pub before : take number found ≡ take number given
 
 -- a run of these scripts is settled, but that site isn't the one that was put there. V9 tells it
-pub record EndsElsewhere (scripts : List Script) (items : List (List Holding)) (tries : ℕ) (f : ServiceFault) : Type 0 where
-  pub run : Run
-  pub settled : IsSettled run
-  pub of : IsRunOf scripts (length items) tries run
-  pub number : ℕ
-  pub began : BeganOtherwise items (site_items run) number
-  pub told : f ≡ fault.LogDiffers number
+pub record EndsElsewhere (scripts : List Script) (items : List (List Holding)) (tries : ℕ) (f : ServiceFault) : Type 0
+  where
+    pub run : Run
+    pub settled : IsSettled run
+    pub of : IsRunOf scripts (length items) tries run
+    pub number : ℕ
+    pub began : BeganOtherwise items (site_items run) number
+    pub told : f ≡ fault.LogDiffers number
 
 -- what may end a run of these scripts at sites with these items: a call of the service, or a run that
 -- isn't settled or isn't theirs. The pool has no fault of its own but want of memory

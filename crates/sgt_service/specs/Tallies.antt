@@ -59,8 +59,9 @@ counted_by sites tallies =
 -- The Dones are those of some workers who had counted nothing at so many sites, each of whom did
 -- the tries of its share of the jobs and nothing
 -- else; and these are the entries that they counted together.
-pub record AreCountsOf (scripts : List Script) (sites : ℕ) (dones : List Done) (counts : List EntryCounts) : Type 0 where
-  pub workers : ℕ
-  pub after : List Tally
-  pub tried : AreShared DoesJob scripts (replicate workers (no_tally sites)) dones after
-  pub counted : counts ≡ counted_by sites after
+pub record AreCountsOf (scripts : List Script) (sites : ℕ) (dones : List Done) (counts : List EntryCounts) : Type 0
+  where
+    pub workers : ℕ
+    pub after : List Tally
+    pub tried : AreShared DoesJob scripts (replicate workers (no_tally sites)) dones after
+    pub counted : counts ≡ counted_by sites after

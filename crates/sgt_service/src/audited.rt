@@ -52,8 +52,8 @@ impl Sink for Nowhere {
     }
 }
 
-/// The auditor's verdict on a text. It errs where memory ran out; and so it says of a text of `MOST_READS` bytes and more, where the
-/// auditor's contract alone doesn't shut out that there would be too many reads.
+/// The auditor's verdict on a text. It errs where memory ran out; and so it says of a text of `MOST_READS` bytes and
+/// more, where the auditor's contract alone doesn't shut out that there would be too many reads.
 pub fn verdict_on(alloc: Global, text: &[u8]) -> Result<Verdict, AllocError>
     ensures judged { IfOk result (IsVerdict text.now) }
     ensures headline { IfOk result (SaysHeadline text.now) }

@@ -149,8 +149,8 @@ fn run_text(alloc: Global, settled: &Settled) -> Result<Answer, AllocError>
     Ok(Answer { outcome, text })
 }
 
-// Runs the scripts by as many workers as the blanks have parts, on a service of these sites, and settles the run. The sites that were
-// settled are those that were put there; V9 names the first that isn't.
+// Runs the scripts by as many workers as the blanks have parts, on a service of these sites, and settles the run. The
+// sites that were settled are those that were put there; V9 names the first that isn't.
 fn settled_run<L: Ledgers + Send + Sync, G: Gate + Sync, R: Threads + Wait + Sync>(
     rt: &R,
     alloc: Global,
@@ -230,17 +230,19 @@ fn answer_to<G: Gate + Sync, R: Threads + Wait + Sync>(
     }
 }
 
-/// Runs the scripts that the reader gives, by so many workers and with so many tries for each, on a service of the sites that
-/// it gives before them. Writes a line for each script, as `s1 committed 4 tries 2` (or `refused`, or `withdrawn`): how its last
-/// try ended, that try's transaction, and how many tries there were. Then the auditor's verdict on the run's own bundle, the
-/// line `---`, and the bundle. The outcome is Yes where each script was committed and the verdict is yes, and else No. Where a
-/// call of the service is refused, the pool fails, the run isn't settled, or a site of it has other items or first values than the
-/// input gives, `! V` or `! P` with the fault's number is all that is written, and the outcome is No. Where a line can't be read,
+/// Runs the scripts that the reader gives, by so many workers and with so many tries for each, on a service of the
+/// sites that it gives before them. Writes a line for each script, as `s1 committed 4 tries 2` (or `refused`, or
+/// `withdrawn`): how its last try ended, that try's transaction, and how many tries there were. Then the auditor's
+/// verdict on the run's own bundle, the line `---`, and the bundle. The outcome is Yes where each script was
+/// committed and the verdict is yes, and else No. Where a call of the service is refused, the pool fails, the run
+/// isn't settled, or a site of it has other items or first values than the input gives, `! V` or `! P` with the
+/// fault's number is all that is written, and the outcome is No. Where a line can't be read,
 /// `! L1 line N` or `! L2 line N` of the first such line is all that is written, and the outcome is Unreadable. The whole input is
 /// read and checked before the first script is run.
 ///
-/// ReadFault where the reader failed, or no read is left, and Memory where a growth was refused, in a worker too: nothing was
-/// written. WriteFault where the writer failed: a front of the answer may have been written. Every worker is joined then.
+/// ReadFault where the reader failed, or no read is left, and Memory where a growth was refused, in a worker too:
+/// nothing was written. WriteFault where the writer failed: a front of the answer may have been written. Every worker
+/// is joined then.
 pub fn run_scripts<S: Source, W: Sink, G: Gate + Sync, R: Threads + Wait + Sync>(
     rt: &R,
     alloc: Global,

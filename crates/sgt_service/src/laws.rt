@@ -10,7 +10,8 @@ pub fn inputs_have_one_reading()
     ensures { (bytes : List ℕ) (i j : Input) → Spells bytes i → Spells bytes j → i ≡ j }
 {}
 
-/// Bytes that spell an input have no first line that can't be read, and bytes that spell none have exactly one, with one fault.
+/// Bytes that spell an input have no first line that can't be read, and bytes that spell none have exactly one, with
+/// one fault.
 pub fn unreadable_lines_are_determined()
     ensures apart { (bytes : List ℕ) (i : Input) (line : ℕ) (fault : NotationFault) → Spells bytes i
         → FirstUnreadable bytes line fault → ⊥ }

@@ -33,10 +33,11 @@ impl Taker for Keeper {
 }
 
 /// Reads the whole input of a run: a line for each site that it starts from, numbered from 0, and then a line for each
-/// script, of which there are at most 1,000. `Unreadable` names the first line that can't be read. It is L2 where it is longer
-/// than `MAX_LINE`, whatever it holds, with its LF or without. It is L1 where it spells nothing, or not what may stand there: a
-/// site out of its order or behind a script, a script before the first site or over items that aren't there; where it has no LF;
-/// and, behind the last line, where there is no site. No further read is made once that line was read.
+/// script, of which there are at most 1,000. `Unreadable` names the first line that can't be read. It is L2 where it
+/// is longer than `MAX_LINE`, whatever it holds, with its LF or without. It is L1 where it spells nothing, or not
+/// what may stand there: a site out of its order or behind a script, a script before the first site or over items
+/// that aren't there; where it has no LF; and, behind the last line, where there is no site. No further read is made
+/// once that line was read.
 ///
 /// An Err is ReadFault, where a read failed or too many were needed (`MOST_READS` of sgt_names), or Memory. How far was
 /// read then is not promised.

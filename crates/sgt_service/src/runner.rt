@@ -31,8 +31,8 @@ impl<'a, L: Ledgers, G: Gate> Runner<'a, L, G> {
     ghost use Rattle.std.specs.Prelude.{vec_len};
 
     #[tactic(auto, using(crate::proofs::Faults::item_of_change))]
-    // Keeps the sum of this value and of what the transaction sees at the source, as a private write. False where it is too
-    // large.
+    // Keeps the sum of this value and of what the transaction sees at the source, as a private write. False where it
+    // is too large.
     fn put_sum(
         &self,
         active: &mut Active,
@@ -151,8 +151,8 @@ impl<'a, L: Ledgers, G: Gate> Runner<'a, L, G> {
     }
 
     #[tactic(auto, using(crate::proofs::Faults::begin_of_call, crate::proofs::Faults::operation_of_call, crate::proofs::Faults::commit_of_call, crate::proofs::Faults::withdraw_of_call))]
-    // One try: a transaction of its own, whose reads' values it leaves in `reads`. It asks for the commit where all sums fit, and
-    // else withdraws.
+    // One try: a transaction of its own, whose reads' values it leaves in `reads`. It asks for the commit where all
+    // sums fit, and else withdraws.
     fn try_once<R: Wait>(
         &self,
         rt: &R,

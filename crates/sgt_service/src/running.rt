@@ -17,16 +17,18 @@ use std::alloc::Global;
 use std::sync::Wait;
 use std::thread::Threads;
 
-/// Runs each script by so many tries at most, each of them a transaction of its own: by the service's workers, of which there is
-/// one for each seat. A refused script is tried again directly, by the same worker. A script with a sum above the greatest value
-/// is withdrawn at that operation and isn't tried again (V5). Gives a Done for each script, in their order, with a ticket
-/// for each try and the values that the reads of the last try answered, and the seats in theirs, once all workers are joined.
+/// Runs each script by so many tries at most, each of them a transaction of its own: by the service's workers, of
+/// which there is one for each seat. A refused script is tried again directly, by the same worker. A script with a
+/// sum above the greatest value is withdrawn at that operation and isn't tried again (V5). Gives a Done for each
+/// script, in their order, with a ticket for each try and the values that the reads of the last try answered, and the
+/// seats in theirs, once all workers are joined.
 ///
 /// An Err is P1, or a fault that a call of the service told a worker in a try of one of the scripts: V3, V4 or V7.
 /// Of several it isn't fixed which.
 /// A sum whose source no earlier operation reads or writes is S1. The seats and the tickets are then spent.
 ///
-/// The service's gate is told of each job that a worker takes, and of what the service's calls tell. A worker's number is its seat's.
+/// The service's gate is told of each job that a worker takes, and of what the service's calls tell. A worker's
+/// number is its seat's.
 pub fn run<L: Ledgers + Send + Sync, G: Gate + Sync, R: Threads + Wait + Sync>(
     rt: &R,
     alloc: Global,

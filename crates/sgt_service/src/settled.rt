@@ -70,8 +70,8 @@ impl Settled {
         self.dones.as_slice()
     }
 
-    /// The run of which this was left behind the locks and counted, and whose callers were told this, where it is settled. Else the
-    /// fault that `check_settled` tells of it.
+    /// The run of which this was left behind the locks and counted, and whose callers were told this, where it is
+    /// settled. Else the fault that `check_settled` tells of it.
     pub fn of_opened(
         alloc: Global,
         opened: Opened,
@@ -118,13 +118,13 @@ impl Settled {
     }
 }
 
-/// Takes a service apart, once all its callers are done, and checks what was left against what they were told. Where the seats
-/// are all that there are, the history has as many decisions as their shares together, and as many begins. It waits for nobody. The
-/// Dones come back by rising job, in whatever order they were given.
+/// Takes a service apart, once all its callers are done, and checks what was left against what they were told. Where
+/// the seats are all that there are, the history has as many decisions as their shares together, and as many begins.
+/// It waits for nobody. The Dones come back by rising job, in whatever order they were given.
 ///
-/// A run that isn't settled is refused as `Settled::of_opened` refuses it: V1, V2, V6, V8, V9, V10 and V4 with C4, in this order,
-/// each with the least number of its kind. V3: there was no memory, and the tickets are the decisions. Where there is none for the sites, the
-/// certifier and the tickets alone are looked at.
+/// A run that isn't settled is refused as `Settled::of_opened` refuses it: V1, V2, V6, V8, V9, V10 and V4 with C4, in
+/// this order, each with the least number of its kind. V3: there was no memory, and the tickets are the decisions.
+/// Where there is none for the sites, the certifier and the tickets alone are looked at.
 #[tactic(auto, using(crate::proofs::Counts::counts_many))]
 pub fn settle<L: Ledgers, G: Gate>(
     alloc: Global,

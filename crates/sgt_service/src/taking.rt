@@ -30,8 +30,8 @@ fn is_below(held: &Holding, item: &Item) -> bool {
     held.item.cmp(item) == Ordering::Less
 }
 
-// Where the item is, if it is there: looked for behind this place and at it, then where it would stand among names that rise, as
-// those of a site do, and then everywhere.
+// Where the item is, if it is there: looked for behind this place and at it, then where it would stand among names
+// that rise, as those of a site do, and then everywhere.
 fn place_near(items: &[Holding], near: usize, item: Item) -> Option<usize>
     ensures some { IfSome result (λ at. Any (λ h. h.item ≡ item) items.now) }
     ensures none { IfNone result (Any (λ h. h.item ≡ item) items.now → ⊥) }
@@ -117,8 +117,8 @@ fn take_script(
     Ok(true)
 }
 
-/// Keeps what the line says, if it may stand behind those that were read: a site before the first script, or a script over
-/// the sites.
+/// Keeps what the line says, if it may stand behind those that were read: a site before the first script, or a script
+/// over the sites.
 pub fn take_line(
     alloc: Global,
     sites: &mut Vec<SiteLine>,

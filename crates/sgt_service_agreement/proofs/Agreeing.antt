@@ -1,4 +1,5 @@
--- What a gathering keeps: no read of a pledged draft is too new, and a pledge that is given back leaves the site as it was.
+-- What a gathering keeps: no read of a pledged draft is too new, and a pledge that is given back leaves the site as
+-- it was.
 use Rattle.std.proofs.Common.{◌≡◌, ℕ, ◌≤◌, false, List, ◌++◌, length, take, drop, Some, None, Result, Ok, Err, IsOk, IfErr, OnOk, All, sym, ap, subst, ◌∙◌, arith, length-append}
 use Rattle.std.specs.Prelude.{slice_get, IsTrue, ◌↔◌}
 use Rattle.std.specs.List.{filter_map}
@@ -30,7 +31,8 @@ one-fails P xs n a at none = (λ t. absurd (true≢false (sym t)), λ all. absur
 front-version : (n : ℕ) (es : List Entry) (x : Name) → version_at (take n es) x ≤ version_at es x
 front-version n es x =
     let f = change_of x in
-    let whole : version_at (take n es ++ drop n es) x ≡ version_at es x = ap (λ fs. version_at fs x) (take-append-drop n es) in
+    let whole : version_at (take n es ++ drop n es) x ≡ version_at es x =
+    ap (λ fs. version_at fs x) (take-append-drop n es) in
     let split = ap length (filter_map-append f (take n es) (drop n es)) in
     let sum = length-append (filter_map f (take n es)) (filter_map f (drop n es)) in
     omega (arith, whole, split, sum)
@@ -45,14 +47,17 @@ not-too_new s tx touched same any =
     absurd (omega (arith, old, at, new))
 
 -- the pledge is given back, where none stood before
-pub given-back : {E : Type 0} (r : Result (Unit {0}) E) (s mid new : SiteState) (tx : ℕ) (part : List Touch) → s.pledge ≡ None
+pub given-back : {E : Type 0} (r : Result (Unit {0}) E) (s mid new : SiteState) (tx : ℕ) (part : List Touch)
+    → s.pledge ≡ None
     → mid ≡ record s { pledge = Some (record { tx = tx; part = part }) } → OnOk r (new ≡ record mid { pledge = None })
     → (IsPledged mid tx → IsOk r) → new ≡ s
 given-back (Ok u) s mid new tx part free is ok succeeds =
     ok ∙ ap (λ (m : SiteState). record m { pledge = None }) is ∙ ap (λ p. record s { pledge = p }) (sym free)
-given-back (Err e) s mid new tx part free is ok succeeds = absurd (true≢false (sym (succeeds (part, ap (λ (m : SiteState). m.pledge) is))))
+given-back (Err e) s mid new tx part free is ok succeeds =
+    absurd (true≢false (sym (succeeds (part, ap (λ (m : SiteState). m.pledge) is))))
 
-refused-pledge : (history : List Call) (s : SiteState) (tx : ℕ) (touched : List Touch) (f : SiteFault) → VersionsAgree history s
+refused-pledge : (history : List Call) (s : SiteState) (tx : ℕ) (touched : List Touch) (f : SiteFault)
+    → VersionsAgree history s
     → RefusesPledge s tx touched f → RefusesAgreed history s tx touched (of_site f)
 refused-pledge history s tx touched site.Memory agree h = (agree, h)
 refused-pledge history s tx touched site.UnknownItem agree h = (agree, h, λ e. absurd cc)
@@ -64,7 +69,8 @@ refused-pledge history s tx touched site.PledgeOpen agree h = (agree, h, λ e. a
 refused-pledge history s tx touched site.DraftDiffers agree h = (agree, h, λ e. absurd cc)
 
 -- so is the refusal that is made of it
-pub handed-on : {A : Type 0} (r : Result A ServiceFault) (history : List Call) (s : SiteState) (tx : ℕ) (touched : List Touch) (f : SiteFault)
+pub handed-on : {A : Type 0} (r : Result A ServiceFault) (history : List Call) (s : SiteState) (tx : ℕ)
+    (touched : List Touch) (f : SiteFault)
     → IsErrAnd r (λ e. e ≡ of_site f) → VersionsAgree history s → RefusesPledge s tx touched f
     → IfErr r (RefusesAgreed history s tx touched)
 handed-on (Ok a) history s tx touched f told agree h = tt

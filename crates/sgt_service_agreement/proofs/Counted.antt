@@ -50,7 +50,8 @@ module _ (counts : List ItemCount) (items : List Holding) (versions : List ℕ) 
     longer c m = (m.0, m.1, omega (arith, m.2), m.3, m.4)
 
     -- one more item, at its place or at an earlier one
-    by_place : (cs : List ItemCount) → ((k : ℕ) (g : Holding) → k < n → slice_get items k ≡ Some g → count_in cs g.item ≡ count_in (take met counts) g.item)
+    by_place : (cs : List ItemCount) → ((k : ℕ) (g : Holding) → k < n → slice_get items k ≡ Some g
+        → count_in cs g.item ≡ count_in (take met counts) g.item)
         → v ≡ count_in cs h.item → AreCountedTo cs items versions (n + 1)
     by_place cs same own k g lt at_g = elim (cases_lt k n) [
       | inl below ↦ so_far.counted k g below at_g ∙ ap Some (sym (same k g below at_g))
@@ -82,23 +83,27 @@ module _ (counts : List ItemCount) (items : List Holding) (versions : List ℕ) 
       fresh : found_in (take met counts) h.item ≡ None
       fresh = found_nowhere (take met counts) h.item (λ m c at_c.
           let there = slice_get-take counts met m c at_c in
-          before-apart c.item h.item (AllPairs_at (λ (a b : ItemCount). slice_cmp nat_cmp a.item b.item ≡ Less) counts m met c
+          before-apart c.item h.item (AllPairs_at (λ (a b : ItemCount). slice_cmp nat_cmp a.item b.item ≡ Less) counts
+          m met c
           (record { item = h.item; count = v }) counts_rise there.0 there.1 next_is))
 
       matched : AreMet counts items versions (n + 1) (suc met)
       matched = record {
-        within = let lt = slice_get_within counts met (record { item = h.item; count = v }) next_is in omega (arith, lt);
+        within = let lt = slice_get_within counts met (record { item = h.item; count = v }) next_is in
+            omega (arith, lt);
         known = λ m c lt at_c. elim (cases_lt m met) [
           | inl below ↦ longer c (so_far.known m c below at_c)
           | inr le ↦
               let here : m ≡ met = omega (arith, lt, le) in
               let e : record { item = h.item; count = v } ≡ c =
-              same_Some (record { item = h.item; count = v }) c (sym next_is ∙ ap (slice_get counts) (sym here) ∙ at_c) in
+              same_Some (record { item = h.item; count = v }) c (sym next_is ∙ ap (slice_get counts) (sym here)
+              ∙ at_c) in
               (n, h, omega arith, at, ap (λ (d : ItemCount). d.item) e)
         ];
         counted = by_place (take (suc met) counts)
             (λ k g lt at_g. ap (λ cs. count_in cs g.item) front
-            ∙ ap or_zero (found-other (take met counts) (record { item = h.item; count = v }) g.item (λ e. earlier k g lt at_g (sym e))))
+            ∙ ap or_zero (found-other (take met counts) (record { item = h.item; count = v }) g.item
+            (λ e. earlier k g lt at_g (sym e))))
             (sym (ap (λ cs. count_in cs h.item) front
             ∙ ap or_zero (found-own (take met counts) (record { item = h.item; count = v }) fresh)));
       }
@@ -117,8 +122,10 @@ module _ (counts : List ItemCount) (items : List Holding) (versions : List ℕ) 
 
 module _ (history : List Call) (s : SiteState) (counts : List ItemCount)
     (exact : (x : Name) → count_in counts x ≡ counted history s.number x) where
-  pub agree-counted : AreCountedTo counts s.items (map (λ (h : Holding). version_at s.entries h.item) s.items) (length s.items) → VersionsAgree history s
+  pub agree-counted : AreCountedTo counts s.items (map (λ (h : Holding). version_at s.entries h.item) s.items)
+      (length s.items) → VersionsAgree history s
   agree-counted each = All-from_at (λ (h : Holding). AgreesOn history s h.item) s.items (λ k h at.
       let there = slice_get-map (λ (h : Holding). version_at s.entries h.item) s.items k
       ∙ ap (option_map (λ (h : Holding). version_at s.entries h.item)) at in
-      same_Some (version_at s.entries h.item) (count_in counts h.item) (sym there ∙ each k h (slice_get_within s.items k h at) at) ∙ exact h.item)
+      same_Some (version_at s.entries h.item) (count_in counts h.item) (sym there
+      ∙ each k h (slice_get_within s.items k h at) at) ∙ exact h.item)

@@ -20,12 +20,12 @@ use sgt_names::{Draft, Holding, Item, Tx};
 use sgt_site::Site;
 use std::alloc::Global;
 
-/// Whether the version of each item of the site is the number of its installs there that the certifier's history counts. It takes
-/// no memory and waits for nobody.
+/// Whether the version of each item of the site is the number of its installs there that the certifier's history
+/// counts. It takes no memory and waits for nobody.
 ///
-/// It goes once over the items of the site and those that were installed there, side by side, and orders no names. Only where a
-/// version differs, or an item is counted that isn't at the site, it searches the items and the counts for each item of the site.
-/// It goes over neither log nor history.
+/// It goes once over the items of the site and those that were installed there, side by side, and orders no names.
+/// Only where a version differs, or an item is counted that isn't at the site, it searches the items and the counts
+/// for each item of the site. It goes over neither log nor history.
 pub fn agrees(certifier: &Certifier, site: &Site) -> bool
     ensures { IsTrue result ↔ VersionsAgree certifier.now.history site.now }
 {
@@ -53,8 +53,8 @@ fn are_counted(counts: &[ItemCount], items: &[Holding], versions: &[u64]) -> boo
     met == counts.len()
 }
 
-// How many of the counted items are met with this one, where those before it met so many. Its version is the next count, if it is
-// the next item, or else 0.
+// How many of the counted items are met with this one, where those before it met so many. Its version is the next
+// count, if it is the next item, or else 0.
 fn met_with(counts: &[ItemCount], met: usize, item: Item, version: u64) -> Option<usize>
     ensures { IfSome result (Meets counts.now met item version) }
 {
@@ -112,8 +112,9 @@ fn version_of(site: &Site, item: Item) -> u64
     }
 }
 
-/// One gathering of edges for a commit, under the locks of the certifier and of the site: the versions are asked for, then the pledge
-/// of the transaction is taken, and the edges of its draft to this node are gathered. It waits for nobody.
+/// One gathering of edges for a commit, under the locks of the certifier and of the site: the versions are asked for,
+/// then the pledge of the transaction is taken, and the edges of its draft to this node are gathered. It waits for
+/// nobody.
 ///
 /// The first that holds is answered, and leaves the site as it was:
 /// - V7 with the site's number: `agrees` is false.

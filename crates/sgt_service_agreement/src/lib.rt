@@ -1,4 +1,5 @@
-//! Agreement of a certifier and a site whose locks are taken one after another, and the faults of a service that stands on both.
+//! Agreement of a certifier and a site whose locks are taken one after another, and the faults of a service that
+//! stands on both.
 #![tactic(auto)]
 
 mod agreed;

@@ -22,7 +22,8 @@ added_at (c ∷ cs) ts zero = refl
 added_at (c ∷ cs) [] (suc n) = ap (λ xs. slice_get xs n) (whole cs n)
 added_at (c ∷ cs) (t ∷ ts) (suc n) = added_at cs ts n
 
-pub added_next : (cs ts : List EntryCounts) (n : ℕ) (c t : EntryCounts) → slice_get cs n ≡ Some c → slice_get ts n ≡ Some t
+pub added_next : (cs ts : List EntryCounts) (n : ℕ) (c t : EntryCounts) → slice_get cs n ≡ Some c
+    → slice_get ts n ≡ Some t
     → set (AddedTo cs ts n) n (both c t) ≡ AddedTo cs ts (suc n)
 added_next [] ts n c t at there = absurd (let w = slice_get_within [] n c at in omega (arith, w))
 added_next (x ∷ cs) [] n c t at there = absurd (let w = slice_get_within [] n t there in omega (arith, w))

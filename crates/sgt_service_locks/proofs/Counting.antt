@@ -16,7 +16,8 @@ use Rattle.sgt_workers.specs.declared.ticket.Ending.TheVariants.{Committed, Refu
 use Rattle.sgt_service_locks.specs.Counts.{AreCounted, only_at, with_others, below, block_length, is_at, is_changed_at}
 use Rattle.sgt_service_agreement.specs.declared.counts.EntryCounts.{EntryCounts}
 
-pub counted_set : (f : EntryCounts → EntryCounts) (cs : List EntryCounts) (n : ℕ) (c : EntryCounts) → slice_get cs n ≡ Some c → AreCounted (only_at n f) cs (set cs n (f c))
+pub counted_set : (f : EntryCounts → EntryCounts) (cs : List EntryCounts) (n : ℕ) (c : EntryCounts)
+    → slice_get cs n ≡ Some c → AreCounted (only_at n f) cs (set cs n (f c))
 counted_set f cs n c at = (
   length-set cs n (f c),
   λ site d there. elim (cases_Bool (site == n)) [
@@ -31,7 +32,8 @@ counted_set f cs n c at = (
   ],
 )
 
-pub counted_past : (f : EntryCounts → EntryCounts) (cs : List EntryCounts) (n : ℕ) → length cs ≤ n → AreCounted (only_at n f) cs cs
+pub counted_past : (f : EntryCounts → EntryCounts) (cs : List EntryCounts) (n : ℕ) → length cs ≤ n
+    → AreCounted (only_at n f) cs cs
 counted_past f cs n past = (
   refl,
   λ site d there. elim (cases_Bool (site == n)) [
@@ -84,7 +86,8 @@ gains_next lengths n old mid new before here = (
       ],
 )
 
-pub gains_all : (lengths : ℕ → ℕ) (n : ℕ) (old new : List EntryCounts) → ((s : ℕ) → n ≤ s → lengths s ≡ 0) → Gains (below n lengths) old new → Gains lengths old new
+pub gains_all : (lengths : ℕ → ℕ) (n : ℕ) (old new : List EntryCounts) → ((s : ℕ) → n ≤ s → lengths s ≡ 0)
+    → Gains (below n lengths) old new → Gains lengths old new
 gains_all lengths n old new none gains = (
   gains.0,
   λ site d there.
@@ -116,7 +119,8 @@ changes_hit : (s : ℕ) (t : Touch) (ts : List Touch) (c : Option Change) → t.
 changes_hit s t ts None e hit ih = rw (hit, e) ih
 changes_hit s t ts (Some c) e hit ih = rw (hit, e) (ap suc ih)
 
-changes_filter : (s : ℕ) (ts : List Touch) → length (filter (is_changed_at s) ts) ≡ length (writing_in (filter (is_at s) ts))
+changes_filter : (s : ℕ) (ts : List Touch)
+    → length (filter (is_changed_at s) ts) ≡ length (writing_in (filter (is_at s) ts))
 changes_filter s [] = refl
 changes_filter s (t ∷ ts) = elim (cases_Bool (t.site == s)) [
   | inl hit ↦ changes_hit s t ts t.change refl hit (changes_filter s ts)
@@ -135,17 +139,24 @@ none_at s ts n items none = empty (at_site s ts) (length-filter (is_at s) ts ∙
     empty (x ∷ xs) e = absurd (omega (arith, e))
 
 -- what is counted among the items of the site is counted among all
-pub block_here : (v : Ending) (s : ℕ) (ts here : List Touch) (n : ℕ) → n ≡ block_length v (at_site s here) → here ≡ at_site s ts → n ≡ block_length v (at_site s ts)
-block_here v s ts here n is part = is ∙ ap (λ (us : List Touch). block_length v (at_site s us)) part ∙ ap (block_length v) (filter-again (is_at s) ts)
+pub block_here : (v : Ending) (s : ℕ) (ts here : List Touch) (n : ℕ) → n ≡ block_length v (at_site s here)
+    → here ≡ at_site s ts → n ≡ block_length v (at_site s ts)
+block_here v s ts here n is part = is ∙ ap (λ (us : List Touch). block_length v (at_site s us)) part
+    ∙ ap (block_length v) (filter-again (is_at s) ts)
 
-pub items_here : (s : ℕ) (ts here : List Touch) (n : ℕ) → n ≡ count_by (is_at s) here → here ≡ at_site s ts → n ≡ count_by (is_at s) ts
-items_here s ts here n is part = is ∙ ap (count_by (is_at s)) part ∙ sym (length-filter (is_at s) (at_site s ts)) ∙ ap length (filter-again (is_at s) ts) ∙ length-filter (is_at s) ts
+pub items_here : (s : ℕ) (ts here : List Touch) (n : ℕ) → n ≡ count_by (is_at s) here → here ≡ at_site s ts
+    → n ≡ count_by (is_at s) ts
+items_here s ts here n is part = is ∙ ap (count_by (is_at s)) part ∙ sym (length-filter (is_at s) (at_site s ts))
+    ∙ ap length (filter-again (is_at s) ts) ∙ length-filter (is_at s) ts
 
-pub block_at_none : (v : Ending) (s : ℕ) (ts : List Touch) (n : ℕ) → n ≡ count_by (is_at s) ts → n ≡ 0 → 0 ≡ block_length v (at_site s ts)
+pub block_at_none : (v : Ending) (s : ℕ) (ts : List Touch) (n : ℕ) → n ≡ count_by (is_at s) ts → n ≡ 0
+    → 0 ≡ block_length v (at_site s ts)
 block_at_none v s ts n items none = sym (block_none v (at_site s ts) (none_at s ts n items none))
 
-pub block_at_end : (v : Ending) (s : ℕ) (ts : List Touch) (n : ℕ) → n ≡ count_by (is_at s) ts → n ≢ 0 → v ≡ Withdrawn → 1 ≡ block_length v (at_site s ts)
-block_at_end v s ts n items some is = sym (ended v (at_site s ts) is (λ e. some (items ∙ (sym (length-filter (is_at s) ts) ∙ e))))
+pub block_at_end : (v : Ending) (s : ℕ) (ts : List Touch) (n : ℕ) → n ≡ count_by (is_at s) ts → n ≢ 0 → v ≡ Withdrawn
+    → 1 ≡ block_length v (at_site s ts)
+block_at_end v s ts n items some is =
+    sym (ended v (at_site s ts) is (λ e. some (items ∙ (sym (length-filter (is_at s) ts) ∙ e))))
   where
     ended : (v : Ending) (xs : List Touch) → v ≡ Withdrawn → (length xs ≡ 0 → ⊥) → block_length v xs ≡ 1
     ended Withdrawn (t ∷ ts) e some = refl
@@ -153,13 +164,15 @@ block_at_end v s ts n items some is = sym (ended v (at_site s ts) is (λ e. some
     ended Committed xs e some = absurd (let f : Committed ≡ Withdrawn = e in cc)
     ended Refused xs e some = absurd (let f : Refused ≡ Withdrawn = e in cc)
 
-pub block_at_some : (v : Ending) (s : ℕ) (ts : List Touch) (n k : ℕ) → n ≡ count_by (is_at s) ts → n ≢ 0 → (v ≡ Withdrawn → ⊥)
+pub block_at_some : (v : Ending) (s : ℕ) (ts : List Touch) (n k : ℕ) → n ≡ count_by (is_at s) ts → n ≢ 0
+    → (v ≡ Withdrawn → ⊥)
     → k ≡ count_by (is_changed_at s) ts → k + 1 ≡ block_length v (at_site s ts)
 block_at_some v s ts n k items some other changes =
     ap (λ (j : ℕ). j + 1) (changes ∙ (sym (length-filter (is_changed_at s) ts) ∙ changes_filter s ts))
     ∙ sym (ended v (at_site s ts) other (λ e. some (items ∙ (sym (length-filter (is_at s) ts) ∙ e))))
   where
-    ended : (v : Ending) (xs : List Touch) → (v ≡ Withdrawn → ⊥) → (length xs ≡ 0 → ⊥) → block_length v xs ≡ length (writing_in xs) + 1
+    ended : (v : Ending) (xs : List Touch) → (v ≡ Withdrawn → ⊥) → (length xs ≡ 0 → ⊥)
+        → block_length v xs ≡ length (writing_in xs) + 1
     ended Withdrawn xs e some = absurd (e refl)
     ended Committed (t ∷ ts) e some = sym (add-one (length (writing_in (t ∷ ts))))
     ended Committed [] e some = absurd (some refl)

@@ -31,13 +31,15 @@ read_told s tx x site.PledgeOpen r = tt
 read_told s tx x site.Memory r = tt
 read_told s tx x _ r = absurd r
 
-pub read_of : (here : ℕ) (s : SiteState) (tx : ℕ) (x : Name) (f : ServiceFault) → IsToldOfRead here s tx x f → IsOfRead f
+pub read_of : (here : ℕ) (s : SiteState) (tx : ℕ) (x : Name) (f : ServiceFault) → IsToldOfRead here s tx x f
+    → IsOfRead f
 read_of here s tx x f r = elim r [
   | inl other ↦ subst IsOfRead (sym other.1) tt
   | inr told ↦ subst IsOfRead (sym told.1.2) (read_told s tx x told.1.0 told.1.1)
 ]
 
-pledge_told : (s : SiteState) (tx : ℕ) (touched : List Touch) (f : SiteFault) → RefusesPledge s tx touched f → IsOfWithdraw (of_site f)
+pledge_told : (s : SiteState) (tx : ℕ) (touched : List Touch) (f : SiteFault) → RefusesPledge s tx touched f
+    → IsOfWithdraw (of_site f)
 pledge_told s tx touched site.UnknownItem r = tt
 pledge_told s tx touched site.Ended r = tt
 pledge_told s tx touched site.PledgeOpen r = tt
@@ -45,13 +47,15 @@ pledge_told s tx touched site.DraftDiffers r = tt
 pledge_told s tx touched site.Memory r = tt
 pledge_told s tx touched _ r = absurd r
 
-pledge_at_told : (here : ℕ) (s : SiteState) (active : Active) (f : ServiceFault) → RefusesPledgeAt here s active f → IsOfWithdraw f
+pledge_at_told : (here : ℕ) (s : SiteState) (active : Active) (f : ServiceFault) → RefusesPledgeAt here s active f
+    → IsOfWithdraw f
 pledge_at_told here s active f r = elim r [
   | inl other ↦ subst IsOfWithdraw (sym other.1) tt
   | inr told ↦ subst IsOfWithdraw (sym told.1.2) (pledge_told s active.tx active.draft.touched told.1.0 told.1.1)
 ]
 
-gather_told : (history : List Call) (here : ℕ) (s : SiteState) (active : Active) (f : ServiceFault) → RefusesGather history here s active f → IsOfCommit f
+gather_told : (history : List Call) (here : ℕ) (s : SiteState) (active : Active) (f : ServiceFault)
+    → RefusesGather history here s active f → IsOfCommit f
 gather_told history here s active (fault.NotPledged number) r = tt
 gather_told history here s active (fault.Site site.UnknownItem) r = tt
 gather_told history here s active (fault.Site site.Ended) r = tt
@@ -87,35 +91,43 @@ withdraw_by s h (certifier.StepOpen tx) t = tt
 withdraw_by s h certifier.Memory t = tt
 withdraw_by s h _ t = absurd t.0
 
-decide_by : (s : State) (h : Handle) (edges : List Edge) (f : CertifierFault) → IsTold s (decide h edges) f → IsOfCommit (of_certifier f)
+decide_by : (s : State) (h : Handle) (edges : List Edge) (f : CertifierFault) → IsTold s (decide h edges) f
+    → IsOfCommit (of_certifier f)
 decide_by s h edges certifier.Unknown t = tt
 decide_by s h edges (certifier.StepOpen tx) t = tt
 decide_by s h edges certifier.Stale t = tt
 decide_by s h edges certifier.Memory t = tt
 decide_by s h edges _ t = absurd t.0
 
-active_withdraw : (lost : Option ℕ) (s : State) (active : Active) (f : ServiceFault) → RefusesActive lost s active f → IsOfWithdraw f
+active_withdraw : (lost : Option ℕ) (s : State) (active : Active) (f : ServiceFault) → RefusesActive lost s active f
+    → IsOfWithdraw f
 active_withdraw (Some l) s active f r = subst IsOfWithdraw (sym r) tt
 active_withdraw None s active f r = subst IsOfWithdraw (sym r.0) tt
 
-active_commit : (lost : Option ℕ) (s : State) (active : Active) (f : ServiceFault) → RefusesActive lost s active f → IsOfCommit f
+active_commit : (lost : Option ℕ) (s : State) (active : Active) (f : ServiceFault) → RefusesActive lost s active f
+    → IsOfCommit f
 active_commit (Some l) s active f r = subst IsOfCommit (sym r) tt
 active_commit None s active f r = subst IsOfCommit (sym r.0) tt
 
 -- ---- the whole step
 
-pub commit_told : (sites : ℕ) (lost : Option ℕ) (k : Kept) (active : Active) (f : ServiceFault) → IsUncommitted sites lost k active f → IsOfCommit f
+pub commit_told : (sites : ℕ) (lost : Option ℕ) (k : Kept) (active : Active) (f : ServiceFault)
+    → IsUncommitted sites lost k active f → IsOfCommit f
 commit_told sites lost k active f (at_first g r) = active_commit lost k.state active g r
-commit_told sites lost k active f (unexpected g held r) = subst IsOfCommit (sym r.2) (expect_by k.state active.handle r.0 r.1)
+commit_told sites lost k active f (unexpected g held r) =
+    subst IsOfCommit (sym r.2) (expect_by k.state active.handle r.0 r.1)
 commit_told sites lost k active f (beyond here held allowed past touches) = tt
 commit_told sites lost k active f (ungathered g may r) = gather_told k.history r.0 r.1 active g r.5
-commit_told sites lost k active f (undecided edges g may e r) = subst IsOfCommit (sym r.2) (decide_by k.state active.handle edges r.0 r.1)
+commit_told sites lost k active f (undecided edges g may e r) =
+    subst IsOfCommit (sym r.2) (decide_by k.state active.handle edges r.0 r.1)
 
-pub withdraw_told : (sites : ℕ) (lost : Option ℕ) (k : Kept) (active : Active) (f : ServiceFault) → IsNotWithdrawn sites lost k active f → IsOfWithdraw f
+pub withdraw_told : (sites : ℕ) (lost : Option ℕ) (k : Kept) (active : Active) (f : ServiceFault)
+    → IsNotWithdrawn sites lost k active f → IsOfWithdraw f
 withdraw_told sites lost k active f (held_back g r) = active_withdraw lost k.state active g r
 withdraw_told sites lost k active f (absent here held past touches) = tt
 withdraw_told sites lost k active f (unpledged g held there r) = pledge_at_told r.0 r.1 active g r.5
-withdraw_told sites lost k active f (declined g held there r) = subst IsOfWithdraw (sym r.2) (withdraw_by k.state active.handle r.0 r.1)
+withdraw_told sites lost k active f (declined g held there r) =
+    subst IsOfWithdraw (sym r.2) (withdraw_by k.state active.handle r.0 r.1)
 
 -- ---- each is a fault of some call
 

@@ -40,10 +40,14 @@ has_none all s x past h = let within : s < length all = slice_get_within all s h
 abbrev pub AreOpened : List (List Holding) → ℕ → Type 0
 AreOpened sites n = (k : ℕ) (items : List Holding) → k < n → slice_get sites k ≡ Some items → AreItems items
 
-pub opened_next : (sites : List (List Holding)) (n : ℕ) (d : List Holding) → n < length sites → AreOpened sites n → AreItems (get_or sites n d) → AreOpened sites (n + 1)
+pub opened_next : (sites : List (List Holding)) (n : ℕ) (d : List Holding) → n < length sites → AreOpened sites n
+    → AreItems (get_or sites n d) → AreOpened sites (n + 1)
 opened_next sites n d within before items k there below at = elim (below_or k n (omega arith)) [
   | inl less ↦ before k there less at
-  | inr same ↦ subst AreItems (sym (same_Some there (get_or sites n d) (sym at ∙ (let e : slice_get sites n ≡ Some (get_or sites n d) = slice_get-get_or sites n d within in subst (λ (j : ℕ). slice_get sites j ≡ Some (get_or sites n d)) (sym same) e)))) items
+  | inr same ↦ subst AreItems
+      (sym (same_Some there (get_or sites n d) (sym at
+      ∙ (let e : slice_get sites n ≡ Some (get_or sites n d) = slice_get-get_or sites n d within in
+      subst (λ (j : ℕ). slice_get sites j ≡ Some (get_or sites n d)) (sym same) e)))) items
 ]
   where
     below_or : (a b : ℕ) → a ≤ b → (a < b) ⊎ (a ≡ b)
@@ -60,7 +64,8 @@ sites_next first (x ∷ front) items =
     ap (λ ss. opened first x ∷ ss)
     (sites_next (suc first) front items ∙ ap (λ n. sites_from (suc first) front ++ opened n items ∷ []) (omega arith))
 
-pub sites_grow : (sites : List (List Holding)) (n : ℕ) (items : List Holding) (old new : List SiteState) (o : Option SiteState)
+pub sites_grow : (sites : List (List Holding)) (n : ℕ) (items : List Holding) (old new : List SiteState)
+    (o : Option SiteState)
     → slice_get sites n ≡ Some items → old ≡ sites_from 0 (take n sites) → IfSome o (λ s. s ≡ opened n items)
     → ((s : SiteState) × (o ≡ Some s) × (new ≡ old ++ s ∷ [])) → new ≡ sites_from 0 (take (n + 1) sites)
 sites_grow sites n items old new None at was is added = cc
@@ -72,7 +77,8 @@ sites_grow sites n items old new (Some s) at was is added =
     ∙ ap (λ t. sites_from 0 (take n sites) ++ t ∷ []) (same ∙ ap (λ k. opened k items) (omega (arith, front)))
     ∙ sym (ap (sites_from 0) (take_next sites n items at) ∙ sites_next 0 (take n sites) items)
 
-pub sites_all : (sites : List (List Holding)) (n : ℕ) (all : List SiteState) → n ≡ length sites → all ≡ sites_from 0 (take n sites)
+pub sites_all : (sites : List (List Holding)) (n : ℕ) (all : List SiteState) → n ≡ length sites
+    → all ≡ sites_from 0 (take n sites)
     → all ≡ sites_from 0 sites
 sites_all sites n all is e = e ∙ ap (sites_from 0) (ap (λ k. take k sites) is ∙ take-length sites)
 
@@ -86,21 +92,28 @@ names-rise : (items : List Holding) → AreItems items → NamesRise (names item
 names-rise items are = AllPairs-from_at (λ x y. slice_cmp nat_cmp x y ≡ Less) (names items) (λ p q x y lt at_x at_y.
     let g = map_at (λ (h : Holding). h.item) items p x at_x in
     let h = map_at (λ (h : Holding). h.item) items q y at_y in
-    let less = AllPairs_at (λ (a b : Holding). slice_cmp nat_cmp a.item b.item ≡ Less) items p q g.0 h.0 are.rising lt g.1 h.1 in
+    let less = AllPairs_at (λ (a b : Holding). slice_cmp nat_cmp a.item b.item ≡ Less) items p q g.0 h.0 are.rising lt
+    g.1 h.1 in
     subst (λ z. slice_cmp nat_cmp z y ≡ Less) g.2 (subst (λ z. slice_cmp nat_cmp g.0.item z ≡ Less) h.2 less))
 
-pub all_rise : (sites : List (List Holding)) (all : List (List Name)) → all ≡ map names sites → All AreItems sites → All NamesRise all
-all_rise sites all is are = subst (All NamesRise) (sym is) (All-from_map NamesRise names sites (All-weaken AreItems (λ items. NamesRise (names items)) sites names-rise are))
+pub all_rise : (sites : List (List Holding)) (all : List (List Name)) → all ≡ map names sites → All AreItems sites
+    → All NamesRise all
+all_rise sites all is are =
+    subst (All NamesRise) (sym is)
+    (All-from_map NamesRise names sites (All-weaken AreItems (λ items. NamesRise (names items)) sites names-rise are))
 
 -- a binary search among rising names finds those that are there
 pub search_tells : (xs : List Name) (k : Name) (r : Result ℕ ℕ) → NamesRise xs → IsSearchInRange r (length xs)
     → IsBinarySearchResult (λ x. slice_cmp nat_cmp x k) xs r → IsTrue (is_ok r) ↔ Contains xs k
 search_tells xs k (Ok n) rising within found =
-    let at = (searched (λ (x : Name). x) (slice_cmp nat_cmp) nat_list_cmp_total (λ x y e. exact_bytes x y e) xs k rising (Ok n) within found).0 in
+    let at = (searched (λ (x : Name). x) (slice_cmp nat_cmp) nat_list_cmp_total (λ x y e. exact_bytes x y e) xs k
+    rising (Ok n) within found).0 in
     let same : get_or xs n k ≡ k = at.is (get_or xs n k) (slice_get-get_or xs n k at.within) in
     (λ t. subst (Contains xs) same (Contains-get_or xs n k at.within), λ has. refl)
 search_tells xs k (Err n) rising within found =
-    let gap = (searched (λ (x : Name). x) (slice_cmp nat_cmp) nat_list_cmp_total (λ x y e. exact_bytes x y e) xs k rising (Err n) within found).1 in (
+    let gap =
+    (searched (λ (x : Name). x) (slice_cmp nat_cmp) nat_list_cmp_total (λ x y e. exact_bytes x y e) xs k rising
+    (Err n) within found).1 in (
       (λ t. absurd cc),
       (λ has.
           let at = Contains_at xs k has in

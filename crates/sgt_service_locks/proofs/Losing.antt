@@ -13,6 +13,9 @@ pub lost_pledge : (verdict : Ending) (active : Active) (here : ℕ) (s : SiteSta
     → (s.number ≡ here → (verdict ≡ Withdrawn → ⊥) → IsPledgedFor s active.tx active.draft.touched → IsTrue written)
     → (s.number ≡ here → verdict ≡ Withdrawn → IsPledged s active.tx → IsTrue written)
     → HasLostPledge verdict active here s
-lost_pledge Committed active here s written none stands back = λ number pledged. true≢false (sym (stands number (λ other. absurd cc) pledged) ∙ none)
-lost_pledge Refused active here s written none stands back = λ number pledged. true≢false (sym (stands number (λ other. absurd cc) pledged) ∙ none)
-lost_pledge Withdrawn active here s written none stands back = λ number pledged. true≢false (sym (back number refl pledged) ∙ none)
+lost_pledge Committed active here s written none stands back =
+    λ number pledged. true≢false (sym (stands number (λ other. absurd cc) pledged) ∙ none)
+lost_pledge Refused active here s written none stands back =
+    λ number pledged. true≢false (sym (stands number (λ other. absurd cc) pledged) ∙ none)
+lost_pledge Withdrawn active here s written none stands back =
+    λ number pledged. true≢false (sym (back number refl pledged) ∙ none)

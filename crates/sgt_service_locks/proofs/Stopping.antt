@@ -15,12 +15,14 @@ use Rattle.sgt_service_locks.specs.declared.ending.Stop.TheVariants.{Undecided, 
 use Rattle.sgt_service_locks.proofs.Faults.{commit_told, withdraw_told, commit_of_call, withdraw_of_call}
 
 pub stop_back : {L : Type 0} (decided : Ending → Type 0) (active : Active) (old new : Seat L) (stop : Stop)
-    → IsStop decided active old new stop → IsUndecidedBy IsOfCall stop → IsBack decided active old new (back_of active stop)
+    → IsStop decided active old new stop → IsUndecidedBy IsOfCall stop
+    → IsBack decided active old new (back_of active stop)
 stop_back decided active old new (Undecided fault) s why = (refl, s, why)
 stop_back decided active old new (Lost verdict site) s why = (verdict, site, s.0, refl, s.1)
 
 -- what holds of why it isn't decided, with a weaker reason
-weaker : (P Q : ServiceFault → Type 0) → ((f : ServiceFault) → P f → Q f) → (stop : Stop) → IsUndecidedBy P stop → IsUndecidedBy Q stop
+weaker : (P Q : ServiceFault → Type 0) → ((f : ServiceFault) → P f → Q f) → (stop : Stop) → IsUndecidedBy P stop
+    → IsUndecidedBy Q stop
 weaker P Q q (Undecided fault) why = q fault why
 weaker P Q q (Lost verdict site) why = tt
 
@@ -40,13 +42,16 @@ commit_of sites active f told = commit_told sites told.0 told.1 active f told.3
 withdraw_of : (sites : ℕ) (active : Active) (f : ServiceFault) → IsToldOfWithdraw sites active f → IsOfWithdraw f
 withdraw_of sites active f told = withdraw_told sites told.0 told.1 active f told.3
 
-pub commit_call : (sites : ℕ) (active : Active) (stop : Stop) → IsUndecidedBy (IsToldOfCommit sites active) stop → IsUndecidedBy IsOfCall stop
+pub commit_call : (sites : ℕ) (active : Active) (stop : Stop) → IsUndecidedBy (IsToldOfCommit sites active) stop
+    → IsUndecidedBy IsOfCall stop
 commit_call sites active stop why =
     weaker (IsToldOfCommit sites active) IsOfCall (λ f told. commit_of_call f (commit_of sites active f told)) stop why
 
-pub withdraw_call : (sites : ℕ) (active : Active) (stop : Stop) → IsUndecidedBy (IsToldOfWithdraw sites active) stop → IsUndecidedBy IsOfCall stop
+pub withdraw_call : (sites : ℕ) (active : Active) (stop : Stop) → IsUndecidedBy (IsToldOfWithdraw sites active) stop
+    → IsUndecidedBy IsOfCall stop
 withdraw_call sites active stop why =
-    weaker (IsToldOfWithdraw sites active) IsOfCall (λ f told. withdraw_of_call f (withdraw_of sites active f told)) stop why
+    weaker (IsToldOfWithdraw sites active) IsOfCall (λ f told. withdraw_of_call f (withdraw_of sites active f told))
+    stop why
 
 -- and of the fault that comes back
 pub commit_fault : (sites : ℕ) (active : Active) (stop : Stop) → IsUndecidedBy (IsToldOfCommit sites active) stop
@@ -59,6 +64,7 @@ pub withdraw_fault : (sites : ℕ) (active : Active) (stop : Stop) → IsUndecid
 withdraw_fault sites active (Undecided fault) why = withdraw_of sites active fault why
 withdraw_fault sites active (Lost verdict site) why = tt
 
-pub stop_told : (P : ServiceFault → Type 0) (active : Active) (stop : Stop) → IsUndecidedBy P stop → ComesBackBy P (back_of active stop)
+pub stop_told : (P : ServiceFault → Type 0) (active : Active) (stop : Stop) → IsUndecidedBy P stop
+    → ComesBackBy P (back_of active stop)
 stop_told P active (Undecided fault) why = why
 stop_told P active (Lost verdict site) why = tt

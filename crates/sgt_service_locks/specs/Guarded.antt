@@ -83,13 +83,14 @@ notes_below verdict active (suc site) =
 -- what one gathering for a transaction handed over: the site of this number, with the versions that
 -- the history counts, stood under the
 -- transaction's pledge for its draft; the edges are the draft's there, and stand for all of them
-pub record IsGathered (history : List Call) (active : Active) (site : ℕ) (s : SiteState) (edges : List Edge) : Type 0 where
-  pub here : s.number ≡ site
-  pub kept : IsSite s
-  pub agreed : VersionsAgree history s
-  pub pledged : IsPledgedFor s active.tx active.draft.touched
-  pub given : All (IsGiven s active.draft.touched active.handle) edges
-  pub stands : StandsForAll s active.draft.touched active.handle edges
+pub record IsGathered (history : List Call) (active : Active) (site : ℕ) (s : SiteState) (edges : List Edge) : Type 0
+  where
+    pub here : s.number ≡ site
+    pub kept : IsSite s
+    pub agreed : VersionsAgree history s
+    pub pledged : IsPledgedFor s active.tx active.draft.touched
+    pub given : All (IsGiven s active.draft.touched active.handle) edges
+    pub stands : StandsForAll s active.draft.touched active.handle edges
 
 -- what was gathered at a site for a transaction that touches these items there: nothing, where it
 -- touches none

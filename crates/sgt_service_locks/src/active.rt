@@ -40,8 +40,8 @@ impl Active {
 /// A refusal of `commit` or `withdraw`.
 #[derive(Drop)]
 pub struct Back {
-    /// The transaction, still active, with nothing changed. None where a site was found to have lost its pledge after the
-    /// decision, which stands, without a ticket.
+    /// The transaction, still active, with nothing changed. None where a site was found to have lost its pledge after
+    /// the decision, which stands, without a ticket.
     pub active: Option<Active>,
     pub fault: ServiceFault,
 }

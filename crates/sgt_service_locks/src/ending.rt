@@ -54,9 +54,9 @@ impl<L: Ledgers, G: Gate> Service<L, G> {
     ghost use Rattle.sgt_service_locks.specs.Seats.{CountsEnd, IsBack};
     ghost use Rattle.sgt_workers.specs.declared.gate.Place.TheVariants.{InStep};
 
-    /// Commits or refuses a transaction, in one step under the certifier's lock: at each site that it touches the versions are
-    /// asked for, its pledge is taken and its edges are gathered; it is decided on these; and its block is written at each of
-    /// these sites, which are locked one after another.
+    /// Commits or refuses a transaction, in one step under the certifier's lock: at each site that it touches the
+    /// versions are asked for, its pledge is taken and its edges are gathered; it is decided on these; and its block
+    /// is written at each of these sites, which are locked one after another.
     ///
     /// The transaction comes back, with its pledges given back and nothing changed:
     /// - V7: a site was found to have lost its pledge; or at the place of the site named stands another one, or one that has not the
@@ -64,7 +64,8 @@ impl<L: Ledgers, G: Gate> Service<L, G> {
     /// - V4 with C2, C3 or C6, as the certifier refuses; with S1, where a site isn't there, or with S1, S3, S7 or S8, as a site refuses.
     /// - V3: there was no memory.
     ///
-    /// Where a site has lost the pledge that was taken, the decision stands without a ticket, and V7 comes back alone; every later
+    /// Where a site has lost the pledge that was taken, the decision stands without a ticket, and V7 comes back
+    /// alone; every later
     /// `begin`, `commit`, `withdraw` and `close` answers V7 with that site, as after the other V7.
     ///
     /// The gate is told of `InStep`, and of `InInstall` at each site.
@@ -95,7 +96,8 @@ impl<L: Ledgers, G: Gate> Service<L, G> {
         }
     }
 
-    /// Withdraws a transaction, in one step under the certifier's lock: its end is written at each site that it touches.
+    /// Withdraws a transaction, in one step under the certifier's lock: its end is written at each site that it
+    /// touches.
     ///
     /// The transaction comes back, with its pledges given back and nothing changed:
     /// - V7: a site was found to have lost its pledge; or at the place of the site named stands another one.

@@ -17,7 +17,8 @@ use sgt_workers::{Ending, Ticket};
 use std::alloc::{AllocError, Global};
 use std::sync::ledger::{Book, Share};
 
-/// The certifier beside the book of its decisions. Its own calls alone change it, and note that a site has lost its pledge.
+/// The certifier beside the book of its decisions. Its own calls alone change it, and note that a site has lost its
+/// pledge.
 #[derive(Drop)]
 pub struct Guarded<L: Ledgers> {
     certifier: Certifier,
@@ -244,8 +245,8 @@ impl<L: Ledgers> Guarded<L> {
         self.lost = Some(site);
     }
 
-    /// Whether a transaction may be decided here at all: no site was found to have lost its pledge, and the certifier has its
-    /// number under its handle.
+    /// Whether a transaction may be decided here at all: no site was found to have lost its pledge, and the certifier
+    /// has its number under its handle.
     pub(crate) fn check(&self, active: &Active) -> Result<(), ServiceFault>
         ensures ok { OnOk result
             ((self.now.lost ≡ None)
@@ -293,8 +294,8 @@ impl<L: Ledgers> Guarded<L> {
         Ok(())
     }
 
-    /// Pledges a transaction at the site of this number and adds its edges there, under both locks. Where another site stands in its
-    /// place, that is V7 too. The site of a V7 is noted.
+    /// Pledges a transaction at the site of this number and adds its edges there, under both locks. Where another
+    /// site stands in its place, that is V7 too. The site of a V7 is noted.
     pub(crate) fn gather(
         &mut self,
         alloc: Global,
@@ -370,8 +371,8 @@ impl<L: Ledgers> Guarded<L> {
         }
     }
 
-    /// Pledges a transaction at the site of this number, under both locks. Where another site stands in its place, that is V7, which is
-    /// noted.
+    /// Pledges a transaction at the site of this number, under both locks. Where another site stands in its place,
+    /// that is V7, which is noted.
     pub(crate) fn pledge(
         &mut self,
         site: &mut Site,
@@ -410,8 +411,9 @@ impl<L: Ledgers> Guarded<L> {
         }
     }
 
-    /// Writes the block of a transaction that is decided so at the site of this number, under both locks; an install is noted in the
-    /// history. False where the pledge is lost or another site stands in its place, and then nothing changes.
+    /// Writes the block of a transaction that is decided so at the site of this number, under both locks; an install
+    /// is noted in the history. False where the pledge is lost or another site stands in its place, and then nothing
+    /// changes.
     pub(crate) fn end(
         &mut self,
         site: &mut Site,

@@ -1,5 +1,5 @@
-//! A service of one certifier and its sites for many threads: the certifier under one lock, each site under its own, and a
-//! ledger that ties the history's decisions to what the threads were told.
+//! A service of one certifier and its sites for many threads: the certifier under one lock, each site under its own,
+//! and a ledger that ties the history's decisions to what the threads were told.
 #![tactic(auto)]
 
 mod active;

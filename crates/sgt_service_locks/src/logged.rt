@@ -12,8 +12,9 @@ use sgt_site::Site;
 use std::snapshot::Snapshot;
 use std::sync::MutexGuard;
 
-/// A site whose lock was taken for a read, and the transaction that is to read, both as they were then. It can't be dropped: the lock is
-/// let go with the one read that the site logged and the transaction keeps, or with both as they were.
+/// A site whose lock was taken for a read, and the transaction that is to read, both as they were then. It can't be
+/// dropped: the lock is let go with the one read that the site logged and the transaction keeps, or with both as they
+/// were.
 pub(crate) struct Unread {
     site: Snapshot<Site>,
     active: Snapshot<Active>,

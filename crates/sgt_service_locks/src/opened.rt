@@ -28,8 +28,9 @@ impl<L: Ledgers, G: Gate> Service<L, G> {
     ghost use Rattle.sgt_service_locks.specs.Guarded.{decision_count};
     ghost use Rattle.sgt_service_locks.specs.Together.{parts_of, amount_of, begin_parts_of, begins_of, counts_of};
 
-    /// Takes the locks apart, and puts together what the seats counted. Where the seats are all that there are, the history has as
-    /// many decisions as their shares together, and as many begins. It waits for nobody. Where there was no memory, the certifier alone is handed out.
+    /// Takes the locks apart, and puts together what the seats counted. Where the seats are all that there are, the
+    /// history has as many decisions as their shares together, and as many begins. It waits for nobody. Where there
+    /// was no memory, the certifier alone is handed out.
     pub fn open(self, alloc: Global, seats: Vec<Seat<L>>) -> Result<Opened, Certifier>
         ensures decisions { IfOk result (λ o. parts_of seats.items ≡ L.parts
             → decision_count o.certifier ≡ amount_of seats.items) }

@@ -9,8 +9,9 @@ use sgt_site::Site;
 use sgt_workers::Ending;
 use std::sync::MutexGuard;
 
-/// The pledges that a transaction took at those sites below a number that it touches, but for those from the first on that were given back.
-/// They can't be dropped: whoever has them gives each back at its site, or owes the blocks of the transaction once it is decided.
+/// The pledges that a transaction took at those sites below a number that it touches, but for those from the first on
+/// that were given back. They can't be dropped: whoever has them gives each back at its site, or owes the blocks of
+/// the transaction once it is decided.
 pub(crate) struct Pledges {
     given: usize,
     below: usize,
@@ -37,8 +38,8 @@ impl Pledges {
         self.below
     }
 
-    /// That of the next site was taken: it stands at the site whose lock is let go, which is the one of this number, for the transaction's
-    /// draft.
+    /// That of the next site was taken: it stands at the site whose lock is let go, which is the one of this number,
+    /// for the transaction's draft.
     pub(crate) fn take(&mut self, guard: MutexGuard<'_, Site>, active: &Active, here: SiteNo)
         requires next { here ≡ self.old.below }
         requires touched { at_site here active.now.draft.touched ≢ [] }
@@ -107,8 +108,9 @@ impl Pledges {
     }
 }
 
-/// The blocks that a decided transaction owes those sites below a number that it touches, but for those from the first on that were written.
-/// They can't be dropped: whoever has them writes each at its site, up to one that is found to have lost its pledge.
+/// The blocks that a decided transaction owes those sites below a number that it touches, but for those from the
+/// first on that were written. They can't be dropped: whoever has them writes each at its site, up to one that is
+/// found to have lost its pledge.
 pub(crate) struct Blocks {
     written: usize,
     below: usize,

@@ -93,7 +93,8 @@ impl<L: Ledgers, G: Gate> Service<L, G> {
         pledges.all_given();
     }
 
-    // Pledges at each site that the draft touches. Where a site refuses, none of these pledges is left, and the site of a V7 is noted.
+    // Pledges at each site that the draft touches. Where a site refuses, none of these pledges is left, and the site
+    // of a V7 is noted.
     fn pledge_all<R: Wait>(
         &self,
         rt: &R,
@@ -149,7 +150,8 @@ impl<L: Ledgers, G: Gate> Service<L, G> {
         Ok(())
     }
 
-    // Pledges a transaction that may be withdrawn at each of its sites. Where another site stands in the place of one, that is noted.
+    // Pledges a transaction that may be withdrawn at each of its sites. Where another site stands in the place of
+    // one, that is noted.
     pub(crate) fn pledged<R: Wait>(
         &self,
         rt: &R,
@@ -227,8 +229,8 @@ impl<L: Ledgers, G: Gate> Service<L, G> {
         }
     }
 
-    // Gathers the edges at each site that the draft touches, and pledges there. Where this is refused, none of these pledges is
-    // left, and a site whose versions don't agree is noted.
+    // Gathers the edges at each site that the draft touches, and pledges there. Where this is refused, none of these
+    // pledges is left, and a site whose versions don't agree is noted.
     fn gather_all<R: Wait>(
         &self,
         rt: &R,
@@ -305,7 +307,8 @@ impl<L: Ledgers, G: Gate> Service<L, G> {
         Ok(())
     }
 
-    // Writes the block of a transaction that is decided so at each site that its draft touches, and counts it. A site that has lost its pledge is noted, and no further block is written.
+    // Writes the block of a transaction that is decided so at each site that its draft touches, and counts it. A site
+    // that has lost its pledge is noted, and no further block is written.
     pub(crate) fn end_all<R: Wait>(
         &self,
         rt: &R,
@@ -359,8 +362,8 @@ impl<L: Ledgers, G: Gate> Service<L, G> {
         Ok(())
     }
 
-    // Writes the block at one site, under its lock, if the draft touches it, and counts it. False where it has lost the pledge, or
-    // another site stands in its place, which is noted.
+    // Writes the block at one site, under its lock, if the draft touches it, and counts it. False where it has lost
+    // the pledge, or another site stands in its place, which is noted.
     fn end_one<R: Wait>(
         &self,
         rt: &R,

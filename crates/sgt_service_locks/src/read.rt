@@ -30,8 +30,9 @@ impl<L: Ledgers, G: Gate> Service<L, G> {
     ghost use Rattle.sgt_workers.specs.declared.gate.Place.TheVariants.{InRead, AfterRead};
     ghost use Rattle.sgt_service_locks.specs.Seats.{SameSeat};
 
-    /// Reads an item. What the transaction wrote or read before is answered from its draft. Else the item is read and logged at
-    /// its site, under the site's lock, and kept in the draft, for which there is room before the lock is taken.
+    /// Reads an item. What the transaction wrote or read before is answered from its draft. Else the item is read and
+    /// logged at its site, under the site's lock, and kept in the draft, for which there is room before the lock is
+    /// taken.
     ///
     /// - V4 with S1: the site or the item isn't there, or another site stands in its place.
     /// - V3: there was no memory.
@@ -98,8 +99,8 @@ impl<L: Ledgers, G: Gate> Service<L, G> {
         (guard, unread)
     }
 
-    // Reads at the site, under its lock, for a draft that has room for what is read, and keeps it there. The lock is let go with this
-    // read alone, or with the site as it was.
+    // Reads at the site, under its lock, for a draft that has room for what is read, and keeps it there. The lock is
+    // let go with this read alone, or with the site as it was.
     #[tactic(auto, using(crate::proofs::Faults::read_of))]
     fn read_site<R: Wait>(
         &self,
@@ -135,7 +136,8 @@ impl<L: Ledgers, G: Gate> Service<L, G> {
     }
 }
 
-// Reads at the site that is lent, if it is the one of this number, for the transaction, and keeps what was read in its draft, which has room for it.
+// Reads at the site that is lent, if it is the one of this number, for the transaction, and keeps what was read in
+// its draft, which has room for it.
 fn read_held(
     held: &mut Site,
     active: &mut Active,

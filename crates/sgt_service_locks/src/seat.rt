@@ -8,8 +8,8 @@ use sgt_names::SiteNo;
 use sgt_service_agreement::EntryCounts;
 use std::sync::ledger::Share;
 
-/// One worker's number and its parts of the ledgers of decisions and of begins, with its counts at each site and of the transactions
-/// that it began.
+/// One worker's number and its parts of the ledgers of decisions and of begins, with its counts at each site and of
+/// the transactions that it began.
 #[derive(Drop)]
 pub struct Seat<L: Ledgers> {
     pub(crate) number: usize,

@@ -23,14 +23,14 @@ use std::alloc::{AllocError, Global};
 use std::sync::ledger::Share;
 use std::sync::{Mutex, Wait};
 
-/// A certifier and its sites, each under a lock of its own. A thread that holds the certifier's lock may take a site's, one
-/// after another; one that holds a site's takes none.
+/// A certifier and its sites, each under a lock of its own. A thread that holds the certifier's lock may take a
+/// site's, one after another; one that holds a site's takes none.
 #[derive(Drop)]
 pub struct Service<L: Ledgers, G: Gate> {
     /// The certifier with its book, under its lock.
     pub(crate) certifier: Mutex<Guarded<L>>,
-    /// The sites, by number, each under its lock. Of what somebody does to one behind the service's back V7, V9 and V10 tell as far as
-    /// it shows in a pledge, a count, an edge or a version.
+    /// The sites, by number, each under its lock. Of what somebody does to one behind the service's back V7, V9 and
+    /// V10 tell as far as it shows in a pledge, a count, an edge or a version.
     pub sites: Vec<Mutex<Site>>,
     /// Is told where each worker stands, by its seat's number.
     pub gate: G,
@@ -57,8 +57,8 @@ impl<L: Ledgers, G: Gate> Service<L, G> {
     ghost use Rattle.sgt_service_locks.specs.Guarded.{HasAdded};
     ghost use Rattle.sgt_service_locks.specs.Refused.{HasItem, RefusesItem, RefusesSites, IsOfBegin, IsToldOf};
 
-    /// A service of these sites, at least one, none of which has an entry yet, and all its seats, numbered from 0. The blanks of the
-    /// ledgers have a part for each seat. A site is named by its place.
+    /// A service of these sites, at least one, none of which has an entry yet, and all its seats, numbered from 0.
+    /// The blanks of the ledgers have a part for each seat. A site is named by its place.
     ///
     /// - V4 with S6: the names of a site's items don't rise, or there are more than 1,024.
     /// - V3: there was no memory.
@@ -208,8 +208,8 @@ impl<L: Ledgers, G: Gate> Service<L, G> {
         Ok(())
     }
 
-    /// Closes the window, in which no transaction may be active, and answers how many ranks were given until now. It takes the
-    /// certifier's lock.
+    /// Closes the window, in which no transaction may be active, and answers how many ranks were given until now. It
+    /// takes the certifier's lock.
     ///
     /// - V7: a site was found to have lost its pledge.
     /// - V4 with C3, C4 or C7, as the certifier refuses.

@@ -26,10 +26,12 @@ use Rattle.sgt_notation.proofs.Texts.{clash_items}
 
 -- the rows have the operations before this place
 abbrev pub AreActsTo : List Holding → List Entry → ℕ → List (Vec Act Global) → Type 0
-AreActsTo items log m acts = (at : ℕ) (x : Name) (row : Vec Act Global) → IsItemAt items x at → slice_get acts at ≡ Some row
+AreActsTo items log m acts = (at : ℕ) (x : Name) (row : Vec Act Global) → IsItemAt items x at
+    → slice_get acts at ≡ Some row
     → (a : Act) → Contains row.items a ↔ ((a.place < m) × IsActOn log x a)
 
-pub acts_none : (items : List Holding) (log : List Entry) (acts : List (Vec Act Global)) → ((k n : ℕ) (a : Act) → At acts k n a → ⊥)
+pub acts_none : (items : List Holding) (log : List Entry) (acts : List (Vec Act Global))
+    → ((k n : ℕ) (a : Act) → At acts k n a → ⊥)
     → AreActsTo items log 0 acts
 acts_none items log acts none at x row item here a = (
   λ c. let k = Contains_at row.items a c in absurd (none at k.0 a (row, here, k.1)),
@@ -39,9 +41,11 @@ acts_none items log acts none at x row item here a = (
 act_same : (a b : Act) → a.place ≡ b.place → a.entry ≡ b.entry → a ≡ b
 act_same a b place entry = λ i. record { place = place i; entry = entry i }
 
-pub acts_next : (items : List Holding) (log : List Entry) (m at0 : ℕ) (e : Entry) (y : Name) (acts new : List (Vec Act Global))
+pub acts_next : (items : List Holding) (log : List Entry) (m at0 : ℕ) (e : Entry) (y : Name)
+    (acts new : List (Vec Act Global))
     → IsRisingBy (λ (h : Holding). h.item) (slice_cmp nat_cmp) items
-    → slice_get log m ≡ Some e → item_of e ≡ Some y → IsItemAt items y at0 → Pushed acts at0 (record { place = m; entry = e }) new
+    → slice_get log m ≡ Some e → item_of e ≡ Some y → IsItemAt items y at0
+    → Pushed acts at0 (record { place = m; entry = e }) new
     → AreActsTo items log m acts → AreActsTo items log (m + 1) new
 acts_next items log m at0 e y acts new rising here mine there p old at x row item at_row a =
     let act : Act = record { place = m; entry = e } in
@@ -49,7 +53,8 @@ acts_next items log m at0 e y acts new rising here mine there p old at x row ite
       | inl same ↦
           let is : x ≡ y = one_item items x y at0 (subst (IsItemAt items x) same item) there in
           let after : p.after ≡ row = same_Some p.after row (sym p.now ∙ (ap (slice_get new) (sym same) ∙ at_row)) in
-          let more : row.items ≡ p.before.items ++ act ∷ [] = ap (λ (v : Vec Act Global). v.items) (sym after) ∙ p.more in
+          let more : row.items ≡ p.before.items ++ act ∷ [] = ap (λ (v : Vec Act Global). v.items) (sym after)
+          ∙ p.more in
           let was = old at0 x p.before (subst (IsItemAt items x) same item) p.was a in (
             λ c. elim (push_contains p.before.items act a (subst (λ xs. Contains xs a) more c)) [
               | inl early ↦ let k = was.0 early in (omega (arith, k.0), k.1)
@@ -61,7 +66,8 @@ acts_next items log m at0 e y acts new rising here mine there p old at x row ite
             ],
             λ k. subst (λ xs. Contains xs a) (sym more) (elim (before_or_here log m a.place e a.entry here k.1.0 k.0) [
               | inl early ↦ push_old p.before.items act a (was.1 (early, k.1))
-              | inr last ↦ subst (Contains (p.before.items ++ act ∷ [])) (act_same act a last.0 last.1) (push_new p.before.items act)
+              | inr last ↦ subst (Contains (p.before.items ++ act ∷ [])) (act_same act a last.0 last.1)
+                  (push_new p.before.items act)
             ]),
           )
       | inr other ↦
@@ -78,7 +84,8 @@ acts_next items log m at0 e y acts new rising here mine there p old at x row ite
 
 -- an entry whose item isn't there
 pub acts_skip : (items : List Holding) (log : List Entry) (m : ℕ) (e : Entry) (acts : List (Vec Act Global))
-    → slice_get log m ≡ Some e → ((at : ℕ) (x : Name) → item_of e ≡ Some x → IsItemAt items x at → ⊥) → AreActsTo items log m acts
+    → slice_get log m ≡ Some e → ((at : ℕ) (x : Name) → item_of e ≡ Some x → IsItemAt items x at → ⊥)
+    → AreActsTo items log m acts
     → AreActsTo items log (m + 1) acts
 acts_skip items log m e acts here none old at x row item at_row a = (
   λ c. let k = (old at x row item at_row a).0 c in (omega (arith, k.0), k.1),
@@ -92,7 +99,11 @@ pub acts_all : (items : List Holding) (log : List Entry) (m : ℕ) (acts : List 
     → AreActsTo items log m acts → AreActs items log acts
 acts_all items log m acts whole old at x row item at_row a = (
   λ c. ((old at x row item at_row a).0 c).1,
-  λ k. (old at x row item at_row a).1 (let within = slice_get_within log a.place a.entry k.0 in omega (arith, within, whole), k),
+  λ k. (old at x row item at_row a).1 (
+    let within = slice_get_within log a.place a.entry k.0 in
+        omega (arith, within, whole),
+    k,
+  ),
 )
 
 -- ---- rows that are put in order
@@ -109,7 +120,8 @@ sorted_row acts at old row here same sorted = record {
   sorted = sorted;
 }
 
-pub acts_sorted : (items : List Holding) (log : List Entry) (at : ℕ) (acts new : List (Vec Act Global)) → IsSortedAt acts at new
+pub acts_sorted : (items : List Holding) (log : List Entry) (at : ℕ) (acts new : List (Vec Act Global))
+    → IsSortedAt acts at new
     → AreActs items log acts → AreActs items log new
 acts_sorted items log at acts new s old k x row item here a =
     elim (cases_eq k at) [
@@ -118,17 +130,21 @@ acts_sorted items log at acts new s old k x row item here a =
           let was = old at x s.before (subst (IsItemAt items x) same item) s.was a in (
             λ c.
                 let there : Contains s.after.items a = subst (λ (v : Vec Act Global). Contains v.items a) (sym is) c in
-                was.0 (Contains-permutation s.after.items s.before.items a (IsPermutation-sym s.before.items s.after.items s.same) there),
-            λ d. subst (λ (v : Vec Act Global). Contains v.items a) is (Contains-permutation s.before.items s.after.items a s.same (was.1 d)),
+                was.0 (Contains-permutation s.after.items s.before.items a
+                (IsPermutation-sym s.before.items s.after.items s.same) there),
+            λ d. subst (λ (v : Vec Act Global). Contains v.items a) is
+                (Contains-permutation s.before.items s.after.items a s.same (was.1 d)),
           )
       | inr other ↦ old k x row item (sym (s.others k other) ∙ here) a
     ]
 
 -- the rows before this place are in order
 abbrev pub AreByActorTo : ℕ → List (Vec Act Global) → Type 0
-AreByActorTo n acts = (k : ℕ) (row : Vec Act Global) → k < n → slice_get acts k ≡ Some row → IsNonDecreasingBy actor row.items
+AreByActorTo n acts = (k : ℕ) (row : Vec Act Global) → k < n → slice_get acts k ≡ Some row
+    → IsNonDecreasingBy actor row.items
 
-pub by_actor_next : (n : ℕ) (acts new : List (Vec Act Global)) → IsSortedAt acts n new → AreByActorTo n acts → AreByActorTo (n + 1) new
+pub by_actor_next : (n : ℕ) (acts new : List (Vec Act Global)) → IsSortedAt acts n new → AreByActorTo n acts
+    → AreByActorTo (n + 1) new
 by_actor_next n acts new s old k row low here =
     elim (cases_eq k n) [
       | inl same ↦
@@ -138,14 +154,18 @@ by_actor_next n acts new s old k row low here =
     ]
 
 pub by_actor_all : (n : ℕ) (acts : List (Vec Act Global)) → length acts ≤ n → AreByActorTo n acts → AreByActor acts
-by_actor_all n acts whole old at row here = old at row (let low = slice_get_within acts at row here in omega (arith, low, whole)) here
+by_actor_all n acts whole old at row here = old at row (let low = slice_get_within acts at row here in
+    omega (arith, low, whole)) here
 
 -- ---- the acts of two transactions on an item tell their conflicts there
 
-pub between_conflicts : (items : List Holding) (log : List Entry) (acts : List (Vec Act Global)) (at from to : ℕ) (row : Vec Act Global)
-    → (f t : List Act) (kind : Kind) (x : Name) → AreActs items log acts → IsItemAt items x at → slice_get acts at ≡ Some row → from ≢ to
+pub between_conflicts : (items : List Holding) (log : List Entry) (acts : List (Vec Act Global)) (at from to : ℕ)
+    (row : Vec Act Global)
+    → (f t : List Act) (kind : Kind) (x : Name) → AreActs items log acts → IsItemAt items x at
+    → slice_get acts at ≡ Some row → from ≢ to
     → ((a : Act) → Contains f a ↔ (Contains row.items a × (actor a ≡ from)))
-    → ((a : Act) → Contains t a ↔ (Contains row.items a × (actor a ≡ to))) → AreBetween f t kind x ↔ Conflicts log kind x from to
+    → ((a : Act) → Contains t a ↔ (Contains row.items a × (actor a ≡ to)))
+    → AreBetween f t kind x ↔ Conflicts log kind x from to
 between_conflicts items log acts at from to row f t kind x are item here apart firsts seconds = (
   λ b.
       let mine = (firsts b.a).0 (Contains-from_at f b.n b.a b.first) in

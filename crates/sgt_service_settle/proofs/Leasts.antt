@@ -9,7 +9,8 @@ use Rattle.sgt_names.proofs.Elements.{contains-none}
 min_cases : (j k : ℕ) → (min j k ≡ j) ⊎ (min j k ≡ k)
 min_cases j k = elim (cases_lt j k) [ inl lt ↦ inl (omega arith) | inr le ↦ inr (omega arith) ]
 
-pub least_hit : {A : Type 0} (key : A → ℕ) (Q : A → Type 0) (xs : List A) (a : A) (r : Option ℕ) → Q a → IsLeastOf key Q xs r → IsLeastOf key Q (xs ++ a ∷ []) (Some (lesser r (key a)))
+pub least_hit : {A : Type 0} (key : A → ℕ) (Q : A → Type 0) (xs : List A) (a : A) (r : Option ℕ) → Q a
+    → IsLeastOf key Q xs r → IsLeastOf key Q (xs ++ a ∷ []) (Some (lesser r (key a)))
 least_hit key Q xs a None q old = (
   (a, push_new xs a, refl, q),
   λ b c qb. elim (push_contains xs a b c) [
@@ -30,7 +31,8 @@ least_hit key Q xs a (Some k) q old =
       ],
     )
 
-pub least_miss : {A : Type 0} (key : A → ℕ) (Q : A → Type 0) (xs : List A) (a : A) (r : Option ℕ) → (Q a → ⊥) → IsLeastOf key Q xs r → IsLeastOf key Q (xs ++ a ∷ []) r
+pub least_miss : {A : Type 0} (key : A → ℕ) (Q : A → Type 0) (xs : List A) (a : A) (r : Option ℕ) → (Q a → ⊥)
+    → IsLeastOf key Q xs r → IsLeastOf key Q (xs ++ a ∷ []) r
 least_miss key Q xs a None q old = λ b c qb. elim (push_contains xs a b c) [
   | inl early ↦ old b early qb
   | inr last ↦ q (subst Q (sym last) qb)

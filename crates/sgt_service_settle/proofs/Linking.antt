@@ -24,7 +24,8 @@ names_same windows h a b first second =
     let row : first.0 ≡ second.0 = same_Some first.0 second.0 (sym first.1 ∙ second.1) in
     same_Some a b (sym first.2 ∙ (ap (λ v. slice_get v.items h.index) row ∙ second.2))
 
-link_is : (windows : List (Vec ℕ Global)) (commits : List (Option ℕ)) (h : Handed) (l m : Link) → IsLinkOf windows commits h l → IsLinkOf windows commits h m → l ≡ m
+link_is : (windows : List (Vec ℕ Global)) (commits : List (Option ℕ)) (h : Handed) (l m : Link)
+    → IsLinkOf windows commits h l → IsLinkOf windows commits h m → l ≡ m
 link_is windows commits h l m first second =
     let from = names_same windows h.edge.from l.from m.from first.from.0 second.from.0 in
     let to = names_same windows h.edge.to l.to m.to first.to.0 second.to.0 in
@@ -32,16 +33,23 @@ link_is windows commits h l m first second =
     let number = first.number ∙ sym second.number in
     λ i. record { from = from i; to = to i; label = label i; number = number i }
 
-pub links_none : (windows : List (Vec ℕ Global)) (commits : List (Option ℕ)) (handed : List Handed) → AreLinks windows commits (take 0 handed) []
+pub links_none : (windows : List (Vec ℕ Global)) (commits : List (Option ℕ)) (handed : List Handed)
+    → AreLinks windows commits (take 0 handed) []
 links_none windows commits handed l = (λ c. absurd (contains-none l c), λ k. absurd (contains-none k.0 k.1))
 
-pub links_hit : (windows : List (Vec ℕ Global)) (commits : List (Option ℕ)) (handed : List Handed) (n : ℕ) (h : Handed) (links : List Link) (l : Link) → slice_get handed n ≡ Some h → IsLinkOf windows commits h l → AreLinks windows commits (take n handed) links → AreLinks windows commits (take (n + 1) handed) (links ++ l ∷ [])
+pub links_hit : (windows : List (Vec ℕ Global)) (commits : List (Option ℕ)) (handed : List Handed) (n : ℕ)
+    (h : Handed) (links : List Link) (l : Link) → slice_get handed n ≡ Some h → IsLinkOf windows commits h l
+    → AreLinks windows commits (take n handed) links → AreLinks windows commits (take (n + 1) handed) (links ++ l ∷ [])
 links_hit windows commits handed n h links l here is old m = (
   λ c. elim (push_contains links l m c) [
     | inl early ↦
         let k = (old m).0 early in
         (k.0, subst (λ hs. Contains hs k.0) (sym (take_next handed n h here)) (push_old (take n handed) h k.0 k.1), k.2)
-    | inr last ↦ (h, subst (λ hs. Contains hs h) (sym (take_next handed n h here)) (push_new (take n handed) h), subst (IsLinkOf windows commits h) last is)
+    | inr last ↦ (
+      h,
+      subst (λ hs. Contains hs h) (sym (take_next handed n h here)) (push_new (take n handed) h),
+      subst (IsLinkOf windows commits h) last is,
+    )
   ],
   λ k. elim (push_contains (take n handed) h k.0 (subst (λ hs. Contains hs k.0) (take_next handed n h here) k.1)) [
     | inl early ↦ push_old links l m ((old m).1 (k.0, early, k.2))
@@ -51,7 +59,9 @@ links_hit windows commits handed n h links l here is old m = (
   ],
 )
 
-pub links_miss : (windows : List (Vec ℕ Global)) (commits : List (Option ℕ)) (handed : List Handed) (n : ℕ) (h : Handed) (links : List Link) → slice_get handed n ≡ Some h → ((l : Link) → IsLinkOf windows commits h l → ⊥) → AreLinks windows commits (take n handed) links → AreLinks windows commits (take (n + 1) handed) links
+pub links_miss : (windows : List (Vec ℕ Global)) (commits : List (Option ℕ)) (handed : List Handed) (n : ℕ)
+    (h : Handed) (links : List Link) → slice_get handed n ≡ Some h → ((l : Link) → IsLinkOf windows commits h l → ⊥)
+    → AreLinks windows commits (take n handed) links → AreLinks windows commits (take (n + 1) handed) links
 links_miss windows commits handed n h links here none old m = (
   λ c.
       let k = (old m).0 c in
@@ -64,19 +74,26 @@ links_miss windows commits handed n h links here none old m = (
 
 -- ---- the whole index
 
-are_ends : (windows : List (Vec ℕ Global)) (commits : List (Option ℕ)) (handed : List Handed) (links : List Link) → AreLinks windows commits handed links → AreEnds links (length commits)
+are_ends : (windows : List (Vec ℕ Global)) (commits : List (Option ℕ)) (handed : List Handed) (links : List Link)
+    → AreLinks windows commits handed links → AreEnds links (length commits)
 are_ends windows commits handed links are n l at =
-    let k = (are l).0 (Contains-from_at links n l at) in
-    (slice_get_within commits l.from (Some k.2.from.1.0) k.2.from.1.1, slice_get_within commits l.to (Some k.2.to.1.0) k.2.to.1.1)
+    let k = (are l).0 (Contains-from_at links n l at) in (
+      slice_get_within commits l.from (Some k.2.from.1.0) k.2.from.1.1,
+      slice_get_within commits l.to (Some k.2.to.1.0) k.2.to.1.1,
+    )
 
-links_carry : (history : List Call) (rulings : List Ruling) (windows : List (Vec ℕ Global)) (commits : List (Option ℕ)) (handed : List Handed) (links : List Link) → AreNamed history windows → AreCommits rulings commits → handed ≡ handed_in history → AreLinks windows commits handed links → (cut : Cut) (a b : ℕ) → LinksBy links cut a b ↔ CarriesBy history rulings cut a b
+links_carry : (history : List Call) (rulings : List Ruling) (windows : List (Vec ℕ Global))
+    (commits : List (Option ℕ)) (handed : List Handed) (links : List Link) → AreNamed history windows
+    → AreCommits rulings commits → handed ≡ handed_in history → AreLinks windows commits handed links
+    → (cut : Cut) (a b : ℕ) → LinksBy links cut a b ↔ CarriesBy history rulings cut a b
 links_carry history rulings windows commits handed links names by is are cut a b = (
   λ e.
       let l : Link = e.1 in
       let k = (are l).0 (Contains-from_at links e.0 l e.2) in
       let h : Handed = k.0 in
       let link : IsLinkOf windows commits h l = k.2 in
-      let passes : Passes cut h.edge.label h.number = subst (λ n. Passes cut h.edge.label n) link.number (subst (λ x. Passes cut x l.number) link.label e.5) in
+      let passes : Passes cut h.edge.label h.number =
+      subst (λ n. Passes cut h.edge.label n) link.number (subst (λ x. Passes cut x l.number) link.label e.5) in
       let from : IsEnd windows commits h.edge.from a = subst (IsEnd windows commits h.edge.from) e.3 link.from in
       let to : IsEnd windows commits h.edge.to b = subst (IsEnd windows commits h.edge.to) e.4 link.to in
       record {
@@ -102,16 +119,23 @@ links_carry history rulings windows commits handed links names by is are cut a b
       (at.0, l, at.1, refl, refl, record { site = c.here; item = c.item; early = c.early }),
 )
 
-pub whole_index : (history : List Call) (rulings : List Ruling) (index : Index) (links : List Link) → index.links.items ≡ links → AreNamed history index.windows.items → AreCommits rulings index.commits.items → index.handed.items ≡ handed_in history → AreLinks index.windows.items index.commits.items index.handed.items links → AreBySite index.handed.items index.sited.items → IsIndex history rulings index
+pub whole_index : (history : List Call) (rulings : List Ruling) (index : Index) (links : List Link)
+    → index.links.items ≡ links → AreNamed history index.windows.items → AreCommits rulings index.commits.items
+    → index.handed.items ≡ handed_in history
+    → AreLinks index.windows.items index.commits.items index.handed.items links
+    → AreBySite index.handed.items index.sited.items → IsIndex history rulings index
 whole_index history rulings index links same names by is are sited =
-    let carry = links_carry history rulings index.windows.items index.commits.items index.handed.items links names by is are in
+    let carry = links_carry history rulings index.windows.items index.commits.items index.handed.items links names by
+    is are in
     record {
       names = names;
       commits = by;
       handed = is;
-      links = λ cut a b. subst (λ ls. LinksBy ls cut a b ↔ CarriesBy history rulings cut a b) (sym same) (carry cut a b);
+      links = λ cut a b. subst (λ ls. LinksBy ls cut a b ↔ CarriesBy history rulings cut a b) (sym same)
+          (carry cut a b);
       paired = record {
-        ends = subst (λ ls. AreEnds ls (length index.commits.items)) (sym same) (are_ends index.windows.items index.commits.items index.handed.items links are);
+        ends = subst (λ ls. AreEnds ls (length index.commits.items)) (sym same)
+            (are_ends index.windows.items index.commits.items index.handed.items links are);
         linked = subst (AreLinks index.windows.items index.commits.items index.handed.items) (sym same) are;
         sited = sited;
       };

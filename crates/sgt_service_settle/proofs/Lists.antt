@@ -25,7 +25,8 @@ pub push_new : {A : Type 0} (xs : List A) (a : A) → Contains (xs ++ a ∷ []) 
 push_new xs a = Contains-append_right xs (a ∷ []) a (cons_here a [])
 
 -- a place that was gone over is an earlier one, or the last
-pub before_or_here : {A : Type 0} (xs : List A) (n q : ℕ) (a b : A) → slice_get xs n ≡ Some a → slice_get xs q ≡ Some b → q < n + 1 → (q < n) ⊎ ((n ≡ q) × (a ≡ b))
+pub before_or_here : {A : Type 0} (xs : List A) (n q : ℕ) (a b : A) → slice_get xs n ≡ Some a
+    → slice_get xs q ≡ Some b → q < n + 1 → (q < n) ⊎ ((n ≡ q) × (a ≡ b))
 before_or_here xs n q a b here at low =
     elim (cases_lt q n) [
       | inl early ↦ inl early

@@ -11,7 +11,8 @@ use Rattle.sgt_service_settle.specs.private.Search.{On, IsMarked, unmarked, Mark
 use Rattle.sgt_names.proofs.Elements.{length-slice_set, get-slice_set_same, get-slice_set_other, get-push_last}
 use Rattle.sgt_names.proofs.Lists.{front_at}
 
-pub unmarked_set : (marks : List Bool) (k : ℕ) → slice_get marks k ≡ Some false → unmarked (slice_set marks k true) + 1 ≡ unmarked marks
+pub unmarked_set : (marks : List Bool) (k : ℕ) → slice_get marks k ≡ Some false
+    → unmarked (slice_set marks k true) + 1 ≡ unmarked marks
 unmarked_set [] k h = absurd cc
 unmarked_set (x ∷ xs) zero h = let same = same_Some x false h in rw same (omega arith)
 unmarked_set (x ∷ xs) (suc k) h =
@@ -28,10 +29,12 @@ on_push xs a k o =
       | inr last ↦ inr last.1
     ]
 
-pub mark_new : (marks : List Bool) (stack : List ℕ) (to : ℕ) → slice_get marks to ≡ Some false → Marked (λ k. k ≡ to) marks stack (slice_set marks to true) (stack ++ to ∷ [])
+pub mark_new : (marks : List Bool) (stack : List ℕ) (to : ℕ) → slice_get marks to ≡ Some false
+    → Marked (λ k. k ≡ to) marks stack (slice_set marks to true) (stack ++ to ∷ [])
 mark_new marks stack to bare =
     let set = get-slice_set_same marks to true (slice_get_within marks to false bare) in
-    let here : (k : ℕ) → k ≡ to → IsMarked (slice_set marks to true) k = λ k same. subst (IsMarked (slice_set marks to true)) (sym same) set in
+    let here : (k : ℕ) → k ≡ to → IsMarked (slice_set marks to true) k =
+    λ k same. subst (IsMarked (slice_set marks to true)) (sym same) set in
     record {
       kept = λ k h.
           elim (cases_eq k to) [
@@ -54,7 +57,8 @@ mark_new marks stack to bare =
       long = length-slice_set marks to true;
     }
 
-pub mark_old : (marks : List Bool) (stack : List ℕ) (to : ℕ) → IsMarked marks to → Marked (λ k. k ≡ to) marks stack marks stack
+pub mark_old : (marks : List Bool) (stack : List ℕ) (to : ℕ) → IsMarked marks to
+    → Marked (λ k. k ≡ to) marks stack marks stack
 mark_old marks stack to had = record {
   kept = λ k h. h;
   fresh = λ k h. inl h;
@@ -66,7 +70,8 @@ mark_old marks stack to had = record {
 }
 
 -- first these, then those
-pub marked_on : (P Q R : ℕ → Type 0) (a b d : List Bool) (x y z : List ℕ) → Marked P a x b y → Marked Q b y d z → ((k : ℕ) → P k → R k) → ((k : ℕ) → Q k → R k) → ((k : ℕ) → R k → P k ⊎ Q k) → Marked R a x d z
+pub marked_on : (P Q R : ℕ → Type 0) (a b d : List Bool) (x y z : List ℕ) → Marked P a x b y → Marked Q b y d z
+    → ((k : ℕ) → P k → R k) → ((k : ℕ) → Q k → R k) → ((k : ℕ) → R k → P k ⊎ Q k) → Marked R a x d z
 marked_on P Q R a b d x y z first then p q r = record {
   kept = λ k h. then.kept k (first.kept k h);
   fresh = λ k h.
@@ -90,7 +95,9 @@ marked_on P Q R a b d x y z first then p q r = record {
 }
 
 -- one more edge: handed by then, or not
-pub row_next : (row : List Arc) (cut : Cut) (n : ℕ) (arc : Arc) (a b d : List Bool) (x y z : List ℕ) → slice_get row n ≡ Some arc → Passes cut arc.label arc.number → Marked (IsTarget (take n row) cut) a x b y → Marked (λ k. k ≡ arc.to) b y d z → Marked (IsTarget (take (n + 1) row) cut) a x d z
+pub row_next : (row : List Arc) (cut : Cut) (n : ℕ) (arc : Arc) (a b d : List Bool) (x y z : List ℕ)
+    → slice_get row n ≡ Some arc → Passes cut arc.label arc.number → Marked (IsTarget (take n row) cut) a x b y
+    → Marked (λ k. k ≡ arc.to) b y d z → Marked (IsTarget (take (n + 1) row) cut) a x d z
 row_next row cut n arc a b d x y z at early first then =
     marked_on (IsTarget (take n row) cut) (λ k. k ≡ arc.to) (IsTarget (take (n + 1) row) cut) a b d x y z first then
     (λ k t. (t.0, t.1, get_take_more row n t.0 t.1 t.2, t.3, t.4))
@@ -101,7 +108,9 @@ row_next row cut n arc a b d x y z at early first then =
       | inr last ↦ inr (sym t.3 ∙ ap (λ v. v.to) (sym last.1))
     ])
 
-pub row_skip : (row : List Arc) (cut : Cut) (n : ℕ) (arc : Arc) (a b : List Bool) (x y : List ℕ) → slice_get row n ≡ Some arc → (Passes cut arc.label arc.number → ⊥) → Marked (IsTarget (take n row) cut) a x b y → Marked (IsTarget (take (n + 1) row) cut) a x b y
+pub row_skip : (row : List Arc) (cut : Cut) (n : ℕ) (arc : Arc) (a b : List Bool) (x y : List ℕ)
+    → slice_get row n ≡ Some arc → (Passes cut arc.label arc.number → ⊥) → Marked (IsTarget (take n row) cut) a x b y
+    → Marked (IsTarget (take (n + 1) row) cut) a x b y
 row_skip row cut n arc a b x y at late first = record {
   kept = first.kept;
   fresh = λ k h.

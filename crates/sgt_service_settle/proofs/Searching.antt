@@ -13,7 +13,8 @@ use Rattle.sgt_service_settle.proofs.Marking.{on_push}
 use Rattle.sgt_names.proofs.Elements.{empty-length, get-push_last}
 use Rattle.sgt_names.proofs.Lists.{front_at}
 
-pub record Searching (rows : List (Vec Arc Global)) (cut : Cut) (start : ℕ) (marks : List Bool) (stack : List ℕ) : Type 0 where
+pub record Searching (rows : List (Vec Arc Global)) (cut : Cut) (start : ℕ) (marks : List Bool)
+    (stack : List ℕ) : Type 0 where
   pub sound : (k : ℕ) → IsMarked marks k → Reaches (InRows rows cut) start k
   pub known : (k : ℕ) → On stack k → (k ≡ start) ⊎ IsMarked marks k
   pub closed : (a b : ℕ) → (a ≡ start) ⊎ IsMarked marks a → InRows rows cut a b → On stack a ⊎ IsMarked marks b
@@ -23,7 +24,10 @@ no_marks zero k h = none-some true h
 no_marks (suc n) zero h = true≢false (sym (same_Some false true h))
 no_marks (suc n) (suc k) h = no_marks n k h
 
-pub search_next : (rows : List (Vec Arc Global)) (cut : Cut) (start at : ℕ) (row : Vec Arc Global) (marks new : List Bool) (stack rest now : List ℕ) → stack ≡ rest ++ at ∷ [] → slice_get rows at ≡ Some row → Marked (IsTarget row.items cut) marks rest new now → Searching rows cut start marks stack → Searching rows cut start new now
+pub search_next : (rows : List (Vec Arc Global)) (cut : Cut) (start at : ℕ) (row : Vec Arc Global)
+    (marks new : List Bool) (stack rest now : List ℕ) → stack ≡ rest ++ at ∷ [] → slice_get rows at ≡ Some row
+    → Marked (IsTarget row.items cut) marks rest new now → Searching rows cut start marks stack
+    → Searching rows cut start new now
 search_next rows cut start at row marks new stack rest now is here m s =
     let top : On stack at = subst (λ xs. On xs at) (sym is) (length rest, get-push_last rest at) in
     record {
@@ -53,7 +57,8 @@ search_next rows cut start at row marks new stack rest now is here m s =
                 elim (on_push rest at a (subst (λ xs. On xs a) is on)) [
                   | inl still ↦ inl (m.grew a still)
                   | inr popped ↦
-                      let same : edge.0 ≡ row = same_Some edge.0 row (sym edge.1 ∙ (ap (slice_get rows) (sym popped) ∙ here)) in
+                      let same : edge.0 ≡ row =
+                      same_Some edge.0 row (sym edge.1 ∙ (ap (slice_get rows) (sym popped) ∙ here)) in
                       inr (m.done b (subst (λ v. IsTarget v.items cut b) same edge.2))
                 ]
             | inr marked ↦ inr (m.kept b marked)
@@ -68,20 +73,29 @@ search_next rows cut start at row marks new stack rest now is here m s =
           ];
     }
 
-marked_along : (rows : List (Vec Arc Global)) (cut : Cut) (start : ℕ) (marks : List Bool) → Searching rows cut start marks [] → (a b : ℕ) (between : List ℕ) → (a ≡ start) ⊎ IsMarked marks a → Leads (InRows rows cut) a between b → IsMarked marks b
-marked_along rows cut start marks s a b [] from leads = elim (s.closed a b from leads) [ inl on ↦ absurd (none-some a on.1) | inr marked ↦ marked ]
+marked_along : (rows : List (Vec Arc Global)) (cut : Cut) (start : ℕ) (marks : List Bool)
+    → Searching rows cut start marks [] → (a b : ℕ) (between : List ℕ) → (a ≡ start) ⊎ IsMarked marks a
+    → Leads (InRows rows cut) a between b → IsMarked marks b
+marked_along rows cut start marks s a b [] from leads =
+    elim (s.closed a b from leads) [ inl on ↦ absurd (none-some a on.1) | inr marked ↦ marked ]
 marked_along rows cut start marks s a b (c ∷ cs) from leads =
-    let next : IsMarked marks c = elim (s.closed a c from leads.0) [ inl on ↦ absurd (none-some a on.1) | inr marked ↦ marked ] in
+    let next : IsMarked marks c = elim (s.closed a c from leads.0) [
+      | inl on ↦ absurd (none-some a on.1)
+      | inr marked ↦ marked
+    ] in
     marked_along rows cut start marks s c b cs (inr next) leads.1
 
-pub search_end : (rows : List (Vec Arc Global)) (cut : Cut) (start : ℕ) (marks : List Bool) (stack : List ℕ) → stack ≡ [] → Searching rows cut start marks stack → Told rows cut start marks
+pub search_end : (rows : List (Vec Arc Global)) (cut : Cut) (start : ℕ) (marks : List Bool) (stack : List ℕ)
+    → stack ≡ [] → Searching rows cut start marks stack → Told rows cut start marks
 search_end rows cut start marks stack is s k = (
   λ h. s.sound k h,
   λ r. marked_along rows cut start marks (subst (Searching rows cut start marks) is s) start k r.0 (inl refl) r.1,
 )
 
 -- what is on the stack is a transaction's number
-pub within : (rows : List (Vec Arc Global)) (cut : Cut) (start at : ℕ) (marks : List Bool) (stack rest : List ℕ) → start < length rows → length marks ≡ length rows → stack ≡ rest ++ at ∷ [] → Searching rows cut start marks stack → at < length rows
+pub within : (rows : List (Vec Arc Global)) (cut : Cut) (start at : ℕ) (marks : List Bool) (stack rest : List ℕ)
+    → start < length rows → length marks ≡ length rows → stack ≡ rest ++ at ∷ []
+    → Searching rows cut start marks stack → at < length rows
 within rows cut start at marks stack rest first long is s =
     elim (s.known at (subst (λ xs. On xs at) (sym is) (length rest, get-push_last rest at))) [
       | inl home ↦ omega (arith, home, first)

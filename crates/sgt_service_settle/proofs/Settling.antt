@@ -18,34 +18,42 @@ use Rattle.sgt_service_settle.specs.private.Index.{IsIndex}
 use Rattle.sgt_service_settle.specs.private.Sites.{IsLogFit, IsFitAt}
 use Rattle.sgt_service_settle.proofs.Carrying.{reaches_map}
 
-log_settled : (history : List Call) (rulings : List Ruling) (index : Index) (k : ℕ) (c : EntryCounts) (log : List Entry) → IsIndex history rulings index → IsLogFit index k c log → IsLogSettled history rulings k c log
+log_settled : (history : List Call) (rulings : List Ruling) (index : Index) (k : ℕ) (c : EntryCounts)
+    (log : List Entry) → IsIndex history rulings index → IsLogFit index k c log → IsLogSettled history rulings k c log
 log_settled history rulings index k c log is fit = record {
   counted = fit.counted;
   edges = λ h contains site.
       let e = fit.edges h (subst (λ hs. Contains hs h) (sym is.handed) contains) site in
       (e.0, e.1, (is.names h.edge.from e.0).0 e.2, (is.names h.edge.to e.1).0 e.3, e.4);
   conflicts = λ kind x a b m n conflict first second.
-      reaches_map (LinksBy index.links.items (record { site = k; item = x; last = max m n })) (Carries history rulings k x (max m n))
+      reaches_map (LinksBy index.links.items (record { site = k; item = x; last = max m n }))
+      (Carries history rulings k x (max m n))
       (λ from to. (is.links (record { site = k; item = x; last = max m n }) from to).0) a b
       (fit.conflicts kind x a b m n conflict ((is.commits a m).1 first) ((is.commits b n).1 second));
 }
 
-log_fit : (history : List Call) (rulings : List Ruling) (index : Index) (k : ℕ) (c : EntryCounts) (log : List Entry) → IsIndex history rulings index → IsLogSettled history rulings k c log → IsLogFit index k c log
+log_fit : (history : List Call) (rulings : List Ruling) (index : Index) (k : ℕ) (c : EntryCounts) (log : List Entry)
+    → IsIndex history rulings index → IsLogSettled history rulings k c log → IsLogFit index k c log
 log_fit history rulings index k c log is settled = record {
   counted = settled.counted;
   edges = λ h contains site.
       let e = settled.edges h (subst (λ hs. Contains hs h) is.handed contains) site in
       (e.0, e.1, (is.names h.edge.from e.0).1 e.2, (is.names h.edge.to e.1).1 e.3, e.4);
   conflicts = λ kind x a b m n conflict first second.
-      reaches_map (Carries history rulings k x (max m n)) (LinksBy index.links.items (record { site = k; item = x; last = max m n }))
+      reaches_map (Carries history rulings k x (max m n))
+      (LinksBy index.links.items (record { site = k; item = x; last = max m n }))
       (λ from to. (is.links (record { site = k; item = x; last = max m n }) from to).1) a b
       (settled.conflicts kind x a b m n conflict ((is.commits a m).0 first) ((is.commits b n).0 second));
 }
 
 -- ---- sites that are there
 
-fit_with : (history : List Call) (rulings : List Ruling) (index : Index) (sites : List SiteState) (counts : List EntryCounts) (k : ℕ) (o : Option SiteState) → slice_get sites k ≡ o → IsIndex history rulings index → length counts ≡ length sites → k < length sites → IsFitAt index sites counts k → IsSiteSettled history rulings counts k o
-fit_with history rulings index sites counts k None at is long low fit = absurd (let le = slice_get-none sites k at in omega (arith, low, le))
+fit_with : (history : List Call) (rulings : List Ruling) (index : Index) (sites : List SiteState)
+    (counts : List EntryCounts) (k : ℕ) (o : Option SiteState) → slice_get sites k ≡ o → IsIndex history rulings index
+    → length counts ≡ length sites → k < length sites → IsFitAt index sites counts k
+    → IsSiteSettled history rulings counts k o
+fit_with history rulings index sites counts k None at is long low fit =
+    absurd (let le = slice_get-none sites k at in omega (arith, low, le))
 fit_with history rulings index sites counts k (Some s) at is long low fit =
     let none : EntryCounts = record { reads = 0; others = 0 } in
     let c : EntryCounts = get_or counts k none in
@@ -53,48 +61,83 @@ fit_with history rulings index sites counts k (Some s) at is long low fit =
     let is_fit = fit s c at here in
     (c, here, is_fit.0, log_settled history rulings index k c s.entries is is_fit.1)
 
-pub fit_settled : (history : List Call) (rulings : List Ruling) (index : Index) (sites : List SiteState) (counts : List EntryCounts) (k : ℕ) → IsIndex history rulings index → length counts ≡ length sites → k < length sites → IsFitAt index sites counts k → IsSiteSettled history rulings counts k (slice_get sites k)
-fit_settled history rulings index sites counts k is long low fit = fit_with history rulings index sites counts k (slice_get sites k) refl is long low fit
+pub fit_settled : (history : List Call) (rulings : List Ruling) (index : Index) (sites : List SiteState)
+    (counts : List EntryCounts) (k : ℕ) → IsIndex history rulings index → length counts ≡ length sites
+    → k < length sites → IsFitAt index sites counts k → IsSiteSettled history rulings counts k (slice_get sites k)
+fit_settled history rulings index sites counts k is long low fit =
+    fit_with history rulings index sites counts k (slice_get sites k) refl is long low fit
 
-pub settled_fit : (history : List Call) (rulings : List Ruling) (index : Index) (sites : List SiteState) (counts : List EntryCounts) (k : ℕ) → IsIndex history rulings index → IsSiteSettled history rulings counts k (slice_get sites k) → IsFitAt index sites counts k
+pub settled_fit : (history : List Call) (rulings : List Ruling) (index : Index) (sites : List SiteState)
+    (counts : List EntryCounts) (k : ℕ) → IsIndex history rulings index
+    → IsSiteSettled history rulings counts k (slice_get sites k) → IsFitAt index sites counts k
 settled_fit history rulings index sites counts k is settled s c there counted =
-    let known : IsSiteSettled history rulings counts k (Some s) = subst (IsSiteSettled history rulings counts k) there settled in
-    let same : known.0 ≡ c = same_Some known.0 c (sym known.1 ∙ counted) in
-    (known.2, log_fit history rulings index k c s.entries is (subst (λ x. IsLogSettled history rulings k x s.entries) same known.3))
+    let known : IsSiteSettled history rulings counts k (Some s) =
+    subst (IsSiteSettled history rulings counts k) there settled in
+    let same : known.0 ≡ c = same_Some known.0 c (sym known.1 ∙ counted) in (
+      known.2,
+      log_fit history rulings index k c s.entries is
+          (subst (λ x. IsLogSettled history rulings k x s.entries) same known.3),
+    )
 
 -- what is settled has its number and the entries that were counted
-pub settled_counted : (history : List Call) (rulings : List Ruling) (sites : List SiteState) (counts : List EntryCounts) (k : ℕ) → IsSiteSettled history rulings counts k (slice_get sites k) → AreCountedAt sites counts k
+pub settled_counted : (history : List Call) (rulings : List Ruling) (sites : List SiteState)
+    (counts : List EntryCounts) (k : ℕ) → IsSiteSettled history rulings counts k (slice_get sites k)
+    → AreCountedAt sites counts k
 settled_counted history rulings sites counts k settled s c there counted =
-    let known : IsSiteSettled history rulings counts k (Some s) = subst (IsSiteSettled history rulings counts k) there settled in
+    let known : IsSiteSettled history rulings counts k (Some s) =
+    subst (IsSiteSettled history rulings counts k) there settled in
     let same : known.0 ≡ c = same_Some known.0 c (sym known.1 ∙ counted) in
     (known.2, subst (λ x. AreEntriesCounted x s.entries) same known.3.counted)
 
 -- ---- sites that aren't there
 
-beyond_with : (history : List Call) (rulings : List Ruling) (index : Index) (sites : List SiteState) (counts : List EntryCounts) (k : ℕ) (o : Option SiteState) → slice_get sites k ≡ o → IsIndex history rulings index → length sites ≤ k → ((h : Handed) → Contains index.handed.items h → h.edge.label.site ≡ k → ⊥) → IsSiteSettled history rulings counts k o
-beyond_with history rulings index sites counts k None at is high none = λ h contains site. none h (subst (λ hs. Contains hs h) (sym is.handed) contains) site
-beyond_with history rulings index sites counts k (Some s) at is high none = absurd (let low = slice_get_within sites k s at in omega (arith, low, high))
+beyond_with : (history : List Call) (rulings : List Ruling) (index : Index) (sites : List SiteState)
+    (counts : List EntryCounts) (k : ℕ) (o : Option SiteState) → slice_get sites k ≡ o → IsIndex history rulings index
+    → length sites ≤ k → ((h : Handed) → Contains index.handed.items h → h.edge.label.site ≡ k → ⊥)
+    → IsSiteSettled history rulings counts k o
+beyond_with history rulings index sites counts k None at is high none =
+    λ h contains site. none h (subst (λ hs. Contains hs h) (sym is.handed) contains) site
+beyond_with history rulings index sites counts k (Some s) at is high none =
+    absurd (let low = slice_get_within sites k s at in omega (arith, low, high))
 
-pub beyond_settled : (history : List Call) (rulings : List Ruling) (index : Index) (sites : List SiteState) (counts : List EntryCounts) (k : ℕ) → IsIndex history rulings index → length sites ≤ k → ((h : Handed) → Contains index.handed.items h → h.edge.label.site ≡ k → ⊥) → IsSiteSettled history rulings counts k (slice_get sites k)
-beyond_settled history rulings index sites counts k is high none = beyond_with history rulings index sites counts k (slice_get sites k) refl is high none
+pub beyond_settled : (history : List Call) (rulings : List Ruling) (index : Index) (sites : List SiteState)
+    (counts : List EntryCounts) (k : ℕ) → IsIndex history rulings index → length sites ≤ k
+    → ((h : Handed) → Contains index.handed.items h → h.edge.label.site ≡ k → ⊥)
+    → IsSiteSettled history rulings counts k (slice_get sites k)
+beyond_settled history rulings index sites counts k is high none =
+    beyond_with history rulings index sites counts k (slice_get sites k) refl is high none
 
-settled_with : (history : List Call) (rulings : List Ruling) (index : Index) (sites : List SiteState) (counts : List EntryCounts) (k : ℕ) (o : Option SiteState) → slice_get sites k ≡ o → IsIndex history rulings index → length sites ≤ k → IsSiteSettled history rulings counts k o → (h : Handed) → Contains index.handed.items h → h.edge.label.site ≡ k → ⊥
-settled_with history rulings index sites counts k None at is high settled h contains site = settled h (subst (λ hs. Contains hs h) is.handed contains) site
-settled_with history rulings index sites counts k (Some s) at is high settled h contains site = absurd (let low = slice_get_within sites k s at in omega (arith, low, high))
+settled_with : (history : List Call) (rulings : List Ruling) (index : Index) (sites : List SiteState)
+    (counts : List EntryCounts) (k : ℕ) (o : Option SiteState) → slice_get sites k ≡ o → IsIndex history rulings index
+    → length sites ≤ k → IsSiteSettled history rulings counts k o → (h : Handed) → Contains index.handed.items h
+    → h.edge.label.site ≡ k → ⊥
+settled_with history rulings index sites counts k None at is high settled h contains site =
+    settled h (subst (λ hs. Contains hs h) is.handed contains) site
+settled_with history rulings index sites counts k (Some s) at is high settled h contains site =
+    absurd (let low = slice_get_within sites k s at in omega (arith, low, high))
 
 -- all sites that are there are settled; the least edge beyond them is the least that isn't
-pub beyond_found : (history : List Call) (rulings : List Ruling) (index : Index) (sites : List SiteState) (counts : List EntryCounts) (o : Option ℕ) → IsIndex history rulings index → ((k : ℕ) → k < length sites → IsSiteSettled history rulings counts k (slice_get sites k)) → IsLeastOf (λ (h : Handed). h.edge.label.site) (λ (h : Handed). length sites ≤ h.edge.label.site) index.handed.items o
-    → MatchOption o ((k : ℕ) → IsSiteSettled history rulings counts k (slice_get sites k)) (λ site. (IsSiteSettled history rulings counts site (slice_get sites site) → ⊥) × ((k : ℕ) → k < site → IsSiteSettled history rulings counts k (slice_get sites k)))
+pub beyond_found : (history : List Call) (rulings : List Ruling) (index : Index) (sites : List SiteState)
+    (counts : List EntryCounts) (o : Option ℕ) → IsIndex history rulings index
+    → ((k : ℕ) → k < length sites → IsSiteSettled history rulings counts k (slice_get sites k))
+    → IsLeastOf (λ (h : Handed). h.edge.label.site) (λ (h : Handed). length sites ≤ h.edge.label.site)
+    index.handed.items o
+    → MatchOption o ((k : ℕ) → IsSiteSettled history rulings counts k (slice_get sites k))
+    (λ site. (IsSiteSettled history rulings counts site (slice_get sites site) → ⊥) × ((k : ℕ) → k < site
+    → IsSiteSettled history rulings counts k (slice_get sites k)))
 beyond_found history rulings index sites counts None is each least = λ k.
     elim (cases_lt k (length sites)) [
       | inl low ↦ each k low
-      | inr high ↦ beyond_settled history rulings index sites counts k is high (λ h contains site. least h contains (omega (arith, high, site)))
+      | inr high ↦ beyond_settled history rulings index sites counts k is high
+          (λ h contains site. least h contains (omega (arith, high, site)))
     ]
 beyond_found history rulings index sites counts (Some site) is each least = (
-  λ settled. settled_with history rulings index sites counts site (slice_get sites site) refl is (omega (arith, least.0.3, least.0.2)) settled least.0.0 least.0.1 least.0.2,
+  λ settled. settled_with history rulings index sites counts site (slice_get sites site) refl is
+      (omega (arith, least.0.3, least.0.2)) settled least.0.0 least.0.1 least.0.2,
   λ k lt.
       elim (cases_lt k (length sites)) [
         | inl low ↦ each k low
-        | inr high ↦ beyond_settled history rulings index sites counts k is high (λ h contains at. let le = least.1 h contains (omega (arith, high, at)) in omega (arith, le, at, lt))
+        | inr high ↦ beyond_settled history rulings index sites counts k is high (λ h contains at. let le =
+            least.1 h contains (omega (arith, high, at)) in omega (arith, le, at, lt))
       ],
 )

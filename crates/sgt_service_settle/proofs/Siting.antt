@@ -18,8 +18,10 @@ sited_none handed rows none = record {
 }
 
 -- an edge of a site that is there, put at its place
-pub sited_hit : (handed : List Handed) (n : ℕ) (h : Handed) (rows new : List (Vec Handed Global)) → slice_get handed n ≡ Some h
-    → Pushed rows h.edge.label.site h new → length new ≡ length rows → AreBySite (take n handed) rows → AreBySite (take (n + 1) handed) new
+pub sited_hit : (handed : List Handed) (n : ℕ) (h : Handed) (rows new : List (Vec Handed Global))
+    → slice_get handed n ≡ Some h
+    → Pushed rows h.edge.label.site h new → length new ≡ length rows → AreBySite (take n handed) rows
+    → AreBySite (take (n + 1) handed) new
 sited_hit handed n h rows new here pushed long old =
     let site = h.edge.label.site in
     let more = take_next handed n h here in
@@ -30,7 +32,8 @@ sited_hit handed n h rows new here pushed long old =
                 let known = old.these k m other early in
                 (subst (λ hs. Contains hs other) (sym more) (push_old (take n handed) h other known.0), known.1)
             | inr last ↦ (
-              subst (λ hs. Contains hs other) (sym more) (subst (Contains (take n handed ++ h ∷ [])) last.2 (push_new (take n handed) h)),
+              subst (λ hs. Contains hs other) (sym more)
+                  (subst (Contains (take n handed ++ h ∷ [])) last.2 (push_new (take n handed) h)),
               ap (λ (x : Handed). x.edge.label.site) (sym last.2) ∙ sym last.0,
             )
           ];
@@ -46,7 +49,8 @@ sited_hit handed n h rows new here pushed long old =
     }
 
 -- one of a site that isn't there
-pub sited_miss : (handed : List Handed) (n : ℕ) (h : Handed) (rows : List (Vec Handed Global)) → slice_get handed n ≡ Some h
+pub sited_miss : (handed : List Handed) (n : ℕ) (h : Handed) (rows : List (Vec Handed Global))
+    → slice_get handed n ≡ Some h
     → length rows ≤ h.edge.label.site → AreBySite (take n handed) rows → AreBySite (take (n + 1) handed) rows
 sited_miss handed n h rows here past old =
     let more = take_next handed n h here in
@@ -57,13 +61,16 @@ sited_miss handed n h rows here past old =
       all = λ other has low.
           elim (push_contains (take n handed) h other (subst (λ hs. Contains hs other) more has)) [
             | inl early ↦ old.all other early low
-            | inr last ↦ let same = ap (λ (x : Handed). x.edge.label.site) last in absurd (omega (arith, low, past, same))
+            | inr last ↦ let same = ap (λ (x : Handed). x.edge.label.site) last in
+                absurd (omega (arith, low, past, same))
           ];
     }
 
 -- the row of a site that is there
-pub sited_row : (handed : List Handed) (rows : List (Vec Handed Global)) (site : ℕ) (row : Vec Handed Global) → AreBySite handed rows
-    → site < length rows → slice_get rows site ≡ Some row → (h : Handed) → Contains row.items h ↔ (Contains handed h × (h.edge.label.site ≡ site))
+pub sited_row : (handed : List Handed) (rows : List (Vec Handed Global)) (site : ℕ) (row : Vec Handed Global)
+    → AreBySite handed rows
+    → site < length rows → slice_get rows site ≡ Some row → (h : Handed)
+    → Contains row.items h ↔ (Contains handed h × (h.edge.label.site ≡ site))
 sited_row handed rows site row are low here h = (
   λ has. let at = Contains_at row.items h has in are.these site at.0 h (row, here, at.1),
   λ k.

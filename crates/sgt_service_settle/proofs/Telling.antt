@@ -33,7 +33,8 @@ ending_or Withdrawn Committed = inr (λ e. absurd cc)
 ending_or Withdrawn Refused = inr (λ e. absurd cc)
 ending_or Withdrawn Withdrawn = inl refl
 
-both_stable : (t : Ticket) (tx : ℕ) (e : Ending) → (((t.tx ≡ tx) × (t.verdict ≡ e) → ⊥) → ⊥) → (t.tx ≡ tx) × (t.verdict ≡ e)
+both_stable : (t : Ticket) (tx : ℕ) (e : Ending) → (((t.tx ≡ tx) × (t.verdict ≡ e) → ⊥) → ⊥)
+    → (t.tx ≡ tx) × (t.verdict ≡ e)
 both_stable t tx e nn = (
   elim (cases_eq t.tx tx) [ inl same ↦ same | inr other ↦ absurd (nn (λ k. other k.0)) ],
   elim (ending_or t.verdict e) [ inl same ↦ same | inr other ↦ absurd (nn (λ k. other k.1)) ],
@@ -44,9 +45,15 @@ tells_stable t (committed tx) nn = both_stable t tx Committed nn
 tells_stable t (refused tx walk) nn = both_stable t tx Refused nn
 tells_stable t (withdrawn tx) nn = both_stable t tx Withdrawn nn
 
-good_at : (rulings : List Ruling) (t : Ticket) (o : Option Ruling) → slice_get rulings t.number ≡ o → ((IsGood rulings t → ⊥) → ⊥) → IsGood rulings t
+good_at : (rulings : List Ruling) (t : Ticket) (o : Option Ruling) → slice_get rulings t.number ≡ o
+    → ((IsGood rulings t → ⊥) → ⊥) → IsGood rulings t
 good_at rulings t None at nn = absurd (nn (λ good. none-some good.0 (sym at ∙ good.1)))
-good_at rulings t (Some r) at nn = (r, at, tells_stable t r (λ untold. nn (λ good. untold (subst (Tells t) (same_Some good.0 r (sym good.1 ∙ at)) good.2))))
+good_at rulings t (Some r) at nn = (
+  r,
+  at,
+  tells_stable t r
+      (λ untold. nn (λ good. untold (subst (Tells t) (same_Some good.0 r (sym good.1 ∙ at)) good.2))),
+)
 
 good_stable : (rulings : List Ruling) (t : Ticket) → ((IsGood rulings t → ⊥) → ⊥) → IsGood rulings t
 good_stable rulings t nn = good_at rulings t (slice_get rulings t.number) refl nn
@@ -75,13 +82,15 @@ NoMissing r = (k : ℕ) → k < length r.certifier.state.rulings → 1 ≤ count
 abbrev pub NoDisorder : Run → Type 0
 NoDisorder r = (d : Done) → Contains r.dones d → Rises d
 
-pub no_stray : (r : Run) → IsLeastOf (λ (t : Ticket). t.number) (λ (t : Ticket). IsGood r.certifier.state.rulings t → ⊥) (tickets_of r.dones) None → NoStray r
+pub no_stray : (r : Run) → IsLeastOf (λ (t : Ticket). t.number) (λ (t : Ticket). IsGood r.certifier.state.rulings t
+    → ⊥) (tickets_of r.dones) None → NoStray r
 no_stray r none t c = good_stable r.certifier.state.rulings t (none t c)
 
 pub no_disorder : (r : Run) → IsLeastOf (λ (d : Done). d.job) (λ (d : Done). Rises d → ⊥) r.dones None → NoDisorder r
 no_disorder r none d c = rises_stable d (none d c)
 
-pub no_two : (r : Run) → NoStray r → ((k : ℕ) → k < length r.certifier.state.rulings → count_of k (tickets_of r.dones) ≤ 1) → NoTwo r
+pub no_two : (r : Run) → NoStray r
+    → ((k : ℕ) → k < length r.certifier.state.rulings → count_of k (tickets_of r.dones) ≤ 1) → NoTwo r
 no_two r good few k =
     elim (cases_lt 1 (count_of k (tickets_of r.dones))) [
       | inl many ↦
@@ -93,7 +102,8 @@ no_two r good few k =
       | inr few_enough ↦ few_enough
     ]
 
-pub are_tickets : (r : Run) → NoStray r → NoTwo r → NoMissing r → NoDisorder r → AreTickets r.certifier.state.rulings r.dones
+pub are_tickets : (r : Run) → NoStray r → NoTwo r → NoMissing r → NoDisorder r
+    → AreTickets r.certifier.state.rulings r.dones
 are_tickets r good two missing order = record {
   good = all_of (IsGood r.certifier.state.rulings) (tickets_of r.dones) good;
   once = λ k low. let a = two k in let b = missing k low in omega (arith, a, b);
@@ -124,7 +134,8 @@ before_missing r good two _ lt shown = absurd shown
 before_order : (r : Run) → NoStray r → NoTwo r → NoMissing r → (g : ServiceFault) → kind_place g < 8 → Shows r g → ⊥
 before_order r good two missing (fault.StrayTicket k) lt shown = shown.3 (good shown.0 shown.1)
 before_order r good two missing (fault.TwoTickets k) lt shown = let le = two k in absurd (omega (arith, le, shown))
-before_order r good two missing (fault.MissingTicket k) lt shown = let le = missing k shown.0 in absurd (omega (arith, le, shown.1))
+before_order r good two missing (fault.MissingTicket k) lt shown = let le = missing k shown.0 in
+    absurd (omega (arith, le, shown.1))
 before_order r good two missing (fault.TicketOrder job) lt shown = absurd (omega (arith, lt))
 before_order r good two missing (fault.LogDiffers site) lt shown = absurd (omega (arith, lt))
 before_order r good two missing (fault.VersionsDiffer site) lt shown = absurd (omega (arith, lt))
@@ -142,8 +153,11 @@ none_before r (fault.VersionsDiffer j) lt shown = absurd (omega (arith, lt))
 none_before r (fault.Certifier f) lt shown = absurd (omega (arith, lt))
 none_before r _ lt shown = absurd shown
 
-least_stray : (r : Run) (k : ℕ) → ((t : Ticket) → Contains (tickets_of r.dones) t → (IsGood r.certifier.state.rulings t → ⊥) → k ≤ t.number) → (g : ServiceFault) → kind_place g ≡ 1 → fault_at g < k → Shows r g → ⊥
-least_stray r k least (fault.StrayTicket j) same lt shown = let le = least shown.0 shown.1 shown.3 in omega (arith, le, shown.2, lt)
+least_stray : (r : Run) (k : ℕ)
+    → ((t : Ticket) → Contains (tickets_of r.dones) t → (IsGood r.certifier.state.rulings t → ⊥) → k ≤ t.number)
+    → (g : ServiceFault) → kind_place g ≡ 1 → fault_at g < k → Shows r g → ⊥
+least_stray r k least (fault.StrayTicket j) same lt shown = let le = least shown.0 shown.1 shown.3 in
+    omega (arith, le, shown.2, lt)
 least_stray r k least (fault.TwoTickets j) same lt shown = absurd (omega (arith, same))
 least_stray r k least (fault.MissingTicket j) same lt shown = absurd (omega (arith, same))
 least_stray r k least (fault.TicketOrder j) same lt shown = absurd (omega (arith, same))
@@ -152,7 +166,8 @@ least_stray r k least (fault.VersionsDiffer j) same lt shown = absurd (omega (ar
 least_stray r k least (fault.Certifier f) same lt shown = absurd (omega (arith, same))
 least_stray r k least _ same lt shown = absurd shown
 
-least_two : (r : Run) (k : ℕ) → ((j : ℕ) → j < k → count_of j (tickets_of r.dones) ≤ 1) → (g : ServiceFault) → kind_place g ≡ 2 → fault_at g < k → Shows r g → ⊥
+least_two : (r : Run) (k : ℕ) → ((j : ℕ) → j < k → count_of j (tickets_of r.dones) ≤ 1) → (g : ServiceFault)
+    → kind_place g ≡ 2 → fault_at g < k → Shows r g → ⊥
 least_two r k least (fault.StrayTicket j) same lt shown = absurd (omega (arith, same))
 least_two r k least (fault.TwoTickets j) same lt shown = let le = least j lt in omega (arith, le, shown)
 least_two r k least (fault.MissingTicket j) same lt shown = absurd (omega (arith, same))
@@ -162,7 +177,8 @@ least_two r k least (fault.VersionsDiffer j) same lt shown = absurd (omega (arit
 least_two r k least (fault.Certifier f) same lt shown = absurd (omega (arith, same))
 least_two r k least _ same lt shown = absurd shown
 
-least_missing : (r : Run) (k : ℕ) → ((j : ℕ) → j < k → 1 ≤ count_of j (tickets_of r.dones)) → (g : ServiceFault) → kind_place g ≡ 6 → fault_at g < k → Shows r g → ⊥
+least_missing : (r : Run) (k : ℕ) → ((j : ℕ) → j < k → 1 ≤ count_of j (tickets_of r.dones)) → (g : ServiceFault)
+    → kind_place g ≡ 6 → fault_at g < k → Shows r g → ⊥
 least_missing r k least (fault.StrayTicket j) same lt shown = absurd (omega (arith, same))
 least_missing r k least (fault.TwoTickets j) same lt shown = absurd (omega (arith, same))
 least_missing r k least (fault.MissingTicket j) same lt shown = let le = least j lt in omega (arith, le, shown.1)
@@ -172,20 +188,25 @@ least_missing r k least (fault.VersionsDiffer j) same lt shown = absurd (omega (
 least_missing r k least (fault.Certifier f) same lt shown = absurd (omega (arith, same))
 least_missing r k least _ same lt shown = absurd shown
 
-least_unordered : (r : Run) (k : ℕ) → ((d : Done) → Contains r.dones d → (Rises d → ⊥) → k ≤ d.job) → (g : ServiceFault) → kind_place g ≡ 8 → fault_at g < k → Shows r g → ⊥
+least_unordered : (r : Run) (k : ℕ) → ((d : Done) → Contains r.dones d → (Rises d → ⊥) → k ≤ d.job)
+    → (g : ServiceFault) → kind_place g ≡ 8 → fault_at g < k → Shows r g → ⊥
 least_unordered r k least (fault.StrayTicket j) same lt shown = absurd (omega (arith, same))
 least_unordered r k least (fault.TwoTickets j) same lt shown = absurd (omega (arith, same))
 least_unordered r k least (fault.MissingTicket j) same lt shown = absurd (omega (arith, same))
-least_unordered r k least (fault.TicketOrder j) same lt shown = let le = least shown.0 shown.1 shown.3 in omega (arith, le, shown.2, lt)
+least_unordered r k least (fault.TicketOrder j) same lt shown = let le = least shown.0 shown.1 shown.3 in
+    omega (arith, le, shown.2, lt)
 least_unordered r k least (fault.LogDiffers j) same lt shown = absurd (omega (arith, same))
 least_unordered r k least (fault.VersionsDiffer j) same lt shown = absurd (omega (arith, same))
 least_unordered r k least (fault.Certifier f) same lt shown = absurd (omega (arith, same))
 least_unordered r k least _ same lt shown = absurd shown
 
-pub before_sites : (r : Run) → NoStray r → NoTwo r → NoMissing r → NoDisorder r → (g : ServiceFault) → kind_place g < 9 → Shows r g → ⊥
+pub before_sites : (r : Run) → NoStray r → NoTwo r → NoMissing r → NoDisorder r → (g : ServiceFault)
+    → kind_place g < 9 → Shows r g → ⊥
 before_sites r good two missing order (fault.StrayTicket j) lt shown = shown.3 (good shown.0 shown.1)
-before_sites r good two missing order (fault.TwoTickets j) lt shown = let le = two j in absurd (omega (arith, le, shown))
-before_sites r good two missing order (fault.MissingTicket j) lt shown = let le = missing j shown.0 in absurd (omega (arith, le, shown.1))
+before_sites r good two missing order (fault.TwoTickets j) lt shown = let le = two j in
+    absurd (omega (arith, le, shown))
+before_sites r good two missing order (fault.MissingTicket j) lt shown = let le = missing j shown.0 in
+    absurd (omega (arith, le, shown.1))
 before_sites r good two missing order (fault.TicketOrder j) lt shown = shown.3 (order shown.0 shown.1)
 before_sites r good two missing order (fault.LogDiffers j) lt shown = absurd (omega (arith, lt))
 before_sites r good two missing order (fault.VersionsDiffer j) lt shown = absurd (omega (arith, lt))
@@ -194,20 +215,30 @@ before_sites r good two missing order _ lt shown = absurd shown
 
 -- ---- the fault that is told
 
-pub first_stray_told : (r : Run) (k : ℕ) → IsLeastOf (λ (t : Ticket). t.number) (λ (t : Ticket). IsGood r.certifier.state.rulings t → ⊥) (tickets_of r.dones) (Some k) → IsFirst r (fault.StrayTicket k)
+pub first_stray_told : (r : Run) (k : ℕ)
+    → IsLeastOf (λ (t : Ticket). t.number) (λ (t : Ticket). IsGood r.certifier.state.rulings t
+    → ⊥) (tickets_of r.dones) (Some k) → IsFirst r (fault.StrayTicket k)
 first_stray_told r k least = record {
   shown = (least.0.0, least.0.1, least.0.2, least.0.3);
   first = none_before r;
   least = least_stray r k (λ t c stray. least.1 t c stray);
 }
 
-pub first_two_told : (r : Run) (k : ℕ) → NoStray r → 2 ≤ count_of k (tickets_of r.dones) → ((j : ℕ) → j < k → count_of j (tickets_of r.dones) ≤ 1) → IsFirst r (fault.TwoTickets k)
+pub first_two_told : (r : Run) (k : ℕ) → NoStray r → 2 ≤ count_of k (tickets_of r.dones)
+    → ((j : ℕ) → j < k → count_of j (tickets_of r.dones) ≤ 1) → IsFirst r (fault.TwoTickets k)
 first_two_told r k good two least = record { shown = two; first = before_two r good; least = least_two r k least }
 
-pub first_missing_told : (r : Run) (k : ℕ) → NoStray r → NoTwo r → k < length r.certifier.state.rulings → count_of k (tickets_of r.dones) ≡ 0 → ((j : ℕ) → j < k → 1 ≤ count_of j (tickets_of r.dones)) → IsFirst r (fault.MissingTicket k)
-first_missing_told r k good two low none least = record { shown = (low, none); first = before_missing r good two; least = least_missing r k least }
+pub first_missing_told : (r : Run) (k : ℕ) → NoStray r → NoTwo r → k < length r.certifier.state.rulings
+    → count_of k (tickets_of r.dones) ≡ 0 → ((j : ℕ) → j < k → 1 ≤ count_of j (tickets_of r.dones))
+    → IsFirst r (fault.MissingTicket k)
+first_missing_told r k good two low none least = record {
+  shown = (low, none);
+  first = before_missing r good two;
+  least = least_missing r k least;
+}
 
-pub first_unordered_told : (r : Run) (k : ℕ) → NoStray r → NoTwo r → NoMissing r → IsLeastOf (λ (d : Done). d.job) (λ (d : Done). Rises d → ⊥) r.dones (Some k) → IsFirst r (fault.TicketOrder k)
+pub first_unordered_told : (r : Run) (k : ℕ) → NoStray r → NoTwo r → NoMissing r
+    → IsLeastOf (λ (d : Done). d.job) (λ (d : Done). Rises d → ⊥) r.dones (Some k) → IsFirst r (fault.TicketOrder k)
 first_unordered_told r k good two missing least = record {
   shown = (least.0.0, least.0.1, least.0.2, least.0.3);
   first = before_order r good two missing;
@@ -216,24 +247,39 @@ first_unordered_told r k good two missing least = record {
 
 -- ---- from the history and the Dones to the run
 
-pub stray_of : (r : Run) (history : List Call) (dones : List Done) (k : Option ℕ) → IsRunOf r history dones → IsLeastOf (λ (t : Ticket). t.number) (IsStray history) (tickets_of dones) k → IsLeastOf (λ (t : Ticket). t.number) (λ (t : Ticket). IsGood r.certifier.state.rulings t → ⊥) (tickets_of r.dones) k
+pub stray_of : (r : Run) (history : List Call) (dones : List Done) (k : Option ℕ) → IsRunOf r history dones
+    → IsLeastOf (λ (t : Ticket). t.number) (IsStray history) (tickets_of dones) k
+    → IsLeastOf (λ (t : Ticket). t.number) (λ (t : Ticket). IsGood r.certifier.state.rulings t
+    → ⊥) (tickets_of r.dones) k
 stray_of r history dones k is least =
-    subst (λ ds. IsLeastOf (λ (t : Ticket). t.number) (λ (t : Ticket). IsGood r.certifier.state.rulings t → ⊥) (tickets_of ds) k) (sym is.answers)
-    (subst (λ rs. IsLeastOf (λ (t : Ticket). t.number) (λ (t : Ticket). IsGood rs t → ⊥) (tickets_of dones) k) (sym is.told) least)
+    subst (λ ds. IsLeastOf (λ (t : Ticket). t.number) (λ (t : Ticket). IsGood r.certifier.state.rulings t
+    → ⊥) (tickets_of ds) k) (sym is.answers)
+    (subst (λ rs. IsLeastOf (λ (t : Ticket). t.number) (λ (t : Ticket). IsGood rs t → ⊥) (tickets_of dones) k)
+    (sym is.told) least)
 
-pub order_of : (r : Run) (history : List Call) (dones : List Done) (k : Option ℕ) → IsRunOf r history dones → IsLeastOf (λ (d : Done). d.job) (λ (d : Done). Rises d → ⊥) dones k → IsLeastOf (λ (d : Done). d.job) (λ (d : Done). Rises d → ⊥) r.dones k
-order_of r history dones k is least = subst (λ ds. IsLeastOf (λ (d : Done). d.job) (λ (d : Done). Rises d → ⊥) ds k) (sym is.answers) least
+pub order_of : (r : Run) (history : List Call) (dones : List Done) (k : Option ℕ) → IsRunOf r history dones
+    → IsLeastOf (λ (d : Done). d.job) (λ (d : Done). Rises d → ⊥) dones k
+    → IsLeastOf (λ (d : Done). d.job) (λ (d : Done). Rises d → ⊥) r.dones k
+order_of r history dones k is least = subst (λ ds. IsLeastOf (λ (d : Done). d.job) (λ (d : Done). Rises d → ⊥) ds k)
+    (sym is.answers) least
 
-pub count_in_run : (r : Run) (history : List Call) (dones : List Done) (k : ℕ) → IsRunOf r history dones → count_of k (tickets_of r.dones) ≡ count_of k (tickets_of dones)
+pub count_in_run : (r : Run) (history : List Call) (dones : List Done) (k : ℕ) → IsRunOf r history dones
+    → count_of k (tickets_of r.dones) ≡ count_of k (tickets_of dones)
 count_in_run r history dones k is = ap (λ ds. count_of k (tickets_of ds)) is.answers
 
-pub decisions_of_run : (r : Run) (history : List Call) (dones : List Done) → IsRunOf r history dones → length r.certifier.state.rulings ≡ count_by is_decision history
+pub decisions_of_run : (r : Run) (history : List Call) (dones : List Done) → IsRunOf r history dones
+    → length r.certifier.state.rulings ≡ count_by is_decision history
 decisions_of_run r history dones is = ap length is.told ∙ many_decisions history
 
 -- a run of this history and these Dones
 abbrev pub run_of : List Call → List Done → Run
 run_of history dones = record {
-  certifier = record { state = record opening { rulings = rulings_from 0 0 history }; history = history; expected = [] };
+  certifier = record {
+    state = record opening { rulings = rulings_from 0 0 history };
+    history = history;
+    expected =
+        [];
+  };
   sites = [];
   counts = [];
   dones = dones;

@@ -45,14 +45,23 @@ decision_rules before (call.Withdraw h number) is = (withdrawn (tx_at before h),
 decision_rules before (call.Close ranks) is = absurd cc
 decision_rules before (call.Installed tx site items) is = absurd cc
 
-pub step_on : (history : List Call) (n begun before : ℕ) (met : List Ruling) (c : Call) → rulings_from 0 0 history ≡ met ++ rulings_from begun before (drop n history) → slice_get history n ≡ Some c → rulings_from 0 0 history ≡ (met ++ rulings_from 0 before (c ∷ [])) ++ rulings_from (windows_after begun before c).0 (windows_after begun before c).1 (drop (n + 1) history)
+pub step_on : (history : List Call) (n begun before : ℕ) (met : List Ruling) (c : Call)
+    → rulings_from 0 0 history ≡ met ++ rulings_from begun before (drop n history) → slice_get history n ≡ Some c
+    → rulings_from 0 0 history ≡ (met ++ rulings_from 0 before (c ∷ [])) ++ rulings_from
+    (windows_after begun before c).0 (windows_after begun before c).1 (drop (n + 1) history)
 step_on history n begun before met c whole at =
-    let rest : rulings_from begun before (drop n history) ≡ rulings_from 0 before (c ∷ []) ++ rulings_from (windows_after begun before c).0 (windows_after begun before c).1 (drop (n + 1) history) =
+    let rest : rulings_from begun before (drop n history) ≡ rulings_from 0 before (c ∷ []) ++ rulings_from
+    (windows_after begun before c).0 (windows_after begun before c).1 (drop (n + 1) history) =
     ap (rulings_from begun before) (drop_next history n c at) ∙ rulings_split begun before c (drop (n + 1) history) in
     whole ∙ (ap (λ xs. met ++ xs) rest ∙ sym (append_assoc met (rulings_from 0 before (c ∷ [])) _))
 
-step_whole : (history : List Call) (n begun before number sought : ℕ) (c : Call) → IsWalked history n begun before number sought → slice_get history n ≡ Some c → (met : List Ruling) × (rulings_from 0 0 history ≡ (met ++ rulings_from 0 before (c ∷ [])) ++ rulings_from (windows_after begun before c).0 (windows_after begun before c).1 (drop (n + 1) history)) × (length met ≡ number)
-step_whole history n begun before number sought c w at = (w.met, step_on history n begun before w.met c w.whole at, w.many)
+step_whole : (history : List Call) (n begun before number sought : ℕ) (c : Call)
+    → IsWalked history n begun before number sought → slice_get history n ≡ Some c
+    → (met : List Ruling)
+    × (rulings_from 0 0 history ≡ (met ++ rulings_from 0 before (c ∷ [])) ++ rulings_from
+    (windows_after begun before c).0 (windows_after begun before c).1 (drop (n + 1) history)) × (length met ≡ number)
+step_whole history n begun before number sought c w at =
+    (w.met, step_on history n begun before w.met c w.whole at, w.many)
 
 head_same : (a b : Ruling) → a ∷ [] ≡ b ∷ [] → a ≡ b
 head_same a b e = cc
@@ -60,14 +69,19 @@ head_same a b e = cc
 -- the ticket tells the ruling of the call
 told_by : (t : Ticket) (before : ℕ) (c : Call) (r : Ruling) → Rules before c r → IsToldBy t before c ↔ Tells t r
 told_by t before (call.Begin tx h) r is = absurd cc
-told_by t before (call.Decide h edges (decided.Committed number)) r is = let same = head_same _ r is in (λ k. subst (Tells t) same k, λ k. subst (Tells t) (sym same) k)
-told_by t before (call.Decide h edges (decided.Refused number walk)) r is = let same = head_same _ r is in (λ k. subst (Tells t) same k, λ k. subst (Tells t) (sym same) k)
+told_by t before (call.Decide h edges (decided.Committed number)) r is = let same = head_same _ r is in
+    (λ k. subst (Tells t) same k, λ k. subst (Tells t) (sym same) k)
+told_by t before (call.Decide h edges (decided.Refused number walk)) r is = let same = head_same _ r is in
+    (λ k. subst (Tells t) same k, λ k. subst (Tells t) (sym same) k)
 told_by t before (call.Finish tx) r is = absurd cc
-told_by t before (call.Withdraw h number) r is = let same = head_same _ r is in (λ k. subst (Tells t) same k, λ k. subst (Tells t) (sym same) k)
+told_by t before (call.Withdraw h number) r is = let same = head_same _ r is in
+    (λ k. subst (Tells t) same k, λ k. subst (Tells t) (sym same) k)
 told_by t before (call.Close ranks) r is = absurd cc
 told_by t before (call.Installed tx site items) r is = absurd cc
 
-pub walk_hit : (history : List Call) (n begun before number : ℕ) (t : Ticket) (c : Call) → IsWalked history n begun before number t.number → slice_get history n ≡ Some c → is_decision c ≡ true → number ≡ t.number → IsToldBy t before c ↔ IsGood (rulings_from 0 0 history) t
+pub walk_hit : (history : List Call) (n begun before number : ℕ) (t : Ticket) (c : Call)
+    → IsWalked history n begun before number t.number → slice_get history n ≡ Some c → is_decision c ≡ true
+    → number ≡ t.number → IsToldBy t before c ↔ IsGood (rulings_from 0 0 history) t
 walk_hit history n begun before number t c w at is hit =
     let step = step_whole history n begun before number t.number c w at in
     let rule = decision_rules before c is in
@@ -81,44 +95,56 @@ walk_hit history n begun before number t c w at is hit =
       λ good. told.1 (subst (Tells t) (same_Some good.0 rule.0 (sym good.1 ∙ place)) good.2),
     )
 
-pub walk_decided : (history : List Call) (n begun before number sought : ℕ) (c : Call) → IsWalked history n begun before number sought → slice_get history n ≡ Some c → is_decision c ≡ true → number < sought → IsWalked history (n + 1) (windows_after begun before c).0 (windows_after begun before c).1 (number + 1) sought
+pub walk_decided : (history : List Call) (n begun before number sought : ℕ) (c : Call)
+    → IsWalked history n begun before number sought → slice_get history n ≡ Some c → is_decision c ≡ true
+    → number < sought → IsWalked history (n + 1) (windows_after begun before c).0 (windows_after begun before c).1
+    (number + 1) sought
 walk_decided history n begun before number sought c w at is early =
     let step = step_whole history n begun before number sought c w at in
     let rule = decision_rules before c is in
     let few = windows_few begun before c in
     record {
       met = step.0 ++ rule.0 ∷ [];
-      whole = step.1 ∙ ap (λ xs. (step.0 ++ xs) ++ rulings_from (windows_after begun before c).0 (windows_after begun before c).1 (drop (n + 1) history)) rule.1;
+      whole = step.1
+          ∙ ap (λ xs. (step.0 ++ xs) ++ rulings_from (windows_after begun before c).0 (windows_after begun before c).1
+          (drop (n + 1) history)) rule.1;
       many = length_push step.0 rule.0 ∙ ap (λ k. k + 1) step.2;
       early = omega (arith, early);
       few = omega (arith, few, w.few);
     }
 
-pub walk_on : (history : List Call) (n begun before number sought : ℕ) (c : Call) → IsWalked history n begun before number sought → slice_get history n ≡ Some c → is_decision c ≡ false → IsWalked history (n + 1) (windows_after begun before c).0 (windows_after begun before c).1 number sought
+pub walk_on : (history : List Call) (n begun before number sought : ℕ) (c : Call)
+    → IsWalked history n begun before number sought → slice_get history n ≡ Some c → is_decision c ≡ false
+    → IsWalked history (n + 1) (windows_after begun before c).0 (windows_after begun before c).1 number sought
 walk_on history n begun before number sought c w at other =
     let step = step_whole history n begun before number sought c w at in
     let few = windows_few begun before c in
     let rest = rulings_from (windows_after begun before c).0 (windows_after begun before c).1 (drop (n + 1) history) in
     record {
       met = step.0;
-      whole = step.1 ∙ (ap (λ xs. (step.0 ++ xs) ++ rest) (not_decision begun before c other) ∙ ap (λ xs. xs ++ rest) (append-nil step.0));
+      whole = step.1 ∙ (ap (λ xs. (step.0 ++ xs) ++ rest) (not_decision begun before c other)
+          ∙ ap (λ xs. xs ++ rest) (append-nil step.0));
       many = step.2;
       early = w.early;
       few = omega (arith, few, w.few);
     }
 
-pub walk_ends : (history : List Call) (n begun before number : ℕ) (t : Ticket) → IsWalked history n begun before number t.number → length history ≤ n → IsGood (rulings_from 0 0 history) t → ⊥
+pub walk_ends : (history : List Call) (n begun before number : ℕ) (t : Ticket)
+    → IsWalked history n begun before number t.number → length history ≤ n → IsGood (rulings_from 0 0 history) t → ⊥
 walk_ends history n begun before number t w all good =
-    let rest : rulings_from 0 0 history ≡ w.met = w.whole ∙ (ap (λ xs. w.met ++ rulings_from begun before xs) (drop_all n history all) ∙ append-nil w.met) in
+    let rest : rulings_from 0 0 history ≡ w.met = w.whole
+    ∙ (ap (λ xs. w.met ++ rulings_from begun before xs) (drop_all n history all) ∙ append-nil w.met) in
     let low = slice_get_within w.met t.number good.0 (ap (λ xs. slice_get xs t.number) (sym rest) ∙ good.1) in
     omega (arith, low, w.many, w.early)
 
 -- ---- counts
 
-many_same : (begun before begun' before' : ℕ) (calls : List Call) → length (rulings_from begun before calls) ≡ length (rulings_from begun' before' calls)
+many_same : (begun before begun' before' : ℕ) (calls : List Call)
+    → length (rulings_from begun before calls) ≡ length (rulings_from begun' before' calls)
 many_same begun before begun' before' [] = refl
 many_same begun before begun' before' (call.Begin tx h ∷ cs) = many_same (suc begun) before (suc begun') before' cs
-many_same begun before begun' before' (call.Decide h edges reply ∷ cs) = ap suc (many_same begun before begun' before' cs)
+many_same begun before begun' before' (call.Decide h edges reply ∷ cs) =
+    ap suc (many_same begun before begun' before' cs)
 many_same begun before begun' before' (call.Finish tx ∷ cs) = many_same begun before begun' before' cs
 many_same begun before begun' before' (call.Withdraw h number ∷ cs) = ap suc (many_same begun before begun' before' cs)
 many_same begun before begun' before' (call.Close ranks ∷ cs) = many_same begun begun begun' begun' cs

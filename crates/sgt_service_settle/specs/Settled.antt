@@ -93,7 +93,8 @@ pub record Carries (history : List Call) (rulings : List Ruling) (site : ℕ) (x
 
 -- the log of a site has the entries that were counted, and its conflicts are those that the
 -- decisions were handed
-pub record IsLogSettled (history : List Call) (rulings : List Ruling) (site : ℕ) (counts : EntryCounts) (log : List Entry) : Type 0 where
+pub record IsLogSettled (history : List Call) (rulings : List Ruling) (site : ℕ) (counts : EntryCounts)
+    (log : List Entry) : Type 0 where
   pub counted : AreEntriesCounted counts log
   -- each edge that a decision was handed is a conflict of the log
   pub edges : (h : Handed) → Contains (handed_in history) h → h.edge.label.site ≡ site

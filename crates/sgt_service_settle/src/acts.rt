@@ -116,8 +116,8 @@ fn sort_at(acts: &mut [Vec<Act>], at: usize) -> Result<(), AllocError>
     Ok(())
 }
 
-/// What was done to each item of the site, at its place: the operations of the log on it, in the order of their transactions. In n
-/// operations n times the logarithm of their number.
+/// What was done to each item of the site, at its place: the operations of the log on it, in the order of their
+/// transactions. In n operations n times the logarithm of their number.
 pub(crate) fn acts_of(
     alloc: Global,
     items: &[Holding],

@@ -19,8 +19,8 @@ use sgt_site::Site;
 use sgt_workers::Done;
 use std::alloc::{AllocError, Global};
 
-// The least site that doesn't agree with the history. Where there was no memory, some site that its number and its counts don't tell to
-// differ could not be judged, and no site before it differs.
+// The least site that doesn't agree with the history. Where there was no memory, some site that its number and its
+// counts don't tell to differ could not be judged, and no site before it differs.
 fn first_differing(
     alloc: Global,
     certifier: &Certifier,
@@ -66,10 +66,10 @@ fn know_sites(sites: &[Site])
     }
 }
 
-/// Whether a run is settled: its tickets are the decisions of the certifier's history, each once and those of each job in order; at
-/// each place is the site of that number, its log has the entries that were counted there, and its conflicts are those that the
-/// decisions were handed; each version is the number of installs that the history counts; and as many transactions were begun as there
-/// are tickets.
+/// Whether a run is settled: its tickets are the decisions of the certifier's history, each once and those of each
+/// job in order; at each place is the site of that number, its log has the entries that were counted there, and its
+/// conflicts are those that the decisions were handed; each version is the number of installs that the history
+/// counts; and as many transactions were begun as there are tickets.
 ///
 /// The first that holds is answered, each with the least number of its kind:
 /// - V1: a ticket has no decision of its number, transaction and verdict.
@@ -81,11 +81,11 @@ fn know_sites(sites: &[Site])
 /// - V10: a version at a site isn't so.
 /// - V4 with C4: more transactions were begun than there are tickets, so many more.
 ///
-/// Memory is linear in the history with its edges, in the logs and items of the sites and in the transactions. So is the time where
-/// transactions were decided in the order of their operations on each item, and all of them committed. Else the operations on an item
-/// are sorted, by decision and by transaction, and edges are looked up among them by binary search.
-/// At a site where an operation isn't joined to a neighbour on its item by an edge of its own, all edges are gone over, and each
-/// operation costs the site's log and the edges that it reaches.
+/// Memory is linear in the history with its edges, in the logs and items of the sites and in the transactions. So is
+/// the time where transactions were decided in the order of their operations on each item, and all of them committed.
+/// Else the operations on an item are sorted, by decision and by transaction, and edges are looked up among them by
+/// binary search. At a site where an operation isn't joined to a neighbour on its item by an edge of its own, all
+/// edges are gone over, and each operation costs the site's log and the edges that it reaches.
 pub fn check_settled(
     alloc: Global,
     certifier: &Certifier,

@@ -1,6 +1,6 @@
-//! What was done to an item, as its operations are decided one by one, and which of them the next one has to be joined to. Then walks
-//! lead from and to all others that it conflicts with: over a read that stands between them, over a write, or over what an older read
-//! was followed by.
+//! What was done to an item, as its operations are decided one by one, and which of them the next one has to be
+//! joined to. Then walks lead from and to all others that it conflicts with: over a read that stands between them,
+//! over a write, or over what an older read was followed by.
 
 ghost use Rattle.std.specs.Prelude.{◌≡◌, ◌↔◌, ◌<◌, ◌≤◌, ◌+◌, ◌⊎◌, ◌++◌, ◌∷◌, [], ℕ, suc, List, length, true, false, All, IsTrue, IfOk, OnOk};
 ghost use Rattle.sgt_service_settle.specs.declared.deeds.Deed.{Deed as ADeed};
@@ -86,8 +86,8 @@ fn is_turn(course: &Course, version: usize) -> bool
         || (version > 0 && is_write_at(course, version - 1))
 }
 
-// From where on changes stand directly in front of a version: those of the run of increments there that stand behind the last version
-// that was read, or the write where that run is empty.
+// From where on changes stand directly in front of a version: those of the run of increments there that stand behind
+// the last version that was read, or the write where that run is empty.
 fn front_of(course: &Course, version: usize) -> usize
     ensures within { result ≤ version }
     ensures turn { (result ≡ 0) ⊎ ((result < version) × IsTurn course.now result) }
@@ -100,7 +100,8 @@ fn front_of(course: &Course, version: usize) -> usize
     0
 }
 
-// Up to where changes stand directly behind a version: up to and with the next write, but before the next version that was read.
+// Up to where changes stand directly behind a version: up to and with the next write, but before the next version
+// that was read.
 fn back_of(course: &Course, version: usize) -> usize
     requires { version ≤ length course.now.changes.items }
     ensures from { version ≤ result }
@@ -172,7 +173,8 @@ fn follows_as_increment(course: &Course, tx: Tx, marks: &Marks) -> bool
             || are_reads_noted(course, course.last_read, tx, marks))
 }
 
-// Whether a write follows: the reads of the present version, or the changes directly in front of it where there are none.
+// Whether a write follows: the reads of the present version, or the changes directly in front of it where there are
+// none.
 fn follows_as_write(course: &Course, tx: Tx, marks: &Marks) -> bool
     ensures { IsTrue result
         → FollowsAsWrite (IsNoted marks.now.from.items marks.now.step tx) course.now }

@@ -28,7 +28,8 @@ fn ending_of(reply: &Decided) -> Ending
     }
 }
 
-// Whether the ticket has this verdict, and the transaction under the handle of the window before which so many were begun.
+// Whether the ticket has this verdict, and the transaction under the handle of the window before which so many were
+// begun.
 fn is_told(ticket: Ticket, before: u64, handle: Handle, verdict: Ending) -> bool
     ensures { IsTrue result ↔ ((ticket.tx ≡ tx_at before handle) × (ticket.verdict ≡ verdict)) }
 {

@@ -16,8 +16,8 @@ use crate::rows::share;
 use sgt_names::{Entry, Holding, SiteNo, Tx};
 use std::alloc::{AllocError, Global};
 
-/// What a committed transaction did to an item, by the decision of this number, at this place of the log: it read this version, or
-/// changed it. A version is the number of changes by committed transactions that made it.
+/// What a committed transaction did to an item, by the decision of this number, at this place of the log: it read
+/// this version, or changed it. A version is the number of changes by committed transactions that made it.
 #[derive(Clone, Copy, Debug, PartialEq, Eq)]
 pub struct Deed {
     pub tx: Tx,

@@ -92,8 +92,8 @@ pub(crate) fn edges_at(index: &Index, site: SiteNo) -> &[Handed]
     index.sited[place].as_slice()
 }
 
-/// The index of a certifier's history, with the edges at so many sites. Linear in the history with its edges, and in the sites, in time
-/// and memory.
+/// The index of a certifier's history, with the edges at so many sites. Linear in the history with its edges, and in
+/// the sites, in time and memory.
 pub(crate) fn index_of(
     alloc: Global,
     certifier: &Certifier,

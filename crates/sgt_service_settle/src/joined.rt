@@ -1,5 +1,5 @@
-//! Whether the conflicting operations on each item are joined by edges, as far as they are neighbours: those that a service hands its
-//! edges to. Then all conflicts are carried: to the others walks lead over neighbours.
+//! Whether the conflicting operations on each item are joined by edges, as far as they are neighbours: those that a
+//! service hands its edges to. Then all conflicts are carried: to the others walks lead over neighbours.
 
 ghost use Rattle.std.specs.Prelude.{◌≡◌, ◌⊎◌, ◌≤◌, ◌+◌, length, IsTrue, IfOk, Contains, slice_set};
 ghost use Rattle.std.specs.List.Sorted.{IsNonDecreasingBy};
@@ -147,9 +147,9 @@ fn is_item_joined(
     follow_all(alloc, marks, order.as_slice(), links)
 }
 
-/// Whether the operations of committed transactions on each item, in the order in which they were decided, are joined to their
-/// neighbours among those before, by these edges. Then all conflicts between committed transactions are carried; false tells nothing.
-/// Sorts what was done to each item, and then goes over it and over the edges there.
+/// Whether the operations of committed transactions on each item, in the order in which they were decided, are joined
+/// to their neighbours among those before, by these edges. Then all conflicts between committed transactions are
+/// carried; false tells nothing. Sorts what was done to each item, and then goes over it and over the edges there.
 pub(crate) fn are_joined(
     alloc: Global,
     marks: &mut Marks,

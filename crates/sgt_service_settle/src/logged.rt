@@ -83,8 +83,9 @@ fn is_between(
     )
 }
 
-/// Whether the edge is a conflict of the log with its label, and its ends have names. The cost is a search of the items, and of what
-/// was done to its item: a few steps where that stands near what the last edge on the item asked for, else a binary search.
+/// Whether the edge is a conflict of the log with its label, and its ends have names. The cost is a search of the
+/// items, and of what was done to its item: a few steps where that stands near what the last edge on the item asked
+/// for, else a binary search.
 pub(crate) fn is_logged(
     windows: &[Vec<Tx>],
     items: &[Holding],

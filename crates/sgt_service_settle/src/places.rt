@@ -1,4 +1,5 @@
-//! Edges that are shown to be conflicts of a log by two operations that were noted. What was noted is tried, and needn't be right.
+//! Edges that are shown to be conflicts of a log by two operations that were noted. What was noted is tried, and
+//! needn't be right.
 
 ghost use Rattle.std.specs.Prelude.{◌≡◌, All, IsTrue, length};
 ghost use Rattle.sgt_names.specs.Entry.{tx_of};

@@ -28,8 +28,8 @@ fn add_tickets(tallies: &mut [u8], tickets: &[Ticket])
     }
 }
 
-/// How many tickets have each number below that of the decisions, 2 standing for more; none where there is no memory. Linear in the
-/// tickets and the decisions.
+/// How many tickets have each number below that of the decisions, 2 standing for more; none where there is no memory.
+/// Linear in the tickets and the decisions.
 pub(crate) fn tallies(alloc: Global, dones: &[Done], decisions: usize) -> Vec<u8>
     ensures { AreTallies result.items (tickets_of dones.now) }
 {

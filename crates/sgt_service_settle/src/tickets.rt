@@ -108,8 +108,8 @@ fn first_unordered(dones: &[Done]) -> Option<u64>
 
 /// Whether the tickets are the decisions of the history, each once and those of each script in order.
 ///
-/// Linear in the history and the tickets, in time and memory. Where there is no memory for a table, each ticket or each decision costs
-/// a walk over the history or the tickets.
+/// Linear in the history and the tickets, in time and memory. Where there is no memory for a table, each ticket or
+/// each decision costs a walk over the history or the tickets.
 pub(crate) fn check_tickets(
     alloc: Global,
     history: &[Call],

@@ -10,7 +10,8 @@ use sgt_names::SiteNo;
 use sgt_service_agreement::agrees;
 use sgt_site::Site;
 
-/// The least site with a version that isn't the number of installs that the history counts. It takes no memory; the cost is that of
+/// The least site with a version that isn't the number of installs that the history counts. It takes no memory; the
+/// cost is that of
 /// `agrees` at each site.
 pub(crate) fn first_uncounted(certifier: &Certifier, sites: &[Site]) -> Option<SiteNo>
     requires { length sites.now ≤ max_sites }

@@ -95,7 +95,8 @@ impl Gate for HoldThree {
     }
 }
 
-/// Holds each of sixteen workers once it has taken a job, until all sixteen have, each with a number of its own from 0 to 15.
+/// Holds each of sixteen workers once it has taken a job, until all sixteen have, each with a number of its own from
+/// 0 to 15.
 #[derive(Drop)]
 pub struct SixteenTake {
     // the sum of the powers of two to the numbers of those that arrived

@@ -81,8 +81,8 @@ fn run_by<L: Ledgers + Send + Sync, G: Gate + Sync, R: Threads + Wait + Sync>(
     Some(run(rt, alloc, service, seats, scripts, 1))
 }
 
-// How a run with the first of two seats ends, settled with both; its callers were told what they were told, or this. None: it came to
-// no end.
+// How a run with the first of two seats ends, settled with both; its callers were told what they were told, or this.
+// None: it came to no end.
 fn ended<L: Ledgers + Send + Sync, R: Threads + Wait + Sync>(
     rt: &R,
     alloc: Global,

@@ -12,8 +12,8 @@ use std::sync::Wait;
 use std::test::Fail;
 use std::thread::Threads;
 
-// How the errands end by so many workers, of which each has its number as its state: with so many Dones, each of which answers 3 times
-// its place, or with this fault of theirs. None: there was no room.
+// How the errands end by so many workers, of which each has its number as its state: with so many Dones, each of
+// which answers 3 times its place, or with this fault of theirs. None: there was no room.
 fn ended<R: Threads + Wait + Sync>(
     rt: &R,
     alloc: Global,

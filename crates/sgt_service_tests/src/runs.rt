@@ -149,8 +149,8 @@ yes 2 committed 1 refused 0 withdrawn
 ",
 ];
 
-// One reads between two blocks of the other's step: an item that is written, and one that isn't yet. It is refused; tried again, it reads
-// both as they were written.
+// One reads between two blocks of the other's step: an item that is written, and one that isn't yet. It is refused;
+// tried again, it reads both as they were written.
 #[test]
 fn read_between_blocks(rt: HostRuntime) -> Result<(), Fail> {
     let (inner, last) = (SiteNo::new(1)?, SiteNo::new(2)?);

@@ -1,4 +1,5 @@
-//! The worked run in which a write is read back: its log, its edges and its installs, as one site and one certifier keep them.
+//! The worked run in which a write is read back: its log, its edges and its installs, as one site and one certifier
+//! keep them.
 
 use crate::meddling::{commit_of, dones};
 use sgt_arena::Handle;

@@ -151,7 +151,8 @@ pub struct Run {
     pub settled: Result<Settled, ServiceFault>,
 }
 
-// The place of the first call that answers otherwise. One that had no memory is made again. There is room for the tickets.
+// The place of the first call that answers otherwise. One that had no memory is made again. There is room for the
+// tickets.
 fn first_wrong<L: Ledgers, R: Wait>(
     rt: &R,
     alloc: Global,
@@ -181,8 +182,8 @@ fn first_wrong<L: Ledgers, R: Wait>(
     None
 }
 
-/// Makes the calls, and settles what is left, whose one job was told all tickets. Between the first calls and the others another
-/// site may be put in the place of site 0. None: there was no memory before the first call.
+/// Makes the calls, and settles what is left, whose one job was told all tickets. Between the first calls and the
+/// others another site may be put in the place of site 0. None: there was no memory before the first call.
 pub fn stepped<L: Ledgers, R: Wait>(
     rt: &R,
     alloc: Global,

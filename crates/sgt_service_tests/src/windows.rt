@@ -1,5 +1,5 @@
-//! The calls of one thread: a window that is closed, a withdrawal, a transaction that is left, a site of another history, and growths
-//! that are refused.
+//! The calls of one thread: a window that is closed, a withdrawal, a transaction that is left, a site of another
+//! history, and growths that are refused.
 
 use crate::given::{other_site, sites_of};
 use crate::steps::{Answer, Run, Step, stepped};
@@ -173,9 +173,9 @@ fn other_history(rt: HostRuntime) -> Result<(), Fail> {
     Ok(())
 }
 
-// Where one growth is refused, a run may want memory: then the call is made again, and only a refusal before the first call, or behind the
-// last one, ends it. None is refused to the other of two runs, which has each answer at once: so a call that wanted memory for no refusal
-// would want it in both.
+// Where one growth is refused, a run may want memory: then the call is made again, and only a refusal before the
+// first call, or behind the last one, ends it. None is refused to the other of two runs, which has each answer at
+// once: so a call that wanted memory for no refusal would want it in both.
 #[test]
 fn growth_service(rt: HostRuntime) -> Result<(), Fail> {
     let alloc = rt.alloc();

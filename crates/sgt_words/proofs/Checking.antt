@@ -18,7 +18,8 @@ module _ {A : Type 0} (P : A → Type 0) where
   any_more : (xs : List A) (x : A) → Any P xs → Any P (xs ++ (x ∷ []))
   any_more [] x (k, y, within, at, holds) = absurd (omega (arith, within))
   any_more (z ∷ zs) x (zero, y, within, at, holds) = (zero, y, omega arith, at, holds)
-  any_more (z ∷ zs) x (suc k, y, within, at, holds) = any_later z _ (any_more zs x (k, y, omega (arith, within), at, holds))
+  any_more (z ∷ zs) x (suc k, y, within, at, holds) =
+      any_later z _ (any_more zs x (k, y, omega (arith, within), at, holds))
 
   any_before : (xs : List A) (x : A) → (P x → ⊥) → Any P (xs ++ (x ∷ [])) → Any P xs
   any_before [] x other (zero, y, within, at, holds) = absurd (other (subst P (sym at) holds))
@@ -34,8 +35,10 @@ module _ (w word : List ℕ) (options : List (List ℕ)) where
 
   -- the last word is another one
   is_other : (b : Bool) → (word ≡ w → ⊥) → IsTrue b ↔ Has w options → IsTrue b ↔ Has w (options ++ (word ∷ []))
-  is_other b other both =
-      (λ yes. any_more (λ o. o ≡ w) options word (both.0 yes), λ has. both.1 (any_before (λ o. o ≡ w) options word other has))
+  is_other b other both = (
+    λ yes. any_more (λ o. o ≡ w) options word (both.0 yes),
+    λ has. both.1 (any_before (λ o. o ≡ w) options word other has),
+  )
 
 -- no two options are of one length
 apart : (v w word : List ℕ) → word ≡ v → (length v ≡ length w → ⊥) → word ≡ w → ⊥
@@ -66,17 +69,20 @@ module _ (options : List (List ℕ)) (told : CheckWanted) (word : List ℕ) (say
     sessions = is_last (codes "--sessions") word options is;
   }
 
-module _ (words : List (String Global)) (n : ℕ) (x : String Global) (within : n < length words) (at : x ≡ get_or words n x) where
+module _ (words : List (String Global)) (n : ℕ) (x : String Global) (within : n < length words)
+    (at : x ≡ get_or words n x) where
   -- the words with one more
   pub words_more : map string_bytes (take n words) ++ (string_bytes x ∷ []) ≡ map string_bytes (take (n + 1) words)
-  words_more = ap (λ (w : String Global). map string_bytes (take n words) ++ (string_bytes w ∷ [])) at ∙ sym (map_more string_bytes words n x within)
+  words_more = ap (λ (w : String Global). map string_bytes (take n words) ++ (string_bytes w ∷ [])) at
+      ∙ sym (map_more string_bytes words n x within)
 
   -- a word that is no option
   pub no_option : (IsCheckOption (string_bytes x) → ⊥) → All IsCheckOption (map string_bytes words) → ⊥
   no_option other all =
       let here : get_or (map string_bytes words) n (string_bytes x) ≡ string_bytes x =
       get_or-map string_bytes words n x (string_bytes x) within ∙ ap string_bytes (sym at) in
-      other (subst IsCheckOption here (All-get_or IsCheckOption (map string_bytes words) n (string_bytes x) (omega (arith, within, length-map words string_bytes)) all))
+      other (subst IsCheckOption here (All-get_or IsCheckOption (map string_bytes words) n (string_bytes x)
+      (omega (arith, within, length-map words string_bytes)) all))
 
 -- a word that is none of the options
 pub neither : (word : List ℕ) → (word ≡ codes "--order" → ⊥) → (word ≡ codes "--real-time" → ⊥) → (word ≡ codes "--sessions" → ⊥) → IsCheckOption word → ⊥
@@ -97,13 +103,16 @@ same false true S one other = absurd (let bad = one.1 (other.0 refl) in cc)
 same false false S one other = refl
 
 -- the options say one thing
-pub checked : (options : List (List ℕ)) (told : CheckWanted) → SaysCheck options told → (choice : Choice) → command_of choice ≡ command.Check
+pub checked : (options : List (List ℕ)) (told : CheckWanted) → SaysCheck options told → (choice : Choice)
+    → command_of choice ≡ command.Check
     → Says options choice → Some (Check told) ≡ Some choice
 checked options told says (Check wanted) is wants =
     let order = same told.order wanted.order _ says.order wants.order in
     let real_time = same told.real_time wanted.real_time _ says.real_time wants.real_time in
     let sessions = same told.sessions wanted.sessions _ says.sessions wants.sessions in
     ap (λ (x : Bool). Some (Check (record { order = x; real_time = told.real_time; sessions = told.sessions }))) order
-    ∙ ap (λ (x : Bool). Some (Check (record { order = wanted.order; real_time = x; sessions = told.sessions }))) real_time
-    ∙ ap (λ (x : Bool). Some (Check (record { order = wanted.order; real_time = wanted.real_time; sessions = x }))) sessions
+    ∙ ap (λ (x : Bool). Some (Check (record { order = wanted.order; real_time = x; sessions = told.sessions })))
+    real_time
+    ∙ ap (λ (x : Bool). Some (Check (record { order = wanted.order; real_time = wanted.real_time; sessions = x })))
+    sessions
 checked options told says choice is wants = absurd cc

@@ -10,6 +10,7 @@ module _ {A : Type 0} (P : A → Type 0) (w : A) (ws : List A) where
   any_behind other (suc k, x, within, at, holds) = (k, x, omega (arith, within), at, holds)
 
   -- where the first does not, one of the others does
-  pub of_the_others : (xs : List A) (S : Type 0) → xs ≡ w ∷ ws → (P w → ⊥) → (S → Any P ws) × (Any P ws → S) → (S → Any P xs) × (Any P xs → S)
+  pub of_the_others : (xs : List A) (S : Type 0) → xs ≡ w ∷ ws → (P w → ⊥) → (S → Any P ws) × (Any P ws → S)
+      → (S → Any P xs) × (Any P xs → S)
   of_the_others xs S e other both =
       (λ some. subst (Any P) (sym e) (any_later (both.0 some)), λ has. both.1 (any_behind other (subst (Any P) e has)))

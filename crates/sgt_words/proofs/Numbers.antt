@@ -19,7 +19,8 @@ unfolding clap_on_literals
 line_is_simple = refl
 
 -- what the getters read is what the words say
-pub found_said : (app : App) (words : List Text) (m : ArgMatches) (name : Text) → app ≡ run_line → HasMatchesOf app words m
+pub found_said : (app : App) (words : List Text) (m : ArgMatches) (name : Text) → app ≡ run_line
+    → HasMatchesOf app words m
     → one_text (found_of m) name ≡ one_of name (matches_of run_line words)
 found_said app words m name is matches =
     let rows = matches (ap is_simple is ∙ line_is_simple) in
@@ -31,8 +32,10 @@ pub taken : (T : Type 0) (app : App) (words : List Text) (x : T) → app ≡ run
 taken T app words x is kinds = ap (λ a. fault_of a words) (sym is) ∙ kinds (ap is_simple_and_free is ∙ line_is_free)
 
 -- what the getters read of words that clap took is what they say
-pub says : (app : App) (words : List Text) (m : ArgMatches) (workers tries : ℕ) → app ≡ run_line → HasMatchesOf app words m
-    → (is_simple_and_free app ≡ true → FailsBy {T = ArgMatches} (fault_of app words) (Ok m)) → FindsRun m workers tries → SaysRun words workers tries
+pub says : (app : App) (words : List Text) (m : ArgMatches) (workers tries : ℕ) → app ≡ run_line
+    → HasMatchesOf app words m
+    → (is_simple_and_free app ≡ true → FailsBy {T = ArgMatches} (fault_of app words) (Ok m))
+    → FindsRun m workers tries → SaysRun words workers tries
 says app words m workers tries is matches kinds found = record {
   taken = taken ArgMatches app words m is kinds;
   by_workers = subst (λ o. ReadsNumber o workers) (found_said app words m (codes "workers") is matches) found.by_workers;
@@ -42,7 +45,8 @@ says app words m workers tries is matches kinds found = record {
 }
 
 -- and the other way round
-pub finds : (app : App) (words : List Text) (m : ArgMatches) (workers tries : ℕ) → app ≡ run_line → HasMatchesOf app words m
+pub finds : (app : App) (words : List Text) (m : ArgMatches) (workers tries : ℕ) → app ≡ run_line
+    → HasMatchesOf app words m
     → SaysRun words workers tries → FindsRun m workers tries
 finds app words m workers tries is matches said = record {
   by_workers = subst (λ o. ReadsNumber o workers) (sym (found_said app words m (codes "workers") is matches)) said.by_workers;
@@ -53,10 +57,12 @@ finds app words m workers tries is matches said = record {
 
 -- where clap has no fault to find, only memory is wanting
 pub wants_memory : (T : Type 0) (app : App) (words : List Text) (e : Error) → app ≡ run_line
-    → (is_simple_and_free app ≡ true → FailsBy {T = T} (fault_of app words) (Err e)) → fault_of run_line words ≡ [] → kind_of e ≡ OutOfMemory
+    → (is_simple_and_free app ≡ true → FailsBy {T = T} (fault_of app words) (Err e)) → fault_of run_line words ≡ []
+    → kind_of e ≡ OutOfMemory
 wants_memory T app words e is kinds none =
     let at : FailsBy {T = T} [] (Err e) =
-    subst (λ k. FailsBy {T = T} k (Err e)) (ap (λ a. fault_of a words) is ∙ none) (kinds (ap is_simple_and_free is ∙ line_is_free)) in
+    subst (λ k. FailsBy {T = T} k (Err e)) (ap (λ a. fault_of a words) is
+    ∙ none) (kinds (ap is_simple_and_free is ∙ line_is_free)) in
     elim at [
       | inl memory ↦ memory
       | inr other ↦ absurd other

@@ -21,7 +21,8 @@ use Rattle.sgt_words.specs.declared.choice.Choice.TheVariants.{Audit, AuditWith,
 use Rattle.sgt_words.specs.private.Runs.{IsRunOf}
 use Rattle.sgt_names.proofs.Elements.{some-weaker}
 
-pub on_found : {A E : Type 0} (r : Result (Option A) E) (P Q : A → Type 0) → ((x : A) → P x → Q x) → IfOk r (λ o. IfSome o P) → IfOk r (λ o. IfSome o Q)
+pub on_found : {A E : Type 0} (r : Result (Option A) E) (P Q : A → Type 0) → ((x : A) → P x → Q x)
+    → IfOk r (λ o. IfSome o P) → IfOk r (λ o. IfSome o Q)
 on_found (Ok o) P Q so holds = some-weaker o P Q so holds
 on_found (Err e) P Q so holds = tt
 
@@ -65,7 +66,8 @@ letter_of (Found anomaly.Internal) rest e = absurd (omega (arith, ap (λ (l : Li
 letter_of (Found a) rest e = absurd (omega (arith, ap (λ (l : List ℕ). get_or l 0 0) e))
 
 -- no rule and no transaction
-pub no_explained : (options : List (List ℕ)) → (options ≡ [] → ⊥) → ((topic : Topic) → options ≢ topic_name topic ∷ []) → ((tx : ℕ) → TellsTx options tx → ⊥)
+pub no_explained : (options : List (List ℕ)) → (options ≡ [] → ⊥)
+    → ((topic : Topic) → options ≢ topic_name topic ∷ []) → ((tx : ℕ) → TellsTx options tx → ⊥)
     → (choice : Choice) → command_of choice ≡ command.Explain → Says options choice → ⊥
 no_explained options some no_rule no_tx Explain is says = some says
 no_explained options some no_rule no_tx (Rule topic) is says = no_rule topic says
@@ -131,8 +133,10 @@ no_dot_first options behind e some no_tx None false tells = tells
 no_dot_first options behind e some no_tx (Some tx) false tells = not_first behind tx (subst (λ o. TellsTx o tx) e tells)
 no_dot_first options behind e some no_tx (Some tx) true (words, tells, inl first) =
     no_tx tx (subst (λ o. TellsTx o tx) (ap (drop 1) (sym first ∙ e)) tells)
-no_dot_first options behind e some no_tx (Some tx) true ([], (text, says, inl apart), inr last) = absurd (omega (arith, ap length apart))
-no_dot_first options behind e some no_tx (Some tx) true ([], (text, says, inr joined), inr last) = absurd (omega (arith, ap length joined))
+no_dot_first options behind e some no_tx (Some tx) true ([], (text, says, inl apart), inr last) =
+    absurd (omega (arith, ap length apart))
+no_dot_first options behind e some no_tx (Some tx) true ([], (text, says, inr joined), inr last) =
+    absurd (omega (arith, ap length joined))
 no_dot_first options behind e some no_tx (Some tx) true (w ∷ words, tells, inr last) =
     let first : w ≡ codes "--dot" = ap (λ l. get_or l 0 w) (sym last ∙ e) in
     not_first words tx (subst (λ t. TellsTx (t ∷ words) tx) first tells)
@@ -141,9 +145,11 @@ no_dot_first options behind e some no_tx (Some tx) true (w ∷ words, tells, inr
 pub no_dot_last : (options before behind : List (List ℕ)) (first : List ℕ) → options ≡ first ∷ behind → (first ≡ codes "--dot" → ⊥)
     → options ≡ before ++ (codes "--dot" ∷ []) → ((tx : ℕ) → TellsTx before tx → ⊥)
     → (tx : Option ℕ) (is_dot : Bool) → TellsPicture options tx is_dot → ⊥
-no_dot_last options before behind first e other last no_tx None true tells = other (ap (λ l. get_or l 0 first) (sym e ∙ tells))
+no_dot_last options before behind first e other last no_tx None true tells =
+    other (ap (λ l. get_or l 0 first) (sym e ∙ tells))
 no_dot_last options before behind first e other last no_tx None false tells = tells
-no_dot_last options before behind first e other last no_tx (Some tx) false tells = not_last before tx (subst (λ o. TellsTx o tx) last tells)
+no_dot_last options before behind first e other last no_tx (Some tx) false tells =
+    not_last before tx (subst (λ o. TellsTx o tx) last tells)
 no_dot_last options before behind first e other last no_tx (Some tx) true (words, tells, inl front) =
     other (ap (λ l. get_or l 0 first) (sym e ∙ front))
 no_dot_last options before behind first e other last no_tx (Some tx) true (words, tells, inr back) =
@@ -153,7 +159,8 @@ no_dot_last options before behind first e other last no_tx (Some tx) true (words
 pub no_dot : (options before behind : List (List ℕ)) (first last : List ℕ) → options ≡ first ∷ behind → (first ≡ codes "--dot" → ⊥)
     → options ≡ before ++ (last ∷ []) → (last ≡ codes "--dot" → ⊥) → ((tx : ℕ) → TellsTx options tx → ⊥)
     → (tx : Option ℕ) (is_dot : Bool) → TellsPicture options tx is_dot → ⊥
-no_dot options before behind first last e other ends not_dot no_tx None true tells = other (ap (λ l. get_or l 0 first) (sym e ∙ tells))
+no_dot options before behind first last e other ends not_dot no_tx None true tells =
+    other (ap (λ l. get_or l 0 first) (sym e ∙ tells))
 no_dot options before behind first last e other ends not_dot no_tx None false tells = tells
 no_dot options before behind first last e other ends not_dot no_tx (Some tx) false tells = no_tx tx tells
 no_dot options before behind first last e other ends not_dot no_tx (Some tx) true (words, tells, inl front) =
@@ -162,13 +169,15 @@ no_dot options before behind first last e other ends not_dot no_tx (Some tx) tru
     not_dot (snoc_last before words last (codes "--dot") (sym ends ∙ back))
 
 -- where nothing is found, nothing is told
-pub none_told : {A : Type 0} (o : Option A) (P : A → Type 0) → o ≡ None → ((x : A) → P x → o ≡ Some x) → (x : A) → P x → ⊥
+pub none_told : {A : Type 0} (o : Option A) (P : A → Type 0) → o ≡ None → ((x : A) → P x → o ≡ Some x) → (x : A) → P x
+    → ⊥
 none_told {A = A} o P none all x holds =
     let bad : ◌≡◌ {A = Option A} None (Some x) = sym none ∙ all x holds in cc
 
 -- the words of a run
 pub asks_run : (words options : List (List ℕ)) → words ≡ codes "run" ∷ options → (choice : Choice) → IsRunOf words choice → Asks words choice
-asks_run words options e (Run workers tries) says = inr (options, e, subst (λ (w : List (List ℕ)). SaysRun w workers tries) e says)
+asks_run words options e (Run workers tries) says =
+    inr (options, e, subst (λ (w : List (List ℕ)). SaysRun w workers tries) e says)
 asks_run words options e choice says = absurd says
 
 same_command : (r : Option CommandName) (a b : CommandName) → r ≡ Some a → r ≡ Some b → a ≡ b

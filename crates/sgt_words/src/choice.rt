@@ -39,7 +39,8 @@ pub enum Choice {
     DrawWith { tx: Option<Tx>, is_dot: bool },
     /// Judge a history of a database.
     Check(CheckWanted),
-    /// Run scripts by so many workers, each of them tried so often at most, and write what became of them and the bundle.
+    /// Run scripts by so many workers, each of them tried so often at most, and write what became of them and the
+    /// bundle.
     Run { workers: u64, tries: u64 },
 }
 
@@ -84,7 +85,8 @@ fn choice_of(alloc: Global, words: &[String]) -> Result<Option<Choice>, AllocErr
     }
 }
 
-/// Whether the words ask to serve events, which takes a reader and a writer that know of one another: behind the program's name
+/// Whether the words ask to serve events, which takes a reader and a writer that know of one another: behind the
+/// program's name
 /// `serve` stands, alone.
 pub fn asks_talk(words: &[String]) -> bool
     ensures { IsTrue result ↔ AsksTalk (map string_bytes words.now) }
@@ -95,10 +97,11 @@ pub fn asks_talk(words: &[String]) -> bool
     }
 }
 
-/// What the words ask for; the first word is the program's name. The options of `run` are read by clap, `audit` may have
+/// What the words ask for; the first word is the program's name. The options of `run` are read by clap, `audit` may
+/// have
 /// `--workers N` behind it, `explain` a rule's name or `--tx N`, `draw` `--tx N` and `--dot`, and `check` `--order`, `--real-time` and `--sessions`;
-/// else a command stands alone (`serve` is no choice: see `asks_talk`). Other words are help, where one of them asks for it,
-/// or no command.
+/// else a command stands alone (`serve` is no choice: see `asks_talk`). Other words are help, where one of them asks
+/// for it, or no command.
 pub fn choose(alloc: Global, words: &[String]) -> Result<Choice, NoChoice>
     ensures only { IfOk result (AsksFor (map string_bytes words.now)) }
     ensures all { (choice : Choice) → AsksFor (map string_bytes words.now) choice

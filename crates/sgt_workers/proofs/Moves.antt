@@ -30,7 +30,8 @@ stops_snoc [] a = tt
 stops_snoc (Run n ∷ ts) a = absurd a
 stops_snoc (Stop ∷ ts) a = stops_snoc ts a
 
-follows_stop : (low top stops : ℕ) (ts : List Task) → Follows low top stops ts → Follows low top (stops + 1) (ts ++ Stop ∷ [])
+follows_stop : (low top stops : ℕ) (ts : List Task) → Follows low top stops ts
+    → Follows low top (stops + 1) (ts ++ Stop ∷ [])
 follows_stop low top stops [] f = (omega arith, f, tt)
 follows_stop low top stops (Run m ∷ ts) f = (f.0, follows_stop m top stops ts f.1)
 follows_stop low top stops (Stop ∷ ts) f = (omega arith, f.1, stops_snoc ts f.2)
@@ -44,19 +45,31 @@ only_one : (w u : Hold) (j : ℕ) → get_elem? (w ∷ []) j ≡ some u → (j �
 only_one w u zero e = (refl, cc)
 only_one w u (suc j) e = absurd (some-ne-none u (sym e))
 
-all_set : (F : ℕ → Hold → Type 0) (views : List Hold) (by : ℕ) (w : Hold) → F by w → ((j : ℕ) (u : Hold) → j ≢ by → get_elem? views j ≡ some u → F j u) → (j : ℕ) (u : Hold) → get_elem? (set views by w) j ≡ some u → F j u
-all_set F views by w mine others j u e = ⊎_elim (λ (x : (j ≡ by) × (w ≡ u)). subst (λ (y : ℕ × Hold). F y.0 y.1) (λ i. (sym x.0 i, x.1 i)) mine)
+all_set : (F : ℕ → Hold → Type 0) (views : List Hold) (by : ℕ) (w : Hold) → F by w
+    → ((j : ℕ) (u : Hold) → j ≢ by → get_elem? views j ≡ some u → F j u) → (j : ℕ) (u : Hold)
+    → get_elem? (set views by w) j ≡ some u → F j u
+all_set F views by w mine others j u e =
+    ⊎_elim (λ (x : (j ≡ by) × (w ≡ u)). subst (λ (y : ℕ × Hold). F y.0 y.1) (λ i. (sym x.0 i, x.1 i)) mine)
     (λ (x : (j ≢ by) × (get_elem? views j ≡ some u)). others j u x.0 x.1) (at_set views by j w u e)
 
 -- the pass changes to one that has taken the same
-same_weight : (low : ℕ) (views : List Hold) (by : ℕ) (v w : Hold) → get_elem? views by ≡ some v → w.taken ≡ v.taken → Accounts low views → Accounts low (set views by w)
+same_weight : (low : ℕ) (views : List Hold) (by : ℕ) (v w : Hold) → get_elem? views by ≡ some v → w.taken ≡ v.taken
+    → Accounts low views → Accounts low (set views by w)
 same_weight low views by v w at same sums weight =
     omega (arith, sum_set (λ u. sum_by weight u.taken) views by v w at, ap (sum_by weight) same, sums weight)
 
 -- the pass changes to one that is lent as much, and has lent as many
-same_out : (views : List Hold) (by : ℕ) (v w : Hold) → get_elem? views by ≡ some v → w.lent ≡ v.lent → w.out ≡ v.out → AreOut views → AreOut (set views by w)
+same_out : (views : List Hold) (by : ℕ) (v w : Hold) → get_elem? views by ≡ some v → w.lent ≡ v.lent → w.out ≡ v.out
+    → AreOut views → AreOut (set views by w)
 same_out views by v w at lent out is =
-    omega (arith, sum_set (λ (u : Hold). u.lent) views by v w at, sum_set (λ (u : Hold). u.out) views by v w at, lent, out, is)
+    omega (
+      arith,
+      sum_set (λ (u : Hold). u.lent) views by v w at,
+      sum_set (λ (u : Hold). u.out) views by v w at,
+      lent,
+      out,
+      is,
+    )
 
 pub lender_more : (v : Hold) (n m : ℕ) → m ≡ n + 1 → lender 1 (lender n v) ≡ lender m v
 lender_more v n m e =
@@ -84,7 +97,8 @@ begins = record {
   out = refl;
 }
 
-pub sends_job : (n by : ℕ) (v : Hold) (k : ℕ) → v.sends ≡ true → v.stops ≡ 0 → k ≡ v.sent + 1 → Pushes Kept n by v (Run k) (λ w. w ≡ with_job v)
+pub sends_job : (n by : ℕ) (v : Hold) (k : ℕ) → v.sends ≡ true → v.stops ≡ 0 → k ≡ v.sent + 1
+    → Pushes Kept n by v (Run k) (λ w. w ≡ with_job v)
 sends_job n by v k may going next items views room h at =
     let mine = h.knows by v at in
     let me = mine.sends may in
@@ -98,7 +112,9 @@ sends_job n by v k may going next items views room h at =
         low = h.low;
         top = h.top + 1;
         stops = 0;
-        follows = subst (λ m. Follows h.low (h.top + 1) 0 (items ++ Run m ∷ [])) number (follows_job h.low h.top items follows);
+        follows =
+            subst (λ m. Follows h.low (h.top + 1) 0 (items ++ Run m ∷ [])) number
+            (follows_job h.low h.top items follows);
         knows = all_set (Knows h.by h.low (h.top + 1) 0) views by w (record {
           sends = λ _. (me.0, omega (arith, me.1), going, me.3);
           filled = λ p. absurd (omega (arith, p, going));
@@ -187,10 +203,21 @@ takes by v lent (Run n) items views h at =
               lends = its.lends;
               idle = its.idle;
             });
-        accounts = λ weight. omega (arith, sum_set (λ (u : Hold). sum_by weight u.taken) views by v w at, sum_by_push weight v.taken n, h.accounts weight, weigh_more weight h.low n next);
+        accounts = λ weight. omega (
+          arith,
+          sum_set (λ (u : Hold). sum_by weight u.taken) views by v w at,
+          sum_by_push weight v.taken n,
+          h.accounts weight,
+          weigh_more weight h.low n next,
+        );
         out = same_out views by v w at refl refl h.out;
       },
-      (omega (arith, next), (λ k d l. omega (arith, mine.taken k d l, next)), (λ p. omega (arith, (mine.filled p).0, low)), refl),
+      (
+        omega (arith, next),
+        (λ k d l. omega (arith, mine.taken k d l, next)),
+        (λ p. omega (arith, (mine.filled p).0, low)),
+        refl,
+      ),
     )
 takes by v lent Stop items views h at =
     let mine = h.knows by v at in
@@ -236,22 +263,36 @@ forks by v may items views h at =
       top = h.top;
       stops = h.stops;
       follows = h.follows;
-      knows = λ j u e. ⊎_elim (λ x. all_set F views by l with_it (λ j u other e. h.knows j u e) j u x) (λ (is : r ≡ u). subst (λ (y : Hold). F j y) is (record {
-        sends = λ p. absurd (true≢false (sym p));
-        filled = mine.filled;
-        taken = λ k d l. absurd (omega (arith, l));
-        stopped = λ p. absurd (true≢false (sym p));
-        lends = λ _. refl;
-        idle = λ _ _. refl;
-      })) (at_snoc (set views by l) r u j e);
-      accounts = λ weight. omega (arith, sum_by_push (λ (u : Hold). sum_by weight u.taken) (set views by l) r, same_weight h.low views by v l at refl h.accounts weight);
-      out = omega (arith, sum_by_push (λ (u : Hold). u.lent) (set views by l) r, sum_by_push (λ (u : Hold). u.out) (set views by l) r, sum_set (λ (u : Hold). u.lent) views by v l at, sum_set (λ (u : Hold). u.out) views by v l at, h.out);
+      knows = λ j u e. ⊎_elim (λ x. all_set F views by l with_it (λ j u other e. h.knows j u e) j u x)
+          (λ (is : r ≡ u). subst (λ (y : Hold). F j y) is (record {
+            sends = λ p. absurd (true≢false (sym p));
+            filled = mine.filled;
+            taken = λ k d l. absurd (omega (arith, l));
+            stopped = λ p. absurd (true≢false (sym p));
+            lends = λ _. refl;
+            idle = λ _ _. refl;
+          })) (at_snoc (set views by l) r u j e);
+      accounts = λ weight. omega (
+        arith,
+        sum_by_push (λ (u : Hold). sum_by weight u.taken) (set views by l) r,
+        same_weight h.low views by v l at refl h.accounts weight,
+      );
+      out = omega (
+        arith,
+        sum_by_push (λ (u : Hold). u.lent) (set views by l) r,
+        sum_by_push (λ (u : Hold). u.out) (set views by l) r,
+        sum_set (λ (u : Hold). u.lent) views by v l at,
+        sum_set (λ (u : Hold). u.out) views by v l at,
+        h.out,
+      );
     }
 
-pub joins : (by : ℕ) (v : Hold) (other : ℕ) (w : Hold) → v.sends ≡ true → w.lent ≤ v.out → Merges Kept by v other w (joined v w) spent_hold
+pub joins : (by : ℕ) (v : Hold) (other : ℕ) (w : Hold) → v.sends ≡ true → w.lent ≤ v.out
+    → Merges Kept by v other w (joined v w) spent_hold
 joins by v other w may lent items views h at apart there =
     let both : Hold = joined v w in
-    let theirs : get_elem? views other ≡ some w = ⊎_elim (λ x. absurd (apart x.0)) (λ x. x.1) (at_set views by other both w there) in
+    let theirs : get_elem? views other ≡ some w =
+    ⊎_elim (λ x. absurd (apart x.0)) (λ x. x.1) (at_set views by other both w there) in
     let mine = h.knows by v at in
     let its = h.knows other w theirs in
     let away : w.sends ≡ false = false-unless_true w.sends (λ p. apart ((its.sends p).0 ∙ sym (mine.sends may).0)) in
@@ -274,28 +315,50 @@ joins by v other w may lent items views h at apart there =
         sends = mine.sends;
         filled = mine.filled;
         taken = All-append (λ n. n ≤ h.low) v.taken w.taken mine.taken its.taken;
-        stopped = λ p. ⊎_elim (λ (q : v.stopped ≡ true). mine.stopped q) (λ (q : w.stopped ≡ true). its.stopped q) (or_cases v.stopped w.stopped p);
+        stopped = λ p. ⊎_elim (λ (q : v.stopped ≡ true). mine.stopped q) (λ (q : w.stopped ≡ true). its.stopped q)
+            (or_cases v.stopped w.stopped p);
         lends = λ p. absurd (true≢false (sym may ∙ p));
         idle = λ p _. absurd (true≢false (sym may ∙ p));
       }) (λ i t _ f. h.knows i t f) j u e);
-      accounts = λ weight. omega (arith, sum_set (λ (u : Hold). sum_by weight u.taken) (set views by both) other w spent_hold there, sum_set (λ (u : Hold). sum_by weight u.taken) views by v both at, sum_by-append weight v.taken w.taken, h.accounts weight);
-      out = omega (arith, sum_set (λ (u : Hold). u.lent) (set views by both) other w spent_hold there, sum_set (λ (u : Hold). u.lent) views by v both at, sum_set (λ (u : Hold). u.out) (set views by both) other w spent_hold there, sum_set (λ (u : Hold). u.out) views by v both at, none, lent, h.out);
+      accounts =
+          λ weight. omega (
+            arith,
+            sum_set (λ (u : Hold). sum_by weight u.taken) (set views by both) other w spent_hold
+                there,
+            sum_set (λ (u : Hold). sum_by weight u.taken) views by v both at,
+            sum_by-append weight v.taken w.taken,
+            h.accounts weight,
+          );
+      out = omega (
+        arith,
+        sum_set (λ (u : Hold). u.lent) (set views by both) other w spent_hold there,
+        sum_set (λ (u : Hold). u.lent) views by v both at,
+        sum_set (λ (u : Hold). u.out) (set views by both) other w spent_hold there,
+        sum_set (λ (u : Hold). u.out) views by v both at,
+        none,
+        lent,
+        h.out,
+      );
     }
 
 pub learns : (by : ℕ) (v : Hold) → Learns Kept by v (λ items. ⊤)
 learns by v items views h at = tt
 
 -- with none out, and a stop taken, no other pass has taken a job, and all were taken
-pub learns_all : (by : ℕ) (v : Hold) → v.sends ≡ true → v.out ≡ 0 → v.stopped ≡ true → Learns Kept by v (λ items. AreAll v.sent v.taken)
+pub learns_all : (by : ℕ) (v : Hold) → v.sends ≡ true → v.out ≡ 0 → v.stopped ≡ true
+    → Learns Kept by v (λ items. AreAll v.sent v.taken)
 learns_all by v may none stopped items views h at weight =
     let mine = h.knows by v at in
     let me = mine.sends may in
-    let away : (j : ℕ) (u : Hold) → j ≢ by → get_elem? views j ≡ some u → u.sends ≡ false = λ j u other e. false-unless_true u.sends (λ p. other (((h.knows j u e).sends p).0 ∙ sym me.0)) in
-    let outs : sum_by (λ (u : Hold). u.out) views ≡ v.out = sum_only (λ (u : Hold). u.out) views by v at (λ j u other e. (h.knows j u e).lends (away j u other e)) in
+    let away : (j : ℕ) (u : Hold) → j ≢ by → get_elem? views j ≡ some u → u.sends ≡ false =
+    λ j u other e. false-unless_true u.sends (λ p. other (((h.knows j u e).sends p).0 ∙ sym me.0)) in
+    let outs : sum_by (λ (u : Hold). u.out) views ≡ v.out =
+    sum_only (λ (u : Hold). u.out) views by v at (λ j u other e. (h.knows j u e).lends (away j u other e)) in
     let lents : sum_by (λ (u : Hold). u.lent) views ≡ 0 = omega (arith, h.out, outs, none) in
     let idle : (j : ℕ) (u : Hold) → j ≢ by → get_elem? views j ≡ some u → sum_by weight u.taken ≡ 0 = λ j u other e.
     let has = sum_has (λ (u : Hold). u.lent) views j u e in
     ap (sum_by weight) ((h.knows j u e).idle (away j u other e) (omega (arith, has, lents))) in
-    let all : sum_by (λ (u : Hold). sum_by weight u.taken) views ≡ sum_by weight v.taken = sum_only (λ (u : Hold). sum_by weight u.taken) views by v at idle in
+    let all : sum_by (λ (u : Hold). sum_by weight u.taken) views ≡ sum_by weight v.taken =
+    sum_only (λ (u : Hold). sum_by weight u.taken) views by v at idle in
     let low : h.low ≡ v.sent = omega (arith, (mine.stopped stopped).0, me.1) in
     sym all ∙ h.accounts weight ∙ ap (λ n. sum_by weight (range_with_len 1 n)) low

@@ -15,44 +15,69 @@ use Rattle.sgt_workers.proofs.Told.{IsMissing, IsDoubled, not_missing, not_doubl
 abbrev pub First : List Done → ℕ → Type 0
 First dones k = (i : ℕ) (d : Done) → i < k → (slice_index_or dones i d).job ≡ i + 1
 
-numbered : (a : ℕ) (dones : List Done) → ((i : ℕ) (d : Done) → i < length dones → (slice_index_or dones i d).job ≡ a + i) → jobs_of dones ≡ range_with_len a (length dones)
+numbered : (a : ℕ) (dones : List Done)
+    → ((i : ℕ) (d : Done) → i < length dones → (slice_index_or dones i d).job ≡ a + i)
+    → jobs_of dones ≡ range_with_len a (length dones)
 numbered a [] each = refl
 numbered a (x ∷ xs) each =
     let here : x.job ≡ a = omega (arith, each 0 x (omega arith)) in
-    let rest : jobs_of xs ≡ range_with_len (a + 1) (length xs) = numbered (a + 1) xs (λ i d h. omega (arith, each (suc i) d (omega (arith, h)))) in
+    let rest : jobs_of xs ≡ range_with_len (a + 1) (length xs) =
+    numbered (a + 1) xs (λ i d h. omega (arith, each (suc i) d (omega (arith, h)))) in
     λ i. here i ∷ rest i
 
-not_long : (dones : List Done) (jobs : ℕ) → All (λ d. IsJob jobs d.job) dones → First dones (length dones) → length dones ≤ jobs
+not_long : (dones : List Done) (jobs : ℕ) → All (λ d. IsJob jobs d.job) dones → First dones (length dones)
+    → length dones ≤ jobs
 not_long [] jobs within first = omega arith
 not_long (x ∷ xs) jobs within first =
     omega (arith, (within (length xs) x (omega arith)).1, first (length xs) x (omega arith))
 
-module _ (dones : List Done) (jobs : ℕ) (up : IsNonDecreasingBy (λ d. d.job) dones) (within : All (λ d. IsJob jobs d.job) dones) where
-  missing : (k : ℕ) (d : Done) → First dones k → k < length dones → k + 1 < (slice_index_or dones k d).job → IsMissing jobs dones (k + 1)
+module _ (dones : List Done) (jobs : ℕ) (up : IsNonDecreasingBy (λ d. d.job) dones)
+    (within : All (λ d. IsJob jobs d.job) dones) where
+  missing : (k : ℕ) (d : Done) → First dones k → k < length dones → k + 1 < (slice_index_or dones k d).job
+      → IsMissing jobs dones (k + 1)
   missing k d first here more = (
     (omega arith, omega (arith, (within k d here).1, more)),
     λ i e h same. dite (dec_le k i) (λ (late : k ≤ i).
-        let one : (slice_index_or dones k d).job ≡ (slice_index_or dones k e).job = ap (λ (x : Done). x.job) (get_or_default dones k d e here) in
-        omega (arith, up k i e late h, one, more, same)) (λ early. omega (arith, first i e (omega (arith, early)), same, early)),
+        let one : (slice_index_or dones k d).job ≡ (slice_index_or dones k e).job =
+        ap (λ (x : Done). x.job) (get_or_default dones k d e here) in
+        omega (arith, up k i e late h, one, more, same)) (λ early. omega (
+          arith,
+          first i e (omega (arith, early)),
+          same,
+          early,
+        )),
   )
 
-  twice : (k : ℕ) (d : Done) → First dones k → k < length dones → (slice_index_or dones k d).job < k + 1 → IsDoubled dones (slice_index_or dones k d).job
+  twice : (k : ℕ) (d : Done) → First dones k → k < length dones → (slice_index_or dones k d).job < k + 1
+      → IsDoubled dones (slice_index_or dones k d).job
   twice zero d first here less = absurd (omega (arith, (within 0 d here).0, less))
   twice (suc k) d first here less =
       let before : (slice_index_or dones k d).job ≡ k + 1 = first k d (omega arith) in
-      let same : (slice_index_or dones k d).job ≡ (slice_index_or dones (suc k) d).job = omega (arith, before, less, up k (suc k) d (omega arith) here) in
-      (k, suc k, slice_index_or dones k d, slice_index_or dones (suc k) d, omega arith, slice_get-get_or dones k d (omega (arith, here)), slice_get-get_or dones (suc k) d here, same, refl)
+      let same : (slice_index_or dones k d).job ≡ (slice_index_or dones (suc k) d).job =
+      omega (arith, before, less, up k (suc k) d (omega arith) here) in (
+        k,
+        suc k,
+        slice_index_or dones k d,
+        slice_index_or dones (suc k) d,
+        omega arith,
+        slice_get-get_or dones k d (omega (arith, here)),
+        slice_get-get_or dones (suc k) d here,
+        same,
+        refl,
+      )
 
   complete : First dones (length dones) → jobs ≤ length dones → jobs_of dones ≡ range_with_len 1 jobs
   complete first long =
       let same : length dones ≡ jobs = omega (arith, long, not_long dones jobs within first) in
       numbered 1 dones (λ i d h. omega (arith, first i d h)) ∙ ap (λ n. range_with_len 1 n) same
 
-  next_one : AreAll jobs (jobs_of dones) → (k : ℕ) → First dones k → k < length dones → (d : Done) → (slice_index_or dones k d).job ≡ k + 1
+  next_one : AreAll jobs (jobs_of dones) → (k : ℕ) → First dones k → k < length dones → (d : Done)
+      → (slice_index_or dones k d).job ≡ k + 1
   next_one all k first here d =
       dite (dec_le (slice_index_or dones k d).job k) (λ (less : (slice_index_or dones k d).job ≤ k).
       absurd (not_doubled jobs dones _ all (twice k d first here (omega (arith, less)))))
-      (λ most. dite (dec_le (slice_index_or dones k d).job (k + 1)) (λ (more : (slice_index_or dones k d).job ≤ k + 1). omega (arith, most, more))
+      (λ most. dite (dec_le (slice_index_or dones k d).job (k + 1))
+      (λ (more : (slice_index_or dones k d).job ≤ k + 1). omega (arith, most, more))
       (λ far. absurd (not_missing jobs dones (k + 1) all (missing k d first here (omega (arith, far))))))
 
   first_all : AreAll jobs (jobs_of dones) → (k : ℕ) → k ≤ length dones → First dones k
@@ -69,4 +94,7 @@ module _ (dones : List Done) (jobs : ℕ) (up : IsNonDecreasingBy (λ d. d.job) 
   in_turn all =
       let first = first_all all (length dones) (omega arith) in
       dite (dec_le jobs (length dones)) (λ (long : jobs ≤ length dones). complete first long)
-      (λ short. absurd (not_missing jobs dones (length dones + 1) all ((omega arith, omega (arith, short)), λ i e h same. absurd (omega (arith, first i e h, same, h)))))
+      (λ short. absurd (not_missing jobs dones (length dones + 1) all (
+        (omega arith, omega (arith, short)),
+        λ i e h same. absurd (omega (arith, first i e h, same, h)),
+      )))

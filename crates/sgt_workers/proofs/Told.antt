@@ -10,7 +10,8 @@ use Rattle.sgt_workers.specs.Queue.{AreAll}
 use Rattle.sgt_workers.proofs.Weights.{two_weigh, is_it, weighs_one, weighs_none, weighs_once, weighs_there, weigh_jobs}
 
 -- a Done that answers one of the scripts is of one of the jobs
-pub job_there : {C : Type 0} (answers : ℕ → C → Done → Type 0) (scripts : List C) (d : Done) → IsAnswer answers scripts d → IsJob (length scripts) d.job
+pub job_there : {C : Type 0} (answers : ℕ → C → Done → Type 0) (scripts : List C) (d : Done)
+    → IsAnswer answers scripts d → IsJob (length scripts) d.job
 job_there answers scripts d a =
     let there : d.job - 1 < length scripts = slice_get_within scripts (d.job - 1) a.1.0 a.1.1 in
     (a.0, omega (arith, a.0, there))
@@ -31,14 +32,26 @@ not_doubled count dones n all is =
     let other = weighs_one n is.3.job is.8 in
     omega (arith, two, one, other, weigh_jobs (is_it n) dones, all (is_it n), weighs_once n 1 count)
 
-none_weigh : (n : ℕ) (dones : List Done) → All (λ d. d.job ≡ n → ⊥) dones → sum_by (λ (d : Done). is_it n d.job) dones ≡ 0
+none_weigh : (n : ℕ) (dones : List Done) → All (λ d. d.job ≡ n → ⊥) dones
+    → sum_by (λ (d : Done). is_it n d.job) dones ≡ 0
 none_weigh n [] none = refl
 none_weigh n (d ∷ ds) none =
-    omega (arith, sum_by-cons (λ (e : Done). is_it n e.job) d ds, weighs_none n d.job (none 0 d (omega arith)), none_weigh n ds (λ k e h. none (suc k) e (omega (arith, h))))
+    omega (
+      arith,
+      sum_by-cons (λ (e : Done). is_it n e.job) d ds,
+      weighs_none n d.job (none 0 d (omega arith)),
+      none_weigh n ds (λ k e h. none (suc k) e (omega (arith, h))),
+    )
 
 pub not_missing : (count : ℕ) (dones : List Done) (n : ℕ) → AreAll count (jobs_of dones) → IsMissing count dones n → ⊥
 not_missing count dones n all is =
-    omega (arith, none_weigh n dones is.1, weigh_jobs (is_it n) dones, all (is_it n), weighs_there n 1 count (omega (arith, is.0.0)) (omega (arith, is.0.1)))
+    omega (
+      arith,
+      none_weigh n dones is.1,
+      weigh_jobs (is_it n) dones,
+      all (is_it n),
+      weighs_there n 1 count (omega (arith, is.0.0)) (omega (arith, is.0.1)),
+    )
 
 pub below_jobs : (n : ℕ) (dones : List Done) → All (λ m. m < n) (jobs_of dones) → All (λ d. d.job < n) dones
 below_jobs n [] a k d h = absurd (omega (arith, h))

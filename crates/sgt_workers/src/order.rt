@@ -8,7 +8,8 @@ ghost use Rattle.sgt_workers.specs.Queue.{AreAll};
 
 use crate::ticket::Done;
 
-/// The Dones by rising job. Where they are those of some number of jobs, each once, they are in the order of these jobs.
+/// The Dones by rising job. Where they are those of some number of jobs, each once, they are in the order of these
+/// jobs.
 pub fn in_order(mut dones: Vec<Done>) -> Vec<Done>
     ensures same { IsPermutation dones.items result.items }
     ensures jobs { (jobs : ℕ) → All (λ d. IsJob jobs d.job) dones.items

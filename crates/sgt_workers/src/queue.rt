@@ -23,9 +23,9 @@ pub enum Task {
     Stop,
 }
 
-/// What a pass to the queue knows: whether it is the sender's, how many jobs and stops it knows to be sent, the numbers of
-/// the jobs that it took, whether it took a stop, how many passes were cut from it that were not joined to it again, and whether it is
-/// one of those (1 or 0). No value of it is made.
+/// What a pass to the queue knows: whether it is the sender's, how many jobs and stops it knows to be sent, the
+/// numbers of the jobs that it took, whether it took a stop, how many passes were cut from it that were not joined to
+/// it again, and whether it is one of those (1 or 0). No value of it is made.
 pub struct Hold {
     pub sends: bool,
     pub sent: u64,
@@ -137,7 +137,8 @@ pub fn join(sender: &Sender, pass: &mut QueuePass, other: QueuePass)
     sender.absorb::<ForWorker>(pass, other)
 }
 
-/// Once all passes that were cut are joined again, and a stop was taken: the sender's pass knows each job that was sent to be taken, once.
+/// Once all passes that were cut are joined again, and a stop was taken: the sender's pass knows each job that was
+/// sent to be taken, once.
 pub fn learn_all(sender: &Sender, pass: &mut QueuePass)
     requires seat { IsSeatAt (sends_on sender.now) pass.old × ((view pass.old).sends ≡ true) }
     requires none_out { (view pass.old).out ≡ 0 }
@@ -148,7 +149,8 @@ pub fn learn_all(sender: &Sender, pass: &mut QueuePass)
     sender.learn_as::<TakenAll>(pass)
 }
 
-/// Sends the jobs 1 to `jobs` and then a stop for each worker. The queue has room for all of them, and its receiver stands.
+/// Sends the jobs 1 to `jobs` and then a stop for each worker. The queue has room for all of them, and its receiver
+/// stands.
 pub fn fill<R: Wait>(rt: &R, sender: &Sender, pass: &mut QueuePass, jobs: u64, workers: usize)
     requires seat { IsSeatAt (sends_on sender.now) pass.old }
     requires view { view pass.old ≡ sender_of 0 0 }

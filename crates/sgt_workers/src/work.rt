@@ -10,8 +10,8 @@ pub struct Job<S> {
     pub script: S,
 }
 
-/// What the workers of a pool, which share one value of this type, do with a job. Its ghost members are what a pool passes
-/// on to its caller.
+/// What the workers of a pool, which share one value of this type, do with a job. Its ghost members are what a pool
+/// passes on to its caller.
 pub trait Work<S, C, E> {
     ghost use Rattle.std.specs.Prelude.{◌≡◌, ℕ, IfOk, IfErr};
     ghost use Rattle.sgt_workers.specs.declared.ticket.Done.{Done};
@@ -25,8 +25,8 @@ pub trait Work<S, C, E> {
     /// What a call keeps of a worker's state.
     ghost keeps: { S → S → Type 0 };
 
-    /// What a call on the job with this number and this script that answers with this Done makes of a worker's state: the
-    /// one before, and the one after.
+    /// What a call on the job with this number and this script that answers with this Done makes of a worker's state:
+    /// the one before, and the one after.
     ghost does: { Self → S → ℕ → C → Done → S → Type 0 };
 
     /// Runs the script of a job, in a state that no other worker has.

@@ -20,8 +20,8 @@ use std::sync::Wait;
 use std::thread;
 use std::thread::Threads;
 
-/// Runs each script as one job, by as many workers as there are states. Gives the Dones in the order of the scripts, and
-/// the states in theirs, once all workers are joined. After a fault the states are spent.
+/// Runs each script as one job, by as many workers as there are states. Gives the Dones in the order of the scripts,
+/// and the states in theirs, once all workers are joined. After a fault the states are spent.
 pub fn pool<
     S: Send + Drop,
     C: Sync,

@@ -10,7 +10,8 @@ use Rattle.sgt_audit.specs.Reading.{Begun}
 
 -- a line of so many bytes with its LF stands at the front and was fed, and this is what it was
 -- answered with
-pub record FedAlone (c : Certificate) (edges : List Edge) (old new : Alone) (bytes : List ℕ) (n : ℕ) (fault : Option Fault) : Type 0 where
+pub record FedAlone (c : Certificate) (edges : List Edge) (old new : Alone) (bytes : List ℕ) (n : ℕ)
+    (fault : Option Fault) : Type 0 where
   pub line : List ℕ
   pub one : HasNoLf line
   pub within : n ≤ length bytes

@@ -18,7 +18,8 @@ pub record IsBegun (first : Reader) (b : Begun) (text : Text) (now : Reader) : T
   pub front : Consumes first.told middle (front_text b.head.second b.head.certificate [])
   pub sections : HasRead first middle b.ahead.items text now
 
--- sections of that length, twice as many as there are workers, have 8 MiB for each worker and the bytes of the second line
+-- sections of that length, twice as many as there are workers, have 8 MiB for each worker and the bytes of the second
+-- line
 abbrev pub IsMost : (workers second most : ℕ) → Type 0
 IsMost workers second most = 2 * workers * longest most ≤ workers * room + second
 

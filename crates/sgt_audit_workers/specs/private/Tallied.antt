@@ -28,7 +28,8 @@ pub record IsTallied (h : Head) (told coming : Option (List ℕ)) (t : Tally) : 
 abbrev pub second_size : Head → ℕ
 second_size h = length (certificate_text h.certificate)
 
--- this is the verdict on the text; a fault is behind the second line, and what was read up to here has so many bytes at most behind it
+-- this is the verdict on the text; a fault is behind the second line, and what was read up to here has so many bytes
+-- at most behind it
 abbrev pub IsFound : (second : ℕ) → (told left : Option (List ℕ)) → (behind : ℕ) → Verdict → Type 0
 IsFound second None left behind v = ⊤
 IsFound second (Some bytes) None behind v = ⊥

@@ -34,7 +34,8 @@ pub record IsAsked (first : Reader) (text : Text) (now : Reader) : Type 0 where
 
 -- of what is left these bytes were read and stand open, and each read, of those that are gone, took
 -- a byte at least, but for a few
-pub record IsOpen (first : Reader) (lines : Ahead) (most : ℕ) (now : Reader) (left : Option (List ℕ)) (bytes : List ℕ) (stop : Result Stop EngineFail) : Type 0 where
+pub record IsOpen (first : Reader) (lines : Ahead) (most : ℕ) (now : Reader) (left : Option (List ℕ)) (bytes : List ℕ)
+    (stop : Result Stop EngineFail) : Type 0 where
   pub behind : Option (List ℕ)
   pub idle : ℕ
   pub read : Consumes left behind bytes
@@ -110,7 +111,8 @@ IsLeftBehind (Ok stop.Long) left = IfSome left (IsLongerThan max_line)
 IsLeftBehind _ left = Unit {0}
 
 -- More was read behind these bytes of a section, and this is left.
-pub record IsReadOn (first : Reader) (from : Option (List ℕ)) (before after : List ℕ) (stop : Result Stop EngineFail) (text : Text) (now : Reader) : Type 0 where
+pub record IsReadOn (first : Reader) (from : Option (List ℕ)) (before after : List ℕ) (stop : Result Stop EngineFail)
+    (text : Text) (now : Reader) : Type 0 where
   pub piece : List ℕ
   pub left : Option (List ℕ)
   pub bytes : after ≡ before ++ piece
@@ -120,7 +122,8 @@ pub record IsReadOn (first : Reader) (from : Option (List ℕ)) (before after : 
   pub behind : IsLeftBehind stop left
 
 -- so much of a section was read, of which these bytes are held, and this is left behind it
-pub record IsOpened (first : Reader) (from : Option (List ℕ)) (read bytes : List ℕ) (stop : Result Stop EngineFail) (text : Text) (now : Reader) : Type 0 where
+pub record IsOpened (first : Reader) (from : Option (List ℕ)) (read bytes : List ℕ) (stop : Result Stop EngineFail)
+    (text : Text) (now : Reader) : Type 0 where
   pub left : Option (List ℕ)
   pub came : Consumes from left read
   pub rest : IsLeft first text now left

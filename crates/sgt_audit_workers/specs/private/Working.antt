@@ -31,7 +31,8 @@ pub record SameWorkers (old new : Workers) : Type 0 where
   pub count : new.count ≡ old.count
   pub most : new.most ≡ old.most
 
--- so far the text has no fault; or this is the verdict on it, and no more than so many sections were read behind its fault
+-- so far the text has no fault; or this is the verdict on it, and no more than so many sections were read behind its
+-- fault
 abbrev pub GoesOn : {X : Type 0} → (told left : Option (List ℕ)) → (sections : ℕ) → Workers
     → Result X Verdict → Type 0
 GoesOn told left sections w (Ok x) = Works told left w
@@ -51,7 +52,8 @@ pub record IsWithin (w : Workers) (ahead : List Section) (text : Text) : Type 0 
   pub held : length w.running.items + length ahead + 1 ≤ 2 * w.count
   pub most : text.most ≡ w.most
 
--- the next section is judged, or this is the verdict on the text, and no more than so many sections were read behind its fault
+-- the next section is judged, or this is the verdict on the text, and no more than so many sections were read behind
+-- its fault
 abbrev pub NextGoes : {X : Type 0} → (first : Reader) → Workers → List Section → Text
     → (now : Reader) → Result X Verdict → Type 0
 NextGoes first w ahead text now (Ok x) = (left : Option (List ℕ)) × Works first.told left w

@@ -22,7 +22,8 @@ pub record IsReadTo (second : Bool) (bytes : List ℕ) (count : ℕ) (b : Begun)
   pub many : length (lines_read b) ≡ count
 
 -- they are kept so, and their entries are decided
-pub record HasRead (second : Bool) (ds : List Decision) (bytes : List ℕ) (count : ℕ) (r : Reading) (rest : List ℕ) : Type 0 where
+pub record HasRead (second : Bool) (ds : List Decision) (bytes : List ℕ) (count : ℕ) (r : Reading)
+    (rest : List ℕ) : Type 0 where
   pub sections : Begun
   pub read : IsReadTo second bytes count sections rest
   pub place : IsPlace sections r.place

@@ -28,7 +28,8 @@ IsBehind entries decided tx = (q : ℕ) × (f : Entry) × HasLeft entries decide
 
 -- an end of the transaction stands behind the place
 abbrev pub EndsBehind : List Entry → (place tx : ℕ) → Type 0
-EndsBehind entries place tx = (q : ℕ) × (f : Entry) × (place < q) × (slice_get entries q ≡ Some f) × IsEnd f × (tx_of f ≡ tx)
+EndsBehind entries place tx = (q : ℕ) × (f : Entry) × (place < q) × (slice_get entries q ≡ Some f) × IsEnd f
+    × (tx_of f ≡ tx)
 
 -- whoever ends before an end of this is decided
 abbrev pub IsNext : List Entry → BTreeSet ℕ → ℕ → Type 0

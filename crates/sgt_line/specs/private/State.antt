@@ -8,7 +8,8 @@ use Rattle.sgt_line.specs.declared.kind.Kind.TheVariants.{Against, Dashes, Numbe
 use Rattle.sgt_line.specs.declared.name.CommandName.{CommandName}
 
 -- all but the last word is read, and that is an option of this kind, which waits for the word behind it
-pub record Waits (command : CommandName) (first : Parts) (words : List (List ℕ)) (kind : Kind) (without : Parts) : Type 0 where
+pub record Waits (command : CommandName) (first : Parts) (words : List (List ℕ)) (kind : Kind)
+    (without : Parts) : Type 0 where
   pub before : List (List ℕ)
   pub option : List ℕ
   pub cut : words ≡ before ++ (option ∷ [])

@@ -14,7 +14,15 @@ use Rattle.sgt_service_settle.specs.private.Index.{IsIn}
 -- item has this version
 abbrev pub deed_of : Entry → ℕ → ℕ → ℕ → Deed
 deed_of e number place version =
-    record { tx = tx_of e; number = number; place = place; version = version; read = is_read e; increment = is_increment e }
+    record {
+      tx = tx_of e;
+      number = number;
+      place = place;
+      version = version;
+      read = is_read e;
+      increment =
+          is_increment e;
+    }
 
 -- the one comes before the item's next version: a change before the version that it makes, a read
 -- no later than the version that it met
@@ -43,7 +51,8 @@ pub record IsTracked (tracks : List Track) (at : ℕ) (e : Entry) (number place 
   pub deed : Contains track.deeds.items (deed_of e number place version)
 
 -- the tracks have the operations of committed transactions before this place of the log
-pub record AreTracks (commits : List (Option ℕ)) (items : List Holding) (log : List Entry) (place : ℕ) (tracks : List Track)
+pub record AreTracks (commits : List (Option ℕ)) (items : List Holding) (log : List Entry) (place : ℕ)
+    (tracks : List Track)
     : Type 0 where
   pub each : (at : ℕ) (t : Track) → slice_get tracks at ≡ Some t → IsTrack place t
   pub all : (q number at : ℕ) (e : Entry) (x : Name) → q < place → slice_get log q ≡ Some e

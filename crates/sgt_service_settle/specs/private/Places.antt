@@ -36,7 +36,8 @@ pub record IsAdded (items : List Holding) (l : Link) (old new : List (Vec Link G
   pub pushed : Pushed old at l new
 
 -- that of the edge was
-pub record IsTieAdded (index : Index) (items : List Holding) (h : Handed) (old new : List (Vec Link Global)) (at : ℕ) : Type 0 where
+pub record IsTieAdded (index : Index) (items : List Holding) (h : Handed) (old new : List (Vec Link Global))
+    (at : ℕ) : Type 0 where
   pub link : Link
   pub is : IsLinkOf index.windows.items index.commits.items h link
   pub added : IsAdded items link old new at

@@ -11,4 +11,6 @@ returns-clause-underway c bytes =
     let good = c.requires.good in
     let k = c.args.site in
     begins c.args.alone.now.second cert k bytes c.begin.new.self
-    (c.begin.ensures.stands cert (at_site cert k) c.requires.ready (good.itself fault.DecidedTwice) (good.itself fault.Ranks) (fresh cert k good c.requires.site) refl (length-replicate k empty_log) refl) c.begin.ensures.second
+    (c.begin.ensures.stands cert (at_site cert k) c.requires.ready (good.itself fault.DecidedTwice)
+    (good.itself fault.Ranks) (fresh cert k good c.requires.site) refl (length-replicate k empty_log) refl)
+    c.begin.ensures.second

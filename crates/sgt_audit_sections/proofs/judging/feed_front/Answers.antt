@@ -24,5 +24,7 @@ returns-in_ok-fault-in-Some-find_lf-clause-fed c =
       one = found.1;
       within = omega (arith, found.0);
       cut = found.2;
-      follows = λ b s. subst (λ (l : List ℕ). FollowsAlone c.args.certificate.now c.args.edges.now b l c.next.new.self c.in_ok-fault-in-Some-find_lf.fault) c.front.ensures (c.in_ok-fault-in-Some-find_lf.ensures.follows b s);
+      follows =
+          λ b s. subst (λ (l : List ℕ). FollowsAlone c.args.certificate.now c.args.edges.now b l c.next.new.self
+          c.in_ok-fault-in-Some-find_lf.fault) c.front.ensures (c.in_ok-fault-in-Some-find_lf.ensures.follows b s);
     }

@@ -14,8 +14,12 @@ returns-in-Some-fault-clause-judged c second read was more =
     let cert = c.args.certificate.now in
     let under = c.lines.invariant.underway second read was in
     let fed = rw c.in-Some.is at c.in_ok-n.ensures.fed in
-    let with_fault = subst (FedAlone cert c.args.edges.now c.lines.alone c.feed_front.new.alone c.lines.rest.now c.in-Some.n) c.in-Some-fault.is fed in
-    faulty second cert c.args.next.site c.requires.site read c.lines.rest.now c.lines.line c.lines.alone under c.args.edges.now c.feed_front.new.alone c.in-Some.n c.in_ok-n.ensures.second c.in-Some-fault.fault with_fault more
+    let with_fault =
+    subst (FedAlone cert c.args.edges.now c.lines.alone c.feed_front.new.alone c.lines.rest.now c.in-Some.n)
+    c.in-Some-fault.is fed in
+    faulty second cert c.args.next.site c.requires.site read c.lines.rest.now c.lines.line c.lines.alone under
+    c.args.edges.now c.feed_front.new.alone c.in-Some.n c.in_ok-n.ensures.second c.in-Some-fault.fault with_fault
+    more
 
 pub returns-then-is_behind-clause-judged : goal.returns-then-is_behind-clause-judged
 returns-then-is_behind-clause-judged c s read was =
@@ -30,9 +34,13 @@ returns-then-is_behind-clause-judged c s read was =
     let new = c.feed_front.new.alone in
     let n = c.in-Some.n in
     let same = c.in_ok-n.ensures.second in
-    let fed = subst (FedAlone cert edges a new rest n) c.in_default-fault.is (rw c.in-Some.is at c.in_ok-n.ensures.fed) in
-    let behind = (c.is_behind.ensures cert (next s cert k few read rest line a g edges new n same fed) (stands s cert k few read rest line a g edges new n same fed)).0 c.if-is_behind.true in
-    let none = sym c.behind-rest.ensures ∙ empty-nil c.behind-rest.result.now (empty _ _ c.is_empty.ensures c.if-not-is_empty.false) in
+    let fed =
+    subst (FedAlone cert edges a new rest n) c.in_default-fault.is (rw c.in-Some.is at c.in_ok-n.ensures.fed) in
+    let behind =
+    (c.is_behind.ensures cert (next s cert k few read rest line a g edges new n same fed)
+    (stands s cert k few read rest line a g edges new n same fed)).0 c.if-is_behind.true in
+    let none = sym c.behind-rest.ensures
+    ∙ empty-nil c.behind-rest.result.now (empty _ _ c.is_empty.ensures c.if-not-is_empty.false) in
     is-whole s cert k few read rest line a g edges new n same fed behind c.requires.steps none
 
 pub returns-then-is_behind-clause-ready : goal.returns-then-is_behind-clause-ready
@@ -48,8 +56,11 @@ returns-then-is_behind-clause-ready c s read was whole =
     let new = c.feed_front.new.alone in
     let n = c.in-Some.n in
     let same = c.in_ok-n.ensures.second in
-    let fed = subst (FedAlone cert edges a new rest n) c.in_default-fault.is (rw c.in-Some.is at c.in_ok-n.ensures.fed) in
-    let behind = (c.is_behind.ensures cert (next s cert k few read rest line a g edges new n same fed) (stands s cert k few read rest line a g edges new n same fed)).0 c.if-is_behind.true in
+    let fed =
+    subst (FedAlone cert edges a new rest n) c.in_default-fault.is (rw c.in-Some.is at c.in_ok-n.ensures.fed) in
+    let behind =
+    (c.is_behind.ensures cert (next s cert k few read rest line a g edges new n same fed)
+    (stands s cert k few read rest line a g edges new n same fed)).0 c.if-is_behind.true in
     ready s cert k few read rest line a g edges new n same fed behind
 
 pub lines-preserved : goal.lines-preserved
@@ -65,16 +76,21 @@ lines-preserved c =
     let new = c.feed_front.new.alone in
     let n = c.in-Some.n in
     let same = c.in_ok-n.ensures.second in
-    let fed = subst (FedAlone cert edges a new rest n) c.in_default-fault.is (rw c.in-Some.is at c.in_ok-n.ensures.fed) in
+    let fed =
+    subst (FedAlone cert edges a new rest n) c.in_default-fault.is (rw c.in-Some.is at c.in_ok-n.ensures.fed) in
     let size = ap length fed.cut ∙ length-append fed.line (10 ∷ drop n rest) in
     record {
       underway = λ s read was.
           let g = inv.underway s read was in
-          let decides = c.is_behind.ensures cert (next s cert k few read rest line a g edges new n same fed) (stands s cert k few read rest line a g edges new n same fed) in
+          let decides = c.is_behind.ensures cert (next s cert k few read rest line a g edges new n same fed)
+          (stands s cert k few read rest line a g edges new n same fed) in
           let before = refuted c.is_behind.result decides c.if-is_behind.false in
-          subst (λ (r : List ℕ). IsUnderway s cert k read r (line + 1) new) (sym c.behind-rest.ensures) (goes-on s cert k few read rest line a g edges new n same fed before);
+          subst (λ (r : List ℕ). IsUnderway s cert k read r (line + 1) new) (sym c.behind-rest.ensures)
+          (goes-on s cert k few read rest line a g edges new n same fed before);
       front = inv.front ++ take n rest;
-      last = inv.last ∙ ap (λ (r : List ℕ). inv.front ++ r) (sym (take-append-drop n rest) ∙ ap (λ (r : List ℕ). take n rest ++ r) (sym c.behind-rest.ensures)) ∙ sym (append_assoc inv.front (take n rest) c.behind-rest.result.now);
+      last = inv.last ∙ ap (λ (r : List ℕ). inv.front ++ r) (sym (take-append-drop n rest)
+          ∙ ap (λ (r : List ℕ). take n rest ++ r) (sym c.behind-rest.ensures))
+          ∙ sym (append_assoc inv.front (take n rest) c.behind-rest.result.now);
       counted = omega (arith, inv.counted, size, ap length c.behind-rest.ensures);
       later = omega (arith, inv.later);
       second = same ∙ inv.second;
@@ -83,7 +99,8 @@ lines-preserved c =
 pub returns-then-rest-gt-MAX_LINE-clause-judged : goal.returns-then-rest-gt-MAX_LINE-clause-judged
 returns-then-rest-gt-MAX_LINE-clause-judged c s read was more =
     let one = rw c.in_default.is at c.in_ok-n.ensures.none in
-    unspelled s c.args.certificate.now c.args.next.site c.requires.site read c.lines.rest.now c.lines.line c.lines.alone (c.lines.invariant.underway s read was) more
+    unspelled s c.args.certificate.now c.args.next.site c.requires.site read c.lines.rest.now c.lines.line
+    c.lines.alone (c.lines.invariant.underway s read was) more
     (longer-rest c.lines.rest.now more (omega (arith, c.if-rest-gt-MAX_LINE.true)) one)
 
 pub returns-clause-judged : goal.returns-clause-judged

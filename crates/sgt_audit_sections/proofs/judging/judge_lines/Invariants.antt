@@ -4,7 +4,8 @@ use Rattle.sgt_audit_sections.proofs.judging.judge_lines.Given as goal
 
 abbrev pub invariant-lines : goal.invariant-lines
 invariant-lines l = record {
-  underway : (second : Bool) (read : List ℕ) → IsUnderway second l.certificate l.next.site read l.bytes l.next.line l.initial.alone
+  underway : (second : Bool) (read : List ℕ)
+      → IsUnderway second l.certificate l.next.site read l.bytes l.next.line l.initial.alone
       → IsUnderway second l.certificate l.next.site read l.rest l.line l.alone;
   front : List ℕ;
   last : l.bytes ≡ front ++ l.rest;

@@ -7,7 +7,9 @@ use Rattle.sgt_audit_sections.specs.declared.judging.NextLine.{NextLine}
 use Rattle.sgt_audit_sections.proofs.judging.judge_section.Goals as goal
 
 pub judge_lines-requires-clause-steps : goal.judge_lines-requires-clause-steps
-judge_lines-requires-clause-steps c = subst (λ (n : NextLine). AreStepsAt c.args.certificate.now.decisions n.site c.args.edges.now) (sym c.begin_section-next.ensures.next) c.requires.steps
+judge_lines-requires-clause-steps c =
+    subst (λ (n : NextLine). AreStepsAt c.args.certificate.now.decisions n.site c.args.edges.now)
+    (sym c.begin_section-next.ensures.next) c.requires.steps
 
 pub returns-clause-judged : goal.returns-clause-judged
 returns-clause-judged c =
@@ -15,8 +17,10 @@ returns-clause-judged c =
     let cert = c.args.certificate.now in
     let bytes = c.args.bytes.now in
     let same = c.begin_section-next.ensures.next in
-    let under = subst (λ (n : NextLine). IsUnderway s cert n.site bytes bytes n.line c.begin_section-next.new.alone) (sym same) (c.begin_section-next.ensures.underway bytes) in
-    subst (λ (n : NextLine). IfOk c.judge_lines.result (IsJudgedSection s cert n.site bytes)) same (c.judge_lines.ensures.judged s bytes under)
+    let under = subst (λ (n : NextLine). IsUnderway s cert n.site bytes bytes n.line c.begin_section-next.new.alone)
+    (sym same) (c.begin_section-next.ensures.underway bytes) in
+    subst (λ (n : NextLine). IfOk c.judge_lines.result (IsJudgedSection s cert n.site bytes)) same
+    (c.judge_lines.ensures.judged s bytes under)
 
 pub returns-clause-ready : goal.returns-clause-ready
 returns-clause-ready c =
@@ -24,5 +28,7 @@ returns-clause-ready c =
     let cert = c.args.certificate.now in
     let bytes = c.args.bytes.now in
     let same = c.begin_section-next.ensures.next in
-    let under = subst (λ (n : NextLine). IsUnderway s cert n.site bytes bytes n.line c.begin_section-next.new.alone) (sym same) (c.begin_section-next.ensures.underway bytes) in
-    subst (λ (n : NextLine). IfOk c.judge_lines.result (λ j. IsWhole j → IsReadyAlone cert (n.site + 1) c.judge_lines.new.alone)) same (c.judge_lines.ensures.ready s bytes under)
+    let under = subst (λ (n : NextLine). IsUnderway s cert n.site bytes bytes n.line c.begin_section-next.new.alone)
+    (sym same) (c.begin_section-next.ensures.underway bytes) in
+    subst (λ (n : NextLine). IfOk c.judge_lines.result (λ j. IsWhole j
+    → IsReadyAlone cert (n.site + 1) c.judge_lines.new.alone)) same (c.judge_lines.ensures.ready s bytes under)

@@ -2,7 +2,8 @@ use Rattle.sgt_audit_sections.proofs.SectionFaults.{found-no_fault, no_fault-fou
 use Rattle.sgt_audit_sections.proofs.laws.faultless_sections_are_valid_where_the_walks_are.Goals as goal
 
 pub returns-clause-valid : goal.returns-clause-valid
-returns-clause-valid g second c logs good kept each = (found-no_fault second c logs good kept each, no_fault-found second c logs good kept each)
+returns-clause-valid g second c logs good kept each =
+    (found-no_fault second c logs good kept each, no_fault-found second c logs good kept each)
 
 pub returns-clause-walks : goal.returns-clause-walks
 returns-clause-walks g second c logs bytes good kept each = missed-first second c logs good kept each bytes

@@ -6,7 +6,8 @@ use Rattle.sgt_audit_workers.proofs.head.first_line.Goals as goal
 
 pub returns-in-None-clause-fault : goal.returns-in-None-clause-fault
 returns-in-None-clause-fault c bytes rest is =
-    first-unspelled bytes c.args.line.now rest (subst (λ n. IsNext max_line bytes n c.args.line.now rest) c.in-Line.is is) c.in-None.ensures.none
+    first-unspelled bytes c.args.line.now rest
+    (subst (λ n. IsNext max_line bytes n c.args.line.now rest) c.in-Line.is is) c.in-None.ensures.none
 
 pub returns-in-TooLong-clause-fault : goal.returns-in-TooLong-clause-fault
 returns-in-TooLong-clause-fault c bytes rest is =

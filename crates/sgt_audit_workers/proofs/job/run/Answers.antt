@@ -14,8 +14,12 @@ returns c =
       site = refl;
       section = refl;
       done = record {
-        judged = subst (λ (second : Bool). IfOk c.judge_section-judged.result (IsJudgedSection second h.certificate c.args.job.site c.args.job.section.bytes.items)) may.1
-            (subst (λ (bytes : List ℕ). IfOk c.judge_section-judged.result (IsJudgedSection c.in-Ok.alone.second h.certificate c.args.job.site bytes)) c.as_slice.ensures.value c.judge_section-judged.ensures.judged);
-        ready = if_ok_map c.judge_section-judged.result _ _ c.judge_section-judged.ensures.ready (λ j ready whole. (ready whole, c.judge_section-judged.ensures.second ∙ may.1));
+        judged = subst (λ (second : Bool). IfOk c.judge_section-judged.result
+            (IsJudgedSection second h.certificate c.args.job.site c.args.job.section.bytes.items)) may.1
+            (subst (λ (bytes : List ℕ). IfOk c.judge_section-judged.result
+            (IsJudgedSection c.in-Ok.alone.second h.certificate c.args.job.site bytes)) c.as_slice.ensures.value
+            c.judge_section-judged.ensures.judged);
+        ready = if_ok_map c.judge_section-judged.result _ _ c.judge_section-judged.ensures.ready
+            (λ j ready whole. (ready whole, c.judge_section-judged.ensures.second ∙ may.1));
       };
     }

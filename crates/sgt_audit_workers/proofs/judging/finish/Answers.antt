@@ -8,7 +8,8 @@ returns-in-Ok-Once g c second line will =
     subst (λ (s : Bool). IsHeadOf s line c.judge_once.result) will.format (c.judge_once.ensures line once)
 
 pub returns-in-Ok-Judged : goal.returns-in-Ok-Judged
-returns-in-Ok-Judged g c second line will = rw (c.in-Ok-Judged.is, c.in-Ok-Judged.field-0-is) at (c.wait-line.ensures second line will.reading)
+returns-in-Ok-Judged g c second line will =
+    rw (c.in-Ok-Judged.is, c.in-Ok-Judged.field-0-is) at (c.wait-line.ensures second line will.reading)
 
 pub returns-in-Err : goal.returns-in-Err
 returns-in-Err g c second line will = rw c.in-Err.is at (c.wait-line.ensures second line will.reading)

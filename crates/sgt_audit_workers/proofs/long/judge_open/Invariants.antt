@@ -12,9 +12,12 @@ invariant-loop-piece g l =
       site : l.next.site ≡ l.tally.whole;
       tally : l.tally ≡ l.fn.tally;
       read : List ℕ;
-      under : IsUnderway l.fn.head.second l.fn.head.certificate l.next.site read l.opened.bytes.items l.next.line l.alone;
-      rest : (first : Reader) (left : Option (List ℕ)) → IsLeft first l.fn.text old left → IsOpened first left read l.opened.bytes.items l.opened.stop l.text now;
+      under : IsUnderway l.fn.head.second l.fn.head.certificate l.next.site read l.opened.bytes.items l.next.line
+          l.alone;
+      rest : (first : Reader) (left : Option (List ℕ)) → IsLeft first l.fn.text old left
+          → IsOpened first left read l.opened.bytes.items l.opened.stop l.text now;
       behind : IsStateBehind l.opened.stop l.text.state;
-      asked : (first : Reader) (left : Option (List ℕ)) → IsLeft first l.fn.text old left → IsAsked first l.fn.text old → IsAsked first l.text now;
+      asked : (first : Reader) (left : Option (List ℕ)) → IsLeft first l.fn.text old left
+          → IsAsked first l.fn.text old → IsAsked first l.text now;
       most : l.text.most ≡ l.fn.text.most;
     }

@@ -7,14 +7,20 @@ use Rattle.sgt_audit_workers.proofs.long.read_next.Goals as goal
 
 pub returns-clause-asked : goal.returns-clause-asked
 returns-clause-asked g c first left is was =
-    let old = reader (g.R.Source.tells c.args.source.now) (g.R.Source.failures c.args.source.now) (g.R.Source.asked c.args.source.now) in
-    let now = reader (g.R.Source.tells c.read_piece-opened.new.reader) (g.R.Source.failures c.read_piece-opened.new.reader) (g.R.Source.asked c.read_piece-opened.new.reader) in
+    let old = reader (g.R.Source.tells c.args.source.now) (g.R.Source.failures c.args.source.now)
+    (g.R.Source.asked c.args.source.now) in
+    let now =
+    reader (g.R.Source.tells c.read_piece-opened.new.reader) (g.R.Source.failures c.read_piece-opened.new.reader)
+    (g.R.Source.asked c.read_piece-opened.new.reader) in
     let here = subst (IsLeftIn first c.args.text.now.lines c.args.text.now.most old left) c.requires is in
     let same : old.failures ≡ first.failures = subst (StateFails first old) c.requires was.fails in
     record {
       asks = omega (arith, was.asks, c.read_piece-opened.ensures.asks);
       once = omega (arith, c.read_piece-opened.ensures.once, same);
-      fails = fails-behind first now c.read_piece-opened.result _ (may-fail first old now c.args.text.now.lines.reads left c.read_piece-opened.result c.read_piece-opened.ensures.quiet
-          (λ e. subst (λ o. FailsDuly c.args.text.now.lines.reads o old.failures now.failures old.asked now.asked) (sym here.0) (c.read_piece-opened.ensures.read_fault e))
+      fails = fails-behind first now c.read_piece-opened.result _
+          (may-fail first old now c.args.text.now.lines.reads left c.read_piece-opened.result
+          c.read_piece-opened.ensures.quiet
+          (λ e. subst (λ o. FailsDuly c.args.text.now.lines.reads o old.failures now.failures old.asked now.asked)
+          (sym here.0) (c.read_piece-opened.ensures.read_fault e))
           c.read_piece-opened.ensures.write_fault same was.asks here.1) c.state_behind.ensures;
     }

@@ -8,4 +8,5 @@ pub returns-clause-opened : goal.returns-clause-opened
 returns-clause-opened c first now left is =
     let text = c.args.text.now in
     let same : text.state ≡ Open c.in-Open.bytes c.in-Open.stop = sym c.replace-state.ensures.value ∙ c.in-Open.is in
-    opened-of first now _ left c.in-Open.bytes.items c.in-Open.stop (subst (IsLeftIn first text.lines text.most now left) same is) c.state_behind.ensures
+    opened-of first now _ left c.in-Open.bytes.items c.in-Open.stop
+    (subst (IsLeftIn first text.lines text.most now left) same is) c.state_behind.ensures

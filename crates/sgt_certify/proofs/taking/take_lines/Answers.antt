@@ -25,16 +25,21 @@ lines-preserved g c =
     let kept : length c.take_held.new.lines.held ≤ g.R.Source.last c.lines.reader =
     omega (arith, c.lines.invariant.6, drop-few held.0 c.lines.lines.held, ap (λ (a : Ahead). length a.held) held.1) in
     let reads = ap (λ (a : Ahead). a.reads) held.1 in
-    let spent : 4294967295 ≤ c.take_held.new.lines.reads + length c.lines.text.items = omega (arith, c.lines.invariant.5, reads) in (
+    let spent : 4294967295 ≤ c.take_held.new.lines.reads + length c.lines.text.items =
+    omega (arith, c.lines.invariant.5, reads) in (
       line-taken _ _ _ _ _ _ _ (held-taken _ _ held.0 _ _ _ _ c.lines.invariant.0 held.1 held.2) gave.gives
-          (c.in_ok-push_line-in-Ok-Line.ensures ∙ ap (λ (l : List ℕ). (c.take_held.new.text.items ++ l) ++ 10 ∷ []) c.as_slice.ensures.value),
+          (c.in_ok-push_line-in-Ok-Line.ensures
+          ∙ ap (λ (l : List ℕ). (c.take_held.new.text.items ++ l) ++ 10 ∷ []) c.as_slice.ensures.value),
       gave.quiet ∙ c.lines.invariant.1,
       spends_on _ _ _ _ _ _ _ reads c.lines.invariant.2 gave.spends,
       omega (arith, c.in-Ok-Line.ensures.asks, c.lines.invariant.3, reads),
-      line-kept _ _ _ _ _ _ held.2 c.lines.invariant.4 held.3 c.as_slice.ensures.value c.in-Ok-Line.ensures.line.1 c.in_ok-push_line-in-Ok-Line.ensures,
-      few-kept c.take_held.new.lines.reads _ 4294967295 _ _ _ _ _ _ held.2 c.as_slice.ensures.value c.in_ok-push_line-in-Ok-Line.ensures spent
+      line-kept _ _ _ _ _ _ held.2 c.lines.invariant.4 held.3 c.as_slice.ensures.value c.in-Ok-Line.ensures.line.1
+          c.in_ok-push_line-in-Ok-Line.ensures,
+      few-kept c.take_held.new.lines.reads _ 4294967295 _ _ _ _ _ _ held.2 c.as_slice.ensures.value
+          c.in_ok-push_line-in-Ok-Line.ensures spent
           c.in-Ok-Line.ensures.few,
-      last-kept_line c.take_held.new.lines.reads _ (length c.take_held.new.lines.held) _ _ _ _ c.in-Ok-Line.ensures.reads c.in-Ok-Line.ensures.still
+      last-kept_line c.take_held.new.lines.reads _ (length c.take_held.new.lines.held) _ _ _ _
+          c.in-Ok-Line.ensures.reads c.in-Ok-Line.ensures.still
           (λ less. rw c.in-Ok-Line.field-0-is at c.in-Ok-Line.ensures.fresh less) c.in-Ok-Line.ensures.bounded kept,
     )
 
@@ -43,7 +48,8 @@ returns-in-Ok-Cut-clause-taken g c =
     let gave = rw c.in-Ok-Cut.field-0-is at c.in-Ok-Cut.ensures.ok in
     let held = c.in_ok-take_held.ensures in
     cut-taken _ _ _ _ _ _ _ (held-taken _ _ held.0 _ _ _ _ c.lines.invariant.0 held.1 held.2) gave.gives
-    (c.in_ok-extend_from_slice-in-Ok-Cut.ensures.items ∙ ap (λ (l : List ℕ). c.take_held.new.text.items ++ l) c.as_slice-in-Ok-Cut.ensures.value)
+    (c.in_ok-extend_from_slice-in-Ok-Cut.ensures.items
+    ∙ ap (λ (l : List ℕ). c.take_held.new.text.items ++ l) c.as_slice-in-Ok-Cut.ensures.value)
 
 pub returns-in-Ok-End-clause-taken : goal.returns-in-Ok-End-clause-taken
 returns-in-Ok-End-clause-taken g c =
@@ -112,7 +118,16 @@ returns-in-Ok-TooLong-clause-no_further g c =
     let reads = ap (λ (a : Ahead). a.reads) held.1 in
     let grown = ap length held.2 in
     long-further _ _ _ _ _ _ mid gave.gives short c.in-Ok-TooLong.ensures.line.1
-    (omega (arith, c.in-Ok-TooLong.ensures.asks, c.in-Ok-TooLong.ensures.few, c.lines.invariant.3, c.lines.invariant.5, reads, grown, length-append c.lines.text.items (take held.0 c.lines.lines.held)))
+    (omega (
+      arith,
+      c.in-Ok-TooLong.ensures.asks,
+      c.in-Ok-TooLong.ensures.few,
+      c.lines.invariant.3,
+      c.lines.invariant.5,
+      reads,
+      grown,
+      length-append c.lines.text.items (take held.0 c.lines.lines.held),
+    ))
 
 pub returns-in-Ok-TooLong-clause-none_behind : goal.returns-in-Ok-TooLong-clause-none_behind
 returns-in-Ok-TooLong-clause-none_behind g c =
@@ -120,9 +135,16 @@ returns-in-Ok-TooLong-clause-none_behind g c =
     let held = c.in_ok-take_held.ensures in
     let mid = held-taken _ _ held.0 _ _ _ _ c.lines.invariant.0 held.1 held.2 in
     let short = held-kept _ _ _ held.2 c.lines.invariant.4 held.3 in
-    let kept = last-kept c.take_held.new.lines.reads _ (length c.take_held.new.lines.held) _ _ _ _ c.in-Ok-TooLong.ensures.reads c.in-Ok-TooLong.ensures.still
+    let kept =
+    last-kept c.take_held.new.lines.reads _ (length c.take_held.new.lines.held) _ _ _ _
+    c.in-Ok-TooLong.ensures.reads c.in-Ok-TooLong.ensures.still
     (λ less. rw c.in-Ok-TooLong.field-0-is at c.in-Ok-TooLong.ensures.fresh less) c.in-Ok-TooLong.ensures.bounded
-    (omega (arith, c.lines.invariant.6, drop-few held.0 c.lines.lines.held, ap (λ (a : Ahead). length a.held) held.1)) in
+    (omega (
+      arith,
+      c.lines.invariant.6,
+      drop-few held.0 c.lines.lines.held,
+      ap (λ (a : Ahead). length a.held) held.1,
+    )) in
     long-behind _ _ _ _ _ _ _ mid gave.gives short c.in-Ok-TooLong.ensures.line.1 kept
 
 pub returns-in-Ok-TooLong-clause-reads_all : goal.returns-in-Ok-TooLong-clause-reads_all
@@ -136,4 +158,5 @@ pub returns-in-Err-ReadFault-clause-read_fault : goal.returns-in-Err-ReadFault-c
 returns-in-Err-ReadFault-clause-read_fault g c same =
     let reads = ap (λ (a : Ahead). a.reads) c.in_ok-take_held.ensures.1 in
     fault-met _ _ _ _ _ _ _ _ c.lines.invariant.1 c.lines.invariant.2 reads
-    (omega (arith, c.in-Err-ReadFault.ensures.asks, c.lines.invariant.3, reads)) (c.in-Err-ReadFault.ensures.read_fault (ap Err c.in-Err-ReadFault.field-0-is))
+    (omega (arith, c.in-Err-ReadFault.ensures.asks, c.lines.invariant.3, reads))
+    (c.in-Err-ReadFault.ensures.read_fault (ap Err c.in-Err-ReadFault.field-0-is))

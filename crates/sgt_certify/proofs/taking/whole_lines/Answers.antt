@@ -4,4 +4,5 @@ use Rattle.sgt_certify.proofs.taking.whole_lines.Goals as goal
 
 pub returns-in-Some-clause-short : goal.returns-in-Some-clause-short
 returns-in-Some-clause-short c =
-    front-short c.args.bytes.now c.min-most.result c.in-Some.last (omega (arith, c.min-most.ensures)) c.in-Some.ensures.0.high c.in-Some.ensures.1
+    front-short c.args.bytes.now c.min-most.result c.in-Some.last (omega (arith, c.min-most.ensures))
+    c.in-Some.ensures.0.high c.in-Some.ensures.1

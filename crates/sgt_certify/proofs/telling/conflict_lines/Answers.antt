@@ -10,5 +10,7 @@ pub returns-in_default-clause-none : goal.returns-in_default-clause-none
 returns-in_default-clause-none c are cycle =
     let steps = c.args.steps.now in
     let at = element_at steps c.loop-step.step-index c.step-item.result c.loop-step-test.true c.step-item.is in
-    let all = each-round (λ (s : ConflictStep). s.from) (λ (s : ConflictStep). s.to) (IsConflictStep c.args.sites.now) steps cycle in
-    none-of _ _ c.in_default.not-Some c.in_ok-line.ensures.none are (All_at (IsConflictStep c.args.sites.now) steps c.loop-step.step-index c.step-item.result all at)
+    let all = each-round (λ (s : ConflictStep). s.from) (λ (s : ConflictStep). s.to) (IsConflictStep c.args.sites.now)
+    steps cycle in
+    none-of _ _ c.in_default.not-Some c.in_ok-line.ensures.none are
+    (All_at (IsConflictStep c.args.sites.now) steps c.loop-step.step-index c.step-item.result all at)

@@ -9,13 +9,16 @@ use Rattle.sgt_certify_faults.proofs.first.fault_of_end.Goals.{else-all-via-then
 
 pub returns-then-text-le-MAX_LINE : goal.returns-then-text-le-MAX_LINE
 returns-then-text-le-MAX_LINE c none more goes =
-    first-end c.args.text.now more none (subst (λ a. GoesOn a more) c.if-all.true goes) (omega (arith, c.if-text-le-MAX_LINE.true))
+    first-end c.args.text.now more none (subst (λ a. GoesOn a more) c.if-all.true goes)
+    (omega (arith, c.if-text-le-MAX_LINE.true))
 
 pub returns-else-all : goal.returns-else-all
 returns-else-all c none more goes =
     elim c.else-all.branch [
       | else-all-via-then-all+else-text-le-MAX_LINE w ↦
-          first-long c.args.text.now more none (last c.args.text.now) (end-comes c.args.text.now more none (subst (λ a. GoesOn a more) w.if-all.true goes)) (omega (arith, w.if-text-le-MAX_LINE.false))
+          first-long c.args.text.now more none (last c.args.text.now)
+          (end-comes c.args.text.now more none (subst (λ a. GoesOn a more) w.if-all.true goes))
+          (omega (arith, w.if-text-le-MAX_LINE.false))
       | else-all-via-else-all w ↦
           let next = long-next c.args.text.now more none (subst (λ a. GoesOn a more) w.if-all.false goes) in
           first-long c.args.text.now more none next.0 next.1 next.2

@@ -11,19 +11,25 @@ use Rattle.sgt_certify_faults.proofs.judging.judge_inside.Goals as goal
 
 pub returns-in-Some : goal.returns-in-Some
 returns-in-Some j ds before log p k t o fits begins tells =
-    let is = known-entry ds j.args.state.now j.args.line.now j.args.known.now j.in-Logged.entry j.in-Some.known j.in-Logged.is j.in-Some.is k in
+    let is = known-entry ds j.args.state.now j.args.line.now j.args.known.now j.in-Logged.entry j.in-Some.known
+    j.in-Logged.is j.in-Some.is k in
     subst (λ (l : SectionLine). IsJudged (KeepsAlone before l) j.judge_entry.result) (sym j.in-Logged.is)
-    (j.judge_entry.ensures ds before log p is t o (subst (λ (l : SectionLine). Begins max_sites (before ++ l ∷ [])) j.in-Logged.is begins) (subst (TellsLineOdds ds before) j.in-Logged.is tells))
+    (j.judge_entry.ensures ds before log p is t o
+    (subst (λ (l : SectionLine). Begins max_sites (before ++ l ∷ [])) j.in-Logged.is begins)
+    (subst (TellsLineOdds ds before) j.in-Logged.is tells))
 
 pub returns-in-None : goal.returns-in-None
-returns-in-None j ds before log p k t o fits begins tells = absurd (known-missing ds j.args.state.now j.args.line.now j.args.known.now j.in-Logged.entry j.in-Logged.is j.in-None.is k)
+returns-in-None j ds before log p k t o fits begins tells =
+    absurd (known-missing ds j.args.state.now j.args.line.now j.args.known.now j.in-Logged.entry j.in-Logged.is
+    j.in-None.is k)
 
 pub returns-in-Final : goal.returns-in-Final
 returns-in-Final j ds before log p k t o fits begins tells =
     let here = subst (λ (l : SectionLine). Begins max_sites (before ++ l ∷ [])) j.in-Final.is begins in
     subst (λ (l : SectionLine). IsJudged (KeepsAlone before l) j.judge_final.result) (sym j.in-Final.is)
     (final-judged before j.in-Final.holding j.judge_final.result here
-    (j.judge_final.ensures ds open_to_all before log p t (final-listed log j.in-Final.holding (subst (Fits log) j.in-Final.is fits)) o here))
+    (j.judge_final.ensures ds open_to_all before log p t
+    (final-listed log j.in-Final.holding (subst (Fits log) j.in-Final.is fits)) o here))
 
 pub returns-in-End : goal.returns-in-End
 returns-in-End j ds before log p k t o fits begins tells =
@@ -37,4 +43,5 @@ returns-in-Site j ds before log p k t o fits begins tells = absurd (subst (Fits 
 pub returns-in-Initial : goal.returns-in-Initial
 returns-in-Initial j ds before log p k t o fits begins tells =
     subst (λ (l : SectionLine). IsJudged (KeepsAlone before l) None) (sym j.in-Initial.is)
-    (initial-fits before _ log o (subst (λ (l : SectionLine). Begins max_sites (before ++ l ∷ [])) j.in-Initial.is begins) (subst (Fits log) j.in-Initial.is fits))
+    (initial-fits before _ log o (subst (λ (l : SectionLine). Begins max_sites (before ++ l ∷ [])) j.in-Initial.is
+    begins) (subst (Fits log) j.in-Initial.is fits))

@@ -17,11 +17,16 @@ answer_by-requires-clause-known c =
     let txs = c.as_slice-txs.result.now in
     let found = c.as_slice-found.result.now in
     let order = c.in-Order.order.items in
-    let exact = subst (λ (ps : List Pair). ArePairsOf Conflicts sites ps) (sym c.as_slice-found.ensures.value) c.in_ok-conflicts.ensures in
-    let only = subst (λ (w : List ℕ). All (λ (t : ℕ). IsIn sites (Commit t)) w) (sym c.as_slice-txs.ensures.value) c.in_ok-commits.ensures.only in
-    let has = subst (λ (w : List ℕ). (t : ℕ) → Contains c.args.ended.now t → IsIn sites (Commit t) → Contains w t) (sym c.as_slice-txs.ensures.value) c.in_ok-commits.ensures.has in
-    let ordered : IsOrdered (Leads found) txs order = subst (λ (s : Sorting). IsSorting txs (Leads found) s) c.in-Order.is c.in_ok-sorting.ensures in
-    let small = subst (λ (w : List ℕ). All (λ (t : ℕ). t < 2 ^ 32) w) c.as_slice-places.ensures.value c.are_small.ensures in
+    let exact = subst (λ (ps : List Pair). ArePairsOf Conflicts sites ps) (sym c.as_slice-found.ensures.value)
+    c.in_ok-conflicts.ensures in
+    let only = subst (λ (w : List ℕ). All (λ (t : ℕ). IsIn sites (Commit t)) w) (sym c.as_slice-txs.ensures.value)
+    c.in_ok-commits.ensures.only in
+    let has = subst (λ (w : List ℕ). (t : ℕ) → Contains c.args.ended.now t → IsIn sites (Commit t)
+    → Contains w t) (sym c.as_slice-txs.ensures.value) c.in_ok-commits.ensures.has in
+    let ordered : IsOrdered (Leads found) txs order =
+    subst (λ (s : Sorting). IsSorting txs (Leads found) s) c.in-Order.is c.in_ok-sorting.ensures in
+    let small =
+    subst (λ (w : List ℕ). All (λ (t : ℕ). t < 2 ^ 32) w) c.as_slice-places.ensures.value c.are_small.ensures in
     record {
       few = c.requires.few;
       ends = c.requires.pairs;
@@ -37,8 +42,11 @@ returns-in-Cycle c =
     let sites = c.args.sites.now in
     let txs = c.as_slice-txs.result.now in
     let found = c.as_slice-found.result.now in
-    let exact = subst (λ (ps : List Pair). ArePairsOf Conflicts sites ps) (sym c.as_slice-found.ensures.value) c.in_ok-conflicts.ensures in
-    let only = subst (λ (w : List ℕ). All (λ (t : ℕ). IsIn sites (Commit t)) w) (sym c.as_slice-txs.ensures.value) c.in_ok-commits.ensures.only in (
-      ring-precedes sites found txs c.in-Cycle.cycle.items exact only (subst (λ (s : Sorting). IsSorting txs (Leads found) s) c.in-Cycle.is c.in_ok-sorting.ensures),
+    let exact = subst (λ (ps : List Pair). ArePairsOf Conflicts sites ps) (sym c.as_slice-found.ensures.value)
+    c.in_ok-conflicts.ensures in
+    let only = subst (λ (w : List ℕ). All (λ (t : ℕ). IsIn sites (Commit t)) w) (sym c.as_slice-txs.ensures.value)
+    c.in_ok-commits.ensures.only in (
+      ring-precedes sites found txs c.in-Cycle.cycle.items exact only
+          (subst (λ (s : Sorting). IsSorting txs (Leads found) s) c.in-Cycle.is c.in_ok-sorting.ensures),
       c.requires.no_cycle,
     )

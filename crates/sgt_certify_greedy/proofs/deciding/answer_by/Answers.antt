@@ -19,20 +19,26 @@ returns-then-is_empty c =
     let settled = c.in_ok-settled.ensures in
     let made = c.certificate_of-made.result in
     let none : c.in_ok-settled.settled.left.items ≡ [] =
-    sym c.as_slice-rest.ensures.value ∙ empty-length c.as_slice-rest.result.now (eqb-true _ 0 (sym c.is_empty.ensures ∙ c.if-is_empty.true)) in
-    let valid = valid-from sites c.requires.sound order order c.in_ok-settled.settled.decisions.items known.committed known.only known.ordered settled.1.each
+    sym c.as_slice-rest.ensures.value
+    ∙ empty-length c.as_slice-rest.result.now (eqb-true _ 0 (sym c.is_empty.ensures ∙ c.if-is_empty.true)) in
+    let valid = valid-from sites c.requires.sound order order c.in_ok-settled.settled.decisions.items known.committed
+    known.only known.ordered settled.1.each
     (λ t end.
     elim (settled.1.all t end) [
       | inl rest ↦ absurd (contains-none t (subst (λ (w : List ℕ). Contains w t) none rest))
       | inr done ↦ done
     ]) made.sites in (
-      subst (λ (es : List Decision). IsValid (record { certificate = record { sites = made.sites; decisions = es }; sites = sites }))
+      subst (λ (es : List Decision). IsValid (record {
+        certificate = record { sites = made.sites; decisions = es };
+        sites = sites;
+      }))
           (sym c.certificate_of-made.ensures.decisions) valid,
       c.certificate_of-made.ensures.sites,
     )
 
 pub free_one-requires-clause-some : goal.free_one-requires-clause-some
-free_one-requires-clause-some c = positive-length c.as_slice-rest.result.now (sym c.is_empty.ensures ∙ c.if-is_empty.false)
+free_one-requires-clause-some c = positive-length c.as_slice-rest.result.now (sym c.is_empty.ensures
+    ∙ c.if-is_empty.false)
 
 pub returns : goal.returns
 returns c =
@@ -42,11 +48,14 @@ returns c =
     let left = c.in_ok-settled.settled.left.items in
     let ds = c.in_ok-settled.settled.decisions.items in
     let settled = c.in_ok-settled.ensures in
-    let some = subst (λ (w : List ℕ). Contains w c.in_ok-_free._free × IsUnpreceded sites w c.in_ok-_free._free) c.as_slice-rest.ensures.value
+    let some = subst (λ (w : List ℕ). Contains w c.in_ok-_free._free × IsUnpreceded sites w c.in_ok-_free._free)
+    c.as_slice-rest.ensures.value
     c.in_ok-_free.ensures in (
-      subst (IsStuck sites) (sym (c.in_ok-txs.ensures ∙ ap (λ (es : List Decision). map decided_tx es) c.as_slice-done.ensures.value))
+      subst (IsStuck sites)
+          (sym (c.in_ok-txs.ensures ∙ ap (λ (es : List Decision). map decided_tx es) c.as_slice-done.ensures.value))
           (left-stuck sites order left settled.0 ds settled.1 (c.in_ok-_free._free, some.0, some.1) settled.2
-          (committed-decided sites c.requires.sound order order ds known.committed known.only known.ordered settled.1.each)),
+          (committed-decided sites c.requires.sound order order ds known.committed known.only known.ordered
+          settled.1.each)),
       c.requires.no_cycle,
       conflicts-ordered sites order known.ordered known.committed,
     )

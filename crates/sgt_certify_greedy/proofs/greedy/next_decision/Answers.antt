@@ -15,7 +15,8 @@ use Rattle.sgt_certify_greedy.proofs.greedy.next_decision.Goals.{then-is_unprece
 pub decision_on-requires-clause-ends : goal.decision_on-requires-clause-ends
 decision_on-requires-clause-ends c =
     let at = element_at c.args.left.now c.loop-tx.tx-index c.tx-item.result c.loop-tx-test.true c.tx-item.is in
-    All_in (HasEnd c.args.sites.now) c.args.left.now c.tx-item.result c.requires.ends (Contains-from_at c.args.left.now c.loop-tx.tx-index c.tx-item.result at)
+    All_in (HasEnd c.args.sites.now) c.args.left.now c.tx-item.result c.requires.ends
+    (Contains-from_at c.args.left.now c.loop-tx.tx-index c.tx-item.result at)
 
 pub decision_on-requires-clause-other : goal.decision_on-requires-clause-other
 decision_on-requires-clause-other c has =
@@ -44,14 +45,21 @@ loop-tx-preserved c =
     let at = element_at left c.loop-tx.tx-index c.tx-item.result c.loop-tx-test.true c.tx-item.is in
     elim c.if-is_unpreceded.branch [
       | then-is_unpreceded+in_ok-decision+in_default w ↦
-          All-next P left c.loop-tx.tx-index c.tx-item.result at (λ _. rw w.in_default.is at w.in_ok-decision.ensures.none) c.loop-tx.invariant
+          All-next P left c.loop-tx.tx-index c.tx-item.result at
+          (λ _. rw w.in_default.is at w.in_ok-decision.ensures.none) c.loop-tx.invariant
       | else-is_unpreceded w ↦
-          All-next P left c.loop-tx.tx-index c.tx-item.result at (λ alone. absurd (false≢true (sym w.if-is_unpreceded.false ∙ c.is_unpreceded.ensures.1 (λ u has leads.
+          All-next P left c.loop-tx.tx-index c.tx-item.result at
+          (λ alone. absurd (false≢true (sym w.if-is_unpreceded.false ∙ c.is_unpreceded.ensures.1 (λ u has leads.
           let pair = subst (λ (ps : List Pair). Leads ps u c.tx-item.result) c.as_slice.ensures.value leads in
-          alone u has (pair-ends sites pair.0 u c.tx-item.result (All_in (IsPair Ends sites) c.args.known.now.ends.items pair.0 c.requires.known.ends.only pair.1) pair.2 pair.3))))) c.loop-tx.invariant
+          alone u has
+          (pair-ends sites pair.0 u c.tx-item.result
+          (All_in (IsPair Ends sites) c.args.known.now.ends.items pair.0 c.requires.known.ends.only pair.1) pair.2
+          pair.3))))) c.loop-tx.invariant
     ]
 
 pub returns-clause-none : goal.returns-clause-none
 returns-clause-none c t has =
-    let P = λ (t : ℕ). IsUnpreceded c.args.sites.now c.args.left.now t → IsHopeless c.args.sites.now c.args.commits.now t in
-    All_in P c.args.left.now t (All-whole P c.args.left.now c.loop-tx.tx-index c.loop-tx-test.false c.loop-tx.invariant) has
+    let P = λ (t : ℕ). IsUnpreceded c.args.sites.now c.args.left.now t
+    → IsHopeless c.args.sites.now c.args.commits.now t in
+    All_in P c.args.left.now t
+    (All-whole P c.args.left.now c.loop-tx.tx-index c.loop-tx-test.false c.loop-tx.invariant) has

@@ -10,7 +10,8 @@ returns c =
       kept = c.in_ok-note_if.ensures.kept;
       added = λ t rank is.
           let by = is-commit d t rank is in
-          subst (Contains c.note_if.new.txs.items) (c.tx.ensures ∙ by.1) (c.in_ok-note_if.ensures.has (c.is_commit.ensures ∙ by.0));
+          subst (Contains c.note_if.new.txs.items) (c.tx.ensures
+          ∙ by.1) (c.in_ok-note_if.ensures.has (c.is_commit.ensures ∙ by.0));
       only = λ t has.
           elim (c.in_ok-note_if.ensures.only t has) [
             | inl old ↦ inl old

@@ -8,7 +8,9 @@ pub loop-second-preserved : goal.loop-second-preserved
 loop-second-preserved c = record {
   kept = λ pair has. c.in_ok-add_pairs_to.ensures.kept pair (c.loop-second.invariant.kept pair has);
   only = λ all. c.in_ok-add_pairs_to.ensures.only (c.loop-second.invariant.only all);
-  has = one-more (λ (q : ℕ). HasPairsTo c.args.rule c.args.sites.now c.add_pairs_to.new.found.items c.args.site q) c.loop-second.second
-      (λ q lt. pairs-kept c.args.rule c.args.sites.now c.loop-second.found.items c.add_pairs_to.new.found.items c.args.site q c.in_ok-add_pairs_to.ensures.kept (c.loop-second.invariant.has q lt))
+  has = one-more (λ (q : ℕ). HasPairsTo c.args.rule c.args.sites.now c.add_pairs_to.new.found.items c.args.site q)
+      c.loop-second.second
+      (λ q lt. pairs-kept c.args.rule c.args.sites.now c.loop-second.found.items c.add_pairs_to.new.found.items
+      c.args.site q c.in_ok-add_pairs_to.ensures.kept (c.loop-second.invariant.has q lt))
       c.in_ok-add_pairs_to.ensures.has;
 }

@@ -23,11 +23,20 @@ loop-first-preserved c =
     let f = c.index-entries-second.result in
     let entries = c.as_slice-entries.result.now in
     let its = c.as_slice-entries.ensures ∙ ap (λ (l : SiteLog). l.entries) (sym c.index-sites-site.is) in
-    let at_p = read-at sites c.args.site log c.index-sites-site.result entries c.requires.1 c.index-sites-site.is its c.loop-first.first e
+    let at_p = read-at sites c.args.site log c.index-sites-site.result entries c.requires.1 c.index-sites-site.is its
+    c.loop-first.first e
     (omega (arith, c.requires.2, c.loop-first-test.true)) c.index-entries-first.is in
-    let at_q = read-at sites c.args.site log c.index-sites-site.result entries c.requires.1 c.index-sites-site.is its c.args.second f
+    let at_q = read-at sites c.args.site log c.index-sites-site.result entries c.requires.1 c.index-sites-site.is its
+    c.args.second f
     c.requires.2 c.index-entries-second.is in
-    let pair : Pair = record { from = c.tx-from.result; to = c.tx-to.result; site = c.args.site; first = c.loop-first.first; second = c.args.second } in
+    let pair : Pair = record {
+      from = c.tx-from.result;
+      to = c.tx-to.result;
+      site = c.args.site;
+      first =
+          c.loop-first.first;
+      second = c.args.second;
+    } in
     record {
       kept = λ p has. noted.kept p (c.loop-first.invariant.kept p has);
       only = λ all. All-from_at (IsPair rule sites) new (λ n p at.
@@ -46,13 +55,19 @@ loop-first-preserved c =
               paired = now.0;
             })
           ]);
-      has = one-more (λ (p : ℕ). (l : SiteLog) (g h : Entry) → slice_get sites c.args.site ≡ Some l → slice_get l.entries p ≡ Some g → slice_get l.entries c.args.second ≡ Some h
+      has = one-more (λ (p : ℕ). (l : SiteLog) (g h : Entry) → slice_get sites c.args.site ≡ Some l
+          → slice_get l.entries p ≡ Some g → slice_get l.entries c.args.second ≡ Some h
           → ArePaired rule g h → Leads new (tx_of g) (tx_of h)) c.loop-first.first
-          (λ p lt l g h here at_g at_h paired. leads-kept old new (tx_of g) (tx_of h) noted.kept (c.loop-first.invariant.has p lt l g h here at_g at_h paired))
+          (λ p lt l g h here at_g at_h paired. leads-kept old new (tx_of g) (tx_of h) noted.kept
+          (c.loop-first.invariant.has p lt l g h here at_g at_h paired))
           (λ l g h here at_g at_h paired.
           let one : l ≡ log = same_Some l log (sym here ∙ c.requires.1) in
-          let first : g ≡ e = same_Some g e (sym at_g ∙ ap (λ (m : SiteLog). slice_get m.entries c.loop-first.first) one ∙ at_p) in
-          let second : h ≡ f = same_Some h f (sym at_h ∙ ap (λ (m : SiteLog). slice_get m.entries c.args.second) one ∙ at_q) in
-          let both = subst (λ (k : Entry). ArePaired rule e k) second (subst (λ (k : Entry). ArePaired rule k h) first paired) in
+          let first : g ≡ e =
+          same_Some g e (sym at_g ∙ ap (λ (m : SiteLog). slice_get m.entries c.loop-first.first) one ∙ at_p) in
+          let second : h ≡ f = same_Some h f (sym at_h ∙ ap (λ (m : SiteLog). slice_get m.entries c.args.second) one
+          ∙ at_q) in
+          let both =
+          subst (λ (k : Entry). ArePaired rule e k) second
+          (subst (λ (k : Entry). ArePaired rule k h) first paired) in
           (pair, noted.has both, c.tx-from.ensures ∙ ap tx_of (sym first), c.tx-to.ensures ∙ ap tx_of (sym second)));
     }

@@ -12,5 +12,6 @@ invariant-loop-first l = record {
   kept : Keeps l.initial.found.items l.found.items;
   only : All (IsPair l.rule l.sites) l.initial.found.items → All (IsPair l.rule l.sites) l.found.items;
   has : (p : ℕ) → p < l.first → (log : SiteLog) (e f : Entry) → slice_get l.sites l.site ≡ Some log
-      → slice_get log.entries p ≡ Some e → slice_get log.entries l.second ≡ Some f → ArePaired l.rule e f → Leads l.found.items (tx_of e) (tx_of f);
+      → slice_get log.entries p ≡ Some e → slice_get log.entries l.second ≡ Some f → ArePaired l.rule e f
+      → Leads l.found.items (tx_of e) (tx_of f);
 }

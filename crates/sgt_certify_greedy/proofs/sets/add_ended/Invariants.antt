@@ -9,5 +9,6 @@ abbrev pub invariant-loop-entry : goal.invariant-loop-entry
 invariant-loop-entry l = record {
   kept : (t : ℕ) → Contains l.initial.txs.items t → Contains l.txs.items t;
   only : All (HasEnd l.sites) l.initial.txs.items → All (HasEnd l.sites) l.txs.items;
-  has : (n : ℕ) → n < l.entry-index → (e : Entry) → slice_get l.entries n ≡ Some e → IsEnd e → Contains l.txs.items (tx_of e);
+  has : (n : ℕ) → n < l.entry-index → (e : Entry) → slice_get l.entries n ≡ Some e → IsEnd e
+      → Contains l.txs.items (tx_of e);
 }

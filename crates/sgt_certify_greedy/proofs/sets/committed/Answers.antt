@@ -21,11 +21,13 @@ loop-tx-preserved c =
           ]);
       has = All-next (λ (t : ℕ). P t → Contains new t) c.args.txs.now c.loop-tx.tx-index c.tx-item.result at
           (λ is_in. noted.has (c.stands_in-noted.ensures.1 is_in))
-          (All-weaken (λ (t : ℕ). P t → Contains old t) (λ (t : ℕ). P t → Contains new t) (take c.loop-tx.tx-index c.args.txs.now)
+          (All-weaken (λ (t : ℕ). P t → Contains old t) (λ (t : ℕ). P t
+          → Contains new t) (take c.loop-tx.tx-index c.args.txs.now)
           (λ t h is_in. noted.kept t (h is_in)) c.loop-tx.invariant.has);
     }
 
 pub returns-clause-has : goal.returns-clause-has
 returns-clause-has c t has is_in =
     let P = λ (t : ℕ). IsIn c.args.sites.now (Commit t) → Contains c.loop-tx.found.items t in
-    All_in P c.args.txs.now t (All-whole P c.args.txs.now c.loop-tx.tx-index c.loop-tx-test.false c.loop-tx.invariant.has) has is_in
+    All_in P c.args.txs.now t
+    (All-whole P c.args.txs.now c.loop-tx.tx-index c.loop-tx-test.false c.loop-tx.invariant.has) has is_in

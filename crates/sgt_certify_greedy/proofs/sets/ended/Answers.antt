@@ -10,7 +10,8 @@ pub loop-site-preserved : goal.loop-site-preserved
 loop-site-preserved c = record {
   only = c.in_ok-add_ended.ensures.only c.loop-site.invariant.only;
   has = one-more (λ (s : ℕ). HasEnders c.add_ended.new.txs.items c.args.sites.now s) c.loop-site.site
-      (λ s lt n log e here at end. c.in_ok-add_ended.ensures.kept _ (c.loop-site.invariant.has s lt n log e here at end))
+      (λ s lt n log e here at end. c.in_ok-add_ended.ensures.kept _
+      (c.loop-site.invariant.has s lt n log e here at end))
       c.in_ok-add_ended.ensures.has;
 }
 

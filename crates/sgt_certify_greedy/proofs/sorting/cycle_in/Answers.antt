@@ -16,9 +16,14 @@ back-init c =
       walk = ([], c.in_ok-walk.ensures.items, tt);
       met = λ t has.
           elim (cases_eq t here) [
-            | inl same ↦ inl (subst (λ (w : List ℕ). Contains w t) (sym c.in_ok-walk.ensures.items) (0, omega arith, sym same))
+            | inl same ↦ inl (subst (λ (w : List ℕ). Contains w t) (sym c.in_ok-walk.ensures.items) (
+              0,
+              omega arith,
+              sym same,
+            ))
             | inr other ↦ inr (subst (λ (w : List ℕ). Contains w t) (sym c.take_out.ensures)
-                (without-has here _ t (subst (λ (w : List ℕ). Contains w t) (sym c.in_ok-unmet.ensures.items) has) other))
+                (without-has here _ t (subst (λ (w : List ℕ). Contains w t) (sym c.in_ok-unmet.ensures.items) has)
+                other))
           ];
     }
 
@@ -29,7 +34,12 @@ unreachable-requires c =
 
 pub returns-in-Some-place : goal.returns-in-Some-place
 returns-in-Some-place c =
-    ring-closed (Among c.args.left.now (Leads c.args.pairs.now)) c.back.here c.in-Some.before c.in-Some-place.n c.back.walk.items c.insert.new.self.items c.back.invariant.walk (c.in-Some.ensures.some.0, c.back.invariant.here, c.in-Some.ensures.some.1)
+    ring-closed (Among c.args.left.now (Leads c.args.pairs.now)) c.back.here c.in-Some.before c.in-Some-place.n
+    c.back.walk.items c.insert.new.self.items c.back.invariant.walk (
+      c.in-Some.ensures.some.0,
+      c.back.invariant.here,
+      c.in-Some.ensures.some.1,
+    )
     (ap (λ (w : List ℕ). slice_get w c.in-Some-place.n) (sym c.as_slice.ensures.value) ∙ c.in-Some-place.ensures.some)
     (c.in_ok-insert.ensures.items ∙ ap (λ (w : List ℕ). c.in-Some.before ∷ w) c.truncate.ensures.items)
 
@@ -37,10 +47,13 @@ pub back-smaller : goal.back-smaller
 back-smaller c =
     let is_unmet : Contains c.back.unmet.items c.in-Some.before =
     elim (c.back.invariant.met c.in-Some.before c.in-Some.ensures.some.0) [
-      | inl met ↦ absurd (c.in_default-place.ensures.none (subst (λ (w : List ℕ). Contains w c.in-Some.before) (sym c.as_slice.ensures.value) met))
+      | inl met ↦ absurd
+          (c.in_default-place.ensures.none
+          (subst (λ (w : List ℕ). Contains w c.in-Some.before) (sym c.as_slice.ensures.value) met))
       | inr unmet ↦ unmet
     ] in
-    subst (λ (w : List ℕ). length w < length c.back.unmet.items) (sym c.take_out-in-back.ensures) (without-fewer c.in-Some.before c.back.unmet.items is_unmet)
+    subst (λ (w : List ℕ). length w < length c.back.unmet.items) (sym c.take_out-in-back.ensures)
+    (without-fewer c.in-Some.before c.back.unmet.items is_unmet)
 
 pub back-preserved : goal.back-preserved
 back-preserved c =
@@ -48,14 +61,21 @@ back-preserved c =
     let items = c.in_ok-insert-2.ensures.items in
     record {
       here = c.in-Some.ensures.some.0;
-      walk = chain-more (Among c.args.left.now (Leads c.args.pairs.now)) c.back.here before c.back.walk.items c.insert-in-back.new.self.items c.back.invariant.walk (c.in-Some.ensures.some.0, c.back.invariant.here, c.in-Some.ensures.some.1) items;
+      walk = chain-more (Among c.args.left.now (Leads c.args.pairs.now)) c.back.here before c.back.walk.items
+          c.insert-in-back.new.self.items c.back.invariant.walk (
+            c.in-Some.ensures.some.0,
+            c.back.invariant.here,
+            c.in-Some.ensures.some.1,
+          ) items;
       met = λ t has.
           elim (cases_eq t before) [
             | inl same ↦ inl (subst (λ (w : List ℕ). Contains w t) (sym items) (0, omega arith, sym same))
             | inr other ↦
                 elim (c.back.invariant.met t has) [
-                  | inl met ↦ inl (subst (λ (w : List ℕ). Contains w t) (sym items) (contains-later before c.back.walk.items t met))
-                  | inr unmet ↦ inr (subst (λ (w : List ℕ). Contains w t) (sym c.take_out-in-back.ensures) (without-has before c.back.unmet.items t unmet other))
+                  | inl met ↦ inl
+                      (subst (λ (w : List ℕ). Contains w t) (sym items) (contains-later before c.back.walk.items t met))
+                  | inr unmet ↦ inr (subst (λ (w : List ℕ). Contains w t) (sym c.take_out-in-back.ensures)
+                      (without-has before c.back.unmet.items t unmet other))
                 ]
           ];
     }

@@ -4,4 +4,5 @@ use Rattle.sgt_certify_greedy.specs.Walks.{IsReached}
 use Rattle.sgt_certify_greedy.proofs.walks.next_pair.Given as goal
 
 abbrev pub invariant-loop-pair : goal.invariant-loop-pair
-invariant-loop-pair l = All (λ (pair : Pair). Contains l.wanted pair.to → IsReached l.reached pair.from → ⊥) (take l.pair-index l.pairs)
+invariant-loop-pair l = All (λ (pair : Pair). Contains l.wanted pair.to → IsReached l.reached pair.from
+    → ⊥) (take l.pair-index l.pairs)

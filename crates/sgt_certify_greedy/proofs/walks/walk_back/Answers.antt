@@ -22,16 +22,27 @@ returns-in-Some-clause-some c =
     let found = c.in-Some.ensures.some in
     let r = found.2.0 in
     let s = c.step_of-step.result in
-    let at = subst (λ (rs : List Reached). slice_get rs c.in-Some.onward.place ≡ Some r) c.as_slice.ensures.value found.2.1 in
-    let path = All_at (IsPath sites through c.args.tx) reached c.in-Some.onward.place r c.in_ok-reached.ensures.paths at in
+    let at = subst (λ (rs : List Reached). slice_get rs c.in-Some.onward.place ≡ Some r) c.as_slice.ensures.value
+    found.2.1 in
+    let path = All_at (IsPath sites through c.args.tx) reached c.in-Some.onward.place r c.in_ok-reached.ensures.paths
+    at in
     let logged = subst (λ (a : ℕ). IsLogged sites a s) (sym found.2.2) c.step_of-step.ensures.logged in
-    let is_r : c.index.result.now ≡ r = c.index.ensures ∙ get_or_from_slice_get reached c.in-Some.onward.place r c.index.result.now at in
-    round-from sites through c.args.tx r s c.in_ok-walk-in-Some.walk path logged (c.step_of-step.ensures.to ∙ only-one c.args.tx _ found.1)
-    (c.in_ok-walk-in-Some.ensures ∙ ap (λ (w : List Step). w ++ s ∷ []) (c.as_slice-in-Some.ensures ∙ ap (λ (q : Reached). q.walk) is_r))
+    let is_r : c.index.result.now ≡ r = c.index.ensures
+    ∙ get_or_from_slice_get reached c.in-Some.onward.place r c.index.result.now at in
+    round-from sites through c.args.tx r s c.in_ok-walk-in-Some.walk path logged (c.step_of-step.ensures.to
+    ∙ only-one c.args.tx _ found.1)
+    (c.in_ok-walk-in-Some.ensures ∙ ap (λ (w : List Step). w ++ s ∷ []) (c.as_slice-in-Some.ensures
+    ∙ ap (λ (q : Reached). q.walk) is_r))
 
 pub returns-clause-none : goal.returns-clause-none
 returns-clause-none c =
     let reached = c.in_ok-reached.reached.items in
-    no-round c.args.sites.now c.args.pairs.now c.args.through.now c.args.tx reached c.requires.pairs c.in_ok-reached.ensures.closed
-    (λ a here leads. c.in-None.ensures.none a c.args.tx (subst (λ (rs : List Reached). IsReached rs a) (sym c.as_slice.ensures.value) here) leads (0, omega arith, refl))
+    no-round c.args.sites.now c.args.pairs.now c.args.through.now c.args.tx reached c.requires.pairs
+    c.in_ok-reached.ensures.closed
+    (λ a here leads. c.in-None.ensures.none a c.args.tx
+    (subst (λ (rs : List Reached). IsReached rs a) (sym c.as_slice.ensures.value) here) leads (
+      0,
+      omega arith,
+      refl,
+    ))
     c.in_ok-reached.ensures.start

@@ -8,13 +8,15 @@ use Rattle.sgt_certify_logs.proofs.checks.has_conflict.Goals as goal
 pub returns-in_default : goal.returns-in_default
 returns-in_default c = (
   λ no. absurd cc,
-  λ (h : HasConflict c.args.sites.now c.args.step.now). absurd (c.in_default.not-Some h.e ((c.entry_at.ensures h.e).1 h.first)),
+  λ (h : HasConflict c.args.sites.now c.args.step.now). absurd
+      (c.in_default.not-Some h.e ((c.entry_at.ensures h.e).1 h.first)),
 )
 
 pub returns-in_default-entry_at : goal.returns-in_default-entry_at
 returns-in_default-entry_at c = (
   λ no. absurd cc,
-  λ (h : HasConflict c.args.sites.now c.args.step.now). absurd (c.in_default-entry_at.not-Some h.f ((c.entry_at-2.ensures h.f).1 h.second)),
+  λ (h : HasConflict c.args.sites.now c.args.step.now). absurd
+      (c.in_default-entry_at.not-Some h.f ((c.entry_at-2.ensures h.f).1 h.second)),
 )
 
 pub returns : goal.returns
@@ -33,8 +35,11 @@ returns c = (
         clash = are.1;
       },
   λ (h : HasConflict c.args.sites.now c.args.step.now).
-      let e : h.e ≡ c.in-Some.first = same_Some h.e c.in-Some.first (sym ((c.entry_at.ensures h.e).1 h.first) ∙ c.in-Some.is) in
-      let f : h.f ≡ c.in-Some-entry_at.second = same_Some h.f c.in-Some-entry_at.second (sym ((c.entry_at-2.ensures h.f).1 h.second) ∙ c.in-Some-entry_at.is) in
+      let e : h.e ≡ c.in-Some.first = same_Some h.e c.in-Some.first (sym ((c.entry_at.ensures h.e).1 h.first)
+      ∙ c.in-Some.is) in
+      let f : h.f ≡ c.in-Some-entry_at.second =
+      same_Some h.f c.in-Some-entry_at.second (sym ((c.entry_at-2.ensures h.f).1 h.second)
+      ∙ c.in-Some-entry_at.is) in
       c.are_in_conflict.ensures.1 (
         (
           subst (λ (x : Entry). tx_of x ≡ c.args.step.now.from) e h.from,

@@ -6,7 +6,8 @@ use Rattle.sgt_certify_logs.proofs.checks.is_commit_at.Goals as goal
 pub returns-in-Some : goal.returns-in-Some
 returns-in-Some c = (
   λ yes. (c.entry_at.ensures (Commit c.args.tx)).0 (c.in-Some.is ∙ ap Some (c.is_commit_of.ensures.0 yes)),
-  λ stands. c.is_commit_of.ensures.1 (same_Some c.in-Some.found (Commit c.args.tx) (sym c.in-Some.is ∙ (c.entry_at.ensures (Commit c.args.tx)).1 stands)),
+  λ stands. c.is_commit_of.ensures.1 (same_Some c.in-Some.found (Commit c.args.tx) (sym c.in-Some.is
+      ∙ (c.entry_at.ensures (Commit c.args.tx)).1 stands)),
 )
 
 pub returns-in-None : goal.returns-in-None

@@ -5,4 +5,5 @@ use Rattle.sgt_certify_logs.proofs.checks.is_conflict_cycle.Given as goal
 
 abbrev pub invariant-loop-step : goal.invariant-loop-step
 invariant-loop-step l =
-    LeadFrom (λ (s : ConflictStep). s.from) (λ (s : ConflictStep). s.to) (IsConflictStep l.sites) l.start (take l.step-index l.steps) l.here
+    LeadFrom (λ (s : ConflictStep). s.from) (λ (s : ConflictStep). s.to) (IsConflictStep l.sites) l.start
+    (take l.step-index l.steps) l.here

@@ -8,13 +8,15 @@ use Rattle.sgt_certify_logs.proofs.checks.is_end_step.Goals as goal
 pub returns-in_default : goal.returns-in_default
 returns-in_default c = (
   λ no. absurd cc,
-  λ (h : IsEndStep c.args.sites.now c.args.step.now). absurd (c.in_default.not-Some h.e ((c.entry_at.ensures h.e).1 h.first)),
+  λ (h : IsEndStep c.args.sites.now c.args.step.now). absurd
+      (c.in_default.not-Some h.e ((c.entry_at.ensures h.e).1 h.first)),
 )
 
 pub returns-in_default-entry_at : goal.returns-in_default-entry_at
 returns-in_default-entry_at c = (
   λ no. absurd cc,
-  λ (h : IsEndStep c.args.sites.now c.args.step.now). absurd (c.in_default-entry_at.not-Some h.f ((c.entry_at-2.ensures h.f).1 h.second)),
+  λ (h : IsEndStep c.args.sites.now c.args.step.now). absurd
+      (c.in_default-entry_at.not-Some h.f ((c.entry_at-2.ensures h.f).1 h.second)),
 )
 
 pub returns : goal.returns
@@ -32,8 +34,11 @@ returns c = (
         to = are.1.1;
       },
   λ (h : IsEndStep c.args.sites.now c.args.step.now).
-      let e : h.e ≡ c.in-Some.first = same_Some h.e c.in-Some.first (sym ((c.entry_at.ensures h.e).1 h.first) ∙ c.in-Some.is) in
-      let f : h.f ≡ c.in-Some-entry_at.second = same_Some h.f c.in-Some-entry_at.second (sym ((c.entry_at-2.ensures h.f).1 h.second) ∙ c.in-Some-entry_at.is) in
+      let e : h.e ≡ c.in-Some.first = same_Some h.e c.in-Some.first (sym ((c.entry_at.ensures h.e).1 h.first)
+      ∙ c.in-Some.is) in
+      let f : h.f ≡ c.in-Some-entry_at.second =
+      same_Some h.f c.in-Some-entry_at.second (sym ((c.entry_at-2.ensures h.f).1 h.second)
+      ∙ c.in-Some-entry_at.is) in
       c.are_ends_of.ensures.1 (
         subst (λ (x : Entry). IsEnd x × (tx_of x ≡ c.args.step.now.from)) e (h.ends.0, h.from),
         subst (λ (x : Entry). IsEnd x × (tx_of x ≡ c.args.step.now.to)) f (h.ends.1, h.to),

@@ -7,19 +7,22 @@ use Rattle.sgt_certify_stuck.proofs.apart.are_apart.Goals as goal
 pub returns-then-not-free_of_reads : goal.returns-then-not-free_of_reads
 returns-then-not-free_of_reads c = (
   λ no. absurd (true≢false (sym no)),
-  λ apart. absurd (true≢false (sym (c.in_ok-free_of_reads.ensures.1 (clear-reads _ _ _ apart)) ∙ c.if-not-free_of_reads.true)),
+  λ apart. absurd (true≢false (sym (c.in_ok-free_of_reads.ensures.1 (clear-reads _ _ _ apart))
+      ∙ c.if-not-free_of_reads.true)),
 )
 
 pub returns-then-not-free_of_changes : goal.returns-then-not-free_of_changes
 returns-then-not-free_of_changes c = (
   λ no. absurd (true≢false (sym no)),
-  λ apart. absurd (true≢false (sym (c.in_ok-free_of_changes.ensures.1 (clear-changes _ _ _ apart)) ∙ c.if-not-free_of_changes.true)),
+  λ apart. absurd (true≢false (sym (c.in_ok-free_of_changes.ensures.1 (clear-changes _ _ _ apart))
+      ∙ c.if-not-free_of_changes.true)),
 )
 
 pub returns-then-not-free_of_puts : goal.returns-then-not-free_of_puts
 returns-then-not-free_of_puts c = (
   λ no. absurd (true≢false (sym no)),
-  λ apart. absurd (true≢false (sym (c.in_ok-free_of_puts.ensures.1 (clear-puts _ _ _ apart)) ∙ c.if-not-free_of_puts.true)),
+  λ apart. absurd (true≢false (sym (c.in_ok-free_of_puts.ensures.1 (clear-puts _ _ _ apart))
+      ∙ c.if-not-free_of_puts.true)),
 )
 
 pub returns : goal.returns

@@ -17,14 +17,17 @@ returns-then-meets c = (
   λ no. absurd (true≢false (sym no)),
   λ clear.
       let met = c.meets.ensures.only c.if-meets.true in
-      absurd (not-clear c.args.entries.now c.loop-entry.entry-index c.args.sources.now c.args.barred.now c.args.pair.first c.args.pair.second met.0 c.entry-item.result
-      (c.loop-entry.invariant.only met.0 met.1) (element_at _ _ _ c.loop-entry-test.true c.entry-item.is) met.2 met.3 clear),
+      absurd (not-clear c.args.entries.now c.loop-entry.entry-index c.args.sources.now c.args.barred.now
+      c.args.pair.first c.args.pair.second met.0 c.entry-item.result
+      (c.loop-entry.invariant.only met.0 met.1) (element_at _ _ _ c.loop-entry-test.true c.entry-item.is) met.2 met.3
+      clear),
 )
 
 pub returns : goal.returns
 returns c = (
   λ _. λ p q e f x lt at_p at_q source bars does then.
       let within = slice_get_within c.args.entries.now q f at_q in
-      c.loop-entry.invariant.clear p q e f x lt (omega (arith, within, c.loop-entry-test.false)) at_p at_q source bars does then,
+      c.loop-entry.invariant.clear p q e f x lt (omega (arith, within, c.loop-entry-test.false)) at_p at_q source bars
+      does then,
   λ _. refl,
 )

@@ -5,7 +5,8 @@ use Rattle.sgt_certify_stuck.proofs.ends.is_behind.Goals as goal
 
 pub returns-in-Some-clause-yes : goal.returns-in-Some-clause-yes
 returns-in-Some-clause-yes c is =
-    left-behind c.args.entries.now c.args.decided.now c.in-Some.place _ c.args.tx c.in-Some.ensures.some (c.ends_behind.ensures.0 is)
+    left-behind c.args.entries.now c.args.decided.now c.in-Some.place _ c.args.tx c.in-Some.ensures.some
+    (c.ends_behind.ensures.0 is)
 
 pub returns-in-Some-clause-no : goal.returns-in-Some-clause-no
 returns-in-Some-clause-no c out =

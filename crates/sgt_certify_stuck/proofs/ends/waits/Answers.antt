@@ -13,16 +13,21 @@ pub returns-then-is_behind : goal.returns-then-is_behind
 returns-then-is_behind c = record {
   yes = λ _. behind-waits c.args.sites.now c.log-item.result c.args.decided.now c.args.tx
       (Contains-from_at _ c.loop-log.log-index _ (element_at _ _ _ c.loop-log-test.true c.log-item.is))
-      (subst (λ (es : List Entry). IsBehind es c.args.decided.now c.args.tx) c.as_slice.ensures (c.is_behind.ensures.yes c.if-is_behind.true));
+      (subst (λ (es : List Entry). IsBehind es c.args.decided.now c.args.tx) c.as_slice.ensures
+      (c.is_behind.ensures.yes c.if-is_behind.true));
   no = λ out. absurd (true≢false out);
 }
 
 pub loop-log-preserved : goal.loop-log-preserved
 loop-log-preserved c =
-    at_more (λ (log : SiteLog). IsNext log.entries c.args.decided.now c.args.tx) c.args.sites.now c.loop-log.log-index c.log-item.result
+    at_more (λ (log : SiteLog). IsNext log.entries c.args.decided.now c.args.tx) c.args.sites.now c.loop-log.log-index
+    c.log-item.result
     (element_at _ _ _ c.loop-log-test.true c.log-item.is)
-    (subst (λ (es : List Entry). IsNext es c.args.decided.now c.args.tx) c.as_slice.ensures (c.is_behind.ensures.no c.if-is_behind.false))
+    (subst (λ (es : List Entry). IsNext es c.args.decided.now c.args.tx) c.as_slice.ensures
+    (c.is_behind.ensures.no c.if-is_behind.false))
     c.loop-log.invariant
 
 pub returns-clause-no : goal.returns-clause-no
-returns-clause-no c _ = nobody-waits c.args.sites.now c.args.decided.now c.args.tx c.loop-log.log-index c.loop-log-test.false c.loop-log.invariant
+returns-clause-no c _ =
+    nobody-waits c.args.sites.now c.args.decided.now c.args.tx c.loop-log.log-index c.loop-log-test.false
+    c.loop-log.invariant

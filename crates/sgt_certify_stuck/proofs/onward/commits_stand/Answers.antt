@@ -18,12 +18,14 @@ returns-then-not-log_commits_stand c =
           let all : LogCommitsStand c.log-item.result.entries c.args.places.now =
           λ k t at_k. stand t (c.log-item.result, here, Contains-from_at c.log-item.result.entries k (Commit t) at_k) in
           absurd (true≢false (sym (c.log_commits_stand.ensures.1
-          (subst (λ (es : List Entry). LogCommitsStand es c.args.places.now) (sym c.as_slice.ensures) all)) ∙ c.if-not-log_commits_stand.true)),
+          (subst (λ (es : List Entry). LogCommitsStand es c.args.places.now) (sym c.as_slice.ensures) all))
+          ∙ c.if-not-log_commits_stand.true)),
     )
 
 pub loop-log-preserved : goal.loop-log-preserved
 loop-log-preserved c =
-    at_more (λ (log : SiteLog). LogCommitsStand log.entries c.args.places.now) c.args.sites.now c.loop-log.log-index c.log-item.result
+    at_more (λ (log : SiteLog). LogCommitsStand log.entries c.args.places.now) c.args.sites.now c.loop-log.log-index
+    c.log-item.result
     (element_at _ _ _ c.loop-log-test.true c.log-item.is)
     (subst (λ (es : List Entry). LogCommitsStand es c.args.places.now)
     c.as_slice.ensures (c.log_commits_stand.ensures.0 c.if-not-log_commits_stand.false))
@@ -33,7 +35,8 @@ pub returns : goal.returns
 returns c = (
   λ _ t is.
       let at = Contains_at is.0.entries (Commit t) is.2 in
-      each-in (λ (log : SiteLog). LogCommitsStand log.entries c.args.places.now) c.args.sites.now c.loop-log.log-index c.loop-log-test.false c.loop-log.invariant
+      each-in (λ (log : SiteLog). LogCommitsStand log.entries c.args.places.now) c.args.sites.now c.loop-log.log-index
+      c.loop-log-test.false c.loop-log.invariant
       is.0 is.1 at.0 t at.1,
   λ _. refl,
 )

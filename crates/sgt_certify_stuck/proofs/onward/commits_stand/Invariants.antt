@@ -5,4 +5,5 @@ use Rattle.sgt_certify_stuck.specs.Onward.{LogCommitsStand}
 use Rattle.sgt_certify_stuck.proofs.onward.commits_stand.Given as goal
 
 abbrev pub invariant-loop-log : goal.invariant-loop-log
-invariant-loop-log l = (i : ℕ) (log : SiteLog) → i < l.log-index → slice_get l.sites i ≡ Some log → LogCommitsStand log.entries l.places
+invariant-loop-log l = (i : ℕ) (log : SiteLog) → i < l.log-index → slice_get l.sites i ≡ Some log
+    → LogCommitsStand log.entries l.places

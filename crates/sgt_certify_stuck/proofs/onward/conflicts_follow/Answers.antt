@@ -8,7 +8,8 @@ pub returns-then-not-commits_stand-clause-exact : goal.returns-then-not-commits_
 returns-then-not-commits_stand-clause-exact c = (
   λ no. absurd (true≢false (sym no)),
   λ follow. absurd (true≢false (sym (c.commits_stand.ensures.1
-      (commits-in c.args.sites.now c.args.order.now c.in_ok-places.places c.in_ok-places.ensures follow)) ∙ c.if-not-commits_stand.true)),
+      (commits-in c.args.sites.now c.args.order.now c.in_ok-places.places c.in_ok-places.ensures follow))
+      ∙ c.if-not-commits_stand.true)),
 )
 
 pub returns-clause-exact : goal.returns-clause-exact
@@ -17,7 +18,8 @@ returns-clause-exact c =
     let order = c.args.order.now in
     IfOk-weaker c.all_conflicts_lead_onward.result _ _
     (λ follow h. (
-      λ yes. conflicts-follow sites order c.in_ok-places.places c.in_ok-places.ensures (c.commits_stand.ensures.0 c.if-not-commits_stand.false) (h.0 yes),
+      λ yes. conflicts-follow sites order c.in_ok-places.places c.in_ok-places.ensures
+          (c.commits_stand.ensures.0 c.if-not-commits_stand.false) (h.0 yes),
       λ follows. h.1 (conflicts-onward sites order c.in_ok-places.places c.in_ok-places.ensures follows),
     ))
     c.all_conflicts_lead_onward.ensures
@@ -25,6 +27,7 @@ returns-clause-exact c =
 pub returns-clause-no_cycle : goal.returns-clause-no_cycle
 returns-clause-no_cycle c =
     IfOk-weaker c.all_conflicts_lead_onward.result _ _
-    (λ follow h yes. no-conflict-cycle c.args.sites.now c.in_ok-places.places (stand-apart c.args.order.now c.in_ok-places.places c.in_ok-places.ensures)
+    (λ follow h yes. no-conflict-cycle c.args.sites.now c.in_ok-places.places
+    (stand-apart c.args.order.now c.in_ok-places.places c.in_ok-places.ensures)
     (c.commits_stand.ensures.0 c.if-not-commits_stand.false) (h.0 yes))
     c.all_conflicts_lead_onward.ensures

@@ -7,19 +7,24 @@ use Rattle.sgt_certify_stuck.proofs.onward.conflicts_lead_onward.Goals as goal
 pub returns-then-not-reads : goal.returns-then-not-reads
 returns-then-not-reads c = (
   λ no. absurd (true≢false (sym no)),
-  λ onward. absurd (true≢false (sym (c.in_ok-reads.ensures.1 (reads-onward c.args.entries.now c.args.places.now onward)) ∙ c.if-not-reads.true)),
+  λ onward. absurd
+      (true≢false (sym (c.in_ok-reads.ensures.1 (reads-onward c.args.entries.now c.args.places.now onward))
+      ∙ c.if-not-reads.true)),
 )
 
 pub returns-then-not-changes : goal.returns-then-not-changes
 returns-then-not-changes c = (
   λ no. absurd (true≢false (sym no)),
-  λ onward. absurd (true≢false (sym (c.in_ok-changes.ensures.1 (changes-onward c.args.entries.now c.args.places.now onward)) ∙ c.if-not-changes.true)),
+  λ onward. absurd
+      (true≢false (sym (c.in_ok-changes.ensures.1 (changes-onward c.args.entries.now c.args.places.now onward))
+      ∙ c.if-not-changes.true)),
 )
 
 pub returns-then-not-puts : goal.returns-then-not-puts
 returns-then-not-puts c = (
   λ no. absurd (true≢false (sym no)),
-  λ onward. absurd (true≢false (sym (c.in_ok-puts.ensures.1 (puts-onward c.args.entries.now c.args.places.now onward)) ∙ c.if-not-puts.true)),
+  λ onward. absurd (true≢false (sym (c.in_ok-puts.ensures.1 (puts-onward c.args.entries.now c.args.places.now onward))
+      ∙ c.if-not-puts.true)),
 )
 
 pub returns : goal.returns

@@ -11,16 +11,19 @@ use Rattle.sgt_certify_stuck.proofs.onward.ends_lead_onward.Goals.{then-is_end+i
 pub loop-entry-preserved : goal.loop-entry-preserved
 loop-entry-preserved c =
     let at = element_at _ _ _ c.loop-entry-test.true c.entry-item.is in
-    let P : Option ℕ → Type 0 = λ last. RiseTo c.args.entries.now c.args.places.now (c.loop-entry.entry-index + 1) last in
+    let P : Option ℕ
+    → Type 0 = λ last. RiseTo c.args.entries.now c.args.places.now (c.loop-entry.entry-index + 1) last in
     elim c.if-is_end.branch [
       | then-is_end+in-Some+else-not-is_behind w ↦
           subst P (sym w.last-is)
-          (rise-on c.args.entries.now c.args.places.now c.loop-entry.entry-index c.loop-entry.last c.entry-item.result w.in-Some.place c.loop-entry.invariant at (c.is_end.ensures.0 w.if-is_end.true)
+          (rise-on c.args.entries.now c.args.places.now c.loop-entry.entry-index c.loop-entry.last c.entry-item.result
+          w.in-Some.place c.loop-entry.invariant at (c.is_end.ensures.0 w.if-is_end.true)
           (ap (get nat_cmp c.args.places.now) (sym w.tx.ensures) ∙ sym w.place_of.ensures ∙ w.in-Some.is)
           (w.is_behind.ensures.0 w.if-not-is_behind.false))
       | else-is_end w ↦
           subst P (sym w.last-is)
-          (rise-past c.args.entries.now c.args.places.now c.loop-entry.entry-index c.loop-entry.last c.entry-item.result c.loop-entry.invariant at
+          (rise-past c.args.entries.now c.args.places.now c.loop-entry.entry-index c.loop-entry.last
+          c.entry-item.result c.loop-entry.invariant at
           (λ ends. true≢false (sym (c.is_end.ensures.1 ends) ∙ w.if-is_end.false)))
     ]
 

@@ -20,8 +20,13 @@ loop-place-preserved c =
       last = λ t i stands.
           elim (cases_eq tx t) [
             | inl same ↦
-                let here : i ≡ n = same_Some i n (sym stands ∙ ap (λ u. get nat_cmp c.insert.new.self u) (sym same) ∙ updates.1) in
-                (omega (arith, here), ap (slice_get order) here ∙ at ∙ ap Some same, λ j lt within at_j. absurd (omega (arith, here, lt, within)))
+                let here : i ≡ n = same_Some i n (sym stands ∙ ap (λ u. get nat_cmp c.insert.new.self u) (sym same)
+                ∙ updates.1) in (
+                  omega (arith, here),
+                  ap (slice_get order) here ∙ at
+                      ∙ ap Some same,
+                  λ j lt within at_j. absurd (omega (arith, here, lt, within)),
+                )
             | inr ne ↦
                 let before = c.loop-place.invariant.last t i (sym (updates.2 t (nat_cmp-other tx t ne)) ∙ stands) in
                 let lt = before.0 in (

@@ -25,10 +25,16 @@ returns-in_ok-insert-clause-only c = λ x top is.
     elim (same-or-other c.in-Some.item x) [
       | inl same ↦
           let here : c.greater-top.result ≡ top =
-          same_Some c.greater-top.result top (sym updates.1 ∙ ap (get (slice_cmp nat_cmp) c.insert.new.self) same ∙ is) in
+          same_Some c.greater-top.result top (sym updates.1 ∙ ap (get (slice_cmp nat_cmp) c.insert.new.self) same
+          ∙ is) in
           elim c.greater-top.ensures.one [
-            | inl mine ↦ inr (sym here ∙ mine, subst (λ (y : Name). Does c.args.class y c.args.entry.now) same c.in-Some.ensures.only)
-            | inr old ↦ inl (ap (get (slice_cmp nat_cmp) c.args.tops.now) (sym same) ∙ sym c.top_of.ensures ∙ old ∙ ap Some here)
+            | inl mine ↦ inr (
+              sym here
+                  ∙ mine,
+              subst (λ (y : Name). Does c.args.class y c.args.entry.now) same c.in-Some.ensures.only,
+            )
+            | inr old ↦ inl (ap (get (slice_cmp nat_cmp) c.args.tops.now) (sym same) ∙ sym c.top_of.ensures ∙ old
+                ∙ ap Some here)
           ]
       | inr other ↦ inl (sym (updates.2 x other) ∙ is)
     ]

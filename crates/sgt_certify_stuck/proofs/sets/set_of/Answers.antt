@@ -16,10 +16,12 @@ loop-tx-preserved c =
           (λ k t lt at_k. updates.0 t ∙ cond-true _ _ (c.loop-tx.invariant.has k t lt at_k));
       only = λ t has.
           elim (cases_eq c.tx-item.result t) [
-            | inl same ↦ subst (Contains c.args.txs.now) same (Contains-from_at c.args.txs.now c.loop-tx.tx-index c.tx-item.result at)
+            | inl same ↦ subst (Contains c.args.txs.now) same
+                (Contains-from_at c.args.txs.now c.loop-tx.tx-index c.tx-item.result at)
             | inr ne ↦ c.loop-tx.invariant.only t (sym (updates.2 t (nat_cmp-other c.tx-item.result t ne)) ∙ has)
           ];
     }
 
 pub returns-clause-has : goal.returns-clause-has
-returns-clause-has c = each-in (HasTx c.loop-tx.set) c.args.txs.now c.loop-tx.tx-index c.loop-tx-test.false c.loop-tx.invariant.has
+returns-clause-has c =
+    each-in (HasTx c.loop-tx.set) c.args.txs.now c.loop-tx.tx-index c.loop-tx-test.false c.loop-tx.invariant.has

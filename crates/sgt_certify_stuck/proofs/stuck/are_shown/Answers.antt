@@ -15,11 +15,15 @@ returns-then-not-shown c =
 
 pub loop-log-preserved : goal.loop-log-preserved
 loop-log-preserved c =
-    All-next (IsLogShown c.args.sites.now c.args.stuck.now c.args.decided.now) c.args.sites.now c.loop-log.log-index c.log-item.result
+    All-next (IsLogShown c.args.sites.now c.args.stuck.now c.args.decided.now) c.args.sites.now c.loop-log.log-index
+    c.log-item.result
     (element_at c.args.sites.now c.loop-log.log-index c.log-item.result c.loop-log-test.true c.log-item.is)
     (c.in_ok-shown.ensures.0 c.if-not-shown.false) c.loop-log.invariant
 
 pub returns : goal.returns
 returns c =
-    let P = IsLogShown c.args.sites.now c.args.stuck.now c.args.decided.now in
-    (λ _ log here. All_in P c.args.sites.now log (All-whole P c.args.sites.now c.loop-log.log-index c.loop-log-test.false c.loop-log.invariant) here, λ _. refl)
+    let P = IsLogShown c.args.sites.now c.args.stuck.now c.args.decided.now in (
+      λ _ log here. All_in P c.args.sites.now log
+          (All-whole P c.args.sites.now c.loop-log.log-index c.loop-log-test.false c.loop-log.invariant) here,
+      λ _. refl,
+    )

@@ -26,4 +26,8 @@ cyclic_text-requires c =
     (h, subst (IsVerdict h) c.in-Cyclic.is (c.in_ok-decide_faultless.ensures h from))
 
 pub returns : goal.returns
-returns c = (refl, λ h from. c.in_ok-cyclic_text-in-Cyclic.ensures h (subst (IsVerdict h) c.in-Cyclic.is (c.in_ok-decide_faultless.ensures h from)))
+returns c = (
+  refl,
+  λ h from. c.in_ok-cyclic_text-in-Cyclic.ensures h
+      (subst (IsVerdict h) c.in-Cyclic.is (c.in_ok-decide_faultless.ensures h from)),
+)

@@ -55,7 +55,8 @@ returns-in_ok-serial_text-in-Serial c = λ are.
       order = committed_in h c.in-Serial.order.items;
       keeps = subst (IsDecision h s.asked) c.in-Serial.is (c.in_ok-order.ensures.kept h from are);
       text_is = c.in_ok-serial_text-in-Serial.ensures
-          ∙ ap₂ (λ (ls : List Line) (order : List ℕ). yes_text c.args.options s.naming ls order) c.as_slice-in-Serial.ensures.value c.as_slice-in-Serial-2.ensures.value
+          ∙ ap₂ (λ (ls : List Line) (order : List ℕ). yes_text c.args.options s.naming ls order)
+          c.as_slice-in-Serial.ensures.value c.as_slice-in-Serial-2.ensures.value
           ∙ yes-cut c.args.options s.naming lines.items ops c.in-Serial.order.items;
     }
 
@@ -65,9 +66,11 @@ returns-in-Conflicting c =
     let ops = c.args.history.operations.items in
     let h = cut 0 lines.items ops in
     let whole = decided-from lines.items ops c.args.touches.items c.args.history.positive c.requires in
-    let from = subst (λ n. IsDecidedFrom h n c.args.touches.items) (sym (c.len-in-Conflicting.ensures ∙ lines.ok.0)) whole in
+    let from = subst (λ n. IsDecidedFrom h n c.args.touches.items) (sym (c.len-in-Conflicting.ensures ∙ lines.ok.0))
+    whole in
     IfOk-weaker c.conflicts_answer.result _ _ (λ a is are.
-    subst (λ (o : Outcome). IsKeptTold c.args.options c.args.setting.now h o a.text.items) (sym is.0) (inr (inl (is.1 h from)))) c.conflicts_answer.ensures
+    subst (λ (o : Outcome). IsKeptTold c.args.options c.args.setting.now h o a.text.items) (sym is.0)
+    (inr (inl (is.1 h from)))) c.conflicts_answer.ensures
 
 pub returns-in_ok-links_text-in-Cyclic : goal.returns-in_ok-links_text-in-Cyclic
 returns-in_ok-links_text-in-Cyclic c = λ are.
@@ -80,5 +83,7 @@ returns-in_ok-links_text-in-Cyclic c = λ are.
     (subst (λ n. IsDecidedFrom h n c.args.touches.items) (sym (c.len.ensures ∙ lines.ok.0)) whole) in
     let alone = subst (IsAlone h) c.in-Cyclic.is (c.in_ok-order.ensures.alone h from) in
     let cycle = subst (IsDecision h asked) c.in-Cyclic.is (c.in_ok-order.ensures.kept h from are) in
-    inr (inr (c.in_ok-links_text-in-Cyclic.ensures h (subst (IsFaultlessBy h) (sym c.as_slice-in-Cyclic.ensures.value) c.requires) alone
-    (subst (IsCycle (StandsBefore h asked.times.items asked.sessions.items)) (sym c.as_slice-in-Cyclic-2.ensures.value) cycle)))
+    inr (inr (c.in_ok-links_text-in-Cyclic.ensures h
+    (subst (IsFaultlessBy h) (sym c.as_slice-in-Cyclic.ensures.value) c.requires) alone
+    (subst (IsCycle (StandsBefore h asked.times.items asked.sessions.items))
+    (sym c.as_slice-in-Cyclic-2.ensures.value) cycle)))

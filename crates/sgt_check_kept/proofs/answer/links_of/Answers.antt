@@ -5,7 +5,8 @@ use Rattle.sgt_history_verdict.specs.declared.step.Step.{Step}
 use Rattle.sgt_check_kept.proofs.answer.links_of.Goals as goal
 
 pub links_along-requires : goal.links_along-requires
-links_along-requires c = ap (λ (xs : List (Option Step)). length xs) c.as_slice-2.ensures.value ∙ c.in_ok-conflicts.ensures.size
+links_along-requires c = ap (λ (xs : List (Option Step)). length xs) c.as_slice-2.ensures.value
+    ∙ c.in_ok-conflicts.ensures.size
 
 pub returns : goal.returns
 returns c =
@@ -13,5 +14,6 @@ returns c =
     IfOk-weaker c.links_along.result _ _
     (λ links along h by cycle. (
       ranks,
-      along h ranks (subst (AreLeastAlong h ranks c.args.cycle.now) (sym c.as_slice-2.ensures.value) (c.in_ok-conflicts.ensures.least h by)) cycle,
+      along h ranks (subst (AreLeastAlong h ranks c.args.cycle.now) (sym c.as_slice-2.ensures.value)
+          (c.in_ok-conflicts.ensures.least h by)) cycle,
     )) c.links_along.ensures

@@ -16,5 +16,7 @@ returns c =
       cycle = cycle;
       links = c.in_ok-links.links.items;
       along = c.in_ok-links.ensures h by cycle;
-      text_is = is ∙ ap (λ (links : List Link). kept_text (spelled s.naming) (text_at s.sessions) links) c.as_slice.ensures.value;
+      text_is = is
+          ∙ ap (λ (links : List Link). kept_text (spelled s.naming) (text_at s.sessions) links)
+          c.as_slice.ensures.value;
     }) c.cycle_text.ensures

@@ -8,5 +8,6 @@ returns-in-Some c = λ h ranks least stands. subst (IsLeastBetween h ranks c.arg
 
 pub returns-in-None : goal.returns-in-None
 returns-in-None c = λ h ranks least stands.
-    by-asking h c.args.asked.now ranks c.args.from c.args.to c.asked_link.result (subst (IsLeastBetween h ranks c.args.from c.args.to) c.in-None.is least)
+    by-asking h c.args.asked.now ranks c.args.from c.args.to c.asked_link.result
+    (subst (IsLeastBetween h ranks c.args.from c.args.to) c.in-None.is least)
     c.asked_link.ensures stands

@@ -8,7 +8,8 @@ use Rattle.sgt_check_kept.proofs.Gathered.{to-next, to-none, to-whole}
 use Rattle.sgt_check_kept.proofs.links.links_along.Goals as goal
 
 pub loop-place-init : goal.loop-place-init
-loop-place-init c = λ h ranks least cycle. to-none (IsLinkBetween h c.args.asked.now ranks) c.args.lines.now _ c.new-links.ensures.items
+loop-place-init c = λ h ranks least cycle. to-none (IsLinkBetween h c.args.asked.now ranks) c.args.lines.now _
+    c.new-links.ensures.items
 
 pub loop-place-preserved : goal.loop-place-preserved
 loop-place-preserved c = λ h ranks least cycle.
@@ -21,8 +22,10 @@ loop-place-preserved c = λ h ranks least cycle.
     let o = get_or c.args.conflicts.now place d in
     let at_a = slice_get-get_or lines place 0 c.loop-place-test.true in
     let at_o = slice_get-get_or c.args.conflicts.now place d (omega (arith, c.loop-place-test.true, c.requires)) in
-    let stands = cycle-next (StandsBefore h asked.times.items asked.sessions.items) lines cycle place a b at_a c.line_behind-to.ensures in
-    to-next (IsLinkBetween h asked ranks) lines place c.loop-place.links.items c.push.new.self.items c.link_between.result a b
+    let stands = cycle-next (StandsBefore h asked.times.items asked.sessions.items) lines cycle place a b at_a
+    c.line_behind-to.ensures in
+    to-next (IsLinkBetween h asked ranks) lines place c.loop-place.links.items c.push.new.self.items
+    c.link_between.result a b
     (c.loop-place.invariant h ranks least cycle) c.in_ok-push.ensures.items at_a c.line_behind-to.ensures
     (c.link_between.ensures h ranks (least.each place a b o at_o at_a c.line_behind-to.ensures) stands)
 
@@ -30,7 +33,8 @@ pub returns : goal.returns
 returns c = λ h ranks least cycle.
     let so = c.loop-place.invariant h ranks least cycle in
     record {
-      size = to-whole (IsLinkBetween h c.args.asked.now ranks) c.args.lines.now c.loop-place.place c.loop-place.links.items
+      size = to-whole (IsLinkBetween h c.args.asked.now ranks) c.args.lines.now c.loop-place.place
+          c.loop-place.links.items
           (omega (arith, c.loop-place-test.false)) (omega (arith, c.loop-place.auto.place-end)) so;
       each = so.each;
     }

@@ -9,4 +9,5 @@ use Rattle.sgt_check_kept.proofs.links.links_along.Given as goal
 
 abbrev pub invariant-loop-place : goal.invariant-loop-place
 invariant-loop-place l = (h : List (Transaction ℕ ℕ)) (ranks : List ℕ) → AreLeastAlong h ranks l.lines l.conflicts
-    → IsCycle (StandsBefore h l.asked.times.items l.asked.sessions.items) l.lines → AreTo (IsLinkBetween h l.asked ranks) l.lines l.place l.links.items
+    → IsCycle (StandsBefore h l.asked.times.items l.asked.sessions.items) l.lines
+    → AreTo (IsLinkBetween h l.asked ranks) l.lines l.place l.links.items

@@ -10,5 +10,6 @@ returns c =
     let links = c.args.links.now in
     two (class_text (read_writes links)) (kind_text (timed links)) _ _ _
     (c.in_ok-extend_from_slice.ensures.items ∙ ap₂ (λ (a b : List ℕ). a ++ b)
-    (c.in_ok-text.ensures.items ∙ c.class_word.ensures ∙ ap class_text c.count_rw.ensures) (c.kind_word.ensures ∙ ap kind_text c.count_rt.ensures))
+    (c.in_ok-text.ensures.items ∙ c.class_word.ensures ∙ ap class_text c.count_rw.ensures) (c.kind_word.ensures
+    ∙ ap kind_text c.count_rt.ensures))
     c.in_ok-push_links.ensures

@@ -5,6 +5,7 @@ use Rattle.sgt_check_kept.proofs.text.push_lines.Goals as goal
 
 pub returns : goal.returns
 returns c = on_ok_weaker c.extend_from_slice-3.result (λ e.
-    five _ _ _ _ _ _ _ _ _ _ _ c.in_ok-extend_from_slice.ensures.items c.in_ok-push_line_number.ensures c.in_ok-extend_from_slice-2.ensures.items
+    five _ _ _ _ _ _ _ _ _ _ _ c.in_ok-extend_from_slice.ensures.items c.in_ok-push_line_number.ensures
+    c.in_ok-extend_from_slice-2.ensures.items
     c.in_ok-push_line_number-2.ensures e)
     (ok-taken c.extend_from_slice-3.result _ _ _ c.extend_from_slice-3.ensures.items)

@@ -6,4 +6,5 @@ use Rattle.sgt_check_kept.proofs.text.push_links.Given as goal
 
 abbrev pub invariant-loop-link : goal.invariant-loop-link
 invariant-loop-link l =
-    l.out.items ≡ l.fn.out.items ++ flat_map (link_text (spelled l.setting.naming) (text_at l.setting.sessions)) (take l.link-index l.links)
+    l.out.items ≡ l.fn.out.items ++ flat_map (link_text (spelled l.setting.naming) (text_at l.setting.sessions))
+    (take l.link-index l.links)

@@ -14,6 +14,7 @@ returns c =
         first = c.requires;
         told = pushed.0;
         text_is = pushed.1
-            ∙ ap (λ (t : List ℕ). t ++ fault_text (spelled c.args.naming.now) (closed_of c.args.history.now) f.line f.flaw pushed.0.o pushed.0.evidence) c.new-text.ensures.items;
+            ∙ ap (λ (t : List ℕ). t ++ fault_text (spelled c.args.naming.now) (closed_of c.args.history.now) f.line
+            f.flaw pushed.0.o pushed.0.evidence) c.new-text.ensures.items;
       },
     )

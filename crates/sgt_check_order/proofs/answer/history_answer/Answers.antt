@@ -11,5 +11,6 @@ named_answer-requires g c = let is = rw c.in-Faultless.is at c.in_ok-judged.ensu
 pub returns-in_ok-answer-in-Faultless-clause-answer : goal.returns-in_ok-answer-in-Faultless-clause-answer
 returns-in_ok-answer-in-Faultless-clause-answer g c = λ js are right.
     let a = c.in_ok-answer-in-Faultless.answer in
-    judged-if (g.R.Source.tells c.args.reader.now) js c.args.setting.now (closed_of c.args.history.now) c.in_ok-named-in-Faultless.named a.outcome a.text.items (c.in_ok-named-in-Faultless.ensures.named js are)
+    judged-if (g.R.Source.tells c.args.reader.now) js c.args.setting.now (closed_of c.args.history.now)
+    c.in_ok-named-in-Faultless.named a.outcome a.text.items (c.in_ok-named-in-Faultless.ensures.named js are)
     (λ ks bytes named. c.in_ok-answer-in-Faultless.ensures ks bytes named right)

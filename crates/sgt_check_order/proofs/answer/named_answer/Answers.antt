@@ -13,4 +13,5 @@ returns-in-Each c =
     IfOk-weaker c.order_answer.result _ _ (λ a judged js bytes named right.
     let each = subst (λ (n : Named). IsNamed h js bytes n) c.in-Each.is named in
     judged js bytes (subst (λ (o : List ℕ). IsOrder h o) (sym c.as_slice.ensures.value) each.0)
-    (subst (λ (o : List ℕ). NameEach js (lines_of bytes) o) (sym c.as_slice.ensures.value) each.1) right) c.order_answer.ensures
+    (subst (λ (o : List ℕ). NameEach js (lines_of bytes) o) (sym c.as_slice.ensures.value) each.1) right)
+    c.order_answer.ensures

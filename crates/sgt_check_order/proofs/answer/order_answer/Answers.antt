@@ -20,7 +20,12 @@ returns-in-None c =
       order = c.args.order.now;
       names = names;
       keeps = record {
-        serves = record { ordered = ordered; right = right.0; values = values_agree h c.requires c.args.order.now ordered };
+        serves = record {
+          ordered = ordered;
+          right = right.0;
+          values =
+              values_agree h c.requires c.args.order.now ordered;
+        };
         in_time = right.1.0;
         in_sessions = right.1.1;
       };
@@ -30,5 +35,6 @@ returns-in-None c =
 pub returns-in_ok-text-in-Some : goal.returns-in_ok-text-in-Some
 returns-in_ok-text-in-Some c = λ js bytes ordered names runs.
     let broken = rw c.in-Some.is at c.in_ok-told.ensures in
-    first-judged bytes js c.args.setting.now (closed_of c.args.history.now) c.requires c.args.order.now ordered names c.in_ok-text-in-Some.text.items runs
+    first-judged bytes js c.args.setting.now (closed_of c.args.history.now) c.requires c.args.order.now ordered names
+    c.in_ok-text-in-Some.text.items runs
     c.in-Some.found broken c.in_ok-text-in-Some.ensures

@@ -16,5 +16,6 @@ returns-clause-answer g c =
     IfOk-weaker c.history_answer.result _ _ (λ a told wanted bytes is.
     let ids = ids-are wanted [] bytes r is in
     told-if wanted (g.R.Source.tells c.args.reader.now) bytes r is s refl a.outcome a.text.items
-    (told is.ids (subst (λ (texts : List (List ℕ)). AreIds texts is.ids) (sym (c.in_ok-found.ensures is.ids ids)) ids) (runs wanted [] bytes r is)))
+    (told is.ids (subst (λ (texts : List (List ℕ)). AreIds texts is.ids) (sym (c.in_ok-found.ensures is.ids ids)) ids)
+    (runs wanted [] bytes r is)))
     c.history_answer.ensures.answer

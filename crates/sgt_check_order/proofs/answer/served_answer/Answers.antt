@@ -10,7 +10,9 @@ returns c =
     let lines = c.args.history.now.lines.items in (
       refl,
       c.in_ok-push_counts.ensures
-          ∙ ap (λ (ls : List Line). c.new-text.result.items ++ counts_text (count_by (λ (l : Line). l.commits) ls) (length ls - count_by (λ (l : Line). l.commits) ls)) c.as_slice.ensures.value
-          ∙ ap (λ (t : List ℕ). t ++ counts_text (count_by (λ (l : Line). l.commits) lines) (length lines - count_by (λ (l : Line). l.commits) lines)) c.new-text.ensures.items
+          ∙ ap (λ (ls : List Line). c.new-text.result.items ++ counts_text (count_by (λ (l : Line). l.commits) ls)
+          (length ls - count_by (λ (l : Line). l.commits) ls)) c.as_slice.ensures.value
+          ∙ ap (λ (t : List ℕ). t ++ counts_text (count_by (λ (l : Line). l.commits) lines)
+          (length lines - count_by (λ (l : Line). l.commits) lines)) c.new-text.ensures.items
           ∙ counts-cut lines c.args.history.now.operations.items,
     )

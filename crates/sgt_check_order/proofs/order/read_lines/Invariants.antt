@@ -10,7 +10,8 @@ use Rattle.sgt_check_order.proofs.order.read_lines.Given as goal
 abbrev pub invariant-lines : goal.invariant-lines
 invariant-lines g l =
     IsRoll (closed_of l.history) l.roll
-    × ((js : List Json) → AreIds l.ids js → Goes js (g.R.Source.tells l.initial.reader) (coming l.lines (g.R.Source.tells l.reader)) l.roll.order.items)
+    × ((js : List Json) → AreIds l.ids js
+    → Goes js (g.R.Source.tells l.initial.reader) (coming l.lines (g.R.Source.tells l.reader)) l.roll.order.items)
     × (g.R.Source.failures l.reader ≡ g.R.Source.failures l.initial.reader)
     × Spends 4294967295 (g.R.Source.tells l.initial.reader) l.lines.reads (g.R.Source.tells l.reader)
     × (g.R.Source.asked l.reader + l.lines.reads ≡ g.R.Source.asked l.initial.reader + 4294967295)

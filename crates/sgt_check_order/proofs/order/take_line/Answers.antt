@@ -9,10 +9,12 @@ use Rattle.sgt_check_order.proofs.order.take_line.Goals as goal
 pub returns-clause-roll : goal.returns-clause-roll
 returns-clause-roll c =
     IfOk-weaker c.call.result _ _ (λ b called is.
-    (subst (λ (x : Bool). IsCalled (closed_of c.args.history.now) c.args.roll.now c.in-Some.number x c.call.new.roll) is called).0) c.call.ensures
+    (subst (λ (x : Bool). IsCalled (closed_of c.args.history.now) c.args.roll.now c.in-Some.number x c.call.new.roll)
+    is called).0) c.call.ensures
 
 pub returns-clause-taken : goal.returns-clause-taken
 returns-clause-taken c = λ js are.
     let line = c.args.read.1.now in
     let is = subst (λ (r : Option ℕ). IsFoundAs js line r) c.in-Some.is (c.in_ok-found.ensures js are) in
-    IfOk-weaker c.call.result _ _ (λ b called. taken (closed_of c.args.history.now) js are.once c.args.roll.now c.call.new.roll line c.in-Some.number is b called) c.call.ensures
+    IfOk-weaker c.call.result _ _ (λ b called. taken (closed_of c.args.history.now) js are.once c.args.roll.now
+    c.call.new.roll line c.in-Some.number is b called) c.call.ensures

@@ -13,8 +13,14 @@ returns-then-is_missed c =
 
 pub loop-line-preserved : goal.loop-line-preserved
 loop-line-preserved c =
-    called-next (closed_of c.args.history.now) c.args.called.now c.loop-line.line c.loop-line.invariant (rw c.if-is_missed.false at c.is_missed.ensures)
+    called-next (closed_of c.args.history.now) c.args.called.now c.loop-line.line c.loop-line.invariant
+    (rw c.if-is_missed.false at c.is_missed.ensures)
 
 pub returns : goal.returns
 returns c = λ line t committed.
-    c.loop-line.invariant line t (omega (arith, c.loop-line-test.false, committed-within c.args.history.now.lines.items c.args.history.now.operations.items line t committed)) committed
+    c.loop-line.invariant line t
+    (omega (
+      arith,
+      c.loop-line-test.false,
+      committed-within c.args.history.now.lines.items c.args.history.now.operations.items line t committed,
+    )) committed

@@ -6,4 +6,5 @@ use Rattle.sgt_history.specs.Transaction.{Transaction}
 use Rattle.sgt_check_order.proofs.roll.all_called.Given as goal
 
 abbrev pub invariant-loop-line : goal.invariant-loop-line
-invariant-loop-line l = (line : ℕ) (t : Transaction ℕ ℕ) → line < l.line → IsCommitted (closed_of l.history) line t → slice_get l.called line ≡ Some true
+invariant-loop-line l = (line : ℕ) (t : Transaction ℕ ℕ) → line < l.line → IsCommitted (closed_of l.history) line t
+    → slice_get l.called line ≡ Some true

@@ -7,11 +7,13 @@ use Rattle.sgt_check_order.proofs.roll.commits.Goals as goal
 pub returns-then-line-len : goal.returns-then-line-len
 returns-then-line-len c = (
   λ e. absurd (false≢true e),
-  λ is. absurd (commits-past c.args.history.now.lines.items c.args.history.now.operations.items c.args.line (omega (arith, c.if-line-len.true, c.len.ensures)) is),
+  λ is. absurd (commits-past c.args.history.now.lines.items c.args.history.now.operations.items c.args.line
+      (omega (arith, c.if-line-len.true, c.len.ensures)) is),
 )
 
 pub returns : goal.returns
 returns c =
     let lines = c.args.history.now.lines.items in
     commits-there lines c.args.history.now.operations.items c.args.line c.index.result.now
-    (element_at lines c.args.line c.index.result.now (omega (arith, c.if-line-len.false, c.len.ensures)) c.index.ensures)
+    (element_at lines c.args.line c.index.result.now (omega (arith, c.if-line-len.false, c.len.ensures))
+    c.index.ensures)

@@ -10,7 +10,8 @@ pub returns-then-line-len : goal.returns-then-line-len
 returns-then-line-len c =
     let lines = c.args.history.now.lines.items in
     let ops = c.args.history.now.operations.items in
-    sym (ap (λ (t : Option (Transaction ℕ ℕ)). operations_in t) (slice_get_past (closed_of c.args.history.now) c.args.line
+    sym (ap (λ (t : Option (Transaction ℕ ℕ)). operations_in t)
+    (slice_get_past (closed_of c.args.history.now) c.args.line
     (omega (arith, c.if-line-len.true, c.len.ensures, length-cut 0 lines ops))))
 
 pub returns : goal.returns

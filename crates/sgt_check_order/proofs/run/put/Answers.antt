@@ -7,4 +7,6 @@ returns-in-Read c = λ run tells. tells-read run c.args.operation.now c.args.ver
 
 pub returns-in-Write : goal.returns-in-Write
 returns-in-Write c = λ run tells.
-    on_ok_weaker c.set_version.result (λ set. tells-write run c.args.operation.now c.args.versions.now.items c.set_version.new.versions.items c.in-Write.is set.0 set.1 tells) c.set_version.ensures
+    on_ok_weaker c.set_version.result
+    (λ set. tells-write run c.args.operation.now c.args.versions.now.items c.set_version.new.versions.items
+    c.in-Write.is set.0 set.1 tells) c.set_version.ensures

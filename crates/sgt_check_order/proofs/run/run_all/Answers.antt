@@ -18,17 +18,22 @@ returns-in-Some-clause-run c = λ run right tells.
     let ops = c.args.operations.now in
     let k = c.loop-place.place in
     let ran = c.loop-place.invariant run right tells in
-    ran-break run ops k (get_or ops k nothing) (slice_get-get_or ops k nothing c.loop-place-test.true) c.loop-place.versions.items c.run_one.new.versions.items ran c.in-Some.found
-    (subst (λ (r : Option ℕ). IsRun (run ++ take k ops) (get_or ops k nothing) c.run_one.new.versions.items r) c.in-Some.is (c.in_ok-told.ensures (run ++ take k ops) ran.tells))
+    ran-break run ops k (get_or ops k nothing) (slice_get-get_or ops k nothing c.loop-place-test.true)
+    c.loop-place.versions.items c.run_one.new.versions.items ran c.in-Some.found
+    (subst (λ (r : Option ℕ). IsRun (run ++ take k ops) (get_or ops k nothing) c.run_one.new.versions.items r)
+    c.in-Some.is (c.in_ok-told.ensures (run ++ take k ops) ran.tells))
 
 pub loop-place-preserved : goal.loop-place-preserved
 loop-place-preserved c = λ run right tells.
     let ops = c.args.operations.now in
     let k = c.loop-place.place in
     let ran = c.loop-place.invariant run right tells in
-    ran-next run ops k (get_or ops k nothing) (slice_get-get_or ops k nothing c.loop-place-test.true) c.loop-place.versions.items c.run_one.new.versions.items ran
-    (subst (λ (r : Option ℕ). IsRun (run ++ take k ops) (get_or ops k nothing) c.run_one.new.versions.items r) c.in_default.is (c.in_ok-told.ensures (run ++ take k ops) ran.tells))
+    ran-next run ops k (get_or ops k nothing) (slice_get-get_or ops k nothing c.loop-place-test.true)
+    c.loop-place.versions.items c.run_one.new.versions.items ran
+    (subst (λ (r : Option ℕ). IsRun (run ++ take k ops) (get_or ops k nothing) c.run_one.new.versions.items r)
+    c.in_default.is (c.in_ok-told.ensures (run ++ take k ops) ran.tells))
 
 pub returns-clause-run : goal.returns-clause-run
 returns-clause-run c = λ run right tells.
-    ran-all run c.args.operations.now c.loop-place.place c.loop-place.versions.items (omega (arith, c.loop-place-test.false)) (c.loop-place.invariant run right tells)
+    ran-all run c.args.operations.now c.loop-place.place c.loop-place.versions.items
+    (omega (arith, c.loop-place-test.false)) (c.loop-place.invariant run right tells)

@@ -6,4 +6,5 @@ use Rattle.sgt_check_order.proofs.Running.{Ran}
 use Rattle.sgt_check_order.proofs.run.run_all.Given as goal
 
 abbrev pub invariant-loop-place : goal.invariant-loop-place
-invariant-loop-place l = (run : List (Operation ℕ ℕ)) → RunsRight run → Tells run l.fn.versions.items → Ran run l.operations l.place l.versions.items
+invariant-loop-place l = (run : List (Operation ℕ ℕ)) → RunsRight run → Tells run l.fn.versions.items
+    → Ran run l.operations l.place l.versions.items

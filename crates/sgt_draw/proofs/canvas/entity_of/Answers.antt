@@ -19,4 +19,10 @@ returns-then-byte-eq39-clause-some c = rw c.if-byte-eq39.true refl
 
 pub returns-clause-none : goal.returns-clause-none
 returns-clause-none c =
-    as-it-is c.args.byte (c.if-byte-eq60.false, c.if-byte-eq62.false, c.if-byte-eq38.false, c.if-byte-eq34.false, c.if-byte-eq39.false)
+    as-it-is c.args.byte (
+      c.if-byte-eq60.false,
+      c.if-byte-eq62.false,
+      c.if-byte-eq38.false,
+      c.if-byte-eq34.false,
+      c.if-byte-eq39.false,
+    )

@@ -7,5 +7,7 @@ pub loop-byte-preserved : goal.loop-byte-preserved
 loop-byte-preserved c =
     let text = c.args.text.now in
     let k = c.loop-byte.byte-index in
-    mended-next text k c.loop-byte.before c.loop-byte.last (get_or text k 0) c.loop-byte.out.items c.push_mended.new.out.items
-    (slice_get-get_or text k 0 c.loop-byte-test.true) c.loop-byte.invariant.0 c.loop-byte.invariant.1 c.loop-byte.invariant.2 c.in_ok-push_mended.ensures
+    mended-next text k c.loop-byte.before c.loop-byte.last (get_or text k 0) c.loop-byte.out.items
+    c.push_mended.new.out.items
+    (slice_get-get_or text k 0 c.loop-byte-test.true) c.loop-byte.invariant.0 c.loop-byte.invariant.1
+    c.loop-byte.invariant.2 c.in_ok-push_mended.ensures

@@ -10,5 +10,6 @@ returns-clause-front g c =
       answer.outcome,
       answer.text.items,
       c.in_ok-answer.ensures told c.in_ok-audited.ensures.audited,
-      subst (λ (text : List ℕ). WritesFront (g.W.Sink.holds c.args.writer.now) (g.W.Sink.holds c.write_all.new.writer) text) c.as_slice.ensures.value c.in-Err.ensures.err,
+      subst (λ (text : List ℕ). WritesFront (g.W.Sink.holds c.args.writer.now) (g.W.Sink.holds c.write_all.new.writer)
+          text) c.as_slice.ensures.value c.in-Err.ensures.err,
     )

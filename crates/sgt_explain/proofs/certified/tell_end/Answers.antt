@@ -7,15 +7,25 @@ use Rattle.sgt_explain.proofs.Telling.{on-all}
 use Rattle.sgt_explain.proofs.certified.tell_end.Goals as goal
 
 pub returns-in_default : goal.returns-in_default
-returns-in_default c = λ first. absurd (end-certificate c.args.bytes.now c.args.number first (λ front d rest none is e. sym c.in_default.is ∙ c.in_ok-certificate.ensures front d rest none is e))
+returns-in_default c =
+    λ first. absurd
+    (end-certificate c.args.bytes.now c.args.number first (λ front d rest none is e. sym c.in_default.is
+    ∙ c.in_ok-certificate.ensures front d rest none is e))
 
 pub returns-in_default-logged_at : goal.returns-in_default-logged_at
-returns-in_default-logged_at c = λ first. absurd (end-entry c.args.bytes.now c.args.number first c.in_default-logged_at.ensures)
+returns-in_default-logged_at c =
+    λ first. absurd (end-entry c.args.bytes.now c.args.number first c.in_default-logged_at.ensures)
 
 pub returns : goal.returns
-returns c = on-all _ c.push_end.result (λ first. shows-end c.args.bytes.now c.args.number first c.push_end.result c.in_ok-section.section c.in-Some.certificate c.in-Some-logged_at.logged c.as_slice.result.now _ _
+returns c =
+    on-all _ c.push_end.result (λ first. shows-end c.args.bytes.now c.args.number first c.push_end.result
+    c.in_ok-section.section c.in-Some.certificate c.in-Some-logged_at.logged c.as_slice.result.now _ _
     c.in_ok-section.ensures
     (λ front d rest none is e. sym c.in-Some.is ∙ c.in_ok-certificate.ensures front d rest none is e)
     c.in-Some-logged_at.ensures
-    (subst (λ ds. ArePlaced ds c.as_slice.result.now) c.decisions-decisions.ensures (subst (λ ps. ArePlaced c.decisions-decisions.result.now ps) (sym c.as_slice.ensures.value) c.in_ok-placed.ensures))
-    (subst (λ ds. OnOk c.push_end.result (TellsEnd ds c.as_slice.result.now c.in_ok-section.section.entries.items c.in-Some-logged_at.logged (string_bytes c.args.out.now) (string_bytes c.push_end.new.out))) c.decisions-decisions.ensures c.push_end.ensures))
+    (subst (λ ds. ArePlaced ds c.as_slice.result.now) c.decisions-decisions.ensures
+    (subst (λ ps. ArePlaced c.decisions-decisions.result.now ps) (sym c.as_slice.ensures.value)
+    c.in_ok-placed.ensures))
+    (subst (λ ds. OnOk c.push_end.result (TellsEnd ds c.as_slice.result.now c.in_ok-section.section.entries.items
+    c.in-Some-logged_at.logged (string_bytes c.args.out.now) (string_bytes c.push_end.new.out)))
+    c.decisions-decisions.ensures c.push_end.ensures))

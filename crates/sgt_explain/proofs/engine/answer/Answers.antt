@@ -12,10 +12,12 @@ returns-in-Ok-clause-answer g c =
     let v = c.in_ok-verdict.verdict in
     let meaning = string_bytes c.in-Ok.answer.meaning in
     let is = subst (λ (t : List ℕ). IsVerdict t v) c.as_slice.ensures.value c.in_ok-verdict.ensures.verdict in
-    let means = subst (λ (t : List ℕ). MeansOf t c.args.asked v meaning) c.as_slice-2.ensures.value c.in-Ok.ensures.meaning in (
+    let means =
+    subst (λ (t : List ℕ). MeansOf t c.args.asked v meaning) c.as_slice-2.ensures.value c.in-Ok.ensures.meaning in (
       v,
       meaning,
-      told-of told text (λ bytes. IsVerdict bytes v × MeansOf bytes c.args.asked v meaning) c.in_ok-text.ensures.all (is, means),
+      told-of told text (λ bytes. IsVerdict bytes v × MeansOf bytes c.args.asked v meaning) c.in_ok-text.ensures.all
+          (is, means),
       c.in-Ok.ensures.outcome,
       ap (λ (l : List ℕ). l ++ meaning) c.in-Ok.ensures.line,
     )

@@ -3,4 +3,5 @@ use Rattle.sgt_explain.proofs.Telling.{wrote-explained}
 use Rattle.sgt_explain.proofs.engine.explain.Goals as goal
 
 pub returns-clause-answer : goal.returns-clause-answer
-returns-clause-answer g c = wrote-explained c.explain_asked.result None (g.R.Source.tells c.args.reader.now) (g.W.Sink.holds c.args.writer.now) (g.W.Sink.holds c.explain_asked.new.writer) c.explain_asked.ensures.answer
+returns-clause-answer g c = wrote-explained c.explain_asked.result None (g.R.Source.tells c.args.reader.now)
+    (g.W.Sink.holds c.args.writer.now) (g.W.Sink.holds c.explain_asked.new.writer) c.explain_asked.ensures.answer

@@ -10,6 +10,9 @@ returns-clause-front g c =
     inr (
       answer.outcome,
       string_bytes answer.line ++ string_bytes answer.meaning,
-      is-explained c.args.asked (g.R.Source.tells c.args.reader.now) answer.outcome (string_bytes answer.line ++ string_bytes answer.meaning) c.in_ok-answer.ensures.answer,
-      subst (λ (text : List ℕ). WritesFront (g.W.Sink.holds c.args.writer.now) (g.W.Sink.holds c.write_both.new.writer) text) (ap₂ (λ (a b : List ℕ). a ++ b) c.as_bytes.ensures.value c.as_bytes-2.ensures.value) c.in-Err.ensures.err,
+      is-explained c.args.asked (g.R.Source.tells c.args.reader.now) answer.outcome
+          (string_bytes answer.line ++ string_bytes answer.meaning) c.in_ok-answer.ensures.answer,
+      subst (λ (text : List ℕ). WritesFront (g.W.Sink.holds c.args.writer.now)
+          (g.W.Sink.holds c.write_both.new.writer) text)
+          (ap₂ (λ (a b : List ℕ). a ++ b) c.as_bytes.ensures.value c.as_bytes-2.ensures.value) c.in-Err.ensures.err,
     )

@@ -12,4 +12,5 @@ returns c = on-both _ _ c.push_format.result
     let at = format-at c.args.bytes.now c.args.number first in
     subst (λ n. OnOk c.push_format.result (ShowsLine (codes "Format: ") n (bytes_of first.next) (string_bytes c.args.out.now) (string_bytes c.push_format.new.out))) (sym at.0)
     (c.push_format.ensures.line (bytes_of first.next) at.1)))
-    (on-all _ c.push_format.result (λ first. c.push_format.ensures.text (bytes_of first.next) (format-at c.args.bytes.now c.args.number first).1))
+    (on-all _ c.push_format.result (λ first. c.push_format.ensures.text (bytes_of first.next)
+    (format-at c.args.bytes.now c.args.number first).1))

@@ -9,7 +9,9 @@ use Rattle.sgt_explain.proofs.ShownValues.{no-certificate, no-entry, shows-ranks
 use Rattle.sgt_explain.proofs.shown.ranks_shown.Goals as goal
 
 pub returns-in_default : goal.returns-in_default
-returns-in_default c = λ first. no-certificate c.args.bytes.now c.args.number first (λ front d rest none is e. sym c.in_default.is ∙ c.in_ok-certificate.ensures front d rest none is e)
+returns-in_default c =
+    λ first. no-certificate c.args.bytes.now c.args.number first (λ front d rest none is e. sym c.in_default.is
+    ∙ c.in_ok-certificate.ensures front d rest none is e)
 
 pub returns-in_default-logged_at : goal.returns-in_default-logged_at
 returns-in_default-logged_at c = λ first. no-entry c.args.bytes.now c.args.number first c.in_default-logged_at.ensures
@@ -20,14 +22,22 @@ returns c = λ first.
     let r = c.against_ranks.ensures in
     let decisions = c.decisions-decisions.ensures in
     let placed = c.in_ok-placed.ensures in
-    shows-ranks-found c.args.bytes.now c.args.number first c.in_ok-section.section c.in-Some.certificate c.in-Some-logged_at.logged found
+    shows-ranks-found c.args.bytes.now c.args.number first c.in_ok-section.section c.in-Some.certificate
+    c.in-Some-logged_at.logged found
     c.in_ok-section.ensures
     (λ front d rest none is e. sym c.in-Some.is ∙ c.in_ok-certificate.ensures front d rest none is e)
     c.in-Some-logged_at.ensures r.site r.among r.same
-    (subst (λ ds. IfSome found (λ s. IsCommitted ds s.first.number (tx_of s.first.logged.entry) s.first.rank)) decisions r.first)
-    (subst (λ ds. IfSome found (λ s. IsCommitted ds s.second.number (tx_of s.second.logged.entry) s.second.rank)) decisions r.second)
+    (subst (λ ds. IfSome found (λ s. IsCommitted ds s.first.number (tx_of s.first.logged.entry) s.first.rank))
+    decisions r.first)
+    (subst (λ ds. IfSome found (λ s. IsCommitted ds s.second.number (tx_of s.second.logged.entry) s.second.rank))
+    decisions r.second)
     r.stand
-    (subst (λ ds. IsDecidedOnce ds → IfSome found (λ s. IsFirstAgainst ds c.in_ok-section.section.entries.items s.first.logged c.in-Some-logged_at.logged.entry)) decisions
+    (subst (λ ds. IsDecidedOnce ds
+    → IfSome found (λ s. IsFirstAgainst ds c.in_ok-section.section.entries.items s.first.logged
+    c.in-Some-logged_at.logged.entry)) decisions
     (r.earlier (subst (λ ps. ArePlaced c.decisions-decisions.result.now ps) (sym c.as_slice.ensures.value) placed)))
-    (subst (λ ds. IsDecidedOnce ds → IfNone found (All (λ l. RiseInRank ds l.entry c.in-Some-logged_at.logged.entry) c.in_ok-section.section.entries.items)) decisions
+    (subst (λ ds. IsDecidedOnce ds
+    → IfNone found
+    (All (λ l. RiseInRank ds l.entry c.in-Some-logged_at.logged.entry) c.in_ok-section.section.entries.items))
+    decisions
     (r.none (subst (λ ps. ArePlaced c.decisions-decisions.result.now ps) (sym c.as_slice.ensures.value) placed)))

@@ -8,10 +8,14 @@ use Rattle.sgt_explain.proofs.yeses.push_all_cycles.Goals as goal
 
 pub returns-in-Some : goal.returns-in-Some
 returns-in-Some c = on-all _ c.push_refusals.result (λ d. on-all _ c.push_refusals.result (λ held.
-    let same = same_Some c.in-Some.certificate d (sym c.in-Some.is ∙ c.in_ok-certificate.ensures held.0 d held.1 held.2 held.3 held.4) in
+    let same = same_Some c.in-Some.certificate d (sym c.in-Some.is
+    ∙ c.in_ok-certificate.ensures held.0 d held.1 held.2 held.3 held.4) in
     let decisions = c.decisions.ensures ∙ ap (λ (k : Certificate). k.decisions) same in
-    on-ok c.push_refusals.result (λ told. subst (λ ds. TellsRefusals ds c.args.bytes.now (string_bytes c.args.out.now) (string_bytes c.push_refusals.new.out)) decisions told)
+    on-ok c.push_refusals.result
+    (λ told. subst (λ ds. TellsRefusals ds c.args.bytes.now (string_bytes c.args.out.now)
+    (string_bytes c.push_refusals.new.out)) decisions told)
     c.push_refusals.ensures))
 
 pub returns-in-None : goal.returns-in-None
-returns-in-None c = λ d held. absurd (none-some d (sym c.in-None.is ∙ c.in_ok-certificate.ensures held.0 d held.1 held.2 held.3 held.4))
+returns-in-None c =
+    λ d held. absurd (none-some d (sym c.in-None.is ∙ c.in_ok-certificate.ensures held.0 d held.1 held.2 held.3 held.4))

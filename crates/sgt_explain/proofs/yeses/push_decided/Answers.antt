@@ -8,12 +8,14 @@ use Rattle.sgt_explain.proofs.yeses.push_decided.Goals as goal
 
 pub returns-in-Some : goal.returns-in-Some
 returns-in-Some c = on-all _ c.push_fate.result (λ d. on-all _ c.push_fate.result (λ held.
-    let same = same_Some c.in-Some.certificate d (sym c.in-Some.is ∙ c.in_ok-certificate.ensures held.0 d held.1 held.2 held.3 held.4) in
+    let same = same_Some c.in-Some.certificate d (sym c.in-Some.is
+    ∙ c.in_ok-certificate.ensures held.0 d held.1 held.2 held.3 held.4) in
     let decisions = c.decisions.ensures ∙ ap (λ (k : Certificate). k.decisions) same in
     on-ok c.push_fate.result (λ fate. (
       c.seen_text-seen.result.now,
       c.seen_text-seen.ensures,
-      subst (λ ds. TellsFate ds c.seen_text-seen.result.now c.args.tx (string_bytes c.args.out.now) (string_bytes c.push_fate.new.out)) decisions fate,
+      subst (λ ds. TellsFate ds c.seen_text-seen.result.now c.args.tx (string_bytes c.args.out.now)
+          (string_bytes c.push_fate.new.out)) decisions fate,
     )) c.push_fate.ensures))
 
 pub returns-in-None : goal.returns-in-None

@@ -13,7 +13,9 @@ returns-clause-refused c = λ e apart refuses.
       | in-Err w ↦
           rw (w.out-is, w.result-is) (elim (rw w.in-Err.is at c.from_line.ensures.each e apart refuses) [
             | inl same ↦
-                subst (λ f. OnOk w.push_fault.result (ShowsLine (fault_words f) 2 c.args.line.now (string_bytes c.args.out.now) (string_bytes w.push_fault.new.out)))
+                subst (λ f. OnOk w.push_fault.result
+                (ShowsLine (fault_words f) 2 c.args.line.now (string_bytes c.args.out.now)
+                (string_bytes w.push_fault.new.out)))
                 same w.push_fault.ensures.shown
             | inr memory ↦ on-ok w.push_fault.result _ _ (λ no. absurd no) (w.push_fault.ensures.memory memory)
           ])
@@ -25,5 +27,6 @@ returns-clause-read c = λ k is same.
       | in-Ok w ↦ rw (w.out-is, w.result-is) refl
       | in-Err w ↦
           rw (w.out-is, w.result-is)
-          (on-ok w.push_fault.result _ _ (λ no. absurd no) (w.push_fault.ensures.memory (rw w.in-Err.is at c.from_line.ensures.only k is same)))
+          (on-ok w.push_fault.result _ _ (λ no. absurd no)
+          (w.push_fault.ensures.memory (rw w.in-Err.is at c.from_line.ensures.only k is same)))
     ]

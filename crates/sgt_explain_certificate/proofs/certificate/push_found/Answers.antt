@@ -9,7 +9,8 @@ use Rattle.sgt_explain_certificate.proofs.certificate.push_found.Goals as goal
 pub returns-clause-more : goal.returns-clause-more
 returns-clause-more c =
     let s = c.in_ok-push_standing.ensures in
-    on-ok c.push_before.result _ _ (λ b. adds-more _ _ _ (_, c.in_ok-push_column.ensures) (adds-more _ _ _ (s.0, s.2) (b.0, b.2))) c.push_before.ensures
+    on-ok c.push_before.result _ _ (λ b. adds-more _ _ _ (_, c.in_ok-push_column.ensures)
+    (adds-more _ _ _ (s.0, s.2) (b.0, b.2))) c.push_before.ensures
 
 pub returns-clause-found : goal.returns-clause-found
 returns-clause-found c = λ less.

@@ -3,4 +3,5 @@ use Rattle.sgt_explain_lines.proofs.Numbering.{on-ok}
 use Rattle.sgt_explain_certificate.proofs.certificate.push_no_text.Goals as goal
 
 pub returns : goal.returns
-returns c = on-ok c.push_turn.result _ _ (λ more. shows-more _ _ _ _ _ _ c.in_ok-push_refused.ensures more) c.push_turn.ensures
+returns c = on-ok c.push_turn.result _ _ (λ more. shows-more _ _ _ _ _ _ c.in_ok-push_refused.ensures more)
+    c.push_turn.ensures

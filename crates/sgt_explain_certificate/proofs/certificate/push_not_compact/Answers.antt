@@ -3,4 +3,7 @@ use Rattle.sgt_explain_lines.proofs.Numbering.{on-ok}
 use Rattle.sgt_explain_certificate.proofs.certificate.push_not_compact.Goals as goal
 
 pub returns : goal.returns
-returns c = on-ok c.push_spelling.result _ _ (λ more. shows-more _ _ _ _ _ _ (shows-more _ _ _ _ _ _ c.in_ok-push_refused.ensures c.in_ok-push_turn.ensures) more) c.push_spelling.ensures
+returns c =
+    on-ok c.push_spelling.result _ _
+    (λ more. shows-more _ _ _ _ _ _ (shows-more _ _ _ _ _ _ c.in_ok-push_refused.ensures c.in_ok-push_turn.ensures)
+    more) c.push_spelling.ensures

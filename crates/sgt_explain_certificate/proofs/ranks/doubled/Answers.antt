@@ -19,7 +19,8 @@ loop-one-preserved c =
     let g = c.one-item.result in
     let at = element_at gs i g (omega arith) c.one-item.is in
     let so_far = c.loop-one.invariant in
-    let apart = none-found c.doubled_with-found.result _ (sym c.is_some.ensures ∙ c.if-is_some.false) c.doubled_with-found.ensures.none in
+    let apart = none-found c.doubled_with-found.result _ (sym c.is_some.ensures
+    ∙ c.if-is_some.false) c.doubled_with-found.ensures.none in
     record {
       has = Contains-from_at gs i g at;
       last = λ less. (g, refl, subst (λ n. slice_get gs n ≡ Some g) (omega arith) at);
@@ -32,7 +33,8 @@ returns-then-is_some-clause-some c =
     let i = c.loop-one.one-index in
     let g = c.one-item.result in
     let at = element_at gs i g (omega arith) c.one-item.is in
-    found-both gs c.doubled_with-found.result (c.doubled_with-found.ensures.both gs c.loop-one.invariant.has (Contains-from_at gs i g at)) c.doubled_with-found.ensures.doubled
+    found-both gs c.doubled_with-found.result (c.doubled_with-found.ensures.both gs c.loop-one.invariant.has
+    (Contains-from_at gs i g at)) c.doubled_with-found.ensures.doubled
 
 pub returns-then-is_some-clause-none : goal.returns-then-is_some-clause-none
 returns-then-is_some-clause-none c = not-found c.doubled_with-found.result _ (sym c.is_some.ensures ∙ c.if-is_some.true)

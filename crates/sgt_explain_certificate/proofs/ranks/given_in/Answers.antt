@@ -18,8 +18,11 @@ loop-number-preserved c =
     let at = element_at ds n d (omega arith) c.index-decisions-number.is in
     elim c.match-given_by.branch [
       | in-Some+in_ok-push w ↦
-          rw w.given-is (rw w.in_ok-push.ensures.items (given-one-more ds n d w.in-Some.one gs at (sym c.given_by.ensures ∙ w.in-Some.is) c.loop-number.invariant))
-      | in_default w ↦ rw w.given-is (given-none-more ds n d gs at (sym c.given_by.ensures ∙ w.in_default.is) c.loop-number.invariant)
+          rw w.given-is
+          (rw w.in_ok-push.ensures.items (given-one-more ds n d w.in-Some.one gs at (sym c.given_by.ensures
+          ∙ w.in-Some.is) c.loop-number.invariant))
+      | in_default w ↦ rw w.given-is (given-none-more ds n d gs at (sym c.given_by.ensures
+          ∙ w.in_default.is) c.loop-number.invariant)
     ]
 
 pub returns : goal.returns
@@ -27,6 +30,10 @@ returns c =
     let decisions = c.args.decisions.now in
     let facts = c.in_ok-sort_by_key.ensures in
     record {
-      all = subst (λ (gs : List Given). IsPermutation gs c.sort_by_key.new.self.items) (c.loop-number.invariant ∙ ap all_given (take_all c.loop-number.number decisions (omega (arith, c.loop-number-test.false)))) facts.permutation;
-      rising = IsNonDecreasingBy-from_sort (λ (g : Given). g.rank) c.sort_by_key.new.self.items (facts.sorted (λ (g : Given). g.rank) (always_returns_same _ _ _ (λ a r g called. (search rules, search rules))));
+      all = subst (λ (gs : List Given). IsPermutation gs c.sort_by_key.new.self.items) (c.loop-number.invariant
+          ∙ ap all_given (take_all c.loop-number.number decisions (omega (arith, c.loop-number-test.false))))
+          facts.permutation;
+      rising = IsNonDecreasingBy-from_sort (λ (g : Given). g.rank) c.sort_by_key.new.self.items
+          (facts.sorted (λ (g : Given). g.rank)
+          (always_returns_same _ _ _ (λ a r g called. (search rules, search rules))));
     }

@@ -18,13 +18,15 @@ loop-one-preserved c =
       | inl same ↦ (let e = c.wanted_behind-wanted.ensures.met same in
           record {
             within = omega (arith, e, so_far.within);
-            apart = subst (λ k. All (λ (h : Given). h.rank ≢ k) (take (i + 1) gs)) (sym e) (missing-next gs i w g c.requires at same);
+            apart = subst (λ k. All (λ (h : Given). h.rank ≢ k) (take (i + 1) gs)) (sym e)
+                (missing-next gs i w g c.requires at same);
             met = subst (λ k. (rank : ℕ) → rank < k → HasRank gs rank) (sym e) (met-next gs i w g at same so_far.met);
           })
       | inr other ↦ (let e = c.wanted_behind-wanted.ensures.other other in
           record {
             within = omega (arith, e, so_far.within);
-            apart = subst (λ k. All (λ (h : Given). h.rank ≢ k) (take (i + 1) gs)) (sym e) (missing-kept gs i w g at other so_far.apart);
+            apart = subst (λ k. All (λ (h : Given). h.rank ≢ k) (take (i + 1) gs)) (sym e)
+                (missing-kept gs i w g at other so_far.apart);
             met = subst (λ k. (rank : ℕ) → rank < k → HasRank gs rank) (sym e) so_far.met;
           })
     ]

@@ -9,7 +9,9 @@ use Rattle.sgt_explain_dealings.proofs.conflicts.push_conflicts.Given as goal
 
 abbrev pub invariant-loop-line : goal.invariant-loop-line
 invariant-loop-line l = record {
-  told : (known : Option (List SectionLine)) (tx : ℕ) → IfSome known (HasBefore l.bytes l.end) → All (IsOwnIn known tx) l.sorted
+  told : (known : Option (List SectionLine)) (tx : ℕ) → IfSome known (HasBefore l.bytes l.end)
+      → All (IsOwnIn known tx) l.sorted
       → AddsConflicts known tx (string_bytes l.initial.out) (string_bytes l.out);
-  gone : (lines : List SectionLine) (h : HasLines l.bytes l.end lines) → IsGone l.bytes l.end lines h l.line l.rest l.site;
+  gone : (lines : List SectionLine) (h : HasLines l.bytes l.end lines)
+      → IsGone l.bytes l.end lines h l.line l.rest l.site;
 }

@@ -8,4 +8,5 @@ use Rattle.sgt_explain_dealings.proofs.conflicts.push_pairs.Given as goal
 
 abbrev pub invariant-loop-at : goal.invariant-loop-at
 invariant-loop-at l = (known : Option (List SectionLine)) (tx : ℕ) → All (IsOwnIn known tx) l.sorted
-    → IfSome known (λ lines. StandsAt lines l.site l.other) → AddsConflicts known tx (string_bytes l.initial.out) (string_bytes l.out)
+    → IfSome known (λ lines. StandsAt lines l.site l.other)
+    → AddsConflicts known tx (string_bytes l.initial.out) (string_bytes l.out)

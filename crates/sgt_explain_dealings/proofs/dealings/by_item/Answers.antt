@@ -13,10 +13,13 @@ loop-one-preserved c = λ known tx all.
     let o = c.one-item.result in
     let at = element_at own i o (omega arith) c.one-item.is in
     elim c.if-is_some.branch [
-      | then-is_some+in_ok-push w ↦ rw w.sorted-is (rw w.in_ok-push.ensures.items (own-more known tx own c.loop-one.sorted.items i o at all (c.loop-one.invariant known tx all)))
+      | then-is_some+in_ok-push w ↦ rw w.sorted-is
+          (rw w.in_ok-push.ensures.items (own-more known tx own c.loop-one.sorted.items i o at all
+          (c.loop-one.invariant known tx all)))
       | else-is_some w ↦ rw w.sorted-is (c.loop-one.invariant known tx all)
     ]
 
 pub returns : goal.returns
 returns c = λ known tx all.
-    All-permutation (IsOwnIn known tx) c.loop-one.sorted.items c.sort_by_key.new.self.items c.in_ok-sort_by_key.ensures.permutation (c.loop-one.invariant known tx all)
+    All-permutation (IsOwnIn known tx) c.loop-one.sorted.items c.sort_by_key.new.self.items
+    c.in_ok-sort_by_key.ensures.permutation (c.loop-one.invariant known tx all)

@@ -4,4 +4,5 @@ use Rattle.sgt_explain_dealings.specs.Dealings.{IsOwnIn}
 use Rattle.sgt_explain_dealings.proofs.dealings.by_item.Given as goal
 
 abbrev pub invariant-loop-one : goal.invariant-loop-one
-invariant-loop-one l = (known : Option (List SectionLine)) (tx : ℕ) → All (IsOwnIn known tx) l.own → All (IsOwnIn known tx) l.sorted.items
+invariant-loop-one l = (known : Option (List SectionLine)) (tx : ℕ) → All (IsOwnIn known tx) l.own
+    → All (IsOwnIn known tx) l.sorted.items

@@ -5,6 +5,8 @@ use Rattle.sgt_explain_dealings.proofs.dealings.has_none.Goals as goal
 
 pub returns : goal.returns
 returns c = (
-  (λ yes. sym c.as_slice.ensures.value ∙ nil_from_length c.as_slice.result.now (eqb-true (length c.as_slice.result.now) 0 (sym c.is_empty.ensures ∙ yes))),
+  (λ yes. sym c.as_slice.ensures.value
+      ∙ nil_from_length c.as_slice.result.now (eqb-true (length c.as_slice.result.now) 0 (sym c.is_empty.ensures
+      ∙ yes))),
   (λ none. c.is_empty.ensures ∙ ap (λ os. length os == 0) (c.as_slice.ensures.value ∙ none)),
 )

@@ -10,6 +10,7 @@ abbrev pub invariant-loop-line : goal.invariant-loop-line
 invariant-loop-line l = record {
   own : All (IsOwn l.tx) l.own.items;
   early : l.end ≤ 3 → l.own.items ≡ [];
-  gone : (lines : List SectionLine) (h : HasLines l.bytes l.end lines) → IsGone l.bytes l.end lines h l.line l.rest l.site;
+  gone : (lines : List SectionLine) (h : HasLines l.bytes l.end lines)
+      → IsGone l.bytes l.end lines h l.line l.rest l.site;
   all : (lines : List SectionLine) → HasLines l.bytes l.end lines → l.own.items ≡ own_before l.tx lines (l.line - 3);
 }

@@ -14,10 +14,13 @@ loop-one-preserved c =
     let last = c.loop-one.last in
     let rest = own_text (Some o.site) (drop (i + 1) own) in
     ap (λ t. t ++ rest) c.in_ok-push_one_own.ensures ∙ append_assoc out (one_text last o) rest
-    ∙ ap (λ os. out ++ own_text last os) (sym (drop_next own i o (element_at own i o (omega arith) c.one-item.is))) ∙ c.loop-one.invariant
+    ∙ ap (λ os. out ++ own_text last os) (sym (drop_next own i o (element_at own i o (omega arith) c.one-item.is)))
+    ∙ c.loop-one.invariant
 
 pub returns : goal.returns
 returns c =
     let out = string_bytes c.loop-one.out in
     let last = c.loop-one.last in
-    sym (append-nil out) ∙ ap (λ os. out ++ own_text last os) (sym (drop_all c.loop-one.one-index c.args.own.now (omega arith))) ∙ c.loop-one.invariant
+    sym (append-nil out)
+    ∙ ap (λ os. out ++ own_text last os) (sym (drop_all c.loop-one.one-index c.args.own.now (omega arith)))
+    ∙ c.loop-one.invariant

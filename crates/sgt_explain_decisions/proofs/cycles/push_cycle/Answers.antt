@@ -24,13 +24,19 @@ loop-step-preserved c =
       from = sym (last_stop-next tx (take i walk) s) ∙ ap (last_stop tx) next;
       told = (
         told.0 ++ text,
-        subst (λ (w : List Step). TellsCycle sought tx w (told.0 ++ text)) next (cycle-next sought tx (take i walk) s told.0 shown told.1 there),
-        c.in_ok-push_step.ensures ∙ ap (λ k. string_bytes c.loop-step.out ++ step_text k s shown) so_far.from ∙ ap (λ t. t ++ text) told.2
+        subst (λ (w : List Step). TellsCycle sought tx w (told.0 ++ text)) next
+            (cycle-next sought tx (take i walk) s told.0 shown told.1 there),
+        c.in_ok-push_step.ensures ∙ ap (λ k. string_bytes c.loop-step.out ++ step_text k s shown) so_far.from
+            ∙ ap (λ t. t ++ text) told.2
             ∙ append_assoc (string_bytes c.args.out.now) told.0 text,
       );
     }
 
 pub returns : goal.returns
 returns c =
-    let told = c.loop-step.invariant.told in
-    (told.0, subst (λ (w : List Step). TellsCycle c.args.sought.now c.args.tx w told.0) (take_all c.loop-step.step-index c.args.walk.now (omega arith)) told.1, told.2)
+    let told = c.loop-step.invariant.told in (
+      told.0,
+      subst (λ (w : List Step). TellsCycle c.args.sought.now c.args.tx w told.0)
+          (take_all c.loop-step.step-index c.args.walk.now (omega arith)) told.1,
+      told.2,
+    )

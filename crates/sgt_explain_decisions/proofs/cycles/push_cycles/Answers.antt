@@ -20,11 +20,16 @@ loop-number-preserved c =
     let next = sym (take_next decisions n d (element_at decisions n d (omega arith) c.index-decisions-number.is)) in (
       told.0 ++ one.0,
       subst (λ (ds : List Decision). TellsCycles sought 0 ds (told.0 ++ one.0)) next
-          (cycles-next sought 0 (take n decisions) d told.0 one.0 told.1 (subst (λ k. TellsRefusal sought k d one.0) e one.1)),
+          (cycles-next sought 0 (take n decisions) d told.0 one.0 told.1
+          (subst (λ k. TellsRefusal sought k d one.0) e one.1)),
       one.2 ∙ ap (λ t. t ++ one.0) told.2 ∙ append_assoc (string_bytes c.args.out.now) told.0 one.0,
     )
 
 pub returns : goal.returns
 returns c =
-    let told = c.loop-number.invariant in
-    (told.0, subst (λ (ds : List Decision). TellsCycles c.args.sought.now 0 ds told.0) (take_all c.loop-number.number c.args.decisions.now (omega (arith, c.loop-number-test.false))) told.1, told.2)
+    let told = c.loop-number.invariant in (
+      told.0,
+      subst (λ (ds : List Decision). TellsCycles c.args.sought.now 0 ds told.0)
+          (take_all c.loop-number.number c.args.decisions.now (omega (arith, c.loop-number-test.false))) told.1,
+      told.2,
+    )

@@ -10,8 +10,10 @@ loop-logged-preserved c =
     let entries = c.args.entries.now in
     let i = c.loop-logged.logged-index in
     let l = c.logged-item.result in
-    c.in_ok-add_end.ensures entries (Contains-from_at entries i l (element_at entries i l (omega arith) c.logged-item.is)) c.loop-logged.invariant
+    c.in_ok-add_end.ensures entries
+    (Contains-from_at entries i l (element_at entries i l (omega arith) c.logged-item.is)) c.loop-logged.invariant
 
 pub returns : goal.returns
 returns c =
-    All-permutation (HasEnd c.args.entries.now) c.loop-logged.ended.items c.sort.new.self.items c.in_ok-sort.ensures.permutation c.loop-logged.invariant
+    All-permutation (HasEnd c.args.entries.now) c.loop-logged.ended.items c.sort.new.self.items
+    c.in_ok-sort.ensures.permutation c.loop-logged.invariant

@@ -10,9 +10,16 @@ loop-logged-preserved c = λ ds placed.
     let l = c.logged-item.result in
     let one = c.decided_end.ensures in
     let put = c.earlier_of-found.ensures in
-    beside-next (λ n. c.args.own < n) (λ m n. n ≤ m) (λ a b d p q. omega (arith, p, q)) ds entries i l c.loop-logged.found c.decided_end.result c.earlier_of-found.result
-    (element_at entries i l (omega arith) c.logged-item.is) (record { same = one.same; is = one.is ds placed; none = one.none ds placed }) put.one put.kept put.more (c.loop-logged.invariant ds placed)
+    beside-next (λ n. c.args.own < n) (λ m n. n ≤ m) (λ a b d p q. omega (arith, p, q)) ds entries i l
+    c.loop-logged.found c.decided_end.result c.earlier_of-found.result
+    (element_at entries i l (omega arith) c.logged-item.is) (record {
+      same = one.same;
+      is = one.is ds placed;
+      none =
+          one.none ds placed;
+    }) put.one put.kept put.more (c.loop-logged.invariant ds placed)
 
 pub returns : goal.returns
 returns c = λ ds placed.
-    beside-whole (λ n. c.args.own < n) (λ m n. n ≤ m) ds c.args.entries.now c.loop-logged.logged-index c.loop-logged.found (omega (arith, c.loop-logged-test.false)) (c.loop-logged.invariant ds placed)
+    beside-whole (λ n. c.args.own < n) (λ m n. n ≤ m) ds c.args.entries.now c.loop-logged.logged-index
+    c.loop-logged.found (omega (arith, c.loop-logged-test.false)) (c.loop-logged.invariant ds placed)

@@ -6,4 +6,5 @@ use Rattle.sgt_explain_decisions.proofs.Besides.{IsBesideSoFar}
 use Rattle.sgt_explain_decisions.proofs.ends.last_before.Given as goal
 
 abbrev pub invariant-loop-logged : goal.invariant-loop-logged
-invariant-loop-logged l = (ds : List Decision) → ArePlaced ds l.placed → IsBesideSoFar (λ n. n < l.own) (λ m n. m ≤ n) ds l.entries l.logged-index l.found
+invariant-loop-logged l = (ds : List Decision) → ArePlaced ds l.placed
+    → IsBesideSoFar (λ n. n < l.own) (λ m n. m ≤ n) ds l.entries l.logged-index l.found

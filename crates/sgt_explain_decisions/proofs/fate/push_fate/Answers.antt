@@ -11,4 +11,13 @@ returns c =
     let first = rw c.in-Some.is at c.in_ok-found.ensures.first in
     let n = c.in-Some.number in
     let d = c.in-Some.decision.now in
-    on-ok c.push_cause.result _ _ (λ more. inr (n, d, more.0, on, first, more.1, two-parts (string_bytes c.args.out.now) _ (decision_text n d) more.0 _ c.in_ok-push_decision.ensures more.2)) c.push_cause.ensures
+    on-ok c.push_cause.result _ _ (λ more. inr (
+      n,
+      d,
+      more.0,
+      on,
+      first,
+      more.1,
+      two-parts (string_bytes c.args.out.now) _ (decision_text n d) more.0 _ c.in_ok-push_decision.ensures more.2,
+    ))
+    c.push_cause.ensures

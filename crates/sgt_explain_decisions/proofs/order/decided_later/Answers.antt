@@ -13,7 +13,8 @@ returns-in-Some-clause-some c = λ ds placed.
     let h = c.in-Some.ensures.some ds placed in
     record {
       place = i;
-      there = subst (λ (k : Logged). slice_get entries i ≡ Some k) (sym c.in-Some.ensures.same) (element_at entries i l (omega arith) c.other-item.is);
+      there = subst (λ (k : Logged). slice_get entries i ≡ Some k) (sym c.in-Some.ensures.same)
+          (element_at entries i l (omega arith) c.other-item.is);
       is = h.0;
       later = h.1;
       before = c.loop-other.invariant ds placed;
@@ -24,8 +25,10 @@ loop-other-preserved c = λ ds placed.
     let entries = c.args.entries.now in
     let i = c.loop-other.other-index in
     let l = c.other-item.result in
-    All-next (IsNotLater ds c.args.own) entries i l (element_at entries i l (omega arith) c.other-item.is) (c.in_default.ensures.none ds placed) (c.loop-other.invariant ds placed)
+    All-next (IsNotLater ds c.args.own) entries i l (element_at entries i l (omega arith) c.other-item.is)
+    (c.in_default.ensures.none ds placed) (c.loop-other.invariant ds placed)
 
 pub returns-clause-none : goal.returns-clause-none
 returns-clause-none c = λ ds placed.
-    All-whole (IsNotLater ds c.args.own) c.args.entries.now c.loop-other.other-index (omega (arith, c.loop-other-test.false)) (c.loop-other.invariant ds placed)
+    All-whole (IsNotLater ds c.args.own) c.args.entries.now c.loop-other.other-index
+    (omega (arith, c.loop-other-test.false)) (c.loop-other.invariant ds placed)

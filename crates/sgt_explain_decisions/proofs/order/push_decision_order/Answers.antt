@@ -13,7 +13,8 @@ returns-in_default-decided_later c = λ ds placed overtaken.
     let first = subst (λ t. IsFirstOn ds t c.in-Some.number) c.tx.ensures (c.in-Some.ensures.first ds placed) in
     let same = first-unique ds (tx_of l.entry) c.in-Some.number overtaken.own first overtaken.decided in
     absurd (overtaken.later (subst (λ ls. All (IsNotLater ds overtaken.own) ls) c.as_slice.ensures.value
-    (subst (λ n. All (IsNotLater ds n) c.as_slice.result.now) same (c.in_default-decided_later.ensures.none ds placed))))
+    (subst (λ n. All (IsNotLater ds n) c.as_slice.result.now) same
+    (c.in_default-decided_later.ensures.none ds placed))))
 
 pub returns : goal.returns
 returns c = λ ds placed overtaken.
@@ -21,6 +22,12 @@ returns c = λ ds placed overtaken.
     on-ok c.push_decided-2.result _ _ (λ e. (
       c.in-Some-decided_later.first,
       record { logged = c.args.logged.now; number = c.in-Some.number },
-      record { same = refl; decided = first; there = subst (λ ls. IsFirstLater ds ls c.in-Some.number c.in-Some-decided_later.first) c.as_slice.ensures.value (c.in-Some-decided_later.ensures.some ds placed) },
+      record {
+        same = refl;
+        decided = first;
+        there =
+            subst (λ ls. IsFirstLater ds ls c.in-Some.number c.in-Some-decided_later.first) c.as_slice.ensures.value
+            (c.in-Some-decided_later.ensures.some ds placed);
+      },
       three-parts _ _ _ _ _ _ _ c.in_ok-push_decision_order_head.ensures c.in_ok-push_decided.ensures e,
     )) c.push_decided-2.ensures

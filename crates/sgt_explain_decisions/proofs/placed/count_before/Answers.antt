@@ -9,5 +9,7 @@ pub returns : goal.returns
 returns c = λ rising.
     let t = c.number-least.result in
     let parted = IsPartitionedBy-ltb (λ p. p.tx) _ t rising in
-    let point = IsPartitionPoint-from_clause (λ p. ltb p.tx t) _ _ c.partition_point.ensures.partitioned parted (λ a r q k. search rules) in
-    subst (λ k. StandBefore c.args.placed.now k c.partition_point.result) c.number-least.ensures.is (stand-before c.args.placed.now t c.partition_point.result point)
+    let point = IsPartitionPoint-from_clause (λ p. ltb p.tx t) _ _ c.partition_point.ensures.partitioned parted
+    (λ a r q k. search rules) in
+    subst (λ k. StandBefore c.args.placed.now k c.partition_point.result) c.number-least.ensures.is
+    (stand-before c.args.placed.now t c.partition_point.result point)

@@ -25,8 +25,10 @@ loop-step-preserved c =
     record {
       many = c.seek.ensures.length;
       from = sym (last_stop-next tx (take i walk) s) ∙ ap (last_stop tx) (sym (take_next walk i s at));
-      seeks = seeks-both c.args.sought.now c.loop-step.sought c.seek.new.sought c.args.classes.now.items c.loop-step.classes.items c.seek.new.classes.items so_far.seeks seeks;
-      walk = walk-next c.loop-step.sought c.seek.new.sought tx i c.loop-step.from walk s at so_far.from seeks.keys c.in_ok-seek.ensures.both so_far.walk;
+      seeks = seeks-both c.args.sought.now c.loop-step.sought c.seek.new.sought c.args.classes.now.items
+          c.loop-step.classes.items c.seek.new.classes.items so_far.seeks seeks;
+      walk = walk-next c.loop-step.sought c.seek.new.sought tx i c.loop-step.from walk s at so_far.from seeks.keys
+          c.in_ok-seek.ensures.both so_far.walk;
     }
 
 pub returns-clause-walk : goal.returns-clause-walk

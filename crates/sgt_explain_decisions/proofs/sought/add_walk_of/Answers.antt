@@ -12,5 +12,7 @@ pub returns-in-Refuse-clause-walk : goal.returns-in-Refuse-clause-walk
 returns-in-Refuse-clause-walk c = λ tx walk same.
     let both = refuse-same c.in-Refuse.tx tx c.in-Refuse.walk walk (sym c.in-Refuse.is ∙ same) in
     let here : c.as_slice.result.now ≡ walk = c.as_slice.ensures ∙ both.1 in
-    subst (λ (steps : List Step). OnOk c.add_walk.result (AreSoughtFor c.add_walk.new.sought tx steps (length steps))) here
-    (subst (λ t. OnOk c.add_walk.result (AreSoughtFor c.add_walk.new.sought t c.as_slice.result.now (length c.as_slice.result.now))) both.0 c.add_walk.ensures.walk)
+    subst (λ (steps : List Step). OnOk c.add_walk.result (AreSoughtFor c.add_walk.new.sought tx steps (length steps)))
+    here
+    (subst (λ t. OnOk c.add_walk.result (AreSoughtFor c.add_walk.new.sought t c.as_slice.result.now
+    (length c.as_slice.result.now))) both.0 c.add_walk.ensures.walk)

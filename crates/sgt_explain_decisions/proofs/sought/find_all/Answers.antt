@@ -23,13 +23,16 @@ loop-line-preserved c =
     let any = c.in_ok-find_in.ensures.any in
     let so_far = c.loop-line.invariant in
     let next = λ (lines : List SectionLine) (h : HasLines bytes 18446744073709551615 lines).
-    line-next bytes 18446744073709551615 lines h c.loop-line.line c.loop-line.site c.find_in.new.site c.loop-line.rest.now c.cut_line.result.0.now behind old new
-    (so_far.gone lines h) (so_far.all lines h) (omega arith) (omega arith) c.cut_line.ensures.cut c.find_in.ensures.head c.in_ok-find_in.ensures.spelled in
+    line-next bytes 18446744073709551615 lines h c.loop-line.line c.loop-line.site c.find_in.new.site
+    c.loop-line.rest.now c.cut_line.result.0.now behind old new
+    (so_far.gone lines h) (so_far.all lines h) (omega arith) (omega arith) c.cut_line.ensures.cut
+    c.find_in.ensures.head c.in_ok-find_in.ensures.spelled in
     record {
       marked = any-marked old new c.args.classes.now any so_far.marked;
       found = any-found old new any so_far.found;
       keys = λ k some. any-keys old new any k (so_far.keys k some);
-      gone = λ lines h. line-gone bytes 18446744073709551615 lines h c.loop-line.line behind c.find_in.new.site new (next lines h) (not-empty behind c.is_empty.result c.is_empty.ensures c.if-is_empty.false);
+      gone = λ lines h. line-gone bytes 18446744073709551615 lines h c.loop-line.line behind c.find_in.new.site new
+          (next lines h) (not-empty behind c.is_empty.result c.is_empty.ensures c.if-is_empty.false);
       all = λ lines h. (next lines h).all;
     }
 
@@ -42,17 +45,21 @@ returns-then-is_empty c =
     let any = c.in_ok-find_in.ensures.any in
     let so_far = c.loop-line.invariant in
     let next = λ (lines : List SectionLine) (h : HasLines bytes 18446744073709551615 lines).
-    line-next bytes 18446744073709551615 lines h c.loop-line.line c.loop-line.site c.find_in.new.site c.loop-line.rest.now c.cut_line.result.0.now behind old new
-    (so_far.gone lines h) (so_far.all lines h) (omega arith) (omega arith) c.cut_line.ensures.cut c.find_in.ensures.head c.in_ok-find_in.ensures.spelled in
+    line-next bytes 18446744073709551615 lines h c.loop-line.line c.loop-line.site c.find_in.new.site
+    c.loop-line.rest.now c.cut_line.result.0.now behind old new
+    (so_far.gone lines h) (so_far.all lines h) (omega arith) (omega arith) c.cut_line.ensures.cut
+    c.find_in.ensures.head c.in_ok-find_in.ensures.spelled in
     record {
       found = any-found old new any so_far.found;
       keys = λ k some. any-keys old new any k (so_far.keys k some);
       lines = λ lines before. lines-all bytes 18446744073709551615 lines new (omega arith)
-          (λ h. line-over bytes 18446744073709551615 lines h c.loop-line.line behind c.find_in.new.site new (omega arith) (next lines h)
+          (λ h. line-over bytes 18446744073709551615 lines h c.loop-line.line behind c.find_in.new.site new
+          (omega arith) (next lines h)
           (is-empty behind c.is_empty.result c.is_empty.ensures c.if-is_empty.true)) before;
     }
 
 pub returns-clause-lines : goal.returns-clause-lines
 returns-clause-lines c = λ lines before.
     lines-all c.args.bytes.now 18446744073709551615 lines c.loop-line.sought (omega arith)
-    (λ h. line-end c.args.bytes.now 18446744073709551615 lines h c.loop-line.line c.loop-line.sought (omega (arith, c.loop-line-test.false)) (c.loop-line.invariant.all lines h)) before
+    (λ h. line-end c.args.bytes.now 18446744073709551615 lines h c.loop-line.line c.loop-line.sought
+    (omega (arith, c.loop-line-test.false)) (c.loop-line.invariant.all lines h)) before

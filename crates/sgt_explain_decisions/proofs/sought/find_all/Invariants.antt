@@ -10,6 +10,8 @@ invariant-loop-line l = record {
   marked : AreMarked l.sought l.classes;
   found : AreFound l.sought;
   keys : KeepsKeys l.initial.sought l.sought;
-  gone : (lines : List SectionLine) (h : HasLines l.bytes 18446744073709551615 lines) → IsGone l.bytes 18446744073709551615 lines h l.line l.rest l.site;
-  all : (lines : List SectionLine) → HasLines l.bytes 18446744073709551615 lines → AreFoundIn lines (l.line - 3) l.sought;
+  gone : (lines : List SectionLine) (h : HasLines l.bytes 18446744073709551615 lines)
+      → IsGone l.bytes 18446744073709551615 lines h l.line l.rest l.site;
+  all : (lines : List SectionLine) → HasLines l.bytes 18446744073709551615 lines
+      → AreFoundIn lines (l.line - 3) l.sought;
 }

@@ -12,7 +12,8 @@ loop-decision-preserved c =
     let seeks = c.in_ok-add_walk_of.ensures.seeks in
     record {
       none = seeks.unfound so_far.none;
-      walks = walks-next c.loop-decision.sought c.add_walk_of.new.sought ds i d (element_at ds i d (omega arith) c.decision-item.is) seeks.keys c.in_ok-add_walk_of.ensures.walk so_far.walks;
+      walks = walks-next c.loop-decision.sought c.add_walk_of.new.sought ds i d
+          (element_at ds i d (omega arith) c.decision-item.is) seeks.keys c.in_ok-add_walk_of.ensures.walk so_far.walks;
       marked = seeks.marked so_far.marked;
       many = c.add_walk_of.ensures.length;
     }
@@ -22,7 +23,8 @@ returns c =
     let so_far = c.loop-decision.invariant in
     record {
       none = so_far.none;
-      walks = λ number tx walk less at. so_far.walks number tx walk (omega (arith, less, c.loop-decision-test.false)) at;
+      walks = λ number tx walk less at. so_far.walks number tx walk (omega (arith, less, c.loop-decision-test.false))
+          at;
       marked = so_far.marked;
       many = so_far.many;
     }

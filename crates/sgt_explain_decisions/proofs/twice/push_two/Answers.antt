@@ -4,4 +4,6 @@ use Rattle.sgt_explain_decisions.proofs.twice.push_two.Goals as goal
 
 pub returns : goal.returns
 returns c = λ two.
-    on-ok c.push_numbered_decision-2.result _ _ (λ e. two-parts _ _ _ _ _ (c.in_ok-push_numbered_decision.ensures two.one two.first) e) (c.push_numbered_decision-2.ensures two.other two.second)
+    on-ok c.push_numbered_decision-2.result _ _
+    (λ e. two-parts _ _ _ _ _ (c.in_ok-push_numbered_decision.ensures two.one two.first) e)
+    (c.push_numbered_decision-2.ensures two.other two.second)

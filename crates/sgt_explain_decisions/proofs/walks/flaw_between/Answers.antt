@@ -22,10 +22,12 @@ loop-place-preserved c = λ placed.
     let between = c.args.between.now in
     let i = c.loop-place.place in
     let step = c.index-between-place.result in
-    All-next (λ (s : Step). MayBePassed c.args.decisions.now c.args.refused.now.number c.args.refused.now.tx s.to) between i step (element_at between i step (omega arith) c.index-between-place.is)
+    All-next (λ (s : Step). MayBePassed c.args.decisions.now c.args.refused.now.number c.args.refused.now.tx s.to)
+    between i step (element_at between i step (omega arith) c.index-between-place.is)
     (c.in_default.ensures.none placed) (c.loop-place.invariant placed)
 
 pub returns-clause-none : goal.returns-clause-none
 returns-clause-none c = λ placed.
-    All-whole (λ (s : Step). MayBePassed c.args.decisions.now c.args.refused.now.number c.args.refused.now.tx s.to) c.args.between.now c.loop-place.place
+    All-whole (λ (s : Step). MayBePassed c.args.decisions.now c.args.refused.now.number c.args.refused.now.tx s.to)
+    c.args.between.now c.loop-place.place
     (omega (arith, c.loop-place-test.false)) (c.loop-place.invariant placed)

@@ -12,7 +12,8 @@ returns-in-Some-2-clause-some c = λ placed.
     let tx = c.args.refused.now.tx in
     let between = c.before_last-between.ensures in
     let again = rw c.in-Some-2.is at c.in_ok-stop.ensures.some in (
-      subst (LeadsTo c.args.walk.now) (ne-same c.in-Some.stop tx c.ne.result c.ne.ensures c.if-ne.false) c.in-Some.ensures.some,
+      subst (LeadsTo c.args.walk.now) (ne-same c.in-Some.stop tx c.ne.result c.ne.ensures c.if-ne.false)
+          c.in-Some.ensures.some,
       subst (All (λ (s : Step). MayBePassed ds number tx s.to)) between (c.in_default-flaw_between.ensures.none placed),
       subst (λ (ss : List Step). IsFirstAgain ss c.in-Some-2.stop) between again,
     )
@@ -25,6 +26,7 @@ returns-in-None-clause-none c = λ placed.
     let between = c.before_last-between.ensures in
     let apart = rw c.in-None.is at c.in_ok-stop.ensures.none in
     is-cycle ds number tx c.args.walk.now
-    (subst (LeadsTo c.args.walk.now) (ne-same c.in-Some.stop tx c.ne.result c.ne.ensures c.if-ne.false) c.in-Some.ensures.some)
+    (subst (LeadsTo c.args.walk.now) (ne-same c.in-Some.stop tx c.ne.result c.ne.ensures c.if-ne.false)
+    c.in-Some.ensures.some)
     (subst (All (λ (s : Step). MayBePassed ds number tx s.to)) between (c.in_default-flaw_between.ensures.none placed))
     (subst AreApart between apart)

@@ -17,6 +17,7 @@ returns c = λ flawed.
       first,
       told.0,
       told.1,
-      three-parts (string_bytes c.args.out.now) _ _ (walk_shape_head f.number f.tx) told.0 walk_shape_rule _ c.in_ok-push_walk_head.ensures told.2 e,
+      three-parts (string_bytes c.args.out.now) _ _ (walk_shape_head f.number f.tx) told.0 walk_shape_rule _
+          c.in_ok-push_walk_head.ensures told.2 e,
     ))
     (ok-taken c.push_str.result _ _ _ c.push_str.ensures.bytes)

@@ -7,7 +7,8 @@ use Rattle.sgt_explain_lines.proofs.forms.push_format.Goals as goal
 
 pub returns-clause-line : goal.returns-clause-line
 returns-clause-line c = λ line h.
-    on-ok c.push_format_slip.result _ _ (λ more. shows-line _ _ line c.text_at-line.result.now _ _ _ _ c.in_ok-push_words.ensures.begins
+    on-ok c.push_format_slip.result _ _
+    (λ more. shows-line _ _ line c.text_at-line.result.now _ _ _ _ c.in_ok-push_words.ensures.begins
     (c.text_at-line.ensures line h) c.in_ok-push_numbered.ensures (more.0, more.2)) c.push_format_slip.ensures
 
 pub returns-clause-text : goal.returns-clause-text

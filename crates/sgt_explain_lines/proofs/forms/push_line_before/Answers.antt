@@ -17,8 +17,10 @@ returns-then-before-gt2-clause-text c =
     let before = c.saturating_sub-before.result in
     let same : before ≡ c.args.number - 1 = omega (arith, c.saturating_sub-before.ensures) in
     let less : 3 < c.args.number = omega (arith, c.saturating_sub-before.ensures, c.if-before-gt2.true) in
-    on-ok c.push_numbered.result _ _ (λ s. line-before c.args.bytes.now c.args.number before c.text_at.result.now _ _ same less
-    (λ line h. c.text_at.ensures line (subst (λ n. IsLineAt c.args.bytes.now n line) (sym same) h)) s) c.push_numbered.ensures
+    on-ok c.push_numbered.result _ _ (λ s. line-before c.args.bytes.now c.args.number before c.text_at.result.now _ _
+    same less
+    (λ line h. c.text_at.ensures line (subst (λ n. IsLineAt c.args.bytes.now n line) (sym same) h)) s)
+    c.push_numbered.ensures
 
 pub returns-else-before-gt2-clause-text : goal.returns-else-before-gt2-clause-text
 returns-else-before-gt2-clause-text c =

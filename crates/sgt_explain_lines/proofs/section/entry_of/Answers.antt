@@ -7,10 +7,12 @@ pub returns-in-Site-clause-spelled : goal.returns-in-Site-clause-spelled
 returns-in-Site-clause-spelled c = λ read one e.
     let is = c.in-Ok.ensures in
     let same = line-one c.in-Ok.read read is.0 one (sym is.1 ∙ e) in
-    subst (λ r. (None ≡ entry_in r) × (c.number.result ≡ site_behind c.args.site.now r)) (sym c.in-Site.is ∙ same) (refl, c.number.ensures.is)
+    subst (λ r. (None ≡ entry_in r) × (c.number.result ≡ site_behind c.args.site.now r)) (sym c.in-Site.is
+    ∙ same) (refl, c.number.ensures.is)
 
 pub returns-in-Logged-clause-spelled : goal.returns-in-Logged-clause-spelled
 returns-in-Logged-clause-spelled c = λ read one e.
     let is = c.in-Ok.ensures in
     let same = line-one c.in-Ok.read read is.0 one (sym is.1 ∙ e) in
-    subst (λ r. (Some c.in-Logged.entry ≡ entry_in r) × (c.args.site.now ≡ site_behind c.args.site.now r)) (sym c.in-Logged.is ∙ same) (refl, refl)
+    subst (λ r. (Some c.in-Logged.entry ≡ entry_in r) × (c.args.site.now ≡ site_behind c.args.site.now r))
+    (sym c.in-Logged.is ∙ same) (refl, refl)

@@ -12,22 +12,30 @@ loop-line-preserved c =
     let n = c.loop-line.line - 3 in
     let low : 3 ≤ c.loop-line.line = c.loop-line.auto.line in
     let next : c.loop-line.line + 1 - 3 ≡ n + 1 = omega (arith, low) in
-    let step = λ (before : List SectionLine) (line : SectionLine) (h : HasLine c.args.bytes.now c.args.number before line).
-    section-step before (line_text line ++ 10 ∷ h.rest) c.loop-line.rest.now c.cut_line.result.0.now c.cut_line.result.1.now n h.spelled
-    (let counted = h.counted in omega (arith, low, counted, c.loop-line-test.true)) (c.loop-line.invariant.left before line h) c.cut_line.ensures.cut in
+    let step =
+    λ (before : List SectionLine) (line : SectionLine) (h : HasLine c.args.bytes.now c.args.number before line).
+    section-step before (line_text line ++ 10 ∷ h.rest) c.loop-line.rest.now c.cut_line.result.0.now
+    c.cut_line.result.1.now n h.spelled
+    (let counted = h.counted in omega (arith, low, counted, c.loop-line-test.true))
+    (c.loop-line.invariant.left before line h) c.cut_line.ensures.cut in
     record {
-      left = λ before line h. (step before line h).left ∙ ap (λ k. text_of_lines (drop k (map line_text before)) ++ (line_text line ++ 10 ∷ h.rest)) (sym next);
+      left = λ before line h. (step before line h).left
+          ∙ ap (λ k. text_of_lines (drop k (map line_text before)) ++ (line_text line ++ 10 ∷ h.rest)) (sym next);
       kept = λ before line h.
           let s = step before line h in
           let counted = h.counted in
-          let long : length (take n before) ≡ n = length-take-le n before (omega (arith, low, counted, c.loop-line-test.true)) in
+          let long : length (take n before) ≡ n =
+          length-take-le n before (omega (arith, low, counted, c.loop-line-test.true)) in
           subst (λ k. IsSectionOf (take k before) c.add_text.new.self) (sym next)
           (subst (λ ls. IsSectionOf ls c.add_text.new.self) (sym (take_next before n s.line s.at))
-          (section-next (take n before) s.line c.loop-line.line c.loop-line.section c.add_text.new.self (c.loop-line.invariant.kept before line h)
+          (section-next (take n before) s.line c.loop-line.line c.loop-line.section c.add_text.new.self
+          (c.loop-line.invariant.kept before line h)
           (omega (arith, low, long)) (c.in_ok-add_text.ensures s.line s.is s.cut)));
     }
 
 pub returns : goal.returns
 returns c = λ before line h.
     let counted = h.counted in
-    subst (λ ls. IsSectionOf ls c.loop-line.section) (take_all (c.loop-line.line - 3) before (omega (arith, counted, c.loop-line-test.false))) (c.loop-line.invariant.kept before line h)
+    subst (λ ls. IsSectionOf ls c.loop-line.section)
+    (take_all (c.loop-line.line - 3) before (omega (arith, counted, c.loop-line-test.false)))
+    (c.loop-line.invariant.kept before line h)

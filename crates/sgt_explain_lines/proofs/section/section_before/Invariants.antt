@@ -8,5 +8,6 @@ abbrev pub invariant-loop-line : goal.invariant-loop-line
 invariant-loop-line l = record {
   left : (before : List SectionLine) (line : SectionLine) (h : HasLine l.bytes l.number before line)
       → l.rest ≡ text_of_lines (drop (l.line - 3) (map line_text before)) ++ (line_text line ++ 10 ∷ h.rest);
-  kept : (before : List SectionLine) (line : SectionLine) → HasLine l.bytes l.number before line → IsSectionOf (take (l.line - 3) before) l.section;
+  kept : (before : List SectionLine) (line : SectionLine) → HasLine l.bytes l.number before line
+      → IsSectionOf (take (l.line - 3) before) l.section;
 }

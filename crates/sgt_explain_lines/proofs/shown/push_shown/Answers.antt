@@ -17,6 +17,7 @@ returns-then-width-gt-COLUMNS c =
     let sum = c.saturating_add-width.ensures in
     on-ok c.push_dots.result _ _ (λ e. (
       shown_bytes (take i text) ++ codes "..",
-      cut-off text i b (slice_get-get_or text i 0 (omega arith)) (omega (arith, width, so_far.fits)) (omega (arith, width, one, sum, c.if-width-gt-COLUMNS.true)),
+      cut-off text i b (slice_get-get_or text i 0 (omega arith)) (omega (arith, width, so_far.fits))
+          (omega (arith, width, one, sum, c.if-width-gt-COLUMNS.true)),
       e ∙ ap (λ t. t ++ codes "..") so_far.shown ∙ append_assoc (string_bytes c.args.out.now) (shown_bytes (take i text)) (codes ".."),
     )) c.push_dots.ensures

@@ -16,9 +16,11 @@ loop-logged-preserved c =
     let so_far = c.loop-logged.invariant in
     let next = sym (take_next entries i l (element_at entries i l (omega arith) c.logged-item.is)) in
     record {
-      value = value-next x (Some first.value) (take i entries) l c.loop-logged.made.value c.made_by-made.result.value so_far.value c.made_by-made.ensures.value
+      value = value-next x (Some first.value) (take i entries) l c.loop-logged.made.value c.made_by-made.result.value
+          so_far.value c.made_by-made.ensures.value
           ∙ ap (λ ls. value_after (Some first.value) (entries_of ls) x) next;
-      by = by-next x first.by (take i entries) l c.loop-logged.made.by c.made_by-made.result.by so_far.by c.made_by-made.ensures.by
+      by = by-next x first.by (take i entries) l c.loop-logged.made.by c.made_by-made.result.by so_far.by
+          c.made_by-made.ensures.by
           ∙ ap (λ ls. fold (latest x) first.by ls) next;
       kept = λ none. (c.made_by-made.ensures.kept none).1 ∙ so_far.kept (c.made_by-made.ensures.kept none).0;
       listed = c.made_by-made.ensures.listed ∙ so_far.listed;

@@ -28,6 +28,7 @@ returns-then-clashes_with c =
 pub returns : goal.returns
 returns c = (
   λ yes. absurd (false≢true yes),
-  λ met. absurd (none-in (λ e f. StepsTo c.args.from c.args.step.now e f → ⊥) c.args.entries.now c.args.step.now.label.kind c.args.step.now.label.item c.args.from c.args.step.now.to
+  λ met. absurd (none-in (λ e f. StepsTo c.args.from c.args.step.now e f
+      → ⊥) c.args.entries.now c.args.step.now.label.kind c.args.step.now.label.item c.args.from c.args.step.now.to
       (λ e f no own clash. no (own, clash)) (λ q f less at. c.loop-place.invariant q f (omega (arith, less)) at) met),
 )

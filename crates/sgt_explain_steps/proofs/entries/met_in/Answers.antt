@@ -26,7 +26,8 @@ returns-in-Some c =
         from = e.from;
         to = e.to;
         order = stands-before entries c.loop-place.place c.in-Some.met.first c.in-Some.met.second e.among
-            (element_at entries c.loop-place.place here (omega arith) c.index-entries-place.is ∙ ap Some (sym e.second));
+            (element_at entries c.loop-place.place here (omega arith) c.index-entries-place.is
+            ∙ ap Some (sym e.second));
       };
       none = tt;
     }
@@ -34,6 +35,8 @@ returns-in-Some c =
 pub returns : goal.returns
 returns c = record {
   there = tt;
-  none = λ kind. none-in (λ e f. tx_of e ≡ c.args.from → InNoConflict c.args.step.now.label.item e f) c.args.entries.now kind c.args.step.now.label.item c.args.from c.args.step.now.to
+  none = λ kind. none-in (λ e f. tx_of e ≡ c.args.from
+      → InNoConflict c.args.step.now.label.item e f) c.args.entries.now kind c.args.step.now.label.item c.args.from
+      c.args.step.now.to
       (λ e f no own clash. no own kind clash) (λ q f less at. c.loop-place.invariant q f (omega (arith, less)) at);
 }

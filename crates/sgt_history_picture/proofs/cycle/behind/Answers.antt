@@ -3,4 +3,5 @@ use Rattle.std.proofs.lemmas.Slice.Eq.{strip_prefix_is}
 use Rattle.sgt_history_picture.proofs.cycle.behind.Goals as goal
 
 pub returns : goal.returns
-returns c = strip_prefix_is Decides-eqb c.args.text.now c.args.word.now c.strip_prefix.result c.strip_prefix.ensures.cases
+returns c =
+    strip_prefix_is Decides-eqb c.args.text.now c.args.word.now c.strip_prefix.result c.strip_prefix.ensures.cases

@@ -19,14 +19,18 @@ loop-end-preserved c =
     let steps = c.loop-end.steps.items in
     let behind = drop (n + 1) rest in (
       front-same _ behind _ _ _ (sym (take_all _ behind (omega (arith, length-drop (n + 1) rest))))
-          (sym (map_push step_of steps c.in-Some-told_in.told) ∙ ap (map step_of) (sym c.in_ok-push-in-Some-told_in.ensures.items))
-          (front-more _ rest _ behind _ (step_of c.in-Some-told_in.told) c.loop-end.invariant.0 told.0 told.1 cut.1 cut.2),
-      subst (λ (t : List ℕ). length t ≤ length c.args.text.now) (sym (take_all _ behind (omega (arith, length-drop (n + 1) rest)))) (omega (arith, length-drop (n + 1) rest)),
+          (sym (map_push step_of steps c.in-Some-told_in.told)
+          ∙ ap (map step_of) (sym c.in_ok-push-in-Some-told_in.ensures.items))
+          (front-more _ rest _ behind _ (step_of c.in-Some-told_in.told) c.loop-end.invariant.0 told.0 told.1 cut.1
+          cut.2),
+      subst (λ (t : List ℕ). length t ≤ length c.args.text.now)
+          (sym (take_all _ behind (omega (arith, length-drop (n + 1) rest)))) (omega (arith, length-drop (n + 1) rest)),
     )
 
 pub returns-then-is_empty-clause-some : goal.returns-then-is_empty-clause-some
 returns-then-is_empty-clause-some c =
-    front-whole _ _ (front-same _ c.loop-end.rest.now [] _ _ (is-nothing c.loop-end.rest.now c.if-is_empty.ensures) refl c.loop-end.invariant.0)
+    front-whole _ _ (front-same _ c.loop-end.rest.now [] _ _ (is-nothing c.loop-end.rest.now c.if-is_empty.ensures)
+    refl c.loop-end.invariant.0)
 
 pub returns-clause-none : goal.returns-clause-none
 returns-clause-none c = front-cut _ c.loop-end.rest.now _ c.loop-end.invariant.0 c.in_default.ensures.none

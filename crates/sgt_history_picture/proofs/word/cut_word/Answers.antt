@@ -13,7 +13,8 @@ pub loop-at-preserved : goal.loop-at-preserved
 loop-at-preserved c =
     let text = c.args.text.now in
     let k = c.loop-at.at in
-    gap-next text k (get_or text k 0) c.loop-at.place c.next_place-place.result (slice_get-get_or text k 0 c.loop-at-test.true)
+    gap-next text k (get_or text k 0) c.loop-at.place c.next_place-place.result
+    (slice_get-get_or text k 0 c.loop-at-test.true)
     c.loop-at.invariant.0 c.loop-at.invariant.1
     (λ outside is. elim c.else-eq.branch [
       | else-eq-via-then-eq+else-text-at-eq32 w ↦ w.if-text-at-eq32.false is
@@ -22,4 +23,5 @@ loop-at-preserved c =
 
 pub returns-clause-none : goal.returns-clause-none
 returns-clause-none c = λ word rest is whole.
-    no-word Outside word rest (subst (HasNoGap Outside) (take_all c.loop-at.at c.args.text.now c.loop-at-test.false ∙ whole) c.loop-at.invariant.0) is.1
+    no-word Outside word rest (subst (HasNoGap Outside) (take_all c.loop-at.at c.args.text.now c.loop-at-test.false
+    ∙ whole) c.loop-at.invariant.0) is.1

@@ -6,5 +6,7 @@ use Rattle.sgt_line.proofs.clash.clash_of.Goals as goal
 
 pub returns-clause-none : goal.returns-clause-none
 returns-clause-none c =
-    none_weaker _ _ _ (nothing_clashes (parts_of c.args.line.now) (λ over. absurd (true≢false (sym (c.writes_over_input.ensures.1 over) ∙ c.if-writes_over_input.false))))
+    none_weaker _ _ _
+    (nothing_clashes (parts_of c.args.line.now)
+    (λ over. absurd (true≢false (sym (c.writes_over_input.ensures.1 over) ∙ c.if-writes_over_input.false))))
     c.beside_given.ensures.none

@@ -11,7 +11,9 @@ returns-in-Some-clause-first c = λ front bundle cut.
     omega (arith, least, length-take {A = ℕ})
 
 pub returns-in-None-clause-first : goal.returns-in-None-clause-first
-returns-in-None-clause-first c = λ front bundle cut. absurd (c.in-None.ensures (length front) (front, bundle, cut.0, refl, cut.1))
+returns-in-None-clause-first c =
+    λ front bundle cut. absurd (c.in-None.ensures (length front) (front, bundle, cut.0, refl, cut.1))
 
 pub returns-in-None-clause-none : goal.returns-in-None-clause-none
-returns-in-None-clause-none c = λ is. (refl, λ front bundle cut. c.in-None.ensures (length front) (front, bundle, cut.0, refl, cut.1))
+returns-in-None-clause-none c =
+    λ is. (refl, λ front bundle cut. c.in-None.ensures (length front) (front, bundle, cut.0, refl, cut.1))

@@ -15,7 +15,8 @@ returns-in-Some c =
     let both = starts_is Decides-eqb c.args.text.now c.args.head.now c.starts_with.result c.starts_with.ensures.value in
     finds_line c.args.text.now c.args.head.now c.in-Some.place
     (λ rest e. let yes : c.starts_with.result ≡ true = both.1 rest e in absurd cc)
-    (subst (λ (needle : List ℕ). FindsNeedle c.args.text.now needle 0 (Some c.in-Some.place)) c.requires c.in-Some.ensures)
+    (subst (λ (needle : List ℕ). FindsNeedle c.args.text.now needle 0 (Some c.in-Some.place)) c.requires
+    c.in-Some.ensures)
 
 pub returns-in-None : goal.returns-in-None
 returns-in-None c =

@@ -3,7 +3,9 @@ use Rattle.sgt_program.specs.declared.ending.Ending.TheVariants.{Ran}
 use Rattle.sgt_program.proofs.chain.end_chain.Goals as goal
 
 pub returns-clause-yes : goal.returns-clause-yes
-returns-clause-yes g c = λ zero. told_yes c.tell_chain-told.result c.finish.result _ zero c.finish.ensures.status c.tell_chain-told.ensures.yes
+returns-clause-yes g c =
+    λ zero. told_yes c.tell_chain-told.result c.finish.result _ zero c.finish.ensures.status
+    c.tell_chain-told.ensures.yes
 
 pub returns-clause-ends : goal.returns-clause-ends
 returns-clause-ends g c =
@@ -16,8 +18,10 @@ returns-clause-ends g c =
     )
 
 pub returns-clause-known : goal.returns-clause-known
-returns-clause-known g c = never_no c.tell_chain-told.result c.finish.result _ c.finish.ensures.status c.tell_chain-told.ensures.yes
+returns-clause-known g c =
+    never_no c.tell_chain-told.result c.finish.result _ c.finish.ensures.status c.tell_chain-told.ensures.yes
 
 pub returns-clause-front : goal.returns-clause-front
 returns-clause-front g c = λ four.
-    failed_at c.tell_chain-told.result c.finish.result _ c.finish.ensures.status c.tell_chain-told.ensures.read_fault c.tell_chain-told.ensures.front four
+    failed_at c.tell_chain-told.result c.finish.result _ c.finish.ensures.status c.tell_chain-told.ensures.read_fault
+    c.tell_chain-told.ensures.front four

@@ -9,7 +9,8 @@ returns-in-Ok-write_all-clause-yes g c =
       refl,
       (
         string_bytes c.in-Ok.text,
-        subst (λ (text : List ℕ). Appends (g.W.Sink.holds c.args.writer.now) (g.W.Sink.holds c.write_all.new.writer) text) c.as_bytes.ensures.value wrote,
+        subst (λ (text : List ℕ). Appends (g.W.Sink.holds c.args.writer.now) (g.W.Sink.holds c.write_all.new.writer)
+            text) c.as_bytes.ensures.value wrote,
         λ told audited. (c.in-Ok.ensures.yes told audited, c.in-Ok.ensures.headline told audited),
       ),
     )
@@ -18,6 +19,7 @@ pub returns-clause-front : goal.returns-clause-front
 returns-clause-front g c = λ failed.
     let front = c.in-Err.ensures.err in (
       string_bytes c.in-Ok.text,
-      subst (λ (text : List ℕ). WritesFront (g.W.Sink.holds c.args.writer.now) (g.W.Sink.holds c.write_all.new.writer) text) c.as_bytes.ensures.value front,
+      subst (λ (text : List ℕ). WritesFront (g.W.Sink.holds c.args.writer.now) (g.W.Sink.holds c.write_all.new.writer)
+          text) c.as_bytes.ensures.value front,
       λ told audited. c.in-Ok.ensures.yes told audited,
     )

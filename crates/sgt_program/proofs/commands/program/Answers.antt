@@ -41,14 +41,19 @@ returns-in-Ok-clause-ends g c =
       Ran c.run_choice.result,
       finished.status,
       leaves_more c.run_choice.result _ _ _ _ _ _
-          (quiet_more _ _ _ _ _ _ (asks_workers (map string_bytes c.args.words.now) c.in-Ok.choice c.in-Ok.ensures.only)) (failed_more _ _ _ _ _ _ _ (names_explain (map string_bytes c.args.words.now) c.in-Ok.choice c.in-Ok.ensures.only)) c.run_choice.ensures.ends,
+          (quiet_more _ _ _ _ _ _
+          (asks_workers (map string_bytes c.args.words.now) c.in-Ok.choice c.in-Ok.ensures.only))
+          (failed_more _ _ _ _ _ _ _
+          (names_explain (map string_bytes c.args.words.now) c.in-Ok.choice c.in-Ok.ensures.only))
+          c.run_choice.ensures.ends,
       tells-errors c.run_choice.result _ _ finished.silent finished.told,
     )
 
 pub returns-in-Err-Help-clause-asked : goal.returns-in-Err-Help-clause-asked
 returns-in-Err-Help-clause-asked g c = λ choice asks.
     let said = c.in-Err-Help in
-    absurd (no_refusal c.choose.result choice said.field-0 _ (c.choose.ensures.all choice asks) said.is (ap is_memory said.field-0-is))
+    absurd (no_refusal c.choose.result choice said.field-0 _ (c.choose.ensures.all choice asks) said.is
+    (ap is_memory said.field-0-is))
 
 pub returns-in-Err-Help-clause-chosen : goal.returns-in-Err-Help-clause-chosen
 returns-in-Err-Help-clause-chosen g c =
@@ -56,12 +61,16 @@ returns-in-Err-Help-clause-chosen g c =
     let shown = c.show_help.ensures in
     let some : 0 < length c.as_str.result.now = search rules in
     comes.other
-    (λ choice asks. no_refusal c.choose.result choice said.field-0 _ (c.choose.ensures.all choice asks) said.is (ap is_memory said.field-0-is))
+    (λ choice asks. no_refusal c.choose.result choice said.field-0 _ (c.choose.ensures.all choice asks) said.is
+    (ap is_memory said.field-0-is))
     (λ high.
-    let status = c.finish-in-Err-Help.ensures.status in
-    (status ∙ help_four c.show_help.result _ _ shown.yes shown.fault (subst (λ n. 3 ≤ n) status high), rw said.field-0-is at said.ensures.help))
+    let status = c.finish-in-Err-Help.ensures.status in (
+      status ∙ help_four c.show_help.result _ _ shown.yes shown.fault (subst (λ n. 3 ≤ n) status high),
+      rw said.field-0-is at said.ensures.help,
+    ))
     refl
-    (rw c.finish-in-Err-Help.ensures.status (help-answers _ _ _ _ _ c.show_help.result (rw said.field-0-is at said.ensures.help)
+    (rw c.finish-in-Err-Help.ensures.status
+    (help-answers _ _ _ _ _ c.show_help.result (rw said.field-0-is at said.ensures.help)
     some shown.text shown.front shown.yes))
 
 pub returns-in-Err-Help-clause-ends : goal.returns-in-Err-Help-clause-ends
@@ -77,26 +86,33 @@ returns-in-Err-Help-clause-ends g c =
 pub returns-in-Err-Usage-clause-asked : goal.returns-in-Err-Usage-clause-asked
 returns-in-Err-Usage-clause-asked g c = λ choice asks.
     let said = c.in-Err-Usage in
-    absurd (no_refusal c.choose.result choice said.field-0 _ (c.choose.ensures.all choice asks) said.is (ap is_memory said.field-0-is))
+    absurd (no_refusal c.choose.result choice said.field-0 _ (c.choose.ensures.all choice asks) said.is
+    (ap is_memory said.field-0-is))
 
 pub returns-in-Err-Usage-clause-chosen : goal.returns-in-Err-Usage-clause-chosen
 returns-in-Err-Usage-clause-chosen g c =
     let said = c.in-Err-Usage in
     comes.other
-    (λ choice asks. no_refusal c.choose.result choice said.field-0 _ (c.choose.ensures.all choice asks) said.is (ap is_memory said.field-0-is))
+    (λ choice asks. no_refusal c.choose.result choice said.field-0 _ (c.choose.ensures.all choice asks) said.is
+    (ap is_memory said.field-0-is))
     (λ high. absurd (omega (arith, high, c.refuse.ensures.status)))
     refl
     (usage-answers _ _ _ _ (rw said.field-0-is at said.ensures.help) c.refuse.ensures.status)
 
 pub returns-in-Err-Usage-clause-ends : goal.returns-in-Err-Usage-clause-ends
 returns-in-Err-Usage-clause-ends g c =
-    let refused = c.refuse.ensures in
-    (NoCommand, refused.status, ((inl refl, refl), refl), (c.as_str-in-Err-Usage.result.now, refused.some, refused.told))
+    let refused = c.refuse.ensures in (
+      NoCommand,
+      refused.status,
+      ((inl refl, refl), refl),
+      (c.as_str-in-Err-Usage.result.now, refused.some, refused.told),
+    )
 
 pub returns-in-Err-Bare-clause-asked : goal.returns-in-Err-Bare-clause-asked
 returns-in-Err-Bare-clause-asked g c = λ choice asks.
     let said = c.in-Err-Bare in
-    absurd (no_refusal c.choose.result choice said.field-0 _ (c.choose.ensures.all choice asks) said.is (ap is_memory said.field-0-is))
+    absurd (no_refusal c.choose.result choice said.field-0 _ (c.choose.ensures.all choice asks) said.is
+    (ap is_memory said.field-0-is))
 
 pub returns-in-Err-Bare-clause-unread : goal.returns-in-Err-Bare-clause-unread
 returns-in-Err-Bare-clause-unread g c = λ choice asks. left_unread choice _ refl
@@ -105,7 +121,8 @@ pub returns-in-Err-Bare-clause-chosen : goal.returns-in-Err-Bare-clause-chosen
 returns-in-Err-Bare-clause-chosen g c =
     let said = c.in-Err-Bare in
     comes.other
-    (λ choice asks. no_refusal c.choose.result choice said.field-0 _ (c.choose.ensures.all choice asks) said.is (ap is_memory said.field-0-is))
+    (λ choice asks. no_refusal c.choose.result choice said.field-0 _ (c.choose.ensures.all choice asks) said.is
+    (ap is_memory said.field-0-is))
     (λ high. absurd (omega (arith, high, c.refuse-in-Err-Bare.ensures.status)))
     refl
     (usage-answers _ _ _ _ (rw said.field-0-is at said.ensures.help) c.refuse-in-Err-Bare.ensures.status)
@@ -122,7 +139,8 @@ returns-in-Err-Memory-clause-asked g c = λ choice asks.
 
 pub returns-in-Err-Memory-clause-chosen : goal.returns-in-Err-Memory-clause-chosen
 returns-in-Err-Memory-clause-chosen g c =
-    comes.memory c.give_up.ensures.status (c.choose.ensures.memory (c.in-Err-Memory.is ∙ ap Err c.in-Err-Memory.field-0-is)) refl (memory-answers _ c.give_up.result _ c.give_up.ensures.status)
+    comes.memory c.give_up.ensures.status (c.choose.ensures.memory (c.in-Err-Memory.is
+    ∙ ap Err c.in-Err-Memory.field-0-is)) refl (memory-answers _ c.give_up.result _ c.give_up.ensures.status)
 
 pub returns-in-Err-Memory-clause-ends : goal.returns-in-Err-Memory-clause-ends
 returns-in-Err-Memory-clause-ends g c =

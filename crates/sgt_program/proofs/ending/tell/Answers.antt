@@ -8,5 +8,6 @@ returns g c =
     let wrote = c.write_all.ensures in
     let old = c.args.errors.now in
     let new = c.write_all.new.writer in
-    subst (λ (text : List ℕ). WroteOrFailed (g.E.Sink.holds old) (g.E.Sink.holds new) (g.E.Sink.failures old) (g.E.Sink.failures new) text) c.as_bytes.ensures.value
+    subst (λ (text : List ℕ). WroteOrFailed (g.E.Sink.holds old) (g.E.Sink.holds new) (g.E.Sink.failures old)
+    (g.E.Sink.failures new) text) c.as_bytes.ensures.value
     (wrote_or_failed c.write_all.result _ _ _ _ wrote.ok wrote.fails wrote.err)

@@ -20,11 +20,16 @@ returns-then-asks_kept-clause-answers g c =
     let given = c.options_of-options.result in
     record {
       plain = λ none. absurd (none (c.asks_kept.ensures.0 c.if-asks_kept.true));
-      kept = λ asks. status-answers (λ outcome. keeping.WroteKeptAnswer wanted options told outcome old new) (keeping.WroteKeptAnswerFront wanted options told old new) r
-          (subst (λ (o : Options). IfOk r (λ outcome. keeping.WroteKeptAnswer wanted o told outcome old new)) c.options_of-options.ensures
-          (subst (λ (k : Wanted). IfOk r (λ outcome. keeping.WroteKeptAnswer k given told outcome old new)) c.kept_of.ensures c.check_kept.ensures.answer))
-          (subst (λ (o : Options). OnErr r (keeping.WroteKeptAnswerFront wanted o told old new)) c.options_of-options.ensures
-          (subst (λ (k : Wanted). OnErr r (keeping.WroteKeptAnswerFront k given told old new)) c.kept_of.ensures c.check_kept.ensures.front));
+      kept = λ asks. status-answers (λ outcome. keeping.WroteKeptAnswer wanted options told outcome old new)
+          (keeping.WroteKeptAnswerFront wanted options told old new) r
+          (subst (λ (o : Options). IfOk r (λ outcome. keeping.WroteKeptAnswer wanted o told outcome old new))
+          c.options_of-options.ensures
+          (subst (λ (k : Wanted). IfOk r (λ outcome. keeping.WroteKeptAnswer k given told outcome old new))
+          c.kept_of.ensures c.check_kept.ensures.answer))
+          (subst (λ (o : Options). OnErr r (keeping.WroteKeptAnswerFront wanted o told old new))
+          c.options_of-options.ensures
+          (subst (λ (k : Wanted). OnErr r (keeping.WroteKeptAnswerFront k given told old new)) c.kept_of.ensures
+          c.check_kept.ensures.front));
     }
 
 pub returns-else-asks_kept-clause-answers : goal.returns-else-asks_kept-clause-answers
@@ -35,18 +40,23 @@ returns-else-asks_kept-clause-answers g c =
     let r = c.check.result in
     let options = options_of c.args.wanted in
     record {
-      plain = λ none. status-answers (λ outcome. check.WroteAnswer options told outcome old new) (check.WroteAnswerFront options told old new) r
-          (subst (λ (o : Options). IfOk r (λ outcome. check.WroteAnswer o told outcome old new)) c.options_of-options.ensures c.check.ensures.answer)
-          (subst (λ (o : Options). OnErr r (check.WroteAnswerFront o told old new)) c.options_of-options.ensures c.check.ensures.front);
+      plain = λ none. status-answers (λ outcome. check.WroteAnswer options told outcome old new)
+          (check.WroteAnswerFront options told old new) r
+          (subst (λ (o : Options). IfOk r (λ outcome. check.WroteAnswer o told outcome old new))
+          c.options_of-options.ensures c.check.ensures.answer)
+          (subst (λ (o : Options). OnErr r (check.WroteAnswerFront o told old new)) c.options_of-options.ensures
+          c.check.ensures.front);
       kept = λ asks. absurd (cc (c.asks_kept.ensures.1 asks, c.if-asks_kept.false));
     }
 
 pub returns-then-asks_kept-clause-ends : goal.returns-then-asks_kept-clause-ends
 returns-then-asks_kept-clause-ends g c =
     let said = c.check_kept.ensures in
-    leaves c.check_kept.result _ _ _ _ _ _ (due _ _ _ _ _ _) (λ other. inl (said.quiet_reader other)) said.quiet_writer said.read_fault said.write_fault said.unwritten said.untouched
+    leaves c.check_kept.result _ _ _ _ _ _ (due _ _ _ _ _ _) (λ other. inl (said.quiet_reader other))
+    said.quiet_writer said.read_fault said.write_fault said.unwritten said.untouched
 
 pub returns-else-asks_kept-clause-ends : goal.returns-else-asks_kept-clause-ends
 returns-else-asks_kept-clause-ends g c =
     let said = c.check.ensures in
-    leaves c.check.result _ _ _ _ _ _ (due _ _ _ _ _ _) (λ other. inl (said.quiet_reader other)) said.quiet_writer said.read_fault said.write_fault said.unwritten said.untouched
+    leaves c.check.result _ _ _ _ _ _ (due _ _ _ _ _ _) (λ other. inl (said.quiet_reader other)) said.quiet_writer
+    said.read_fault said.write_fault said.unwritten said.untouched

@@ -18,9 +18,12 @@ returns-clause-answers g c =
     let new = g.W.Sink.holds c.check_against-told.new.writer in
     let w = kept_of c.args.wanted in
     let r = c.check_against-told.result in
-    rw c.finish.ensures.status (status-answers (λ outcome. against.WroteAnswer w lines told outcome old new) (against.WroteAnswerFront w lines told old new) r
-    (subst (λ (k : Wanted). IfOk r (λ outcome. against.WroteAnswer k lines told outcome old new)) c.kept_of.ensures c.check_against-told.ensures.answer)
-    (subst (λ (k : Wanted). OnErr r (against.WroteAnswerFront k lines told old new)) c.kept_of.ensures c.check_against-told.ensures.front))
+    rw c.finish.ensures.status (status-answers (λ outcome. against.WroteAnswer w lines told outcome old new)
+    (against.WroteAnswerFront w lines told old new) r
+    (subst (λ (k : Wanted). IfOk r (λ outcome. against.WroteAnswer k lines told outcome old new)) c.kept_of.ensures
+    c.check_against-told.ensures.answer)
+    (subst (λ (k : Wanted). OnErr r (against.WroteAnswerFront k lines told old new)) c.kept_of.ensures
+    c.check_against-told.ensures.front))
 
 pub returns-clause-exact : goal.returns-clause-exact
 returns-clause-exact g c =
@@ -28,7 +31,9 @@ returns-clause-exact g c =
     let told = g.R.Source.tells c.args.reader.now in
     let r = c.check_against-told.result in
     exact_status r c.finish.result told lines (SpellsServed (kept_of c.args.wanted)) c.finish.ensures.status
-    (subst (λ (k : Wanted). IfOk r (λ outcome. IfSome told (λ bytes. IfSome lines (λ ls. (outcome ≡ Yes) ↔ SpellsServed k ls bytes)))) c.kept_of.ensures
+    (subst (λ (k : Wanted). IfOk r
+    (λ outcome. IfSome told (λ bytes. IfSome lines (λ ls. (outcome ≡ Yes) ↔ SpellsServed k ls bytes))))
+    c.kept_of.ensures
     c.check_against-told.ensures.exact)
 
 pub returns-clause-ends : goal.returns-clause-ends
@@ -37,7 +42,8 @@ returns-clause-ends g c =
     let finished = c.finish.ensures in (
       Ran c.check_against-told.result,
       finished.status,
-      leaves c.check_against-told.result _ _ _ _ _ _ (due_of_two _ _ _ _ _ _ _ _ _ _) (λ other. (said.quiet_reader other, said.quiet_order other))
+      leaves c.check_against-told.result _ _ _ _ _ _ (due_of_two _ _ _ _ _ _ _ _ _ _)
+          (λ other. (said.quiet_reader other, said.quiet_order other))
           said.quiet_writer said.read_fault said.write_fault said.unwritten said.untouched,
       tells-errors c.check_against-told.result _ _ finished.silent finished.told,
     )

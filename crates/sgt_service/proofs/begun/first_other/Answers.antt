@@ -14,7 +14,8 @@ loop-place-preserved c =
     let site = c.index-sites-place.result in
     let items = c.index-given-place.result in
     let found = map (λ (s : SiteState). s.items) sites in
-    let here = slice_get-map (λ (s : SiteState). s.items) sites n ∙ ap (option_map (λ (s : SiteState). s.items)) (element_at sites n site (omega arith) c.index-sites-place.is) in
+    let here = slice_get-map (λ (s : SiteState). s.items) sites n
+    ∙ ap (option_map (λ (s : SiteState). s.items)) (element_at sites n site (omega arith) c.index-sites-place.is) in
     let there = element_at given n items (omega arith) c.index-given-place.is in
     let same = c.has_items.ensures.0 c.if-not-has_items.false ∙ c.as_slice.ensures in
     take_next found n site.items here ∙ ap (λ (xs : List (List Holding)). xs ++ site.items ∷ []) c.loop-place.invariant

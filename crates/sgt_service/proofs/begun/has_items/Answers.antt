@@ -5,5 +5,6 @@ use Rattle.sgt_service.proofs.begun.has_items.Goals as goal
 
 pub returns : goal.returns
 returns c =
-    let decides : Decides c.eq.result (c.items.result.now ≡ c.args.items.now) = slice_eq-Decides (λ a b. search rules) _ _ _ c.eq.ensures in
+    let decides : Decides c.eq.result (c.items.result.now ≡ c.args.items.now) =
+    slice_eq-Decides (λ a b. search rules) _ _ _ c.eq.ensures in
     rw c.items.ensures.items at decides

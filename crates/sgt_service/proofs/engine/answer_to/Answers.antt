@@ -11,8 +11,10 @@ use Rattle.sgt_service.proofs.engine.answer_to.Goals as goal
 
 pub settled_run-settled-requires-clause-items : goal.settled_run-settled-requires-clause-items
 settled_run-settled-requires-clause-items g c κs within =
-    let items = c.as_slice.ensures.value ∙ c.in_ok-items.ensures ∙ ap (map (λ (l : SiteLine). l.items)) c.into_vec.ensures in
-    subst (All AreItems) (sym items) (items_good c.in-Readable.input (subst IsUsable c.in-Readable.is c.requires.usable))
+    let items = c.as_slice.ensures.value ∙ c.in_ok-items.ensures
+    ∙ ap (map (λ (l : SiteLine). l.items)) c.into_vec.ensures in
+    subst (All AreItems) (sym items)
+    (items_good c.in-Readable.input (subst IsUsable c.in-Readable.is c.requires.usable))
 
 if_ok : {A E : Type 0} (r : Result A E) (P Q : A → Type 0) → ((a : A) → P a → Q a) → IfOk r P → IfOk r Q
 if_ok (Ok a) P Q f p = f a p
@@ -23,9 +25,13 @@ returns-in-Ok g c =
     let input = c.in-Readable.input in
     let settled = c.in-Ok.settled in
     let tries = c.args.tries in
-    let items = c.as_slice.ensures.value ∙ c.in_ok-items.ensures ∙ ap (map (λ (l : SiteLine). l.items)) c.into_vec.ensures in
+    let items = c.as_slice.ensures.value ∙ c.in_ok-items.ensures
+    ∙ ap (map (λ (l : SiteLine). l.items)) c.into_vec.ensures in
     let many = ap length items ∙ length-map input.sites (λ (l : SiteLine). l.items) in
-    let of = subst (λ ss. IsRunOf ss (length input.sites) tries settled) c.as_slice-2.ensures (subst (λ n. IsRunOf c.as_slice-2.result.now n tries settled) many c.in-Ok.ensures.run) in
+    let of = subst (λ ss. IsRunOf ss (length input.sites) tries settled) c.as_slice-2.ensures
+    (subst (λ n. IsRunOf c.as_slice-2.result.now n tries settled) many c.in-Ok.ensures.run) in
     if_ok c.run_text.result _ _ (λ answer is told read.
-    read_answers input tries told answer.outcome answer.text.items (subst (λ (r : Reading). IfSome told (λ bytes. IsRead bytes r)) c.in-Readable.is read)
-    (run_answers input tries settled answer.outcome answer.text.items c.in-Ok.ensures.settled of (c.in-Ok.ensures.items ∙ items) is)) c.run_text.ensures
+    read_answers input tries told answer.outcome answer.text.items
+    (subst (λ (r : Reading). IfSome told (λ bytes. IsRead bytes r)) c.in-Readable.is read)
+    (run_answers input tries settled answer.outcome answer.text.items c.in-Ok.ensures.settled of
+    (c.in-Ok.ensures.items ∙ items) is)) c.run_text.ensures

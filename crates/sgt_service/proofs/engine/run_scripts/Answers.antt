@@ -11,11 +11,13 @@ returns-clause-front g c =
       answer.outcome,
       answer.text.items,
       c.in_ok-answer.ensures told c.in_ok-reading.ensures.read,
-      subst (λ (text : List ℕ). WritesFront (g.W.Sink.holds c.args.writer.now) (g.W.Sink.holds c.write_all.new.writer) text) c.as_slice.ensures.value c.in-Err.ensures.err,
+      subst (λ (text : List ℕ). WritesFront (g.W.Sink.holds c.args.writer.now) (g.W.Sink.holds c.write_all.new.writer)
+          text) c.as_slice.ensures.value c.in-Err.ensures.err,
     )
 
 pub returns-in-Ok-clause-unreadable : goal.returns-in-Ok-clause-unreadable
 returns-in-Ok-clause-unreadable g c =
     let answer = c.in_ok-answer.answer in
     let told = g.S.Source.tells c.args.reader.now in
-    answer-unreadable c.args.tries told answer.outcome answer.text.items (c.in_ok-answer.ensures told c.in_ok-reading.ensures.read)
+    answer-unreadable c.args.tries told answer.outcome answer.text.items
+    (c.in_ok-answer.ensures told c.in_ok-reading.ensures.read)

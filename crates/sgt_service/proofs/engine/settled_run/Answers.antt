@@ -11,29 +11,40 @@ returns-in-None-clause-run g c =
     let service = c.in-Ok.opened.0 in
     let seats = c.in-Ok.opened.1 in
     let ledgers = c.requires.ledgers in
-    let named : vec_len service.names ≡ length c.args.sites.now = service.names.ok.0 ∙ ap length c.in-Ok.ensures.names ∙ length-map c.args.sites.now names in
-    left_of _ _ _ _ _ seats.items c.in_ok-dones.seats.items _ _ c.in-Ok.ensures.seats.1 (omega (arith, seats.ok.0, c.in-Ok.ensures.seats.0, ledgers.1)) c.in_ok-dones.ensures.parts
+    let named : vec_len service.names ≡ length c.args.sites.now = service.names.ok.0 ∙ ap length c.in-Ok.ensures.names
+    ∙ length-map c.args.sites.now names in
+    left_of _ _ _ _ _ seats.items c.in_ok-dones.seats.items _ _ c.in-Ok.ensures.seats.1
+    (omega (arith, seats.ok.0, c.in-Ok.ensures.seats.0, ledgers.1)) c.in_ok-dones.ensures.parts
     c.in_ok-dones.ensures.counted c.in_ok-dones.ensures.dones c.in_ok-dones.ensures.tried named
-    (c.in-Ok-settle.ensures.dones.kept (numbered_rise 1 c.in_ok-dones.dones.items (length c.args.scripts.now) c.in_ok-dones.ensures.dones.jobs)) c.in-Ok-settle.ensures.sites c.in-Ok-settle.ensures.counts c.in-Ok-settle.ensures.decisions
+    (c.in-Ok-settle.ensures.dones.kept
+    (numbered_rise 1 c.in_ok-dones.dones.items (length c.args.scripts.now) c.in_ok-dones.ensures.dones.jobs))
+    c.in-Ok-settle.ensures.sites c.in-Ok-settle.ensures.counts c.in-Ok-settle.ensures.decisions
 
 pub returns-in-Err-settle-clause-fault : goal.returns-in-Err-settle-clause-fault
 returns-in-Err-settle-clause-fault g c =
     let service = c.in-Ok.opened.0 in
     let seats = c.in-Ok.opened.1 in
     let ledgers = c.requires.ledgers in
-    let named : vec_len service.names ≡ length c.args.sites.now = service.names.ok.0 ∙ ap length c.in-Ok.ensures.names ∙ length-map c.args.sites.now names in
-    inr (inr (inl (ends_unsettled _ _ _ _ _ seats.items c.in_ok-dones.seats.items _ _ c.in-Ok.ensures.seats.1 (omega (arith, seats.ok.0, c.in-Ok.ensures.seats.0, ledgers.1))
-    c.in_ok-dones.ensures.parts c.in_ok-dones.ensures.counted c.in_ok-dones.ensures.dones c.in_ok-dones.ensures.tried named c.in-Err-settle.ensures.refused)))
+    let named : vec_len service.names ≡ length c.args.sites.now = service.names.ok.0 ∙ ap length c.in-Ok.ensures.names
+    ∙ length-map c.args.sites.now names in
+    inr (inr (inl (ends_unsettled _ _ _ _ _ seats.items c.in_ok-dones.seats.items _ _ c.in-Ok.ensures.seats.1
+    (omega (arith, seats.ok.0, c.in-Ok.ensures.seats.0, ledgers.1))
+    c.in_ok-dones.ensures.parts c.in_ok-dones.ensures.counted c.in_ok-dones.ensures.dones c.in_ok-dones.ensures.tried
+    named c.in-Err-settle.ensures.refused)))
 
 pub returns-in-Some-clause-fault : goal.returns-in-Some-clause-fault
 returns-in-Some-clause-fault g c =
     let service = c.in-Ok.opened.0 in
     let seats = c.in-Ok.opened.1 in
     let ledgers = c.requires.ledgers in
-    let named : vec_len service.names ≡ length c.args.sites.now = service.names.ok.0 ∙ ap length c.in-Ok.ensures.names ∙ length-map c.args.sites.now names in
-    let of = left_of _ _ _ _ _ seats.items c.in_ok-dones.seats.items _ c.in-Ok-settle.settled c.in-Ok.ensures.seats.1 (omega (arith, seats.ok.0, c.in-Ok.ensures.seats.0, ledgers.1)) c.in_ok-dones.ensures.parts
+    let named : vec_len service.names ≡ length c.args.sites.now = service.names.ok.0 ∙ ap length c.in-Ok.ensures.names
+    ∙ length-map c.args.sites.now names in
+    let of = left_of _ _ _ _ _ seats.items c.in_ok-dones.seats.items _ c.in-Ok-settle.settled c.in-Ok.ensures.seats.1
+    (omega (arith, seats.ok.0, c.in-Ok.ensures.seats.0, ledgers.1)) c.in_ok-dones.ensures.parts
     c.in_ok-dones.ensures.counted c.in_ok-dones.ensures.dones c.in_ok-dones.ensures.tried named
-    (c.in-Ok-settle.ensures.dones.kept (numbered_rise 1 c.in_ok-dones.dones.items (length c.args.scripts.now) c.in_ok-dones.ensures.dones.jobs)) c.in-Ok-settle.ensures.sites c.in-Ok-settle.ensures.counts c.in-Ok-settle.ensures.decisions in
+    (c.in-Ok-settle.ensures.dones.kept
+    (numbered_rise 1 c.in_ok-dones.dones.items (length c.args.scripts.now) c.in_ok-dones.ensures.dones.jobs))
+    c.in-Ok-settle.ensures.sites c.in-Ok-settle.ensures.counts c.in-Ok-settle.ensures.decisions in
     let began = rw (c.in-Some.is, c.sites.ensures) at c.first_other.ensures in
     inr (inr (inr (record {
       run = c.in-Ok-settle.settled;

@@ -14,6 +14,7 @@ loop-site-preserved c =
     let here = element_at sites n site (omega arith) c.site-item.is in
     record {
       logs = subst₂ (AllZip IsSiteLog) (sym (take_next sites n site here)) (sym c.push_reserved.ensures.items)
-          (zip_push IsSiteLog (take n sites) c.loop-site.logs.items site log c.loop-site.invariant.logs (c.in_ok-log.ensures.log, c.log_of.ensures.site));
+          (zip_push IsSiteLog (take n sites) c.loop-site.logs.items site log c.loop-site.invariant.logs
+          (c.in_ok-log.ensures.log, c.log_of.ensures.site));
       room = omega (arith, c.push_reserved.ensures.len, c.push_reserved.ensures.capacity, c.loop-site.invariant.room);
     }

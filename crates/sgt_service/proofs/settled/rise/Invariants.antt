@@ -4,4 +4,5 @@ use Rattle.sgt_workers.specs.declared.ticket.Done.{Done as ADone}
 use Rattle.sgt_service.proofs.settled.rise.Given as goal
 
 abbrev pub invariant-loop-i : goal.invariant-loop-i
-invariant-loop-i l = (k : ℕ) (d e : ADone) → suc k < l.i → slice_get l.dones k ≡ Some d → slice_get l.dones (suc k) ≡ Some e → d.job < e.job
+invariant-loop-i l = (k : ℕ) (d e : ADone) → suc k < l.i → slice_get l.dones k ≡ Some d
+    → slice_get l.dones (suc k) ≡ Some e → d.job < e.job

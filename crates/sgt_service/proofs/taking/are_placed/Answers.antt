@@ -16,8 +16,10 @@ returns-in_default c = (
       let ops = c.as_slice-op-items.result.now in
       let n = c.loop-op.op-index in
       let op : AnOp = c.op-item.result in
-      let here : slice_get ops n ≡ Some op = slice_get-get_or ops n op c.loop-op-test.true ∙ ap Some (sym c.op-item.is) in
-      let each : All (IsPlaced c.args.sites.now) ops = subst (All (IsPlaced c.args.sites.now)) (sym c.as_slice-op-items.ensures) all in
+      let here : slice_get ops n ≡ Some op = slice_get-get_or ops n op c.loop-op-test.true
+      ∙ ap Some (sym c.op-item.is) in
+      let each : All (IsPlaced c.args.sites.now) ops =
+      subst (All (IsPlaced c.args.sites.now)) (sym c.as_slice-op-items.ensures) all in
       let none = rw c.in_default.is at c.place_of.ensures.none in
       absurd (none (All_at (IsPlaced c.args.sites.now) ops n op each here)),
 )
@@ -32,6 +34,7 @@ loop-op-preserved c =
 
 pub returns : goal.returns
 returns c = (
-  λ told. subst (All (IsPlaced c.args.sites.now)) (take_all c.loop-op.op-index c.as_slice-op-items.result.now (omega (arith, c.loop-op-test.false)) ∙ c.as_slice-op-items.ensures) c.loop-op.invariant,
+  λ told. subst (All (IsPlaced c.args.sites.now)) (take_all c.loop-op.op-index c.as_slice-op-items.result.now
+      (omega (arith, c.loop-op-test.false)) ∙ c.as_slice-op-items.ensures) c.loop-op.invariant,
   λ all. refl,
 )

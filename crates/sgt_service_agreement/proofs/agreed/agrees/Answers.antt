@@ -14,7 +14,8 @@ use Rattle.sgt_service_agreement.proofs.agreed.agrees.Goals as goal
 
 pub are_counted-requires-clause-items : goal.are_counted-requires-clause-items
 are_counted-requires-clause-items c =
-    subst (IsRisingBy (λ (h : Holding). h.item) (slice_cmp nat_cmp)) (sym c.items.ensures.items) c.items.ensures.site.items.rising
+    subst (IsRisingBy (λ (h : Holding). h.item) (slice_cmp nat_cmp)) (sym c.items.ensures.items)
+    c.items.ensures.site.items.rising
 
 pub are_counted-requires-clause-as_many : goal.are_counted-requires-clause-as_many
 are_counted-requires-clause-as_many c =
@@ -32,5 +33,6 @@ pub returns : goal.returns
 returns c =
     let history = c.args.certifier.now.history in
     let site = c.args.site.now in
-    subst (λ (hs : List Holding). IsTrue c.all_agree.result ↔ All (λ h. AgreesOn history site h.item) hs) c.items-2.ensures.items
+    subst (λ (hs : List Holding). IsTrue c.all_agree.result ↔ All (λ h. AgreesOn history site h.item) hs)
+    c.items-2.ensures.items
     c.all_agree.ensures

@@ -20,6 +20,7 @@ loop-holding-preserved c =
 
 pub returns : goal.returns
 returns c = (
-  λ t. All-whole (λ (h : Holding). AgreesOn c.args.certifier.now.history c.args.site.now h.item) _ _ c.loop-holding-test.false c.loop-holding.invariant,
+  λ t. All-whole (λ (h : Holding). AgreesOn c.args.certifier.now.history c.args.site.now h.item) _ _
+      c.loop-holding-test.false c.loop-holding.invariant,
   λ all. refl,
 )

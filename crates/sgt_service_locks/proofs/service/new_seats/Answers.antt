@@ -15,10 +15,12 @@ loop-number-preserved g c = record {
   begins = subst (All HasBegunNone) (sym c.in_ok-push.ensures.items)
       (All-push HasBegunNone c.loop-number.seats.items _ c.loop-number.invariant.begins (search rules));
   numbers = subst (λ ss. map (λ s. s.number) ss ≡ range_with_len 0 (length ss)) (sym c.in_ok-push.ensures.items)
-      (numbers_more c.loop-number.seats.items _ c.loop-number.invariant.numbers (omega (arith, c.loop-number.invariant.len, c.loop-number.seats.ok.0)));
+      (numbers_more c.loop-number.seats.items _ c.loop-number.invariant.numbers
+      (omega (arith, c.loop-number.invariant.len, c.loop-number.seats.ok.0)));
 }
 
 pub returns-clause-numbers : goal.returns-clause-numbers
 returns-clause-numbers g c =
     subst (λ n. map (λ s. s.number) c.loop-number.seats.items ≡ range_with_len 0 n)
-    (omega (arith, c.loop-number.invariant.len, c.loop-number.seats.ok.0, c.loop-number-test.false)) c.loop-number.invariant.numbers
+    (omega (arith, c.loop-number.invariant.len, c.loop-number.seats.ok.0, c.loop-number-test.false))
+    c.loop-number.invariant.numbers

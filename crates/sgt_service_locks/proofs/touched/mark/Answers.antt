@@ -3,4 +3,5 @@ use Rattle.sgt_service_locks.proofs.Flagging.{flag_kept}
 use Rattle.sgt_service_locks.proofs.touched.mark.Goals as goal
 
 pub returns-clause-kept : goal.returns-clause-kept
-returns-clause-kept c other had = flag_kept c.args.flags.now c.number.result other (omega (arith, c.number.ensures.in_range)) had
+returns-clause-kept c other had =
+    flag_kept c.args.flags.now c.number.result other (omega (arith, c.number.ensures.in_range)) had

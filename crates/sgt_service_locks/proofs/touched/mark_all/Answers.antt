@@ -14,9 +14,12 @@ loop-touch-preserved c =
     let new = c.mark.new.flags in
     record {
       all = All-next (λ (t : ATouch). IsFlagged new t.site) touched n one here c.mark.ensures.here
-          (All-weaken (λ (t : ATouch). IsFlagged old t.site) (λ (t : ATouch). IsFlagged new t.site) (take n touched) (λ t had. c.mark.ensures.kept t.site had) c.loop-touch.invariant.all);
+          (All-weaken (λ (t : ATouch). IsFlagged old t.site) (λ (t : ATouch). IsFlagged new t.site) (take n touched)
+          (λ t had. c.mark.ensures.kept t.site had) c.loop-touch.invariant.all);
       kept = λ other had. c.mark.ensures.kept other (c.loop-touch.invariant.kept other had);
     }
 
 pub returns-clause-all : goal.returns-clause-all
-returns-clause-all c = All-whole (λ (t : ATouch). IsFlagged c.loop-touch.flags t.site) c.args.touched.now c.loop-touch.touch-index c.loop-touch-test.false c.loop-touch.invariant.all
+returns-clause-all c =
+    All-whole (λ (t : ATouch). IsFlagged c.loop-touch.flags t.site) c.args.touched.now c.loop-touch.touch-index
+    c.loop-touch-test.false c.loop-touch.invariant.all

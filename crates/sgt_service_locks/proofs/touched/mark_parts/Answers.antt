@@ -15,11 +15,16 @@ loop-part-preserved c =
     let new = c.mark_all.new.flags in
     let kept = c.mark_all.ensures.kept in
     record {
-      all = All-next (λ (p : PartView). AreFlagged new p.touched) parts n one here (subst (AreFlagged new) c.touched.ensures.all c.mark_all.ensures.all)
-          (All-weaken (λ (p : PartView). AreFlagged old p.touched) (λ (p : PartView). AreFlagged new p.touched) (take n parts)
-          (λ p all. All-weaken (λ (t : ATouch). IsFlagged old t.site) (λ (t : ATouch). IsFlagged new t.site) p.touched (λ t had. kept t.site had) all) c.loop-part.invariant.all);
+      all = All-next (λ (p : PartView). AreFlagged new p.touched) parts n one here
+          (subst (AreFlagged new) c.touched.ensures.all c.mark_all.ensures.all)
+          (All-weaken (λ (p : PartView). AreFlagged old p.touched) (λ (p : PartView). AreFlagged new p.touched)
+          (take n parts)
+          (λ p all. All-weaken (λ (t : ATouch). IsFlagged old t.site) (λ (t : ATouch). IsFlagged new t.site) p.touched
+          (λ t had. kept t.site had) all) c.loop-part.invariant.all);
       kept = λ other had. kept other (c.loop-part.invariant.kept other had);
     }
 
 pub returns-clause-all : goal.returns-clause-all
-returns-clause-all c = All-whole (λ (p : PartView). AreFlagged c.loop-part.flags p.touched) c.args.parts.now c.loop-part.part-index c.loop-part-test.false c.loop-part.invariant.all
+returns-clause-all c =
+    All-whole (λ (p : PartView). AreFlagged c.loop-part.flags p.touched) c.args.parts.now c.loop-part.part-index
+    c.loop-part-test.false c.loop-part.invariant.all

@@ -17,9 +17,17 @@ loop-at-preserved c =
     let sorted : IsSortedAt old.items n new = rw c.as_mut_slice.ensures.value at c.in_ok-sort_at.ensures in
     record {
       long = ap length back ∙ (same ∙ (long ∙ c.loop-at.invariant.long));
-      acts = subst (AreActs items log) (sym back) (acts_sorted items log n old.items new sorted c.loop-at.invariant.acts);
-      sorted = subst (AreByActorTo (n + 1)) (sym back) (by_actor_next n old.items new sorted c.loop-at.invariant.sorted);
+      acts = subst (AreActs items log) (sym back)
+          (acts_sorted items log n old.items new sorted c.loop-at.invariant.acts);
+      sorted = subst (AreByActorTo (n + 1)) (sym back)
+          (by_actor_next n old.items new sorted c.loop-at.invariant.sorted);
     }
 
 pub returns-clause-sorted : goal.returns-clause-sorted
-returns-clause-sorted c = by_actor_all c.loop-at.at c.loop-at.acts.items (omega (arith, c.loop-at-test.false, c.loop-at.invariant.long, c.in_ok-acts.ensures.long)) c.loop-at.invariant.sorted
+returns-clause-sorted c =
+    by_actor_all c.loop-at.at c.loop-at.acts.items (omega (
+      arith,
+      c.loop-at-test.false,
+      c.loop-at.invariant.long,
+      c.in_ok-acts.ensures.long,
+    )) c.loop-at.invariant.sorted

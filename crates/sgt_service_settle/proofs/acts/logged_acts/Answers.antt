@@ -8,7 +8,12 @@ use Rattle.sgt_service_settle.proofs.acts.logged_acts.Goals.{in-Some+in_ok-push_
 use Rattle.sgt_names.proofs.Lists.{element_at}
 
 pub loop-place-init : goal.loop-place-init
-loop-place-init c = record { long = c.in_ok-acts.ensures.long; acts = acts_none c.args.items.now c.args.log.now c.in_ok-acts.acts.items c.in_ok-acts.ensures.none }
+loop-place-init c =
+    record {
+      long = c.in_ok-acts.ensures.long;
+      acts =
+          acts_none c.args.items.now c.args.log.now c.in_ok-acts.acts.items c.in_ok-acts.ensures.none;
+    }
 
 pub push_at-requires : goal.push_at-requires
 push_at-requires c =
@@ -33,13 +38,19 @@ loop-place-preserved c =
           let pushed = rw w.as_mut_slice.ensures.value at w.in_ok-push_at.ensures in
           record {
             long = rw w.acts-is (ap length back ∙ (same ∙ (long ∙ c.loop-place.invariant.long)));
-            acts = rw w.acts-is (subst (AreActsTo items log (m + 1)) (sym back) (acts_next items log m w.in-Some.at e k.0 old.items w.push_at.new.rows c.requires here k.1 k.2 pushed c.loop-place.invariant.acts));
+            acts = rw w.acts-is
+                (subst (AreActsTo items log (m + 1)) (sym back)
+                (acts_next items log m w.in-Some.at e k.0 old.items w.push_at.new.rows c.requires here k.1 k.2 pushed
+                c.loop-place.invariant.acts));
           }
       | in_default w ↦ record {
         long = rw w.acts-is c.loop-place.invariant.long;
-        acts = rw w.acts-is (acts_skip items log m e c.loop-place.acts.items here (λ at x item is. none-some at (sym w.in_default.is ∙ (c.place_in.ensures at).1 (x, item, is))) c.loop-place.invariant.acts);
+        acts = rw w.acts-is
+            (acts_skip items log m e c.loop-place.acts.items here (λ at x item is. none-some at (sym w.in_default.is
+            ∙ (c.place_in.ensures at).1 (x, item, is))) c.loop-place.invariant.acts);
       }
     ]
 
 pub returns-clause-acts : goal.returns-clause-acts
-returns-clause-acts c = acts_all c.args.items.now c.args.log.now c.loop-place.place c.loop-place.acts.items (omega (arith, c.loop-place-test.false)) c.loop-place.invariant.acts
+returns-clause-acts c = acts_all c.args.items.now c.args.log.now c.loop-place.place c.loop-place.acts.items
+    (omega (arith, c.loop-place-test.false)) c.loop-place.invariant.acts

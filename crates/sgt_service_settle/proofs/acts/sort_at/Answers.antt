@@ -12,6 +12,8 @@ pub returns : goal.returns
 returns c =
     let here = element_at c.args.acts.now c.args.at c.index-acts-at.result c.requires c.index-acts-at.is in
     sorted_row c.args.acts.now c.args.at c.index-acts-at.result c.sort_by_key.new.self here
-    (subst (λ (v : Vec AnAct Global). IsPermutation v.items c.sort_by_key.new.self.items) (sym c.index-acts-at.is) c.in_ok-sort_by_key.ensures.permutation)
+    (subst (λ (v : Vec AnAct Global). IsPermutation v.items c.sort_by_key.new.self.items) (sym c.index-acts-at.is)
+    c.in_ok-sort_by_key.ensures.permutation)
     (IsNonDecreasingBy-from_sort actor c.sort_by_key.new.self.items
-    (c.in_ok-sort_by_key.ensures.sorted actor (always_returns_same _ _ _ (λ a r g called. (search rules, search rules)))))
+    (c.in_ok-sort_by_key.ensures.sorted actor
+    (always_returns_same _ _ _ (λ a r g called. (search rules, search rules)))))

@@ -9,7 +9,14 @@ returns-then-left-told c =
     let n = c.loop-done.done-index in
     let here = element_at dones n c.done-item.result c.loop-done-test.true c.done-item.is in
     let inv = c.loop-done.invariant in
-    omega (arith, inv, met_on dones n c.done-item.result here, met_within dones (n + 1), c.if-left-told.true, c.len-told.ensures)
+    omega (
+      arith,
+      inv,
+      met_on dones n c.done-item.result here,
+      met_within dones (n + 1),
+      c.if-left-told.true,
+      c.len-told.ensures,
+    )
 
 pub loop-done-preserved : goal.loop-done-preserved
 loop-done-preserved c =

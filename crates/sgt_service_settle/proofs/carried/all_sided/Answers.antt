@@ -20,16 +20,22 @@ loop-at-preserved c q f low at due =
       | inr last ↦
           elim c.else-is_due.branch [
             | else-is_due-via-then-is_due+else-not-is_sided w ↦
-                subst (λ (x : AnEntry). IsSided (IsMarked c.args.backward.now (tx_of x)) (IsMarked c.args.forward.now (tx_of x)) c.args.cut.now.item c.args.place q e x) last.1
-                (subst (λ k. IsSided (IsMarked c.args.backward.now (tx_of seen)) (IsMarked c.args.forward.now (tx_of seen)) c.args.cut.now.item c.args.place k e seen) last.0
+                subst (λ (x : AnEntry). IsSided (IsMarked c.args.backward.now (tx_of x))
+                (IsMarked c.args.forward.now (tx_of x)) c.args.cut.now.item c.args.place q e x) last.1
+                (subst (λ k. IsSided (IsMarked c.args.backward.now (tx_of seen))
+                (IsMarked c.args.forward.now (tx_of seen)) c.args.cut.now.item c.args.place k e seen) last.0
                 (w.is_sided.ensures.0 w.if-not-is_sided.false))
             | else-is_due-via-else-is_due w ↦
-                absurd (true≢false (sym (c.is_due.ensures.1 (subst (λ (x : AnEntry). IsDue c.args.commits.now e x c.args.cut.now.last) (sym last.1) due)) ∙ w.if-is_due.false))
+                absurd (true≢false
+                (sym (c.is_due.ensures.1
+                (subst (λ (x : AnEntry). IsDue c.args.commits.now e x c.args.cut.now.last) (sym last.1) due))
+                ∙ w.if-is_due.false))
           ]
     ]
 
 pub returns : goal.returns
 returns c = (
-  λ yes q f at due. c.loop-at.invariant q f (let low = slice_get_within c.args.log.now q f at in omega (arith, low, c.loop-at-test.false)) at due,
+  λ yes q f at due. c.loop-at.invariant q f (let low = slice_get_within c.args.log.now q f at in
+      omega (arith, low, c.loop-at-test.false)) at due,
   λ all. refl,
 )

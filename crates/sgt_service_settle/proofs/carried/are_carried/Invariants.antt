@@ -11,5 +11,6 @@ invariant-loop-place l = record {
   forward : length l.forward.items ≡ l.all;
   backward : length l.backward.items ≡ l.all;
   carried : (p m : ℕ) (e : AnEntry) (x : Name) → p < l.place → slice_get l.log p ≡ Some e → item_of e ≡ Some x
-      → IsIn l.index.commits.items (tx_of e) m → IsPlaceCarried l.index l.log (record { site = l.site; item = x; last = m }) p e;
+      → IsIn l.index.commits.items (tx_of e) m
+      → IsPlaceCarried l.index l.log (record { site = l.site; item = x; last = m }) p e;
 }

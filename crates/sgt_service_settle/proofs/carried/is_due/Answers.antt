@@ -8,9 +8,12 @@ use Rattle.sgt_service_settle.proofs.carried.is_due.Goals as goal
 pub returns-then-number-last : goal.returns-then-number-last
 returns-then-number-last c = (
   λ yes. record {
-    apart = λ same. true≢false (sym yes ∙ (c.ne.ensures ∙ ap not (eq-eqb _ _ (c.tx-then-number-last.ensures ∙ (same ∙ sym c.tx-then-number-last-2.ensures)))));
+    apart = λ same. true≢false (sym yes
+        ∙ (c.ne.ensures
+        ∙ ap not (eq-eqb _ _ (c.tx-then-number-last.ensures ∙ (same ∙ sym c.tx-then-number-last-2.ensures)))));
     number = c.in-Some.number;
-    commit = subst (λ t. IsIn c.args.commits.now t c.in-Some.number) c.tx.ensures ((c.number_of.ensures c.in-Some.number).0 c.in-Some.is);
+    commit = subst (λ t. IsIn c.args.commits.now t c.in-Some.number) c.tx.ensures
+        ((c.number_of.ensures c.in-Some.number).0 c.in-Some.is);
     early = c.if-number-last.true;
   },
   λ due. elim (cases_Bool c.ne.result) [
@@ -27,7 +30,9 @@ pub returns-else-number-last : goal.returns-else-number-last
 returns-else-number-last c = (
   λ yes. absurd (omega (arith, c.if-number-last.false, leb-true _ _ yes)),
   λ due.
-      let mine : c.number_of.result ≡ Some due.number = (c.number_of.ensures due.number).1 (subst (λ t. IsIn c.args.commits.now t due.number) (sym c.tx.ensures) due.commit) in
+      let mine : c.number_of.result ≡ Some due.number =
+      (c.number_of.ensures due.number).1
+      (subst (λ t. IsIn c.args.commits.now t due.number) (sym c.tx.ensures) due.commit) in
       let same = same_Some c.in-Some.number due.number (sym c.in-Some.is ∙ mine) in
       absurd (omega (arith, c.if-number-last.false, same, due.early)),
 )
@@ -36,6 +41,8 @@ pub returns-in-None : goal.returns-in-None
 returns-in-None c = (
   λ yes. absurd (true≢false (sym yes)),
   λ due.
-      let mine : c.number_of.result ≡ Some due.number = (c.number_of.ensures due.number).1 (subst (λ t. IsIn c.args.commits.now t due.number) (sym c.tx.ensures) due.commit) in
+      let mine : c.number_of.result ≡ Some due.number =
+      (c.number_of.ensures due.number).1
+      (subst (λ t. IsIn c.args.commits.now t due.number) (sym c.tx.ensures) due.commit) in
       absurd (none-some due.number (sym c.in-None.is ∙ mine)),
 )

@@ -4,13 +4,17 @@ use Rattle.sgt_service_settle.proofs.carried.rows_of.Goals as goal
 
 pub leaving-requires : goal.leaving-requires
 leaving-requires c n l at =
-    let low = c.requires.ends n l (subst (λ xs. slice_get xs n ≡ Some l) c.as_slice-links.ensures.value at) in
-    (omega (arith, low.0, c.len-all.ensures, c.args.index.now.commits.ok.0), omega (arith, low.1, c.len-all.ensures, c.args.index.now.commits.ok.0))
+    let low = c.requires.ends n l (subst (λ xs. slice_get xs n ≡ Some l) c.as_slice-links.ensures.value at) in (
+      omega (arith, low.0, c.len-all.ensures, c.args.index.now.commits.ok.0),
+      omega (arith, low.1, c.len-all.ensures, c.args.index.now.commits.ok.0),
+    )
 
 pub entering-requires : goal.entering-requires
 entering-requires c n l at =
-    let low = c.requires.ends n l (subst (λ xs. slice_get xs n ≡ Some l) c.as_slice-links.ensures.value at) in
-    (omega (arith, low.0, c.len-all.ensures, c.args.index.now.commits.ok.0), omega (arith, low.1, c.len-all.ensures, c.args.index.now.commits.ok.0))
+    let low = c.requires.ends n l (subst (λ xs. slice_get xs n ≡ Some l) c.as_slice-links.ensures.value at) in (
+      omega (arith, low.0, c.len-all.ensures, c.args.index.now.commits.ok.0),
+      omega (arith, low.1, c.len-all.ensures, c.args.index.now.commits.ok.0),
+    )
 
 pub returns : goal.returns
 returns c = record {

@@ -15,7 +15,12 @@ pub first_unfit-requires-clause-there : goal.first_unfit-requires-clause-there
 first_unfit-requires-clause-there c = c.in_ok-index.ensures.long
 
 pub returns-in_err-tables-clause-err : goal.returns-in_err-tables-clause-err
-returns-in_err-tables-clause-err c = on-err c.from_residual-in_err-tables.result _ (0, c.has_first_counts.ensures.0 c.if-not-has_first_counts.false, λ k lt. absurd (omega (arith, lt)))
+returns-in_err-tables-clause-err c =
+    on-err c.from_residual-in_err-tables.result _ (
+      0,
+      c.has_first_counts.ensures.0 c.if-not-has_first_counts.false,
+      λ k lt. absurd (omega (arith, lt)),
+    )
 
 pub returns-in-Some-clause-ok : goal.returns-in-Some-clause-ok
 returns-in-Some-clause-ok c =
@@ -25,8 +30,10 @@ returns-in-Some-clause-ok c =
     let counts = c.args.counts.now in
     let index = c.in_ok-index.index in
     let found = rw c.in-Some.is at c.in_ok-unfit.ensures.ok in (
-      λ settled. found.1 (settled_fit history rulings index sites counts c.in-Some.site c.in_ok-index.ensures.index settled),
-      λ k lt. fit_settled history rulings index sites counts k c.in_ok-index.ensures.index c.requires.counts (omega (arith, lt, found.0)) (found.2 k lt),
+      λ settled. found.1 (settled_fit history rulings index sites counts c.in-Some.site c.in_ok-index.ensures.index
+          settled),
+      λ k lt. fit_settled history rulings index sites counts k c.in_ok-index.ensures.index c.requires.counts
+          (omega (arith, lt, found.0)) (found.2 k lt),
     )
 
 pub returns-clause-ok : goal.returns-clause-ok
@@ -38,8 +45,10 @@ returns-clause-ok c =
     let index = c.in_ok-index.index in
     let each = rw c.in_default-unfit.is at c.in_ok-unfit.ensures.ok in
     beyond_found history rulings index sites counts c.first_beyond.result c.in_ok-index.ensures.index
-    (λ k low. fit_settled history rulings index sites counts k c.in_ok-index.ensures.index c.requires.counts low (each k low))
-    (subst (λ hs. IsLeastOf (λ (h : AHanded). h.edge.label.site) (λ (h : AHanded). length sites ≤ h.edge.label.site) hs c.first_beyond.result) c.as_slice.ensures.value c.first_beyond.ensures)
+    (λ k low. fit_settled history rulings index sites counts k c.in_ok-index.ensures.index c.requires.counts low
+    (each k low))
+    (subst (λ hs. IsLeastOf (λ (h : AHanded). h.edge.label.site) (λ (h : AHanded). length sites ≤ h.edge.label.site)
+    hs c.first_beyond.result) c.as_slice.ensures.value c.first_beyond.ensures)
 
 pub returns-then-not-has_first_counts-clause-ok : goal.returns-then-not-has_first_counts-clause-ok
 returns-then-not-has_first_counts-clause-ok c =
@@ -50,16 +59,27 @@ returns-then-not-has_first_counts-clause-ok c =
     let first : c.in-Ok.first ≡ 0 = c.in-Ok.ensures.1 in (
       λ settled.
           let here = subst (λ k. IsSiteSettled history rulings counts k (slice_get sites k)) first settled in
-          true≢false (sym (c.has_first_counts.ensures.1 (settled_counted history rulings sites counts 0 here)) ∙ c.if-not-has_first_counts.true),
+          true≢false (sym (c.has_first_counts.ensures.1 (settled_counted history rulings sites counts 0 here))
+          ∙ c.if-not-has_first_counts.true),
       λ k lt. absurd (omega (arith, lt, first)),
     )
 
 pub returns-in_err-index-clause-err : goal.returns-in_err-index-clause-err
-returns-in_err-index-clause-err c = on-err c.from_residual.result _ (0, c.has_first_counts.ensures.0 c.if-not-has_first_counts.false, λ k lt. absurd (omega (arith, lt)))
+returns-in_err-index-clause-err c =
+    on-err c.from_residual.result _ (
+      0,
+      c.has_first_counts.ensures.0 c.if-not-has_first_counts.false,
+      λ k lt. absurd (omega (arith, lt)),
+    )
 
 pub returns-in_err-unfit-clause-err : goal.returns-in_err-unfit-clause-err
 returns-in_err-unfit-clause-err c =
     let history = c.args.certifier.now.history in
     let rulings = c.args.certifier.now.state.rulings in
     let at = c.in_err-unfit.ensures.err in
-    on-err c.from_residual-in_err-unfit.result _ (at.0, at.2, λ k lt. fit_settled history rulings c.in_ok-index.index c.args.sites.now c.args.counts.now k c.in_ok-index.ensures.index c.requires.counts (omega (arith, lt, at.1)) (at.3 k lt))
+    on-err c.from_residual-in_err-unfit.result _ (
+      at.0,
+      at.2,
+      λ k lt. fit_settled history rulings c.in_ok-index.index c.args.sites.now c.args.counts.now k
+          c.in_ok-index.ensures.index c.requires.counts (omega (arith, lt, at.1)) (at.3 k lt),
+    )

@@ -3,4 +3,5 @@ use Rattle.sgt_cert.specs.Certificate.{IsCommitted}
 use Rattle.sgt_service_settle.proofs.committed.above_all.Given as goal
 
 abbrev pub invariant-loop-decision : goal.invariant-loop-decision
-invariant-loop-decision l = (number tx rank : ℕ) → number < l.decision-index → IsCommitted l.decisions number tx rank → tx < l.above
+invariant-loop-decision l = (number tx rank : ℕ) → number < l.decision-index → IsCommitted l.decisions number tx rank
+    → tx < l.above

@@ -6,7 +6,8 @@ use Rattle.sgt_service_settle.proofs.course.add_change.Goals as goal
 pub returns-then-not-deed : goal.returns-then-not-deed
 returns-then-not-deed c =
     let old = c.args.course.now.changes.items in
-    let longer : length c.push-2.new.self.items ≡ length old + 1 = ap length c.in_ok-push-2.ensures.items ∙ length_push old c.args.deed.now in
+    let longer : length c.push-2.new.self.items ≡ length old + 1 = ap length c.in_ok-push-2.ensures.items
+    ∙ length_push old c.args.deed.now in
     record {
       changes = c.in_ok-push-2.ensures.items;
       none = c.new.result;

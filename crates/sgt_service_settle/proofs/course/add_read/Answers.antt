@@ -8,7 +8,8 @@ returns-then-course-deed c = record {
   written = refl;
   before = c.index_mut-reads.result.now;
   after = c.push.new.self;
-  was = element_at c.args.course.now.reads.items c.args.deed.now.version c.index_mut-reads.result.now c.requires.within c.index_mut-reads.ensures.value;
+  was = element_at c.args.course.now.reads.items c.args.deed.now.version c.index_mut-reads.result.now
+      c.requires.within c.index_mut-reads.ensures.value;
   now = refl;
   more = c.in_ok-push.ensures.items ∙ ap (λ xs. xs ++ c.args.deed.now ∷ []) c.in_ok-make_room.ensures;
   last = inl (c.if-course-deed.true, refl);
@@ -20,7 +21,8 @@ returns-else-course-deed c = record {
   written = refl;
   before = c.index_mut-reads.result.now;
   after = c.push.new.self;
-  was = element_at c.args.course.now.reads.items c.args.deed.now.version c.index_mut-reads.result.now c.requires.within c.index_mut-reads.ensures.value;
+  was = element_at c.args.course.now.reads.items c.args.deed.now.version c.index_mut-reads.result.now
+      c.requires.within c.index_mut-reads.ensures.value;
   now = refl;
   more = c.in_ok-push.ensures.items ∙ ap (λ xs. xs ++ c.args.deed.now ∷ []) c.in_ok-make_room.ensures;
   last = inr (c.if-course-deed.false, refl);

@@ -10,5 +10,6 @@ returns c = λ yes.
     record {
       end = end;
       turn = c.back_of-end.ensures.end;
-      noted = λ v d low high at. all_between (IsNoted marks.to.items marks.step c.args.tx) c.args.course.now.changes.items c.args.version end v d all low high at;
+      noted = λ v d low high at. all_between (IsNoted marks.to.items marks.step c.args.tx)
+          c.args.course.now.changes.items c.args.version end v d all low high at;
     }

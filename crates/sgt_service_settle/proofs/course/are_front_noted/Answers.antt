@@ -10,5 +10,6 @@ returns c = λ yes.
     record {
       first = first;
       turn = c.front_of-first.ensures.turn;
-      noted = λ v d low high at. all_between (IsNoted marks.from.items marks.step c.args.tx) c.args.course.now.changes.items first c.args.version v d all low high at;
+      noted = λ v d low high at. all_between (IsNoted marks.from.items marks.step c.args.tx)
+          c.args.course.now.changes.items first c.args.version v d all low high at;
     }

@@ -14,8 +14,10 @@ returns-in-Some-get c = λ yes.
     let first = c.in-Some-get.ensures.lookup in
     record {
       row = row;
-      at = ap (λ xs. slice_get xs c.args.version) (sym c.deref.ensures.value) ∙ element_at rows c.args.version row (ltb-true c.args.version (length rows) (sym found.0)) found.1;
+      at = ap (λ xs. slice_get xs c.args.version) (sym c.deref.ensures.value)
+          ∙ element_at rows c.args.version row (ltb-true c.args.version (length rows) (sym found.0)) found.1;
       place = 0;
       read = one;
-      has = ap (λ xs. slice_get xs 0) (sym c.deref-2.ensures.value) ∙ element_at reads 0 one (ltb-true 0 (length reads) (sym first.0)) first.1;
+      has = ap (λ xs. slice_get xs 0) (sym c.deref-2.ensures.value)
+          ∙ element_at reads 0 one (ltb-true 0 (length reads) (sym first.0)) first.1;
     }

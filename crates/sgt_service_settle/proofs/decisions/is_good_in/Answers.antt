@@ -7,8 +7,11 @@ use Rattle.sgt_names.proofs.Lists.{element_at}
 
 pub returns-then-number-ticket : goal.returns-then-number-ticket
 returns-then-number-ticket c =
-    let here = element_at c.args.history.now c.loop-call.call-index c.call-item.result c.loop-call-test.true c.call-item.is in
-    let k = walk_hit c.args.history.now c.loop-call.call-index c.loop-call.begun c.loop-call.before c.loop-call.number c.args.ticket c.call-item.result c.loop-call.invariant here (sym c.is_decision.ensures ∙ c.if-is_decision.true) c.if-number-ticket.true in
+    let here = element_at c.args.history.now c.loop-call.call-index c.call-item.result c.loop-call-test.true
+    c.call-item.is in
+    let k = walk_hit c.args.history.now c.loop-call.call-index c.loop-call.begun c.loop-call.before c.loop-call.number
+    c.args.ticket c.call-item.result c.loop-call.invariant here (sym c.is_decision.ensures
+    ∙ c.if-is_decision.true) c.if-number-ticket.true in
     (λ told. k.0 (c.tells.ensures.0 told), λ good. c.tells.ensures.1 (k.1 good))
 
 pub loop-call-preserved : goal.loop-call-preserved
@@ -20,14 +23,19 @@ loop-call-preserved c =
     rw c.windows_after.ensures (
     elim c.if-is_decision.branch [
       | then-is_decision+else-number-ticket w ↦
-          let early : c.loop-call.number < c.args.ticket.number = omega (arith, w.if-number-ticket.false, c.loop-call.invariant.early) in
-          rw w.number-is (walk_decided history n c.loop-call.begun c.loop-call.before c.loop-call.number c.args.ticket.number one c.loop-call.invariant here (sym c.is_decision.ensures ∙ w.if-is_decision.true) early)
+          let early : c.loop-call.number < c.args.ticket.number =
+          omega (arith, w.if-number-ticket.false, c.loop-call.invariant.early) in
+          rw w.number-is (walk_decided history n c.loop-call.begun c.loop-call.before c.loop-call.number
+          c.args.ticket.number one c.loop-call.invariant here (sym c.is_decision.ensures
+          ∙ w.if-is_decision.true) early)
       | else-is_decision w ↦
-          rw w.number-is (walk_on history n c.loop-call.begun c.loop-call.before c.loop-call.number c.args.ticket.number one c.loop-call.invariant here (sym c.is_decision.ensures ∙ w.if-is_decision.false))
+          rw w.number-is (walk_on history n c.loop-call.begun c.loop-call.before c.loop-call.number
+          c.args.ticket.number one c.loop-call.invariant here (sym c.is_decision.ensures ∙ w.if-is_decision.false))
     ])
 
 pub returns : goal.returns
 returns c = (
   λ told. absurd (true≢false (sym told)),
-  λ good. absurd (walk_ends c.args.history.now c.loop-call.call-index c.loop-call.begun c.loop-call.before c.loop-call.number c.args.ticket c.loop-call.invariant (omega (arith, c.loop-call-test.false)) good),
+  λ good. absurd (walk_ends c.args.history.now c.loop-call.call-index c.loop-call.begun c.loop-call.before
+      c.loop-call.number c.args.ticket c.loop-call.invariant (omega (arith, c.loop-call-test.false)) good),
 )

@@ -13,13 +13,23 @@ loop-call-preserved c =
     rw c.windows_after.ensures (
     elim c.match-verdict_of.branch [
       | in-Some+else-is_err w ↦
-          rw w.verdicts-is (rw w.push_reserved.ensures.items (rw w.reserve.ensures.items (tabled_verdict history n c.loop-call.begun c.loop-call.before c.loop-call.verdicts.items one w.in-Some.verdict c.loop-call.invariant here (sym c.verdict_of.ensures ∙ w.in-Some.is))))
+          rw w.verdicts-is
+          (rw w.push_reserved.ensures.items
+          (rw w.reserve.ensures.items
+          (tabled_verdict history n c.loop-call.begun c.loop-call.before c.loop-call.verdicts.items one
+          w.in-Some.verdict c.loop-call.invariant here (sym c.verdict_of.ensures ∙ w.in-Some.is))))
       | in_default w ↦
-          rw w.verdicts-is (tabled_on history n c.loop-call.begun c.loop-call.before c.loop-call.verdicts.items one c.loop-call.invariant here (sym c.verdict_of.ensures ∙ w.in_default.is))
+          rw w.verdicts-is (tabled_on history n c.loop-call.begun c.loop-call.before c.loop-call.verdicts.items one
+          c.loop-call.invariant here (sym c.verdict_of.ensures ∙ w.in_default.is))
     ])
 
 pub returns-then-is_err : goal.returns-then-is_err
-returns-then-is_err c = rw c.reserve.ensures.items (tabled_are c.args.history.now c.loop-call.call-index c.loop-call.begun c.loop-call.before c.loop-call.verdicts.items c.loop-call.invariant)
+returns-then-is_err c =
+    rw c.reserve.ensures.items
+    (tabled_are c.args.history.now c.loop-call.call-index c.loop-call.begun c.loop-call.before
+    c.loop-call.verdicts.items c.loop-call.invariant)
 
 pub returns : goal.returns
-returns c = tabled_are c.args.history.now c.loop-call.call-index c.loop-call.begun c.loop-call.before c.loop-call.verdicts.items c.loop-call.invariant
+returns c =
+    tabled_are c.args.history.now c.loop-call.call-index c.loop-call.begun c.loop-call.before
+    c.loop-call.verdicts.items c.loop-call.invariant

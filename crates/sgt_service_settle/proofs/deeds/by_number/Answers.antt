@@ -7,4 +7,5 @@ use Rattle.sgt_service_settle.proofs.deeds.by_number.Goals as goal
 pub returns-clause-sorted : goal.returns-clause-sorted
 returns-clause-sorted c =
     IsNonDecreasingBy-from_sort (λ (d : ADeed). d.number) c.sort_by_key.new.self.items
-    (c.in_ok-sort_by_key.ensures.sorted (λ (d : ADeed). d.number) (always_returns_same _ _ _ (λ a r g called. (search rules, search rules))))
+    (c.in_ok-sort_by_key.ensures.sorted (λ (d : ADeed). d.number)
+    (always_returns_same _ _ _ (λ a r g called. (search rules, search rules))))

@@ -46,22 +46,33 @@ loop-place-preserved c =
           let was = element_at old at before (omega (arith, within, inv.long)) w.index_mut.ensures.value in
           record {
             long = rw w.tracks-is (length-set old at after ∙ inv.long);
-            tracks = rw w.tracks-is (tracks_next commits items log n at cut.last e cut.item old (slice_set old at after) before after c.requires here k.0 k.1 item was refl w.in_ok-add.ensures.deeds w.in_ok-add.ensures.read w.in_ok-add.ensures.change inv.tracks);
+            tracks = rw w.tracks-is (tracks_next commits items log n at cut.last e cut.item old
+                (slice_set old at after) before after c.requires here k.0 k.1 item was refl w.in_ok-add.ensures.deeds
+                w.in_ok-add.ensures.read w.in_ok-add.ensures.change inv.tracks);
           }
       | in-Some+in_default-place_near w ↦
           let cut = w.in-Some.cut in
           let k = (c.cut_at.ensures cut).0 w.in-Some.is in
           record {
             long = rw w.tracks-is inv.long;
-            tracks = rw w.tracks-is (tracks_skip commits items log n e old here (λ m at x item commit there. none-some at (sym w.in_default-place_near.is ∙ (w.place_near.ensures at).1 (subst (λ y. IsItemAt items y at) (same_Some x cut.item (sym item ∙ k.0)) there))) inv.tracks);
+            tracks = rw w.tracks-is
+                (tracks_skip commits items log n e old here
+                (λ m at x item commit there. none-some at (sym w.in_default-place_near.is
+                ∙ (w.place_near.ensures at).1
+                (subst (λ y. IsItemAt items y at) (same_Some x cut.item (sym item ∙ k.0)) there))) inv.tracks);
           }
       | in_default w ↦ record {
         long = rw w.tracks-is inv.long;
-        tracks = rw w.tracks-is (tracks_skip commits items log n e old here (λ m at x item commit there. none-some _ (sym w.in_default.is ∙ (c.cut_at.ensures (record { site = c.args.site; item = x; last = m })).1 (item, commit, refl))) inv.tracks);
+        tracks = rw w.tracks-is
+            (tracks_skip commits items log n e old here (λ m at x item commit there. none-some _ (sym w.in_default.is
+            ∙ (c.cut_at.ensures (record { site = c.args.site; item = x; last = m })).1 (item, commit, refl)))
+            inv.tracks);
       }
     ]
 
 pub returns-clause-tracks : goal.returns-clause-tracks
 returns-clause-tracks c =
-    let whole : c.loop-place.place ≡ length c.args.log.now = omega (arith, c.loop-place-test.false, c.loop-place.auto.place-end) in
-    subst (λ n. AreTracks c.args.commits.now c.args.items.now c.args.log.now n c.loop-place.tracks.items) whole c.loop-place.invariant.tracks
+    let whole : c.loop-place.place ≡ length c.args.log.now =
+    omega (arith, c.loop-place-test.false, c.loop-place.auto.place-end) in
+    subst (λ n. AreTracks c.args.commits.now c.args.items.now c.args.log.now n c.loop-place.tracks.items) whole
+    c.loop-place.invariant.tracks

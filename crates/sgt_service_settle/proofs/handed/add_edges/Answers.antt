@@ -10,5 +10,8 @@ loop-place-preserved c =
     let old = c.args.handed.now.items in
     let before = take c.loop-place.place c.args.edges.now in
     let edge = c.at-edge.result in
-    let next = ap (map f) (take_next c.args.edges.now c.loop-place.place edge c.at-edge.ensures) ∙ map-append f before (edge ∷ []) in
-    c.in_ok-push.ensures.items ∙ (ap (λ z. z ++ f edge ∷ []) c.loop-place.invariant ∙ (append_assoc old (map f before) (f edge ∷ []) ∙ ap (λ z. old ++ z) (sym next)))
+    let next = ap (map f) (take_next c.args.edges.now c.loop-place.place edge c.at-edge.ensures)
+    ∙ map-append f before (edge ∷ []) in
+    c.in_ok-push.ensures.items
+    ∙ (ap (λ z. z ++ f edge ∷ []) c.loop-place.invariant
+    ∙ (append_assoc old (map f before) (f edge ∷ []) ∙ ap (λ z. old ++ z) (sym next)))

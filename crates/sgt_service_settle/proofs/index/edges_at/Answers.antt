@@ -12,5 +12,8 @@ returns c h =
     let place : c.number-place.result ≡ c.args.site = c.number-place.ensures.is in
     let low : c.number-place.result < length rows = omega (arith, place, c.requires.there) in
     let here = element_at rows c.number-place.result c.index.result.now low c.index.ensures in
-    let row = sited_row index.handed.items rows c.args.site c.index.result.now c.requires.paired.sited c.requires.there (subst (λ k. slice_get rows k ≡ Some c.index.result.now) place here) h in
-    subst (λ (hs : List AHanded). Contains hs h ↔ (Contains index.handed.items h × (h.edge.label.site ≡ c.args.site))) (sym c.as_slice.ensures.value) row
+    let row =
+    sited_row index.handed.items rows c.args.site c.index.result.now c.requires.paired.sited c.requires.there
+    (subst (λ k. slice_get rows k ≡ Some c.index.result.now) place here) h in
+    subst (λ (hs : List AHanded). Contains hs h ↔ (Contains index.handed.items h × (h.edge.label.site ≡ c.args.site)))
+    (sym c.as_slice.ensures.value) row

@@ -6,7 +6,8 @@ pub returns-in_default-clause-none : goal.returns-in_default-clause-none
 returns-in_default-clause-none c l k = none-some l.from (sym c.in_default.is ∙ (c.end_of.ensures l.from).1 k.from)
 
 pub returns-in_default-end_of-clause-none : goal.returns-in_default-end_of-clause-none
-returns-in_default-end_of-clause-none c l k = none-some l.to (sym c.in_default-end_of.is ∙ (c.end_of-2.ensures l.to).1 k.to)
+returns-in_default-end_of-clause-none c l k =
+    none-some l.to (sym c.in_default-end_of.is ∙ (c.end_of-2.ensures l.to).1 k.to)
 
 pub returns-clause-some : goal.returns-clause-some
 returns-clause-some c = record {

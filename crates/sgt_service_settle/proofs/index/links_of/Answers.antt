@@ -12,13 +12,20 @@ loop-one-preserved c =
     let here = element_at c.args.handed.now c.loop-one.one-index c.one-item.result c.loop-one-test.true c.one-item.is in
     elim c.match-link_of.branch [
       | in-Some+in_ok-push w ↦
-          rw w.links-is (rw w.in_ok-push.ensures.items (links_hit w' c.args.commits.now c.args.handed.now c.loop-one.one-index c.one-item.result c.loop-one.links.items w.in-Some.link here (rw w.in-Some.is at c.link_of.ensures.some) c.loop-one.invariant))
+          rw w.links-is
+          (rw w.in_ok-push.ensures.items
+          (links_hit w' c.args.commits.now c.args.handed.now c.loop-one.one-index c.one-item.result
+          c.loop-one.links.items w.in-Some.link here (rw w.in-Some.is at c.link_of.ensures.some)
+          c.loop-one.invariant))
       | in_default w ↦
-          rw w.links-is (links_miss w' c.args.commits.now c.args.handed.now c.loop-one.one-index c.one-item.result c.loop-one.links.items here (rw w.in_default.is at c.link_of.ensures.none) c.loop-one.invariant)
+          rw w.links-is (links_miss w' c.args.commits.now c.args.handed.now c.loop-one.one-index c.one-item.result
+          c.loop-one.links.items here (rw w.in_default.is at c.link_of.ensures.none) c.loop-one.invariant)
     ]
 
 pub loop-one-init : goal.loop-one-init
-loop-one-init c = rw (c.in_ok-reserve.ensures.items ∙ c.new-links.ensures.items) (links_none c.args.windows.now c.args.commits.now c.args.handed.now)
+loop-one-init c =
+    rw (c.in_ok-reserve.ensures.items ∙ c.new-links.ensures.items)
+    (links_none c.args.windows.now c.args.commits.now c.args.handed.now)
 
 pub returns : goal.returns
 returns c =

@@ -12,7 +12,12 @@ use Rattle.sgt_names.proofs.Lists.{element_at, take_next}
 use Rattle.sgt_service_settle.proofs.joined.follow_all.Goals as goal
 
 pub loop-deed-init : goal.loop-deed-init
-loop-deed-init c = record { under = c.requires.under; course = c.in_ok-course.ensures; carried = λ d e has other precedes. absurd (contains-none d has) }
+loop-deed-init c = record {
+  under = c.requires.under;
+  course = c.in_ok-course.ensures;
+  carried =
+      λ d e has other precedes. absurd (contains-none d has);
+}
 
 pub loop-deed-preserved : goal.loop-deed-preserved
 loop-deed-preserved c =
@@ -24,14 +29,20 @@ loop-deed-preserved c =
     let course = c.loop-deed.course in
     let inv = c.loop-deed.invariant in
     let start = c.first_since-start.result in
-    let sound : (e : ADeed) → Contains (take n order) e → IsSound e = λ e has. c.requires.sound e (front_contains order n e has) in
+    let sound : (e : ADeed) → Contains (take n order) e
+    → IsSound e = λ e has. c.requires.sound e (front_contains order n e has) in
     let early = λ (e : ADeed) (has : Contains (take n order) e). number_early order n d e c.requires.sorted here has in
-    let follows : Follows (ComesTo (drop start links) d) (LeadsTo (drop start links) d) course d = subst (λ (ls : List ALink). Follows (ComesTo ls d) (LeadsTo ls d) course d) (take_rest links start) (c.in_ok-joined.ensures.follows c.if-not-joined.false) in
+    let follows : Follows (ComesTo (drop start links) d) (LeadsTo (drop start links) d) course d =
+    subst (λ (ls : List ALink). Follows (ComesTo ls d) (LeadsTo ls d) course d) (take_rest links start)
+    (c.in_ok-joined.ensures.follows c.if-not-joined.false) in
     let more = take_next order n d here in
     record {
       under = c.in_ok-joined.ensures.under;
-      course = subst (λ xs. IsCourse xs c.join.new.course) (sym more) (c.in_ok-joined.ensures.course c.if-not-joined.false (take n order) inv.course);
-      carried = subst (AreDeedsCarried links) (sym more) (deeds_next links (take n order) d course inv.course sound early (c.in_ok-joined.ensures.fits c.if-not-joined.false) (follows_all links start course d follows) inv.carried);
+      course = subst (λ xs. IsCourse xs c.join.new.course) (sym more)
+          (c.in_ok-joined.ensures.course c.if-not-joined.false (take n order) inv.course);
+      carried =
+          subst (AreDeedsCarried links) (sym more) (deeds_next links (take n order) d course inv.course sound early
+          (c.in_ok-joined.ensures.fits c.if-not-joined.false) (follows_all links start course d follows) inv.carried);
     }
 
 pub returns-clause-carried : goal.returns-clause-carried

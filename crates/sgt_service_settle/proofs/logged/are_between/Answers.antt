@@ -10,8 +10,19 @@ use Rattle.sgt_service_settle.proofs.logged.are_between.Goals as goal
 pub returns-then-is_followed : goal.returns-then-is_followed
 returns-then-is_followed c =
     let k = c.is_followed.ensures.0 c.if-is_followed.true in
-    let here = element_at c.args.from.now c.loop-first.first-index c.first-item.result c.loop-first-test.true c.first-item.is in (
-      λ told. record { n = c.loop-first.first-index; m = k.0; a = c.first-item.result; b = k.1; first = here; second = k.2; before = k.3; clash = k.4 },
+    let here = element_at c.args.from.now c.loop-first.first-index c.first-item.result c.loop-first-test.true
+    c.first-item.is in (
+      λ told. record {
+        n = c.loop-first.first-index;
+        m = k.0;
+        a = c.first-item.result;
+        b = k.1;
+        first = here;
+        second =
+            k.2;
+        before = k.3;
+        clash = k.4;
+      },
       λ x. refl,
     )
 
@@ -23,12 +34,14 @@ loop-first-preserved c n m a b low first second lt clash =
       | inl early ↦ c.loop-first.invariant n m a b early first second lt clash
       | inr last ↦
           let before : seen.place < b.place = subst (λ (x : AnAct). x.place < b.place) (sym last.1) lt in
-          let clashes : Clash c.args.kind c.args.item.now seen.entry b.entry = subst (λ (x : AnAct). Clash c.args.kind c.args.item.now x.entry b.entry) (sym last.1) clash in
+          let clashes : Clash c.args.kind c.args.item.now seen.entry b.entry =
+          subst (λ (x : AnAct). Clash c.args.kind c.args.item.now x.entry b.entry) (sym last.1) clash in
           true≢false (sym (c.is_followed.ensures.1 (m, b, second, before, clashes)) ∙ c.if-is_followed.false)
     ]
 
 pub returns : goal.returns
 returns c = (
   λ told. absurd (true≢false (sym told)),
-  λ k. absurd (c.loop-first.invariant k.n k.m k.a k.b (let low = slice_get_within c.args.from.now k.n k.a k.first in omega (arith, low, c.loop-first-test.false)) k.first k.second k.before k.clash),
+  λ k. absurd (c.loop-first.invariant k.n k.m k.a k.b (let low = slice_get_within c.args.from.now k.n k.a k.first in
+      omega (arith, low, c.loop-first-test.false)) k.first k.second k.before k.clash),
 )

@@ -18,5 +18,6 @@ returns-in-Some c tx =
 pub returns-in-None : goal.returns-in-None
 returns-in-None c tx = (
   λ e. absurd (none-some tx e),
-  λ k. absurd (let low = slice_get_within c.args.windows.now c.args.handle.generation k.0 k.1 in omega (arith, low, c.in-None.ensures.lookup.3)),
+  λ k. absurd (let low = slice_get_within c.args.windows.now c.args.handle.generation k.0 k.1 in
+      omega (arith, low, c.in-None.ensures.lookup.3)),
 )

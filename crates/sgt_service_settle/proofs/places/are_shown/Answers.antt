@@ -16,9 +16,14 @@ loop-at-preserved c k n link low there = elim (cases_lt k c.loop-at.at) [
       let at = c.loop-at.at in
       let own : Vec ALink Global = c.index-rows-at.result in
       let same : at ≡ k = omega (arith, late, low) in
-      let is : own ≡ there.0 = same_Some own there.0 (sym (element_at rows at own c.loop-at-test.true c.index-rows-at.is) ∙ (ap (slice_get rows) same ∙ there.1)) in
-      let shown : All (IsShown c.args.log.now) own.items = subst (All (IsShown c.args.log.now)) c.as_slice-in-loop-at.ensures.value (c.is_row_shown.ensures c.if-not-is_row_shown.false) in
-      All_at (IsShown c.args.log.now) own.items n link shown (ap (λ (row : Vec ALink Global). slice_get row.items n) is ∙ there.2)
+      let is : own ≡ there.0 =
+      same_Some own there.0 (sym (element_at rows at own c.loop-at-test.true c.index-rows-at.is)
+      ∙ (ap (slice_get rows) same ∙ there.1)) in
+      let shown : All (IsShown c.args.log.now) own.items =
+      subst (All (IsShown c.args.log.now)) c.as_slice-in-loop-at.ensures.value
+      (c.is_row_shown.ensures c.if-not-is_row_shown.false) in
+      All_at (IsShown c.args.log.now) own.items n link shown
+      (ap (λ (row : Vec ALink Global). slice_get row.items n) is ∙ there.2)
 ]
 
 pub returns : goal.returns

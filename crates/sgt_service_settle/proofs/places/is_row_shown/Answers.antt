@@ -10,7 +10,10 @@ loop-link-preserved c =
     let links = c.args.links.now in
     let n = c.loop-link.link-index in
     let here = element_at links n c.link-item.result c.loop-link-test.true c.link-item.is in
-    All-next (IsShown c.args.log.now) links n c.link-item.result here (c.is_shown.ensures c.if-not-is_shown.false) c.loop-link.invariant
+    All-next (IsShown c.args.log.now) links n c.link-item.result here (c.is_shown.ensures c.if-not-is_shown.false)
+    c.loop-link.invariant
 
 pub returns : goal.returns
-returns c = λ yes. subst (All (IsShown c.args.log.now)) (take_all c.loop-link.link-index c.args.links.now (omega (arith, c.loop-link-test.false))) c.loop-link.invariant
+returns c =
+    λ yes. subst (All (IsShown c.args.log.now))
+    (take_all c.loop-link.link-index c.args.links.now (omega (arith, c.loop-link-test.false))) c.loop-link.invariant

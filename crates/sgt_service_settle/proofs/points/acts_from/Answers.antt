@@ -20,5 +20,8 @@ returns c a =
     let number : c.from-number.result ≡ tx = c.from-number.ensures ∙ c.number.ensures.is in
     let later = take_rest ys from in
     let low : Splits ys tx from = c.requires.point in
-    let high = subst (λ t. Splits (drop from ys) (t + 1) to) number (subst (λ (zs : List AnAct). Splits zs (c.from-number.result + 1) to) later c.count_below.ensures.point) in
-    subst (λ (zs : List AnAct). Contains (take to zs) a ↔ (Contains ys a × (actor a ≡ tx))) (sym later) (of_number-between actor ys tx from to low high a)
+    let high =
+    subst (λ t. Splits (drop from ys) (t + 1) to) number
+    (subst (λ (zs : List AnAct). Splits zs (c.from-number.result + 1) to) later c.count_below.ensures.point) in
+    subst (λ (zs : List AnAct). Contains (take to zs) a ↔ (Contains ys a × (actor a ≡ tx))) (sym later)
+    (of_number-between actor ys tx from to low high a)

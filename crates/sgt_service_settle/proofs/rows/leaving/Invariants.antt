@@ -3,4 +3,5 @@ use Rattle.sgt_service_settle.specs.private.Search.{Hold, LinksBy}
 use Rattle.sgt_service_settle.proofs.rows.leaving.Given as goal
 
 abbrev pub invariant-loop-link : goal.invariant-loop-link
-invariant-loop-link l = record { long : length l.rows.items ≡ l.all; hold : Hold l.rows.items (LinksBy (take l.link-index l.links)) }
+invariant-loop-link l =
+    record { long : length l.rows.items ≡ l.all; hold : Hold l.rows.items (LinksBy (take l.link-index l.links)) }

@@ -7,5 +7,6 @@ are_logged-requires-clause-sorted c = subst AreByActor (sym c.as_slice.ensures.v
 
 pub returns : goal.returns
 returns c =
-    let are : AreActs c.args.items.now c.args.log.now c.as_slice.result.now = rw c.as_slice.ensures.value c.in_ok-acts.ensures.acts in
+    let are : AreActs c.args.items.now c.args.log.now c.as_slice.result.now =
+    rw c.as_slice.ensures.value c.in_ok-acts.ensures.acts in
     c.are_logged.ensures c.args.log.now c.requires.known are

@@ -16,13 +16,16 @@ loop-one-preserved c =
     elim c.if-sites-number.branch [
       | then-sites-number w ↦
           rw w.least-is (rw w.lesser.ensures (rw (take_next handed n one here)
-          (least_hit (λ (h : AHanded). h.edge.label.site) (λ (h : AHanded). c.args.sites ≤ h.edge.label.site) _ one _ (omega (arith, w.if-sites-number.true, c.number.ensures.is)) c.loop-one.invariant)))
+          (least_hit (λ (h : AHanded). h.edge.label.site) (λ (h : AHanded). c.args.sites ≤ h.edge.label.site) _ one _
+          (omega (arith, w.if-sites-number.true, c.number.ensures.is)) c.loop-one.invariant)))
       | else-sites-number w ↦
           rw w.least-is (rw (take_next handed n one here)
-          (least_miss (λ (h : AHanded). h.edge.label.site) (λ (h : AHanded). c.args.sites ≤ h.edge.label.site) _ one _ (λ q. omega (arith, q, w.if-sites-number.false, c.number.ensures.is)) c.loop-one.invariant))
+          (least_miss (λ (h : AHanded). h.edge.label.site) (λ (h : AHanded). c.args.sites ≤ h.edge.label.site) _ one _
+          (λ q. omega (arith, q, w.if-sites-number.false, c.number.ensures.is)) c.loop-one.invariant))
     ]
 
 pub returns : goal.returns
 returns c =
     let whole = take_all c.loop-one.one-index c.args.handed.now (omega arith) in
-    subst (λ hs. IsLeastOf (λ (h : AHanded). h.edge.label.site) (λ (h : AHanded). c.args.sites ≤ h.edge.label.site) hs c.loop-one.least) whole c.loop-one.invariant
+    subst (λ hs. IsLeastOf (λ (h : AHanded). h.edge.label.site) (λ (h : AHanded). c.args.sites ≤ h.edge.label.site) hs
+    c.loop-one.least) whole c.loop-one.invariant

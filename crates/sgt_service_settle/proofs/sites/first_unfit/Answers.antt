@@ -20,7 +20,8 @@ returns-then-not-fit-clause-ok c =
     let counted = slice_get-get_or c.args.counts.now k none low in
     let site = c.in-Ok.ensures.1 in (
       omega (arith, site, c.loop-k-test.true),
-      unfit_at c.args.index.now c.args.sites.now c.args.counts.now k c.in-Ok.site c.index-sites-k.result (get_or c.args.counts.now k none) here counted site
+      unfit_at c.args.index.now c.args.sites.now c.args.counts.now k c.in-Ok.site c.index-sites-k.result
+          (get_or c.args.counts.now k none) here counted site
           (λ fit. true≢false (sym (c.in_ok-fit.ensures.ok.1 fit) ∙ c.if-not-fit.true)),
       λ j lt. c.loop-k.invariant.fit j (omega (arith, lt, site)),
     )
@@ -39,7 +40,8 @@ loop-k-preserved c = record {
         | inr late ↦
             let same : k ≡ j = omega (arith, late, lt) in
             subst (IsFitAt c.args.index.now c.args.sites.now c.args.counts.now) same
-            (fit_at c.args.index.now c.args.sites.now c.args.counts.now k c.in-Ok.site c.index-sites-k.result (get_or c.args.counts.now k none) here counted c.in-Ok.ensures.1
+            (fit_at c.args.index.now c.args.sites.now c.args.counts.now k c.in-Ok.site c.index-sites-k.result
+            (get_or c.args.counts.now k none) here counted c.in-Ok.ensures.1
             (c.in_ok-fit.ensures.ok.0 c.if-not-fit.false))
       ];
 }
@@ -54,4 +56,10 @@ returns-in_err-fit-clause-err c =
     let low : k < length c.args.counts.now = omega (arith, c.requires.counts, c.loop-k-test.true) in
     let here = element_at c.args.sites.now k c.index-sites-k.result c.loop-k-test.true c.index-sites-k.is in
     let counted = slice_get-get_or c.args.counts.now k none low in
-    on-err c.from_residual.result _ (k, c.loop-k-test.true, counted_at c.args.sites.now c.args.counts.now k c.in-Ok.site c.index-sites-k.result (get_or c.args.counts.now k none) here counted c.in-Ok.ensures.1 c.in_err-fit.ensures.err, λ j lt. c.loop-k.invariant.fit j lt)
+    on-err c.from_residual.result _ (
+      k,
+      c.loop-k-test.true,
+      counted_at c.args.sites.now c.args.counts.now k c.in-Ok.site c.index-sites-k.result
+          (get_or c.args.counts.now k none) here counted c.in-Ok.ensures.1 c.in_err-fit.ensures.err,
+      λ j lt. c.loop-k.invariant.fit j lt,
+    )

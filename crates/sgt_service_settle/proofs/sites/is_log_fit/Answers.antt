@@ -8,22 +8,30 @@ use Rattle.sgt_service_settle.proofs.Tying.{left_logged}
 use Rattle.sgt_service_settle.proofs.sites.is_log_fit.Goals as goal
 
 pub are_shown-shown-requires : goal.are_shown-shown-requires
-are_shown-shown-requires c = ap length c.as_slice-deeds.ensures.value ∙ (c.in_ok-tracks.ensures.long ∙ (sym c.in_ok-ties.ensures.long ∙ sym (ap length c.as_slice-rows.ensures.value)))
+are_shown-shown-requires c = ap length c.as_slice-deeds.ensures.value
+    ∙ (c.in_ok-tracks.ensures.long ∙ (sym c.in_ok-ties.ensures.long ∙ sym (ap length c.as_slice-rows.ensures.value)))
 
 pub are_joined-requires-clause-long : goal.are_joined-requires-clause-long
-are_joined-requires-clause-long c = ap length c.as_slice-deeds.ensures.value ∙ (c.in_ok-tracks.ensures.long ∙ (sym c.in_ok-ties.ensures.long ∙ sym (ap length c.as_slice-rows.ensures.value)))
+are_joined-requires-clause-long c = ap length c.as_slice-deeds.ensures.value
+    ∙ (c.in_ok-tracks.ensures.long ∙ (sym c.in_ok-ties.ensures.long ∙ sym (ap length c.as_slice-rows.ensures.value)))
 
 pub are_joined-requires-clause-sound : goal.are_joined-requires-clause-sound
-are_joined-requires-clause-sound c = subst AreSound (sym c.as_slice-deeds.ensures.value) (λ k t d at has. (c.in_ok-tracks.ensures.tracks.each k t at).sound d has)
+are_joined-requires-clause-sound c =
+    subst AreSound (sym c.as_slice-deeds.ensures.value)
+    (λ k t d at has. (c.in_ok-tracks.ensures.tracks.each k t at).sound d has)
 
 pub returns-then-not-told-clause-ok : goal.returns-then-not-told-clause-ok
 returns-then-not-told-clause-ok c =
     let log = c.args.log.now in
     let ties = c.in_ok-ties.ties in
     let told = rw c.as_slice-2.ensures.value at c.in_ok-told.ensures in
-    let left = left_logged c.args.index.now c.args.site log ties.rows.items ties.others.items c.edges_at.result.now c.unshown-edges.result.now c.are_shown-shown.result c.in_ok-ties.ensures.tied (λ yes. subst (AreShown log) c.as_slice-rows.ensures.value (c.are_shown-shown.ensures yes))
-    c.edges_at.ensures c.unshown-edges.ensures.yes c.unshown-edges.ensures.no in
-    (λ yes. absurd (true≢false (sym yes)), λ fit. absurd (true≢false (sym (told.1 (left.1 fit.edges)) ∙ c.if-not-told.true)))
+    let left = left_logged c.args.index.now c.args.site log ties.rows.items ties.others.items c.edges_at.result.now
+    c.unshown-edges.result.now c.are_shown-shown.result c.in_ok-ties.ensures.tied
+    (λ yes. subst (AreShown log) c.as_slice-rows.ensures.value (c.are_shown-shown.ensures yes))
+    c.edges_at.ensures c.unshown-edges.ensures.yes c.unshown-edges.ensures.no in (
+      λ yes. absurd (true≢false (sym yes)),
+      λ fit. absurd (true≢false (sym (told.1 (left.1 fit.edges)) ∙ c.if-not-told.true)),
+    )
 
 pub returns-then-joined-clause-ok : goal.returns-then-joined-clause-ok
 returns-then-joined-clause-ok c =
@@ -33,16 +41,26 @@ returns-then-joined-clause-ok c =
     let ties = c.in_ok-ties.ties in
     let tracks = c.in_ok-tracks.tracks.items in
     let told = rw c.as_slice-2.ensures.value at c.in_ok-told.ensures in
-    let left = left_logged index c.args.site log ties.rows.items ties.others.items c.edges_at.result.now c.unshown-edges.result.now c.are_shown-shown.result c.in_ok-ties.ensures.tied (λ yes. subst (AreShown log) c.as_slice-rows.ensures.value (c.are_shown-shown.ensures yes))
+    let left =
+    left_logged index c.args.site log ties.rows.items ties.others.items c.edges_at.result.now
+    c.unshown-edges.result.now c.are_shown-shown.result c.in_ok-ties.ensures.tied
+    (λ yes. subst (AreShown log) c.as_slice-rows.ensures.value (c.are_shown-shown.ensures yes))
     c.edges_at.ensures c.unshown-edges.ensures.yes c.unshown-edges.ensures.no in
-    let are : AreTracks index.commits.items items log (length log) tracks = subst (λ cs. AreTracks cs items log (length log) tracks) c.as_slice.ensures.value c.in_ok-tracks.ensures.tracks in
-    let carried : AreTracksCarried c.as_slice-rows.result.now c.as_slice-deeds.result.now = c.in_ok-joined.ensures.carried c.if-joined.true in
-    let by_rows : AreTracksCarried ties.rows.items c.as_slice-deeds.result.now = subst (λ rs. AreTracksCarried rs c.as_slice-deeds.result.now) c.as_slice-rows.ensures.value carried in
-    let by_tracks : AreTracksCarried ties.rows.items tracks = subst (AreTracksCarried ties.rows.items) c.as_slice-deeds.ensures.value by_rows in (
+    let are : AreTracks index.commits.items items log (length log) tracks =
+    subst (λ cs. AreTracks cs items log (length log) tracks) c.as_slice.ensures.value
+    c.in_ok-tracks.ensures.tracks in
+    let carried : AreTracksCarried c.as_slice-rows.result.now c.as_slice-deeds.result.now =
+    c.in_ok-joined.ensures.carried c.if-joined.true in
+    let by_rows : AreTracksCarried ties.rows.items c.as_slice-deeds.result.now =
+    subst (λ rs. AreTracksCarried rs c.as_slice-deeds.result.now) c.as_slice-rows.ensures.value carried in
+    let by_tracks : AreTracksCarried ties.rows.items tracks =
+    subst (AreTracksCarried ties.rows.items) c.as_slice-deeds.ensures.value by_rows in (
       λ yes. record {
         counted = c.has_counts.ensures.0 c.if-not-has_counts.false;
         edges = left.0 (told.0 c.if-not-told.false);
-        conflicts = all_carried index c.args.site items log tracks ties.rows.items c.requires.known c.in_ok-ties.ensures.links c.in_ok-ties.ensures.long are by_tracks;
+        conflicts =
+            all_carried index c.args.site items log tracks ties.rows.items c.requires.known c.in_ok-ties.ensures.links
+            c.in_ok-ties.ensures.long are by_tracks;
       },
       λ fit. refl,
     )
@@ -52,7 +70,9 @@ returns-clause-ok c =
     let log = c.args.log.now in
     let ties = c.in_ok-ties.ties in
     let told = rw c.as_slice-2.ensures.value at c.in_ok-told.ensures in
-    let left = left_logged c.args.index.now c.args.site log ties.rows.items ties.others.items c.edges_at.result.now c.unshown-edges.result.now c.are_shown-shown.result c.in_ok-ties.ensures.tied (λ yes. subst (AreShown log) c.as_slice-rows.ensures.value (c.are_shown-shown.ensures yes))
+    let left = left_logged c.args.index.now c.args.site log ties.rows.items ties.others.items c.edges_at.result.now
+    c.unshown-edges.result.now c.are_shown-shown.result c.in_ok-ties.ensures.tied
+    (λ yes. subst (AreShown log) c.as_slice-rows.ensures.value (c.are_shown-shown.ensures yes))
     c.edges_at.ensures c.unshown-edges.ensures.yes c.unshown-edges.ensures.no in (
       λ yes. record {
         counted = c.has_counts.ensures.0 c.if-not-has_counts.false;

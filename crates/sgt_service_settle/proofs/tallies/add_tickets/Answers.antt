@@ -17,12 +17,17 @@ loop-ticket-preserved c seen old =
     let n = c.loop-ticket.ticket-index in
     let t : ATicket = c.ticket-item.result in
     let here = element_at tickets n t c.loop-ticket-test.true c.ticket-item.is in
-    let longer = ap (λ xs. seen ++ xs) (take_next tickets n t here) ∙ sym (append_assoc seen (take n tickets) (t ∷ [])) in
+    let longer = ap (λ xs. seen ++ xs) (take_next tickets n t here)
+    ∙ sym (append_assoc seen (take n tickets) (t ∷ [])) in
     let was = c.loop-ticket.invariant seen old in
     elim c.if-number-tallies.branch [
       | then-number-tallies w ↦
-          rw w.tallies-is (rw longer (tallies_hit c.loop-ticket.tallies (seen ++ take n tickets) t (get_or c.loop-ticket.tallies t.number 0) w.one_more.result (slice_get-get_or c.loop-ticket.tallies t.number 0 w.if-number-tallies.true) w.one_more.ensures was))
-      | else-number-tallies w ↦ rw w.tallies-is (rw longer (tallies_miss c.loop-ticket.tallies (seen ++ take n tickets) t w.if-number-tallies.false was))
+          rw w.tallies-is
+          (rw longer (tallies_hit c.loop-ticket.tallies (seen ++ take n tickets) t
+          (get_or c.loop-ticket.tallies t.number 0) w.one_more.result
+          (slice_get-get_or c.loop-ticket.tallies t.number 0 w.if-number-tallies.true) w.one_more.ensures was))
+      | else-number-tallies w ↦ rw w.tallies-is
+          (rw longer (tallies_miss c.loop-ticket.tallies (seen ++ take n tickets) t w.if-number-tallies.false was))
     ]
 
 pub returns : goal.returns

@@ -4,4 +4,5 @@ use Rattle.sgt_service_settle.specs.private.Tickets.{AreTallies}
 use Rattle.sgt_service_settle.proofs.tallies.add_tickets.Given as goal
 
 abbrev pub invariant-loop-ticket : goal.invariant-loop-ticket
-invariant-loop-ticket l = (seen : List ATicket) → AreTallies l.fn.tallies seen → AreTallies l.tallies (seen ++ take l.ticket-index l.tickets)
+invariant-loop-ticket l = (seen : List ATicket) → AreTallies l.fn.tallies seen
+    → AreTallies l.tallies (seen ++ take l.ticket-index l.tickets)

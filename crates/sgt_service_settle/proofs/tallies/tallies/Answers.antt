@@ -19,7 +19,8 @@ loop-done-preserved c =
     let back = written_back old.items new old.len (omega (arith, old.ok.0, same, long)) in
     let added = rw c.as_mut_slice.ensures.value at (rw c.as_slice.ensures.value at c.add_tickets.ensures) in
     subst (λ ts. AreTallies ts (tickets_of (take (n + 1) dones))) (sym back)
-    (subst (AreTallies new) (sym (tickets_on dones n c.done-item.result here)) (added (tickets_of (take n dones)) c.loop-done.invariant))
+    (subst (AreTallies new) (sym (tickets_on dones n c.done-item.result here))
+    (added (tickets_of (take n dones)) c.loop-done.invariant))
 
 pub returns : goal.returns
 returns c =

@@ -9,5 +9,6 @@ loop-number-preserved c j low =
       | inl early ↦ c.loop-number.invariant j early
       | inr late ↦
           let same : c.loop-number.number ≡ j = omega (arith, late, low) in
-          subst (λ k. count_of k (tickets_of c.args.dones.now) ≤ 1) same (omega (arith, c.tally.ensures, c.if-tally-eq2.false))
+          subst (λ k. count_of k (tickets_of c.args.dones.now) ≤ 1) same
+          (omega (arith, c.tally.ensures, c.if-tally-eq2.false))
     ]

@@ -18,13 +18,18 @@ loop-done-preserved c =
     elim c.if-not-rise.branch [
       | then-not-rise w ↦
           rw w.least-is (rw w.lesser.ensures (rw (take_next dones n one here)
-          (least_hit (λ (d : ADone). d.job) (λ (d : ADone). Rises d → ⊥) _ one _ (λ rises. true≢false (sym (c.rise.ensures.1 (rw c.as_slice.ensures.value rises)) ∙ w.if-not-rise.true)) c.loop-done.invariant)))
+          (least_hit (λ (d : ADone). d.job) (λ (d : ADone). Rises d
+          → ⊥) _ one _ (λ rises. true≢false (sym (c.rise.ensures.1 (rw c.as_slice.ensures.value rises))
+          ∙ w.if-not-rise.true)) c.loop-done.invariant)))
       | else-not-rise w ↦
           rw w.least-is (rw (take_next dones n one here)
-          (least_miss (λ (d : ADone). d.job) (λ (d : ADone). Rises d → ⊥) _ one _ (λ not_so. not_so (rw c.as_slice.ensures.value at (c.rise.ensures.0 w.if-not-rise.false))) c.loop-done.invariant))
+          (least_miss (λ (d : ADone). d.job) (λ (d : ADone). Rises d
+          → ⊥) _ one _ (λ not_so. not_so (rw c.as_slice.ensures.value at (c.rise.ensures.0 w.if-not-rise.false)))
+          c.loop-done.invariant))
     ]
 
 pub returns : goal.returns
 returns c =
     let whole = take_all c.loop-done.done-index c.args.dones.now (omega arith) in
-    subst (λ ds. IsLeastOf (λ (d : ADone). d.job) (λ (d : ADone). Rises d → ⊥) ds c.loop-done.least) whole c.loop-done.invariant
+    subst (λ ds. IsLeastOf (λ (d : ADone). d.job) (λ (d : ADone). Rises d → ⊥) ds c.loop-done.least) whole
+    c.loop-done.invariant

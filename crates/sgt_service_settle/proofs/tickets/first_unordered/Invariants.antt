@@ -5,4 +5,5 @@ use Rattle.sgt_service_settle.specs.private.Words.{IsLeastOf}
 use Rattle.sgt_service_settle.proofs.tickets.first_unordered.Given as goal
 
 abbrev pub invariant-loop-done : goal.invariant-loop-done
-invariant-loop-done l = IsLeastOf (λ (d : ADone). d.job) (λ (d : ADone). Rises d → ⊥) (take l.done-index l.dones) l.least
+invariant-loop-done l = IsLeastOf (λ (d : ADone). d.job) (λ (d : ADone). Rises d
+    → ⊥) (take l.done-index l.dones) l.least

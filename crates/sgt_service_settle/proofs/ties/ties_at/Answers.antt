@@ -44,7 +44,9 @@ loop-one-preserved c =
           let tied = tied_hit index items edges others n w.in-Some.at one old.items new here tie inv.tied in
           record {
             long = ap length back ∙ (same ∙ (long ∙ inv.long));
-            links = subst (AreItemLinks index.links.items c.args.site items) (sym back) (item_links_next index.links.items c.args.site items old.items new w.in-Some.at link among site tie.added.item tie.added.pushed inv.links);
+            links = subst (AreItemLinks index.links.items c.args.site items) (sym back)
+                (item_links_next index.links.items c.args.site items old.items new w.in-Some.at link among site
+                tie.added.item tie.added.pushed inv.links);
             tied = rw w.others-is (subst (λ rs. AreTiedOf index (take (n + 1) edges) rs others) (sym back) tied);
           }
       | in-None+in_ok-push-in-None w ↦
@@ -53,7 +55,9 @@ loop-one-preserved c =
           record {
             long = ap length back ∙ (same ∙ (long ∙ inv.long));
             links = subst (AreItemLinks index.links.items c.args.site items) (sym (back ∙ kept)) inv.links;
-            tied = rw w.others-is (rw w.in_ok-push-in-None.ensures.items (subst (λ rs. AreTiedOf index (take (n + 1) edges) rs (others ++ one ∷ [])) (sym (back ∙ kept)) tied));
+            tied = rw w.others-is
+                (rw w.in_ok-push-in-None.ensures.items
+                (subst (λ rs. AreTiedOf index (take (n + 1) edges) rs (others ++ one ∷ [])) (sym (back ∙ kept)) tied));
           }
     ]
 
@@ -61,4 +65,6 @@ pub returns-clause-tied : goal.returns-clause-tied
 returns-clause-tied c =
     let edges = c.edges_at-edges.result.now in
     let whole = take_all c.loop-one.one-index edges (omega (arith, c.loop-one-test.false)) in
-    tied_all c.args.index.now c.args.site edges c.loop-one.others.items c.loop-one.rows.items c.edges_at-edges.ensures (subst (λ hs. AreTiedOf c.args.index.now hs c.loop-one.rows.items c.loop-one.others.items) whole c.loop-one.invariant.tied)
+    tied_all c.args.index.now c.args.site edges c.loop-one.others.items c.loop-one.rows.items c.edges_at-edges.ensures
+    (subst (λ hs. AreTiedOf c.args.index.now hs c.loop-one.rows.items c.loop-one.others.items) whole
+    c.loop-one.invariant.tied)

@@ -12,7 +12,12 @@ pub returns-then-not-agrees : goal.returns-then-not-agrees
 returns-then-not-agrees c =
     let here = element_at c.args.sites.now c.loop-k.k c.index-sites-k.result c.loop-k-test.true c.index-sites-k.is in
     let site = c.in-Ok.ensures.1 in (
-      (c.index-sites-k.result, ap (slice_get c.args.sites.now) site ∙ here, λ all. true≢false (sym (c.agrees.ensures.1 all) ∙ c.if-not-agrees.true)),
+      (
+        c.index-sites-k.result,
+        ap (slice_get c.args.sites.now) site
+            ∙ here,
+        λ all. true≢false (sym (c.agrees.ensures.1 all) ∙ c.if-not-agrees.true),
+      ),
       λ j s lt at. c.loop-k.invariant j s (omega (arith, lt, site)) at,
     )
 
@@ -25,4 +30,6 @@ loop-k-preserved c j s low at =
     ]
 
 pub returns : goal.returns
-returns c = All-from_at (VersionsAgree c.args.certifier.now.history) c.args.sites.now (λ n s at. c.loop-k.invariant n s (let low = slice_get_within c.args.sites.now n s at in omega (arith, low, c.loop-k-test.false)) at)
+returns c = All-from_at (VersionsAgree c.args.certifier.now.history) c.args.sites.now
+    (λ n s at. c.loop-k.invariant n s (let low = slice_get_within c.args.sites.now n s at in
+    omega (arith, low, c.loop-k-test.false)) at)

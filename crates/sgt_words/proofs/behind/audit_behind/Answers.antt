@@ -8,4 +8,5 @@ returns-in_err-workers-clause-all c = λ choice is says.
     let first : c.in-Some.word.now ≡ codes "--workers" = search rules in
     let options : map string_bytes c.args.options.now ≡ codes "--workers" ∷ c.in_ok-only_of.field-0.now ∷ [] =
     c.in-Some.ensures ∙ (ap (λ t. t ∷ map string_bytes c.in-Some.behind.now) first ∙ ap (λ l. codes "--workers" ∷ l) c.in_ok-only_of.ensures) in
-    absurd (no_workers _ _ options (none_told c.workers_of.result (SaysWorkers c.in_ok-only_of.field-0.now) c.in_err-workers.was c.workers_of.ensures.all) choice is says)
+    absurd (no_workers _ _ options (none_told c.workers_of.result (SaysWorkers c.in_ok-only_of.field-0.now)
+    c.in_err-workers.was c.workers_of.ensures.all) choice is says)

@@ -6,5 +6,7 @@ use Rattle.sgt_words.proofs.behind.explain_behind.Goals as goal
 pub returns-in_err-tx_told-in-None-clause-all : goal.returns-in_err-tx_told-in-None-clause-all
 returns-in_err-tx_told-in-None-clause-all c = λ choice is says.
     absurd (no_explained (map string_bytes c.args.options.now)
-    (mapped_some string_bytes c.args.options.now (filled c.args.options.now c.is_empty.result c.is_empty.ensures c.if-is_empty.false)) c.in-None.ensures.none
-    (none_told c.tx_told.result (TellsTx (map string_bytes c.args.options.now)) c.in_err-tx_told-in-None.was c.tx_told.ensures.all) choice is says)
+    (mapped_some string_bytes c.args.options.now
+    (filled c.args.options.now c.is_empty.result c.is_empty.ensures c.if-is_empty.false)) c.in-None.ensures.none
+    (none_told c.tx_told.result (TellsTx (map string_bytes c.args.options.now)) c.in_err-tx_told-in-None.was
+    c.tx_told.ensures.all) choice is says)

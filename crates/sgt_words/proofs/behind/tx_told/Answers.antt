@@ -29,5 +29,6 @@ pub returns-clause-all : goal.returns-clause-all
 returns-clause-all c =
     let cut = c.in_ok-strip_prefix.ensures.cases in
     let word : c.in_ok-only_of-2.field-0.now ≡ codes "--tx=" ++ c.in_ok-strip_prefix.field-0.now = cut.1.1 ∙ ap (λ l. codes "--tx=" ++ l) (sym cut.2) in
-    tx_joined (map string_bytes c.args.words.now) c.in_ok-only_of-2.field-0.now c.in_ok-strip_prefix.field-0.now c.tx_of-2.result
+    tx_joined (map string_bytes c.args.words.now) c.in_ok-only_of-2.field-0.now c.in_ok-strip_prefix.field-0.now
+    c.tx_of-2.result
     c.in_ok-only_of-2.ensures word c.tx_of-2.ensures.all

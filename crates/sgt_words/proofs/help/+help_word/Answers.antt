@@ -4,5 +4,7 @@ use Rattle.sgt_words.proofs.Helping.{of_the_others}
 use Rattle.sgt_words.proofs.help.+help_word.Goals as goal
 
 pub returns : goal.returns
-returns t c = of_the_others NamesHelp c.in_ok-word.word.now (map string_bytes c.in_ok-word.behind.now) _ _ c.in_ok-word.ensures
-    (λ names. let is_true = c.names_help.ensures.1 names in let is_false = c.if-names_help.false in absurd cc) c.help_word.ensures
+returns t c = of_the_others NamesHelp c.in_ok-word.word.now (map string_bytes c.in_ok-word.behind.now) _ _
+    c.in_ok-word.ensures
+    (λ names. let is_true = c.names_help.ensures.1 names in let is_false = c.if-names_help.false in
+    absurd cc) c.help_word.ensures

@@ -6,14 +6,17 @@ use Rattle.sgt_words.proofs.options.choose_run.Goals as goal
 
 pub returns-in-Err-2-clause-all : goal.returns-in-Err-2-clause-all
 returns-in-Err-2-clause-all c = λ workers tries asked.
-    let memory = c.lacks_memory.ensures.1 (wants_memory ArgMatches (app_of c.in_ok-line.line) (map string_bytes c.args.words.now) c.in-Err.error
+    let memory =
+    c.lacks_memory.ensures.1
+    (wants_memory ArgMatches (app_of c.in_ok-line.line) (map string_bytes c.args.words.now) c.in-Err.error
     c.in_ok-line.ensures c.in-Err.ensures.kinds asked.taken) in
     let no = c.if-lacks_memory.false in
     absurd cc
 
 pub returns-in-Some-clause-some : goal.returns-in-Some-clause-some
 returns-in-Some-clause-some c =
-    says (app_of c.in_ok-line.line) (map string_bytes c.args.words.now) c.in-Ok.matches c.in-Some.workers c.in-Some.tries
+    says (app_of c.in_ok-line.line) (map string_bytes c.args.words.now) c.in-Ok.matches c.in-Some.workers
+    c.in-Some.tries
     c.in_ok-line.ensures c.in-Ok.ensures.ok.2 c.in-Ok.ensures.kinds c.in-Some.ensures.found
 
 pub returns-in-Some-clause-all : goal.returns-in-Some-clause-all

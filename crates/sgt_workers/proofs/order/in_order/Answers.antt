@@ -11,7 +11,9 @@ returns-clause-jobs c =
     let given = c.args.dones.items in
     let sorted = c.sort_unstable_by_key.new.self.items in
     let same = c.sort_unstable_by_key.ensures.permutation in
-    let up = IsNonDecreasingBy-from_sort_by_key (λ (d : Done). d.job) sorted c.sort_unstable_by_key.ensures.sorted (λ a r f' called. search) in
+    let up = IsNonDecreasingBy-from_sort_by_key (λ (d : Done). d.job) sorted c.sort_unstable_by_key.ensures.sorted
+    (λ a r f' called. search) in
     λ jobs within all.
     in_turn sorted jobs up (All-permutation (λ (d : Done). IsJob jobs d.job) given sorted same within)
-    (λ weight. weigh_jobs weight sorted ∙ sum_by-IsPermutation (λ (d : Done). weight d.job) given sorted same ∙ sym (weigh_jobs weight given) ∙ all weight)
+    (λ weight. weigh_jobs weight sorted ∙ sum_by-IsPermutation (λ (d : Done). weight d.job) given sorted same
+    ∙ sym (weigh_jobs weight given) ∙ all weight)

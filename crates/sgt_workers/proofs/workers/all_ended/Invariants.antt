@@ -9,5 +9,6 @@ use Rattle.sgt_workers.proofs.workers.all_ended.Given as goal
 abbrev pub invariant-loop-end : goal.invariant-loop-end
 invariant-loop-end g l = record {
   own : All (λ e. IfErr e IsOwn) l.yielded;
-  so_far : MatchOption l.fault (l.yielded ≡ map Ok l.reports.items) (λ f. (f ≡ Memory) ⊎ Contains l.yielded (Err (Pool f)));
+  so_far : MatchOption l.fault (l.yielded ≡ map Ok l.reports.items) (λ f. (f ≡ Memory)
+      ⊎ Contains l.yielded (Err (Pool f)));
 }

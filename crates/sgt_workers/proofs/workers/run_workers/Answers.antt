@@ -10,14 +10,16 @@ returns-clause-keeps g c =
     if_ok_both c.map_vec.result _ _ _ c.map_vec.ensures.len c.map_vec.ensures.each (λ v len each.
     zip_by _ c.args.kits.items v.items (sym v.ok.0 ∙ len ∙ c.args.kits.ok.0) (λ i a b h.
     let k = (each i b h).1 in
-    subst (λ (j : Kit g.row.S.Denot). IfOk (slice_index_or v.items i b) (λ r. g.W.Work.keeps j.state r.state)) (sym (k.job_is a)) k.call.met.1.0))
+    subst (λ (j : Kit g.row.S.Denot). IfOk (slice_index_or v.items i b) (λ r. g.W.Work.keeps j.state r.state))
+    (sym (k.job_is a)) k.call.met.1.0))
 
 pub returns-clause-reports : goal.returns-clause-reports
 returns-clause-reports g c =
     if_ok_both c.map_vec.result _ _ _ c.map_vec.ensures.len c.map_vec.ensures.each (λ v len each.
     zip_by _ c.args.kits.items v.items (sym v.ok.0 ∙ len ∙ c.args.kits.ok.0) (λ i a b h.
     let k = (each i b h).1 in
-    subst (λ (j : Kit g.row.S.Denot). IfOk (slice_index_or v.items i b) (IsReport (g.W.Work.does c.args.work.now) c.args.scripts.now j.state)) (sym (k.job_is a)) k.call.met.1.1.0))
+    subst (λ (j : Kit g.row.S.Denot). IfOk (slice_index_or v.items i b)
+    (IsReport (g.W.Work.does c.args.work.now) c.args.scripts.now j.state)) (sym (k.job_is a)) k.call.met.1.1.0))
 
 pub returns-clause-answers : goal.returns-clause-answers
 returns-clause-answers g c =

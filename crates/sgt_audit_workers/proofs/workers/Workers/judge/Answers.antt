@@ -20,20 +20,37 @@ returns-clause-goes g c told left next works section =
     let was = rw c.in-Ok.is at (c.in_ok-free.ensures.goes told left works) in
     let h = arc_value c.free.new.self.head in
     let most = c.free.new.self.most in
-    let job : Job = record { alone = c.in-Ok.free.alone; site = c.free.new.self.tally.whole + c.len.result; section = c.args.section; judged = Ok Unfit } in
+    let job : Job = record {
+      alone = c.in-Ok.free.alone;
+      site = c.free.new.self.tally.whole + c.len.result;
+      section =
+          c.args.section;
+      judged = Ok Unfit;
+    } in
     let given = subst (λ m. IsNextSection m left c.args.section next) (sym c.in_ok-free.ensures.same.most) section in
     record {
       middle = was.middle;
       tallied = was.tallied;
-      running = subst (λ (rs : List Running). AreRunning h most was.middle c.free.new.self.tally.whole rs next) (sym c.in_ok-add.ensures)
-          (running-more h most was.middle left next c.free.new.self.tally.whole _ c.free.new.self.running.items c.start-running.result job was.running refl (record { site = omega (arith, c.len.ensures); section = given })
+      running = subst (λ (rs : List Running). AreRunning h most was.middle c.free.new.self.tally.whole rs next)
+          (sym c.in_ok-add.ensures)
+          (running-more h most was.middle left next c.free.new.self.tally.whole _ c.free.new.self.running.items
+          c.start-running.result job was.running refl (record {
+            site = omega (arith, c.len.ensures);
+            section =
+                given;
+          })
           (subst (λ (x : Head). Will x job c.start-running.result) c.in_ok-theirs.ensures c.start-running.ensures));
     }
 
 pub returns-clause-given : goal.returns-clause-given
 returns-clause-given g c =
     let same = rw c.in-Ok.is at c.in_ok-free.ensures.given in
-    omega (arith, same, ap length c.in_ok-add.ensures, length-append c.free.new.self.running.items (c.start-running.result ∷ []))
+    omega (
+      arith,
+      same,
+      ap length c.in_ok-add.ensures,
+      length-append c.free.new.self.running.items (c.start-running.result ∷ []),
+    )
 
 pub returns-in-Err-clause-goes : goal.returns-in-Err-clause-goes
 returns-in-Err-clause-goes g c told left next works section =
@@ -42,5 +59,6 @@ returns-in-Err-clause-goes g c told left next works section =
     let most = c.free.new.self.most in
     let many = length c.args.self.now.running.items in
     let given = subst (λ m. IsNextSection m left c.args.section next) (sym c.in_ok-free.ensures.same.most) section in
-    found-on (second_size h) (many * longest most) (longest most) ((many + 1) * longest most) told left next c.args.section.bytes.items c.in-Err.verdict found given.bytes (omega (arith, given.short))
+    found-on (second_size h) (many * longest most) (longest most) ((many + 1) * longest most) told left next
+    c.args.section.bytes.items c.in-Err.verdict found given.bytes (omega (arith, given.short))
     (omega (arith, suc-mul many (longest most), ap (λ k. k * longest most) (add-one many)))

@@ -10,5 +10,6 @@ use Rattle.sgt_certify_faults.proofs.asked.Askings.add_line.Goals as goal
 pub returns-in-Logged : goal.returns-in-Logged
 returns-in-Logged c =
     on_ok_weaker c.add.result (λ adds entries are.
-    subst (λ (l : SectionLine). AreAskings (entries ++ filter_map logged_in (l ∷ [])) c.add.new.self) (sym c.in-Logged.is) (adds entries are))
+    subst (λ (l : SectionLine). AreAskings (entries ++ filter_map logged_in (l ∷ [])) c.add.new.self)
+    (sym c.in-Logged.is) (adds entries are))
     c.add.ensures

@@ -10,6 +10,8 @@ pub returns-in-Ok : goal.returns-in-Ok
 returns-in-Ok c =
     let is = c.in-Ok.ensures in
     on-ok c.add.result (HasOneMore c.args.self.now c.add.new.self c.args.line c.in-Ok.read)
-    ((read : SectionLine) → IsLine read → c.args.text.now ≡ line_text read → HasOneMore c.args.self.now c.add.new.self c.args.line read)
-    (λ more read one e. subst (HasOneMore c.args.self.now c.add.new.self c.args.line) (line-one c.in-Ok.read read is.0 one (sym is.1 ∙ e)) more)
+    ((read : SectionLine) → IsLine read → c.args.text.now ≡ line_text read
+    → HasOneMore c.args.self.now c.add.new.self c.args.line read)
+    (λ more read one e. subst (HasOneMore c.args.self.now c.add.new.self c.args.line)
+    (line-one c.in-Ok.read read is.0 one (sym is.1 ∙ e)) more)
     c.add.ensures

@@ -11,15 +11,19 @@ pub returns-in-Dashes : goal.returns-in-Dashes
 returns-in-Dashes c = λ first taken. dashed c.args.command first taken _ _ c.args.kind c.in-Dashes.is c.requires
 
 pub returns-in-Numbered : goal.returns-in-Numbered
-returns-in-Numbered c = λ first taken. numbered c.args.command first taken _ _ c.args.kind _ c.in-Numbered.is c.requires c.in_ok-leave-in-Numbered.ensures
+returns-in-Numbered c =
+    λ first taken. numbered c.args.command first taken _ _ c.args.kind _ c.in-Numbered.is c.requires
+    c.in_ok-leave-in-Numbered.ensures
 
 pub returns-in-Place : goal.returns-in-Place
 returns-in-Place c = on_ok c.add_place.result _ _
-    (λ after waits first taken. waits_place c.args.command first taken _ _ c.args.kind after _ c.in-Place.is c.requires waits) c.add_place.ensures
+    (λ after waits first taken. waits_place c.args.command first taken _ _ c.args.kind after _ c.in-Place.is
+    c.requires waits) c.add_place.ensures
 
 pub returns-in-Against : goal.returns-in-Against
 returns-in-Against c = on_ok c.add_against.result _ _
-    (λ after waits first taken. waits_order c.args.command first taken _ _ c.args.kind after _ c.in-Against.is c.requires waits) c.add_against.ensures
+    (λ after waits first taken. waits_order c.args.command first taken _ _ c.args.kind after _ c.in-Against.is
+    c.requires waits) c.add_against.ensures
 
 pub returns-in_ok-add_rule-in-RuleName : goal.returns-in_ok-add_rule-in-RuleName
 returns-in_ok-add_rule-in-RuleName c = λ first taken.
@@ -31,8 +35,10 @@ returns-in_ok-add_file-in-File c = λ first taken.
 
 pub returns-in_ok-add_joined-in-Joined : goal.returns-in_ok-add_joined-in-Joined
 returns-in_ok-add_joined-in-Joined c = λ first taken reading.
-    let here : IsKind c.args.command c.args.word.now Joined = subst (λ k. IsKind c.args.command c.args.word.now k) c.in-Joined.is c.requires in
-    subst (Reads c.args.command first (taken ++ (c.args.word.now ∷ []))) (sym (c.in_ok-add_joined-in-Joined.ensures here.1.0 here.1.1))
+    let here : IsKind c.args.command c.args.word.now Joined =
+    subst (λ k. IsKind c.args.command c.args.word.now k) c.in-Joined.is c.requires in
+    subst (Reads c.args.command first (taken ++ (c.args.word.now ∷ [])))
+    (sym (c.in_ok-add_joined-in-Joined.ensures here.1.0 here.1.1))
     (reads.joined c.args.word.now here.1.0 reading here here.1.1)
 
 pub returns-in-Quiet : goal.returns-in-Quiet
@@ -41,7 +47,8 @@ returns-in-Quiet c = λ first taken reading.
 
 pub returns-in-Strict : goal.returns-in-Strict
 returns-in-Strict c = λ first taken reading.
-    reads.strict c.args.word.now reading (subst (λ k. IsKind c.args.command c.args.word.now k) c.in-Strict.is c.requires)
+    reads.strict c.args.word.now reading
+    (subst (λ k. IsKind c.args.command c.args.word.now k) c.in-Strict.is c.requires)
 
 pub returns-in-Chain : goal.returns-in-Chain
 returns-in-Chain c = λ first taken reading.
@@ -49,9 +56,11 @@ returns-in-Chain c = λ first taken reading.
 
 pub returns-in-Progress : goal.returns-in-Progress
 returns-in-Progress c = λ first taken reading.
-    reads.progress c.args.word.now reading (subst (λ k. IsKind c.args.command c.args.word.now k) c.in-Progress.is c.requires)
+    reads.progress c.args.word.now reading
+    (subst (λ k. IsKind c.args.command c.args.word.now k) c.in-Progress.is c.requires)
 
 pub returns-in_ok-leave-in-Plain : goal.returns-in_ok-leave-in-Plain
 returns-in_ok-leave-in-Plain c = λ first taken reading.
     subst (Reads c.args.command first (taken ++ (c.args.word.now ∷ []))) (sym c.in_ok-leave-in-Plain.ensures)
-    (reads.plain c.args.word.now reading (inl (subst (λ k. IsKind c.args.command c.args.word.now k) c.in-Plain.is c.requires)))
+    (reads.plain c.args.word.now reading
+    (inl (subst (λ k. IsKind c.args.command c.args.word.now k) c.in-Plain.is c.requires)))

@@ -21,4 +21,5 @@ returns c =
     let first = bare (c.args.name.now ∷ command_text c.args.command ∷ []) in
     let whole = taken_whole c.args.words.now c.loop-word.word-index (omega (arith, c.loop-word-test.false)) in
     c.in_ok-end.ensures first
-    (subst (λ (ws : List (String Global)). IsReadTo c.args.command first (map string_bytes ws) c.loop-word.before (parts_of c.loop-word.line)) whole c.loop-word.invariant)
+    (subst (λ (ws : List (String Global)). IsReadTo c.args.command first (map string_bytes ws) c.loop-word.before
+    (parts_of c.loop-word.line)) whole c.loop-word.invariant)

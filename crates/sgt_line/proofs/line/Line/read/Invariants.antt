@@ -6,4 +6,5 @@ use Rattle.sgt_line.proofs.line.Line.read.Given as goal
 
 abbrev pub invariant-loop-word : goal.invariant-loop-word
 invariant-loop-word l =
-    IsReadTo l.command (bare (l.name ∷ command_text l.command ∷ [])) (map string_bytes (take l.word-index l.words)) l.before (parts_of l.line)
+    IsReadTo l.command (bare (l.name ∷ command_text l.command ∷ [])) (map string_bytes (take l.word-index l.words))
+    l.before (parts_of l.line)

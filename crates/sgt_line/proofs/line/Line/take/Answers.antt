@@ -4,10 +4,14 @@ use Rattle.sgt_line.proofs.Steps.{counted, filed_behind, ordered, put}
 use Rattle.sgt_line.proofs.line.Line.take.Goals as goal
 
 pub returns-in-Dashes : goal.returns-in-Dashes
-returns-in-Dashes c = λ first taken. filed_behind c.args.command first taken _ _ c.args.before _ c.in-Dashes.is c.in_ok-add_file-in-Dashes.ensures
+returns-in-Dashes c =
+    λ first taken. filed_behind c.args.command first taken _ _ c.args.before _ c.in-Dashes.is
+    c.in_ok-add_file-in-Dashes.ensures
 
 pub returns-in_ok-leave-in-Numbered : goal.returns-in_ok-leave-in-Numbered
-returns-in_ok-leave-in-Numbered c = λ first taken. counted c.args.command first taken _ _ c.args.before _ c.in-Numbered.is c.in_ok-leave-in-Numbered.ensures
+returns-in_ok-leave-in-Numbered c =
+    λ first taken. counted c.args.command first taken _ _ c.args.before _ c.in-Numbered.is
+    c.in_ok-leave-in-Numbered.ensures
 
 pub returns-in_ok-from_str-in-Place : goal.returns-in_ok-from_str-in-Place
 returns-in_ok-from_str-in-Place c = λ first taken.

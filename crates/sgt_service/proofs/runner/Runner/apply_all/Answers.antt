@@ -12,13 +12,15 @@ loop-op-init g c = record {
   named = search rules;
   share = search rules;
   begins = search rules;
-  counts = counted_same c.args.active.now.draft.touched c.args.active.now.draft.touched c.args.seat.now.counts.items c.args.seat.now.counts.items refl refl;
+  counts = counted_same c.args.active.now.draft.touched c.args.active.now.draft.touched c.args.seat.now.counts.items
+      c.args.seat.now.counts.items refl refl;
   done = search rules;
 }
 
 pub loop-op-preserved : goal.loop-op-preserved
 loop-op-preserved g c =
-    let here = element_at c.as_slice-operations.result.now c.loop-op.op-index c.op-item.result (omega arith) c.op-item.is in
+    let here = element_at c.as_slice-operations.result.now c.loop-op.op-index c.op-item.result
+    (omega arith) c.op-item.is in
     let rising : AreRising c.apply.new.active.draft.touched =
     subst (λ (d : DraftView). AreRising d.touched) c.draft.ensures c.touched-touched.ensures.rising in
     record {
@@ -26,25 +28,34 @@ loop-op-preserved g c =
       share = search rules;
       begins = search rules;
       counts = reads_on _ _ _ _ _ _ c.loop-op.invariant.counts
-          (op_counts c.op-item.result _ _ _ _ _ _ rising (c.in_ok-apply.ensures.does (ap Ok c.if-not-branch.false)) c.in_ok-apply.ensures.counts);
-      done = does_next_at c.as_slice-operations.result.now c.loop-op.op-index c.op-item.result _ _ _ _ _ _ here c.loop-op.invariant.done (search rules) (search rules);
+          (op_counts c.op-item.result _ _ _ _ _ _ rising (c.in_ok-apply.ensures.does (ap Ok c.if-not-branch.false))
+          c.in_ok-apply.ensures.counts);
+      done = does_next_at c.as_slice-operations.result.now c.loop-op.op-index c.op-item.result _ _ _ _ _ _ here
+          c.loop-op.invariant.done (search rules) (search rules);
     }
 
 pub returns-in_err-apply-clause-counts : goal.returns-in_err-apply-clause-counts
 returns-in_err-apply-clause-counts g c =
-    reads_on _ _ _ _ _ _ c.loop-op.invariant.counts (counted_same _ _ _ _ c.in_err-apply.ensures.err.0 c.in_err-apply.ensures.err.1)
+    reads_on _ _ _ _ _ _ c.loop-op.invariant.counts
+    (counted_same _ _ _ _ c.in_err-apply.ensures.err.0 c.in_err-apply.ensures.err.1)
 
 pub returns-then-not-branch-clause-counts : goal.returns-then-not-branch-clause-counts
 returns-then-not-branch-clause-counts g c =
     let same = c.in_ok-apply.ensures.same (ap Ok c.if-not-branch.true) in
-    let unfit : op_fits c.loop-op.active.draft.touched c.op-item.result ≡ false = cc (c.in_ok-apply.ensures.fits, c.if-not-branch.true) in
+    let unfit : op_fits c.loop-op.active.draft.touched c.op-item.result ≡ false =
+    cc (c.in_ok-apply.ensures.fits, c.if-not-branch.true) in
     let none = unfit_counts c.op-item.result _ _ _ unfit c.in_ok-apply.ensures.counts in
     reads_on _ _ _ _ _ _ c.loop-op.invariant.counts (counted_same _ _ _ _ same.0 none)
 
 pub returns-then-not-branch-clause-does : goal.returns-then-not-branch-clause-does
 returns-then-not-branch-clause-does g c =
-    let here = element_at c.as_slice-operations.result.now c.loop-op.op-index c.op-item.result (omega arith) c.op-item.is in
-    search (rules, does_stop_at c.as_slice-operations.result.now c.loop-op.op-index c.op-item.result _ _ _ _ here c.loop-op.invariant.done)
+    let here = element_at c.as_slice-operations.result.now c.loop-op.op-index c.op-item.result
+    (omega arith) c.op-item.is in
+    search (
+      rules,
+      does_stop_at c.as_slice-operations.result.now c.loop-op.op-index c.op-item.result _ _ _ _ here
+          c.loop-op.invariant.done,
+    )
 
 pub returns-in_err-apply-clause-refused : goal.returns-in_err-apply-clause-refused
 returns-in_err-apply-clause-refused g c =

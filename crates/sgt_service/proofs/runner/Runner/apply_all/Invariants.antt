@@ -10,5 +10,6 @@ invariant-loop-op g l = record {
   share : (l.seat.share ≡ l.fn.seat.share) × (l.seat.begun ≡ l.fn.seat.begun);
   begins : l.seat.begins ≡ l.fn.seat.begins;
   counts : CountsReads l.fn.active.draft.touched l.active.draft.touched l.fn.seat.counts.items l.seat.counts.items;
-  done : DoesAll (take l.op-index l.operations) true l.fn.active.draft.touched l.active.draft.touched l.fn.reads.items l.reads.items;
+  done : DoesAll (take l.op-index l.operations) true l.fn.active.draft.touched l.active.draft.touched l.fn.reads.items
+      l.reads.items;
 }

@@ -14,10 +14,13 @@ returns-in-Ok-commit-clause-tries g c =
     let told = c.in-Ok-commit.ensures in (
       c.apply_all.new.active,
       tries_once c.args.script.now.operations c.in_ok-active.active c.apply_all.new.active c.in_ok-fits.fits t
-          (vec_len c.args.self.now.service.now.sites) c.clear.new.self.items c.apply_all.new.reads.items c.in_ok-active.ensures.begun
-          c.in_ok-active.ensures.draft c.clear.ensures.items c.apply_all.ensures.named c.in_ok-fits.ensures.does (fitting t c.in_ok-fits.fits told.ok.1 c.if-not-fits.false) (inl told.step),
+          (vec_len c.args.self.now.service.now.sites) c.clear.new.self.items c.apply_all.new.reads.items
+          c.in_ok-active.ensures.begun
+          c.in_ok-active.ensures.draft c.clear.ensures.items c.apply_all.ensures.named c.in_ok-fits.ensures.does
+          (fitting t c.in_ok-fits.fits told.ok.1 c.if-not-fits.false) (inl told.step),
       try_counts t c.in_ok-active.active c.apply_all.new.active c.args.seat.now c.begin.new.seat c.apply_all.new.seat
-          c.commit.new.seat c.in_ok-active.ensures.seat c.in_ok-active.ensures.draft c.apply_all.ensures.share c.apply_all.ensures.counts told.ok.2
+          c.commit.new.seat c.in_ok-active.ensures.seat c.in_ok-active.ensures.draft c.apply_all.ensures.share
+          c.apply_all.ensures.counts told.ok.2
           ((λ i. ((told.begins ∙ c.apply_all.ensures.begins) i).amount) ∙ c.in_ok-active.ensures.counted),
     )
 
@@ -25,34 +28,42 @@ pub returns-in-Ok-clause-tries : goal.returns-in-Ok-clause-tries
 returns-in-Ok-clause-tries g c =
     let t = c.in-Ok.ticket in
     let told = c.in-Ok.ensures in
-    let ends = subst (λ (v : Ending). CountsEnd v c.apply_all.new.active c.apply_all.new.seat c.withdraw.new.seat) (sym told.ok.1) told.ok.2 in (
+    let ends = subst (λ (v : Ending). CountsEnd v c.apply_all.new.active c.apply_all.new.seat c.withdraw.new.seat)
+    (sym told.ok.1) told.ok.2 in (
       c.apply_all.new.active,
       tries_once c.args.script.now.operations c.in_ok-active.active c.apply_all.new.active c.in_ok-fits.fits t
-          (vec_len c.args.self.now.service.now.sites) c.clear.new.self.items c.apply_all.new.reads.items c.in_ok-active.ensures.begun
-          c.in_ok-active.ensures.draft c.clear.ensures.items c.apply_all.ensures.named c.in_ok-fits.ensures.does (unfitting t c.in_ok-fits.fits told.ok.1 c.if-not-fits.true) (inr told.step),
+          (vec_len c.args.self.now.service.now.sites) c.clear.new.self.items c.apply_all.new.reads.items
+          c.in_ok-active.ensures.begun
+          c.in_ok-active.ensures.draft c.clear.ensures.items c.apply_all.ensures.named c.in_ok-fits.ensures.does
+          (unfitting t c.in_ok-fits.fits told.ok.1 c.if-not-fits.true) (inr told.step),
       try_counts t c.in_ok-active.active c.apply_all.new.active c.args.seat.now c.begin.new.seat c.apply_all.new.seat
-          c.withdraw.new.seat c.in_ok-active.ensures.seat c.in_ok-active.ensures.draft c.apply_all.ensures.share c.apply_all.ensures.counts ends
+          c.withdraw.new.seat c.in_ok-active.ensures.seat c.in_ok-active.ensures.draft c.apply_all.ensures.share
+          c.apply_all.ensures.counts ends
           ((λ i. ((told.begins ∙ c.apply_all.ensures.begins) i).amount) ∙ c.in_ok-active.ensures.counted),
     )
 
 pub returns-in-Err-commit-clause-halt : goal.returns-in-Err-commit-clause-halt
 returns-in-Err-commit-clause-halt g c =
-    back_stopped (λ (v : Ending). v ≢ Withdrawn) c.apply_all.new.active c.args.seat.now c.apply_all.new.seat c.commit.new.seat c.in-Err-commit.back
+    back_stopped (λ (v : Ending). v ≢ Withdrawn) c.apply_all.new.active c.args.seat.now c.apply_all.new.seat
+    c.commit.new.seat c.in-Err-commit.back
     (c.apply_all.ensures.share.0 ∙ c.in_ok-active.ensures.seat.0) c.in-Err-commit.ensures.back
 
 pub returns-in-Err-clause-halt : goal.returns-in-Err-clause-halt
 returns-in-Err-clause-halt g c =
-    back_stopped (λ (v : Ending). v ≡ Withdrawn) c.apply_all.new.active c.args.seat.now c.apply_all.new.seat c.withdraw.new.seat c.in-Err.back
+    back_stopped (λ (v : Ending). v ≡ Withdrawn) c.apply_all.new.active c.args.seat.now c.apply_all.new.seat
+    c.withdraw.new.seat c.in-Err.back
     (c.apply_all.ensures.share.0 ∙ c.in_ok-active.ensures.seat.0) c.in-Err.ensures.back
 
 pub returns-in-Err-commit-clause-parts : goal.returns-in-Err-commit-clause-parts
 returns-in-Err-commit-clause-parts g c =
-    back_parts (λ (v : Ending). v ≢ Withdrawn) c.apply_all.new.active c.args.seat.now c.apply_all.new.seat c.commit.new.seat c.in-Err-commit.back
+    back_parts (λ (v : Ending). v ≢ Withdrawn) c.apply_all.new.active c.args.seat.now c.apply_all.new.seat
+    c.commit.new.seat c.in-Err-commit.back
     (c.apply_all.ensures.share.0 ∙ c.in_ok-active.ensures.seat.0) c.in-Err-commit.ensures.back
 
 pub returns-in-Err-clause-parts : goal.returns-in-Err-clause-parts
 returns-in-Err-clause-parts g c =
-    back_parts (λ (v : Ending). v ≡ Withdrawn) c.apply_all.new.active c.args.seat.now c.apply_all.new.seat c.withdraw.new.seat c.in-Err.back
+    back_parts (λ (v : Ending). v ≡ Withdrawn) c.apply_all.new.active c.args.seat.now c.apply_all.new.seat
+    c.withdraw.new.seat c.in-Err.back
     (c.apply_all.ensures.share.0 ∙ c.in_ok-active.ensures.seat.0) c.in-Err.ensures.back
 
 pub returns-in_err-active-clause-told : goal.returns-in_err-active-clause-told

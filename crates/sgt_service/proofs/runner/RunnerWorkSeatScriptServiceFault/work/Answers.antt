@@ -14,7 +14,8 @@ returns-then-ne-clause-answer g c =
     c.push_reserved.ensures.items ∙ ap (λ (ts : List Ticket). ts ++ t ∷ []) c.in_ok-reserve.ensures.items in
     let at = c.in_ok-ticket.ensures.tries in
     let tried = try_of ops t c.try_once.new.reads.items c.loop.seat c.try_once.new.seat at in
-    subst (λ (ts : List Ticket). AreTriesOf c.args.self.now.tries ops ts c.try_once.new.reads.items) (sym pushed) (record {
+    subst (λ (ts : List Ticket). AreTriesOf c.args.self.now.tries ops ts c.try_once.new.reads.items) (sym pushed)
+    (record {
       whole = search (rules, tries_end);
       each = tries_more ops c.loop.tickets.items t c.try_once.new.reads.items c.loop.invariant.each tried;
       last = last_more ops c.loop.tickets.items t c.try_once.new.reads.items tried;
@@ -31,7 +32,8 @@ loop-preserved g c =
     record {
       parts = search rules;
       begin_parts = search rules;
-      tried = rw pushed (tried_more ops c.loop.tickets.items t c.try_once.new.reads.items c.args.seat.now c.loop.seat c.try_once.new.seat c.loop.invariant.tried at);
+      tried = rw pushed (tried_more ops c.loop.tickets.items t c.try_once.new.reads.items c.args.seat.now c.loop.seat
+          c.try_once.new.seat c.loop.invariant.tried at);
       refused = rw pushed (All-push IsRefused c.loop.tickets.items t c.loop.invariant.refused (search rules));
       each = rw pushed (tries_more ops c.loop.tickets.items t c.try_once.new.reads.items c.loop.invariant.each tried);
       last = rw pushed (last_more ops c.loop.tickets.items t c.try_once.new.reads.items tried);
@@ -39,7 +41,12 @@ loop-preserved g c =
     }
 
 pub returns-clause-answer : goal.returns-clause-answer
-returns-clause-answer g c = record { whole = search (rules, tries_spent); each = c.loop.invariant.each; last = c.loop.invariant.last }
+returns-clause-answer g c = record {
+  whole = search (rules, tries_spent);
+  each = c.loop.invariant.each;
+  last =
+      c.loop.invariant.last;
+}
 
 pub returns-then-ne-clause-does : goal.returns-then-ne-clause-does
 returns-then-ne-clause-does g c =
@@ -47,7 +54,8 @@ returns-then-ne-clause-does g c =
     let t = c.in_ok-ticket.ticket in
     let pushed : c.push_reserved.new.self.items ≡ c.loop.tickets.items ++ t ∷ [] =
     c.push_reserved.ensures.items ∙ ap (λ (ts : List Ticket). ts ++ t ∷ []) c.in_ok-reserve.ensures.items in
-    rw pushed (tried_more ops c.loop.tickets.items t c.try_once.new.reads.items c.args.seat.now c.loop.seat c.try_once.new.seat
+    rw pushed (tried_more ops c.loop.tickets.items t c.try_once.new.reads.items c.args.seat.now c.loop.seat
+    c.try_once.new.seat
     c.loop.invariant.tried c.in_ok-ticket.ensures.tries)
 
 pub returns-in_err-reserve-clause-fault : goal.returns-in_err-reserve-clause-fault

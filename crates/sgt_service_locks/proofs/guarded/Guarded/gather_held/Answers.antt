@@ -6,11 +6,14 @@ pub returns-in-Ok-clause-edges : goal.returns-in-Ok-clause-edges
 returns-in-Ok-clause-edges g c = (
   c.in_ok-more.more,
   c.in-Ok.ensures,
-  gathered_there c.args.self.now.certifier.history c.args.active.now c.args.here c.args.site.now c.gather_agreed.new.site c.in_ok-more.more
-      (c.is_numbered.ensures.0 c.if-not-is_numbered.false) c.items-items.ensures.site c.in_ok-more.ensures.agreed c.in_ok-more.ensures.pledged c.in_ok-more.ensures.given c.in_ok-more.ensures.stands,
+  gathered_there c.args.self.now.certifier.history c.args.active.now c.args.here c.args.site.now
+      c.gather_agreed.new.site c.in_ok-more.more
+      (c.is_numbered.ensures.0 c.if-not-is_numbered.false) c.items-items.ensures.site c.in_ok-more.ensures.agreed
+      c.in_ok-more.ensures.pledged c.in_ok-more.ensures.given c.in_ok-more.ensures.stands,
 )
 
 pub returns-clause-err : goal.returns-clause-err
 returns-clause-err g c =
-    given-back c.unpledge.result _ _ _ _ _ c.in_ok-more.ensures.allowed.free c.in_ok-more.ensures.pledged c.unpledge.ensures.ok
+    given-back c.unpledge.result _ _ _ _ _ c.in_ok-more.ensures.allowed.free c.in_ok-more.ensures.pledged
+    c.unpledge.ensures.ok
     c.unpledge.ensures.succeeds.1

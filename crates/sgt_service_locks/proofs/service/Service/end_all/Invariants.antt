@@ -15,5 +15,6 @@ invariant-loop-place g l = record {
   history : l.guarded.certifier.history ≡ l.fn.guarded.certifier.history ++ notes_below l.verdict l.active l.place;
   owed : (l.blocks.written ≡ l.place) × (l.blocks.below ≡ vec_len l.self.sites);
   kept : l.guarded.lost ≡ l.fn.guarded.lost;
-  counts : AreCounted (λ s. with_others (below l.place (blocks_of l.verdict l.active.draft.touched) s)) l.fn.seat.counts.items l.seat.counts.items;
+  counts : AreCounted (λ s. with_others (below l.place (blocks_of l.verdict l.active.draft.touched) s))
+      l.fn.seat.counts.items l.seat.counts.items;
 }

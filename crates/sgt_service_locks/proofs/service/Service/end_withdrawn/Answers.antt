@@ -16,10 +16,12 @@ returns-clause-step g c =
     let same = c.pledged.ensures.same in
     takes_back c.args.active.now (vec_len c.args.self.now.sites) number c.args.guarded.now.certifier after
     c.end_all-ended.new.guarded.certifier c.pledged.ensures.replays c.in-Ok.ensures.held.1
-    (subst (λ (k : Kept). Adds k (call.Withdraw c.args.active.now.handle number) after) same c.in-Ok-withdraw.ensures.ok)
+    (subst (λ (k : Kept). Adds k (call.Withdraw c.args.active.now.handle number) after) same
+    c.in-Ok-withdraw.ensures.ok)
     (subst (λ (k : Kept). number ≡ decision_count k) same c.in-Ok-withdraw.ensures.number) c.in_default.ensures.history
 
 pub returns-in-Err-withdraw-clause-why : goal.returns-in-Err-withdraw-clause-why
 returns-in-Err-withdraw-clause-why g c =
     declined c.in-Err-withdraw.fault c.in-Ok.ensures.held c.in-Ok.ensures.sites
-    (subst (λ (k : Kept). HandsOn k.state (withdraw c.args.active.now.handle) c.in-Err-withdraw.fault) c.pledged.ensures.same c.in-Err-withdraw.ensures.err.0)
+    (subst (λ (k : Kept). HandsOn k.state (withdraw c.args.active.now.handle) c.in-Err-withdraw.fault)
+    c.pledged.ensures.same c.in-Err-withdraw.ensures.err.0)

@@ -11,7 +11,9 @@ returns-in-Err-clause-refused g c =
     let here = c.number_at-here.result in
     let site = c.in-Err.ensures.refused.0 in
     let active = c.args.active.now in
-    let at_start = subst (λ (k : Kept). RefusesGather k.history here site active c.in-Err.fault) c.loop-place.invariant.certifier c.in-Err.ensures.refused.2 in (
+    let at_start =
+    subst (λ (k : Kept). RefusesGather k.history here site active c.in-Err.fault) c.loop-place.invariant.certifier
+    c.in-Err.ensures.refused.2 in (
       here,
       site,
       c.in-Err.ensures.refused.1,
@@ -42,6 +44,7 @@ loop-place-preserved g c =
             (e.1, w.edges-is ∙ e.2, subst (λ (k : Kept). IsGathered k.history active here e.0 e.1) i.certifier e.3)
         | else-touches w ↦
             subst (λ edges. IsGatheredBelow history active (place + 1) edges) (sym w.edges-is)
-            (gathered_none history active place here before c.number_at-here.ensures (c.touches.ensures.none w.if-touches.false) i.edges)
+            (gathered_none history active place here before c.number_at-here.ensures
+            (c.touches.ensures.none w.if-touches.false) i.edges)
       ];
     }

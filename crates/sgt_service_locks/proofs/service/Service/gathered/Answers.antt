@@ -15,13 +15,23 @@ pub returns-then-not-has_sites-clause-refused : goal.returns-then-not-has_sites-
 returns-then-not-has_sites-clause-refused g c =
     let there = c.has_sites.ensures.beyond c.if-not-has_sites.true in
     let ok = c.in_default.ensures.ok in
-    let named = subst (λ (s : State). tx_under s c.args.active.now.handle ≡ c.args.active.now.tx) c.expect.ensures.state.0 ok.1 in
+    let named =
+    subst (λ (s : State). tx_under s c.args.active.now.handle ≡ c.args.active.now.tx) c.expect.ensures.state.0
+    ok.1 in
     beyond there.0 (ok.0, named) c.in_default.ensures.allowed there.1 there.2
 
 pub returns-in-Err-gather_all-clause-refused : goal.returns-in-Err-gather_all-clause-refused
 returns-in-Err-gather_all-clause-refused g c =
     let ok = c.in_default.ensures.ok in
-    let named = subst (λ (s : State). tx_under s c.args.active.now.handle ≡ c.args.active.now.tx) c.expect.ensures.state.0 ok.1 in
+    let named =
+    subst (λ (s : State). tx_under s c.args.active.now.handle ≡ c.args.active.now.tx) c.expect.ensures.state.0
+    ok.1 in
     ungathered c.in-Err-gather_all.fault
-    (record { held = (ok.0, named); allowed = c.in_default.ensures.allowed; there = c.has_sites.ensures.all c.if-not-has_sites.false })
-    (subst (λ h. IsUngathered (vec_len c.args.self.now.sites) h c.args.active.now c.in-Err-gather_all.fault) c.expect.ensures.state.1 c.in-Err-gather_all.ensures.refused)
+    (record {
+      held = (ok.0, named);
+      allowed = c.in_default.ensures.allowed;
+      there =
+          c.has_sites.ensures.all c.if-not-has_sites.false;
+    })
+    (subst (λ h. IsUngathered (vec_len c.args.self.now.sites) h c.args.active.now c.in-Err-gather_all.fault)
+    c.expect.ensures.state.1 c.in-Err-gather_all.ensures.refused)

@@ -11,4 +11,5 @@ returns-then-not-has_sites-clause-refused g c =
 
 pub returns-in-Err-pledge_all-clause-refused : goal.returns-in-Err-pledge_all-clause-refused
 returns-in-Err-pledge_all-clause-refused g c =
-    unpledged c.in-Err-pledge_all.fault c.in_default.ensures.ok (c.has_sites.ensures.all c.if-not-has_sites.false) c.in-Err-pledge_all.ensures.refused
+    unpledged c.in-Err-pledge_all.fault c.in_default.ensures.ok (c.has_sites.ensures.all c.if-not-has_sites.false)
+    c.in-Err-pledge_all.ensures.refused

@@ -8,4 +8,5 @@ pub returns-in-Err-decide-clause-why : goal.returns-in-Err-decide-clause-why
 returns-in-Err-decide-clause-why g c =
     let edges = c.in-Ok.gathered.0 in
     undecided edges c.in-Err-decide.fault c.in-Ok.ensures.may c.in-Ok.ensures.edges
-    (subst (λ s. HandsOn s (decide c.args.active.now.handle edges) c.in-Err-decide.fault) c.gathered.ensures.same.0 c.in-Err-decide.ensures.err.0)
+    (subst (λ s. HandsOn s (decide c.args.active.now.handle edges) c.in-Err-decide.fault) c.gathered.ensures.same.0
+    c.in-Err-decide.ensures.err.0)

@@ -11,7 +11,8 @@ returns-in-Err-clause-back g c =
     let sites = vec_len c.args.self.now.sites in
     let stop = c.in-Err.stop in
     let why = withdraw_stop _ _ _ _ stop c.end_withdrawn.ensures.replays c.in-Err.ensures.why in
-    rw c.back_of.ensures (stop_back (λ (v : Ending). v ≡ Withdrawn) c.args.active c.args.seat.now c.end_withdrawn.new.seat stop c.in-Err.ensures.stop
+    rw c.back_of.ensures (stop_back (λ (v : Ending). v ≡ Withdrawn) c.args.active c.args.seat.now
+    c.end_withdrawn.new.seat stop c.in-Err.ensures.stop
     (withdraw_call sites c.args.active stop why))
 
 pub returns-in-Err-clause-fault : goal.returns-in-Err-clause-fault
@@ -24,4 +25,5 @@ pub returns-in-Err-clause-refused : goal.returns-in-Err-clause-refused
 returns-in-Err-clause-refused g c =
     let stop = c.in-Err.stop in
     let why = withdraw_stop _ _ _ _ stop c.end_withdrawn.ensures.replays c.in-Err.ensures.why in
-    rw c.back_of.ensures (stop_told (IsToldOfWithdraw (vec_len c.args.self.now.sites) c.args.active) c.args.active stop why)
+    rw c.back_of.ensures (stop_told (IsToldOfWithdraw (vec_len c.args.self.now.sites) c.args.active) c.args.active
+    stop why)

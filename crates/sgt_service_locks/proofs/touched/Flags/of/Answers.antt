@@ -12,4 +12,8 @@ returns c =
     let few = c.touched.result.0.now in
     let both = All-touched (λ (t : ATouch). IsFlagged new t.site) few c.touched.result.1.now in
     subst (AreFlagged new) c.touched.ensures.all
-    (both.0 (All-weaken (λ (t : ATouch). IsFlagged mid t.site) (λ (t : ATouch). IsFlagged new t.site) few (λ t had. c.mark_parts.ensures.kept t.site had) c.mark_all.ensures.all, c.mark_parts.ensures.all))
+    (both.0 (
+      All-weaken (λ (t : ATouch). IsFlagged mid t.site) (λ (t : ATouch). IsFlagged new t.site) few
+          (λ t had. c.mark_parts.ensures.kept t.site had) c.mark_all.ensures.all,
+      c.mark_parts.ensures.all,
+    ))

@@ -73,7 +73,8 @@ invariant_of-self-2 c =
           (rw c.at-here.ensures.part at c.at-here.ensures.rising) may record {
             log = let same = ap length part in let as_long = ap length c.as_slice-part.ensures.value in
                 omega (arith, same, as_long, c.if-not-make_rooms.ensures.log_room refl, c.make_rooms.ensures.log.1);
-            installed = omega (arith, c.if-not-make_rooms.ensures.installed_room refl, c.make_rooms.ensures.installed.1);
+            installed =
+                omega (arith, c.if-not-make_rooms.ensures.installed_room refl, c.make_rooms.ensures.installed.1);
             ended = omega (arith, c.if-not-make_rooms.ensures.ended_room refl, c.make_rooms.ensures.ended.1);
             touched = rw (← part, ← c.as_slice-part.ensures.value) (c.if-not-reserve.ensures.room refl);
           },
