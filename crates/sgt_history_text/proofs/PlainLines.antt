@@ -206,9 +206,6 @@ module _ (bytes : List ℕ) (from at behind to : ℕ) (os items : List TextOpera
         (spans_then bytes (operation_text o) (44 ∷ []) at behind to next.1 comma_is)),
   )
 
-pub led_none : (bytes : List ℕ) (from : ℕ) → from ≤ length bytes → All IsPlain [] × Spans bytes from (led_texts []) from
-led_none bytes from within = (all_none IsPlain, record { within = within; reads = refl })
-
 -- ---- the line
 
 abbrev members_of : Json → Bool → List (Operation Json Json) → Members
