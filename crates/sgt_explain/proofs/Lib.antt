@@ -13,3 +13,4 @@ pub mod SiteEnds
 pub mod Taken
 pub mod Telling
 pub mod UnmetSteps
+pub mod Naming

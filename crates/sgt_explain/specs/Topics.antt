@@ -1,5 +1,5 @@
 -- The names of topics.
-use Rattle.std.specs.Prelude.{◌≡◌, ℕ, ◌+◌, List, ◌++◌, length, take, codes}
+use Rattle.std.specs.Prelude.{◌≡◌, ⊤, ℕ, ◌+◌, List, ◌++◌, length, take, codes}
 use Rattle.sgt_cert.specs.declared.fault.CertFault.{CertFault}
 use Rattle.sgt_cert.specs.declared.fault.CertFault.TheVariants as line
 use Rattle.sgt_audit.specs.declared.faults.Fault.{Fault}
@@ -86,6 +86,22 @@ anomaly_name anomaly.ProcessItem = codes "G2-item-process"
 anomaly_name anomaly.RealTimeFlow = codes "G1c-realtime"
 anomaly_name anomaly.RealTimeSingle = codes "G-single-realtime"
 anomaly_name anomaly.RealTimeItem = codes "G2-item-realtime"
+
+-- a cycle with steps of sessions; of time; what is neither
+abbrev pub HasSessions : Anomaly → Type 0
+HasSessions anomaly.ProcessFlow = ⊤
+HasSessions anomaly.ProcessSingle = ⊤
+HasSessions anomaly.ProcessItem = ⊤
+HasSessions _ = ⊥
+
+abbrev pub HasTimes : Anomaly → Type 0
+HasTimes anomaly.RealTimeFlow = ⊤
+HasTimes anomaly.RealTimeSingle = ⊤
+HasTimes anomaly.RealTimeItem = ⊤
+HasTimes _ = ⊥
+
+abbrev pub HasNeither : Anomaly → Type 0
+HasNeither a = (HasSessions a → ⊥) × (HasTimes a → ⊥)
 
 abbrev pub topic_name : Topic → List ℕ
 topic_name (Bundle f) = fault_name f

@@ -1,11 +1,11 @@
 //! What can be asked about by name.
 
-ghost use Rattle.std.specs.Prelude.{◌≡◌, ◌≢◌, IfSome, IfNone};
+ghost use Rattle.std.specs.Prelude.{◌≡◌, ◌≢◌, ◌↔◌, IfSome, IfNone, IsTrue};
 ghost use Rattle.sgt_audit.specs.declared.faults.Fault.{Fault};
 ghost use Rattle.sgt_cert.specs.declared.fault.CertFault.{CertFault};
 ghost use Rattle.sgt_explain.specs.declared.topics.Anomaly.{Anomaly};
 ghost use Rattle.sgt_explain.specs.declared.topics.Reply.{Reply};
-ghost use Rattle.sgt_explain.specs.Topics.{anomaly_name, fault_name, line_name, reply_name, topic_name};
+ghost use Rattle.sgt_explain.specs.Topics.{HasNeither, HasSessions, HasTimes, anomaly_name, fault_name, line_name, reply_name, topic_name};
 
 use sgt_audit::Fault;
 use sgt_cert::CertFault;
@@ -168,10 +168,50 @@ fn reply_of(word: &[u8]) -> Option<Reply>
     }
 }
 
-/// The anomaly with this name.
-fn anomaly_of(word: &[u8]) -> Option<Anomaly>
+fn is_bytes(word: &[u8], other: &[u8]) -> bool
+    ensures { IsTrue result ↔ (word.now ≡ other.now) }
+{
+    word == other
+}
+
+/// The anomaly with this name, of those with steps of sessions.
+fn process_of(word: &[u8]) -> Option<Anomaly>
     ensures some { IfSome result (λ a. word.now ≡ anomaly_name a) }
-    ensures none { IfNone result ((a : Anomaly) → word.now ≢ anomaly_name a) }
+    ensures none { IfNone result ((a : Anomaly) → HasSessions a → word.now ≢ anomaly_name a) }
+{
+    if is_bytes(word, b"G1c-process") {
+        return Some(Anomaly::ProcessFlow);
+    }
+    if is_bytes(word, b"G-single-process") {
+        return Some(Anomaly::ProcessSingle);
+    }
+    if is_bytes(word, b"G2-item-process") {
+        return Some(Anomaly::ProcessItem);
+    }
+    None
+}
+
+/// The anomaly with this name, of those with steps of time.
+fn real_time_of(word: &[u8]) -> Option<Anomaly>
+    ensures some { IfSome result (λ a. word.now ≡ anomaly_name a) }
+    ensures none { IfNone result ((a : Anomaly) → HasTimes a → word.now ≢ anomaly_name a) }
+{
+    if is_bytes(word, b"G1c-realtime") {
+        return Some(Anomaly::RealTimeFlow);
+    }
+    if is_bytes(word, b"G-single-realtime") {
+        return Some(Anomaly::RealTimeSingle);
+    }
+    if is_bytes(word, b"G2-item-realtime") {
+        return Some(Anomaly::RealTimeItem);
+    }
+    None
+}
+
+/// The anomaly with this name, of the others.
+fn plain_of(word: &[u8]) -> Option<Anomaly>
+    ensures some { IfSome result (λ a. word.now ≡ anomaly_name a) }
+    ensures none { IfNone result ((a : Anomaly) → HasNeither a → word.now ≢ anomaly_name a) }
 {
     match word {
         b"internal" => Some(Anomaly::Internal),
@@ -184,14 +224,22 @@ fn anomaly_of(word: &[u8]) -> Option<Anomaly>
         b"G1c" => Some(Anomaly::CircularFlow),
         b"G-single" => Some(Anomaly::SingleAntiDependency),
         b"G2-item" => Some(Anomaly::ItemAntiDependency),
-        b"G1c-process" => Some(Anomaly::ProcessFlow),
-        b"G-single-process" => Some(Anomaly::ProcessSingle),
-        b"G2-item-process" => Some(Anomaly::ProcessItem),
-        b"G1c-realtime" => Some(Anomaly::RealTimeFlow),
-        b"G-single-realtime" => Some(Anomaly::RealTimeSingle),
-        b"G2-item-realtime" => Some(Anomaly::RealTimeItem),
         _ => None,
     }
+}
+
+/// The anomaly with this name.
+fn anomaly_of(word: &[u8]) -> Option<Anomaly>
+    ensures some { IfSome result (λ a. word.now ≡ anomaly_name a) }
+    ensures none { IfNone result ((a : Anomaly) → word.now ≢ anomaly_name a) }
+{
+    if let Some(anomaly) = plain_of(word) {
+        return Some(anomaly);
+    }
+    if let Some(anomaly) = process_of(word) {
+        return Some(anomaly);
+    }
+    real_time_of(word)
 }
 
 /// The rule of a bundle or of its second line with this name.
