@@ -193,6 +193,7 @@ class Speller:
     def __init__(self, rng):
         self.rng = rng
         self.odd = rng.choice([0, 0, 0.05, 0.3])
+        self.is_plain = rng.random() < 0.5      # members in the order in which most write them: such lines are read at once
 
     def white(self):
         if self.rng.random() < self.odd:
@@ -238,7 +239,9 @@ class Speller:
         ]
         if with_times:
             members += [(self.string("begin"), str(begin)), (self.string("done"), str(done)), (self.string("session"), self.value(session))]
-        parts = [self.white() + n + self.white() + ":" + self.white() + v + self.white() for n, v in self.rng.sample(members, len(members))]
+        if not self.is_plain:
+            self.rng.shuffle(members)
+        parts = [self.white() + n + self.white() + ":" + self.white() + v + self.white() for n, v in members]
         if self.rng.random() < self.odd:
             parts.insert(self.rng.randrange(len(parts) + 1), self.rng.choice(ODD_MEMBERS))
         if self.rng.random() < self.odd:
