@@ -37,7 +37,7 @@ def refuse_each(program, row, shim, told):
         if os.path.exists(told):
             os.unlink(told)
         env = dict(os.environ, LD_PRELOAD=shim, REFUSE_GROWTH=str(n), GROWTHS_TO=told)
-        done = subprocess.run([program, *words], input=text, capture_output=True, env=env, timeout=60)
+        done = subprocess.run([program, *words], input=text, capture_output=True, env=env, timeout=60, cwd=row)
         is_whole = (done.stdout, done.returncode) == (wanted, status)
         has_given_up = done.returncode == 3 and done.stderr.startswith(b"sgt: memory") and wanted.startswith(done.stdout)
         if not is_whole and not has_given_up:
