@@ -29,22 +29,29 @@ module _ (ds : List Decision) (tx n : ℕ) (d : Decision) (at : slice_get ds n �
 
   pub suiting-found : (e : Entry) (b : Bool) (o : Option ℕ) → tx_of e ≡ tx → IsTrue b ↔ Suits e d
       → (IsTrue b → o ≡ Some n) → (b ≡ false → o ≡ None) → IsFound (IsDecided ds e) o
-  suiting-found e true o same suits told untold = subst (IsFound (IsDecided ds e)) (sym (told refl)) (d, at, of
-      ∙ sym same, suits.0 refl)
+  suiting-found e true o same suits told untold = subst (IsFound (IsDecided ds e)) (sym (told refl)) (
+    d,
+    at,
+    of
+        ∙ sym same,
+    suits.0 refl,
+  )
   suiting-found e false o same suits told untold =
       subst (IsFound (IsDecided ds e)) (sym (untold refl)) (λ m by. false≢true (suits.1 (the-suiting e same m by)))
 
 module _ (ds : List Decision) (tx n : ℕ) where
   pub rank-found : (d : Decision) (o : Option ℕ) → slice_get ds n ≡ Some d → decided_tx d ≡ tx
       → ((m : ℕ) → Decides ds m tx → m ≡ n) → o ≡ rank_in d → IsFound (λ rank. (m : ℕ) × IsCommitted ds m tx rank) o
-  rank-found (Commit i k) o at of only is = subst (IsFound (λ rank. (m : ℕ) × IsCommitted ds m tx rank)) (sym is) (n,
-      at ∙ ap (λ j. Some (Commit j k)) of)
+  rank-found (Commit i k) o at of only is = subst (IsFound (λ rank. (m : ℕ) × IsCommitted ds m tx rank)) (sym is) (
+    n,
+    at ∙ ap (λ j. Some (Commit j k)) of,
+  )
   rank-found (Refuse i walk) o at of only is =
       subst (IsFound (λ rank. (m : ℕ) × IsCommitted ds m tx rank)) (sym is) (λ rank by. let one =
-          (the-commit ds tx n (Refuse i walk) at of only by.0 rank by.1).1 in absurd cc)
+      (the-commit ds tx n (Refuse i walk) at of only by.0 rank by.1).1 in absurd cc)
   rank-found (Withdraw i) o at of only is =
       subst (IsFound (λ rank. (m : ℕ) × IsCommitted ds m tx rank)) (sym is) (λ rank by. let one =
-          (the-commit ds tx n (Withdraw i) at of only by.0 rank by.1).1 in absurd cc)
+      (the-commit ds tx n (Withdraw i) at of only by.0 rank by.1).1 in absurd cc)
 
   pub commits-before : (d : Decision) (r : Bool) (number : ℕ) → slice_get ds n ≡ Some d → decided_tx d ≡ tx
       → ((m : ℕ) → Decides ds m tx → m ≡ n) → n < number → r ≡ is_commit d

@@ -50,8 +50,10 @@ module _ (edges : List Edge) (edge : Edge) where
   more-here here site at is e = (
     λ has. elim (Contains-push_cases here edge e has) [
       | inl old ↦ let both = (is e).0 old in (Contains-append_left edges (edge ∷ []) e both.0, both.1)
-      | inr new ↦ (subst (Contains (edges ++ edge ∷ [])) new (Contains-push edges edge),
-          ap (λ (f : Edge). f.step.label.site) (sym new) ∙ at)
+      | inr new ↦ (
+        subst (Contains (edges ++ edge ∷ [])) new (Contains-push edges edge),
+        ap (λ (f : Edge). f.step.label.site) (sym new) ∙ at,
+      )
     ],
     λ both. elim (Contains-push_cases edges edge e both.0) [
       | inl old ↦ Contains-append_left here (edge ∷ []) e ((is e).1 (old, both.1))
@@ -74,7 +76,7 @@ module _ (edges : List Edge) (edge : Edge) where
       → AreGrouped (edges ++ edge ∷ []) groups
   grouped-past groups past is site g at =
       none-here g.edges.items site (λ same. let within = slice_get_within groups site g at in
-          absurd (omega (arith, within, past, same))) (is site g at)
+      absurd (omega (arith, within, past, same))) (is site g at)
 
   pub grouped-more : (groups : List Group) (r v : Group) → slice_get groups edge.step.label.site ≡ Some r
       → v.edges.items ≡ r.edges.items ++ edge ∷ [] → AreGrouped edges groups
@@ -84,14 +86,14 @@ module _ (edges : List Edge) (edge : Edge) where
       elim (cases_eq site place) [
         | inl same ↦
             let is_v : v ≡ g = same_Some v g (sym (set-at groups place v r here)
-                ∙ ap (slice_get (set groups place v)) (sym same) ∙ at) in
+            ∙ ap (slice_get (set groups place v)) (sym same) ∙ at) in
             let items : r.edges.items ++ edge ∷ [] ≡ g.edges.items = sym more
-                ∙ ap (λ (q : Group). q.edges.items) is_v in
+            ∙ ap (λ (q : Group). q.edges.items) is_v in
             let now = more-here r.edges.items place refl (is place r here) in
             subst (λ n. (e : Edge)
-                → Contains g.edges.items e ↔ (Contains (edges ++ edge ∷ []) e × (e.step.label.site ≡ n))) (sym same)
+            → Contains g.edges.items e ↔ (Contains (edges ++ edge ∷ []) e × (e.step.label.site ≡ n))) (sym same)
             (subst (λ es. (e : Edge)
-                → Contains es e ↔ (Contains (edges ++ edge ∷ []) e × (e.step.label.site ≡ place))) items now)
+            → Contains es e ↔ (Contains (edges ++ edge ∷ []) e × (e.step.label.site ≡ place))) items now)
         | inr other ↦ none-here g.edges.items site (λ same. other (sym same))
             (is site g (sym (set-other groups place site v other) ∙ at))
       ]
@@ -124,7 +126,7 @@ pub part-whole : (from at n : ℕ) (walk : List Step) (old new : List Group) →
     → AreGrouped (edges ++ edges_from from walk) new
 part-whole from at n walk old new le (done, all, is) edges before =
     let whole : edges_from from walk ≡ done = all ∙ ap (λ rest. done ++ edges_from at rest) (drop_all n walk le)
-        ∙ append-nil done in
+    ∙ append-nil done in
     subst (λ es. AreGrouped (edges ++ es) new) (sym whole) (is edges before)
 
 pub no-edges : (d : Decision) → ((tx : ℕ) (walk : List Step) → d ≡ Refuse tx walk → ⊥) → edges_of d ≡ []
@@ -163,8 +165,10 @@ module _ {A : Type 0} (x : A) (xs : List A) where
   pub cons-cases : (y : A) → Contains (x ∷ xs) y → (x ≡ y) ⊎ Contains xs y
   cons-cases y has =
       elim (Contains-append_cases (x ∷ []) xs y has) [
-        | inl first ↦ elim (Contains-push_cases [] x y first) [ inl none ↦ absurd (omega (arith, none.1))
-            | inr same ↦ inl same ]
+        | inl first ↦ elim (Contains-push_cases [] x y first) [
+          | inl none ↦ absurd (omega (arith, none.1))
+          | inr same ↦ inl same
+        ]
         | inr rest ↦ inr rest
       ]
 
@@ -187,7 +191,7 @@ pub edge-found : (ds : List Decision) (e : Edge) → Contains (edges_in ds) e �
 edge-found [] e has = absurd (omega (arith, has.1))
 edge-found (d ∷ ds) e has =
     elim (Contains-append_cases (edges_of d) (edges_in ds) e
-        (subst (λ es. Contains es e) (flat_map-cons edges_of d ds) has)) [
+    (subst (λ es. Contains es e) (flat_map-cons edges_of d ds) has)) [
       | inl here ↦ of-decision (d ∷ ds) d e (cons-first d ds) here
       | inr rest ↦ let by = edge-found ds e rest in (by.0, by.1, cons-rest d ds (Refuse by.0 by.1) by.2, by.3)
     ]

@@ -25,8 +25,10 @@ pub ne-true : (a b : ℕ) (r : Bool) → r ≡ not (a == b) → r ≡ true → a
 ne-true a b r is hit same = true≢false (sym hit ∙ is ∙ ap not (eq-eqb a b same))
 
 pub not-empty : (n : ℕ) (r : Bool) → r ≡ (n == 0) → r ≡ false → 1 ≤ n
-not-empty n r is miss = elim (cases_eq n 0) [ inl none ↦ absurd (true≢false (sym (eq-eqb n 0 none) ∙ sym is ∙ miss))
-    | inr some ↦ omega arith ]
+not-empty n r is miss = elim (cases_eq n 0) [
+  | inl none ↦ absurd (true≢false (sym (eq-eqb n 0 none) ∙ sym is ∙ miss))
+  | inr some ↦ omega arith
+]
 
 pub empty : (n : ℕ) (r : Bool) → r ≡ (n == 0) → r ≡ true → n ≡ 0
 empty n r is hit = eqb-true n 0 (sym is ∙ hit)

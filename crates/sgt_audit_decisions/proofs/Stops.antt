@@ -30,14 +30,14 @@ module _ (walk : List Step) (n : ℕ) (s : Step) (met : BTreeSet ℕ) (so_far : 
 
   pub leads-next : (next : BTreeSet ℕ) → contains nat_cmp met s.to ≡ false
       → ((q : ℕ) → contains nat_cmp next q ≡ cond (is_eq (nat_cmp s.to q)) true (contains nat_cmp met q))
-          → LeadApart walk (n + 1) next
+      → LeadApart walk (n + 1) next
   leads-next next miss updated = record {
     apart = λ p q a b lt within at_p at_q e.
         elim (cases_eq q n) [
           | inl last ↦
               let one : b ≡ s = same_Some b s (sym at_q ∙ ap (slice_get walk) last ∙ at) in
               let hit : contains nat_cmp met s.to ≡ true =
-                  so_far.has s.to (p, a, omega arith, at_p, e ∙ ap (λ (x : Step). x.to) one) in
+              so_far.has s.to (p, a, omega arith, at_p, e ∙ ap (λ (x : Step). x.to) one) in
               absurd (true≢false (sym hit ∙ miss))
           | inr ne ↦ so_far.apart p q a b lt (omega arith) at_p at_q e
         ];

@@ -44,7 +44,7 @@ placed-same i d e p number one comes = ap₂ (λ (n : ℕ) (o : Outcome). record
 pub entered : (ds : List Decision) (i : ℕ) (d : Decision) (f g : ℕ → Option (Placed ℕ)) → slice_get ds i ≡ Some d
     → f (decided_tx d) ≡ None
     → g (decided_tx d) ≡ Some (placed i d) → ((q : ℕ) → decided_tx d ≢ q → g q ≡ f q) → HasFirst ds i f
-        → HasFirst ds (i + 1) g
+    → HasFirst ds (i + 1) g
 entered ds i d f g at none here others first = λ tx p.
     elim (cases_eq (decided_tx d) tx) [
       | inl same ↦

@@ -48,7 +48,7 @@ module _ (decisions : List Decision) (number tx : ℕ) (walk between : List Step
         (λ n a at.
         let s = map_at (λ (s : Step). s.to) between n a at in
         subst (λ t. (m : ℕ) × (rank : ℕ) × (m < number) × IsCommitted decisions m t rank) s.2
-            (All_at (LeadsThrough decisions number tx) between n s.0 through s.1).1);
+        (All_at (LeadsThrough decisions number tx) between n s.0 through s.1).1);
   }
 
   module _ (cycle : IsCycle decisions number tx walk) where

@@ -14,7 +14,7 @@ returns-else-not-lead_to_committed c =
     (λ answer both. (
       λ yes.
           is-cycle _ _ _ _ c.in-Some.between.now c.in-Some.last.now whole (ne-same _ _ _ c.ne.ensures c.if-ne.false)
-              (not-empty _ _ c.is_empty.ensures c.if-is_empty.false)
+          (not-empty _ _ c.is_empty.ensures c.if-is_empty.false)
           (both.0 yes) (c.lead_to_committed.ensures.0 c.if-not-lead_to_committed.false),
       λ cycle. both.1 (cycle-apart _ _ _ _ c.in-Some.between.now c.in-Some.last.now whole cycle),
     ))
@@ -32,7 +32,7 @@ returns-then-ne c =
           let none = empty _ _ w.is_empty.ensures w.if-is_empty.true in omega arith)
       | then-ne-via-else-ne+else-is_empty+then-not-lead_to_committed w ↦ answered-no (λ cycle.
           refuted w.lead_to_committed.result w.lead_to_committed.ensures w.if-not-lead_to_committed.true
-              (cycle-through _ _ _ _ c.in-Some.between.now c.in-Some.last.now whole cycle))
+          (cycle-through _ _ _ _ c.in-Some.between.now c.in-Some.last.now whole cycle))
     ]
 
 pub returns-in-None : goal.returns-in-None

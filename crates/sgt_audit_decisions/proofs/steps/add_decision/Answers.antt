@@ -15,10 +15,10 @@ returns-in-Refuse c =
     on_ok_weaker c.add_walk.result (λ adds edges is.
     subst (λ (d : Decision). AreGrouped (edges ++ edges_of d) new) (sym c.in-Refuse.is)
     (subst (λ (w : List Step). AreGrouped (edges ++ edges_from c.in-Refuse.tx w) new) c.as_slice.ensures
-        (adds edges is))) c.add_walk.ensures
+    (adds edges is))) c.add_walk.ensures
 
 pub returns-in_default : goal.returns-in_default
 returns-in_default c edges is =
     subst (λ (es : List Edge). AreGrouped es c.args.groups.now)
-        (sym (ap (λ (es : List Edge). edges ++ es) (no-edges c.args.decision.now c.in_default.not-Refuse)
-        ∙ append-nil edges)) is
+    (sym (ap (λ (es : List Edge). edges ++ es) (no-edges c.args.decision.now c.in_default.not-Refuse)
+    ∙ append-nil edges)) is

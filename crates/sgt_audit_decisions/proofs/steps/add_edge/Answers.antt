@@ -19,8 +19,8 @@ returns c =
     let x = c.index-groups-site.result in
     let old = get_or groups n x in
     let here : slice_get groups n ≡ Some old = element_at groups n x (omega arith) c.index-groups-site.is
-        ∙ ap Some c.index-groups-site.is in
+    ∙ ap Some c.index-groups-site.is in
     on_ok_weaker c.add.result (λ more edges is.
     subst (λ k. AreGrouped (edges ++ edge ∷ []) (set groups k c.add.new.self)) (sym c.number-site.ensures.is)
     (grouped-more edges edge groups old c.add.new.self
-        (subst (λ k. slice_get groups k ≡ Some old) c.number-site.ensures.is here) more is)) c.add.ensures
+    (subst (λ k. slice_get groups k ≡ Some old) c.number-site.ensures.is here) more is)) c.add.ensures

@@ -29,8 +29,8 @@ returns-then-is_some-clause-once c =
     let at = element_at _ _ _ c.loop-number-test.true c.index-decisions-number.is in
     let same : c.number-place.result ≡ decided_tx d = c.number-place.ensures.is ∙ c.tx.ensures in
     let room : decided_tx d < length c.args.places.now.items =
-        All_at (λ d. decided_tx d < length c.args.places.now.items) c.args.decisions.now c.loop-number.number d
-        c.requires.room at in
+    All_at (λ d. decided_tx d < length c.args.places.now.items) c.args.decisions.now c.loop-number.number d
+    c.requires.room at in
     let kept = c.loop-number.invariant.room in
     let lt : c.number-place.result < length xs = omega arith in
     let had = is_some-some c.index.result.now (sym c.is_some.ensures ∙ c.if-is_some.true) in
@@ -47,7 +47,7 @@ loop-number-preserved c =
     let at = element_at _ _ _ c.loop-number-test.true c.index-decisions-number.is in
     let same : k ≡ decided_tx d = c.number-place.ensures.is ∙ c.tx.ensures in
     let room : decided_tx d < length c.args.places.now.items =
-        All_at (λ d. decided_tx d < length c.args.places.now.items) c.args.decisions.now i d c.requires.room at in
+    All_at (λ d. decided_tx d < length c.args.places.now.items) c.args.decisions.now i d c.requires.room at in
     let kept = c.loop-number.invariant.room in
     let lt : k < length xs = omega arith in
     let told : Placed ℕ = record { number = i; outcome = c.outcome_of.result } in
@@ -56,9 +56,9 @@ loop-number-preserved c =
       first = entered c.args.decisions.now i d (λ tx. get_or xs tx None) (λ tx. get_or (set xs k (Some told)) tx None)
           at
           (stands xs k (decided_tx d) c.index.result.now same lt c.index.ensures
-              ∙ is_some-none c.index.result.now (sym c.is_some.ensures ∙ c.if-is_some.false))
+          ∙ is_some-none c.index.result.now (sym c.is_some.ensures ∙ c.if-is_some.false))
           (ap (λ tx. get_or (set xs k (Some told)) tx None) (sym same) ∙ place-here xs k told lt
-              ∙ ap (told-as i) c.outcome_of.ensures)
+          ∙ ap (told-as i) c.outcome_of.ensures)
           (λ q apart. place-others xs k told q (λ e. apart (sym same ∙ e)))
           c.loop-number.invariant.first;
     }

@@ -17,7 +17,7 @@ returns-then-is_some-clause-once c =
     let map = c.loop-number.places in
     let had = is_some-some c.in_ok-insert.field-0 (sym c.is_some.ensures ∙ c.if-is_some.true) in
     answered-no (decided-twice c.args.decisions.now c.loop-number.number had.0 c.index-decisions-number.result
-        (get nat_cmp map) (element_at _ _ _ c.loop-number-test.true c.index-decisions-number.is)
+    (get nat_cmp map) (element_at _ _ _ c.loop-number-test.true c.index-decisions-number.is)
     (ap (get nat_cmp map) (sym c.tx.ensures) ∙ sym c.in_ok-insert.ensures.old ∙ had.1)
     c.loop-number.invariant)
 
@@ -27,11 +27,11 @@ loop-number-preserved c =
     let i = c.loop-number.number in
     let told : Placed ℕ = record { number = i; outcome = c.outcome_of.result } in
     let updated = λ (q : ℕ). c.in_ok-insert.ensures.updates.0 q
-        ∙ ap (λ k. cond (is_eq (nat_cmp k q)) (Some told) (get nat_cmp map q)) c.tx.ensures in
+    ∙ ap (λ k. cond (is_eq (nat_cmp k q)) (Some told) (get nat_cmp map q)) c.tx.ensures in
     entered c.args.decisions.now i c.index-decisions-number.result (get nat_cmp map) (get nat_cmp c.insert.new.self)
-        (element_at _ _ _ c.loop-number-test.true c.index-decisions-number.is)
+    (element_at _ _ _ c.loop-number-test.true c.index-decisions-number.is)
     (ap (get nat_cmp map) (sym c.tx.ensures) ∙ sym c.in_ok-insert.ensures.old
-        ∙ is_some-none c.in_ok-insert.field-0 (sym c.is_some.ensures ∙ c.if-is_some.false))
+    ∙ is_some-none c.in_ok-insert.field-0 (sym c.is_some.ensures ∙ c.if-is_some.false))
     (map-here map c.insert.new.self _ told updated ∙ ap (told-as i) c.outcome_of.ensures)
     (map-others map c.insert.new.self _ told updated)
     c.loop-number.invariant

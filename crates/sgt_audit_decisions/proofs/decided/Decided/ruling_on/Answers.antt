@@ -16,11 +16,11 @@ returns-in-Some c =
     let p = c.in-Some.placed in
     let f = placed_at c.self.inside.table in
     let table =
-        subst (λ (k : Certificate). IsTableOf k.decisions c.self.inside.table) c.self.view_is c.self.invariant in
+    subst (λ (k : Certificate). IsTableOf k.decisions c.self.inside.table) c.self.view_is c.self.invariant in
     let d = found-decision ds f table c.tx.result p c.in-Some.ensures in
     let only = only-there ds f table c.tx.result p c.in-Some.ensures in
     let ranked = rank-found ds c.tx.result p.number d.0 c.rank.result d.1 d.2 only (c.rank.ensures
-        ∙ ap rank_with (sym d.3) ∙ rank-same d.0) in
+    ∙ ap rank_with (sym d.3) ∙ rank-same d.0) in
     record {
       number = (d.0, d.1, d.2 ∙ c.tx.ensures);
       rank = subst (λ tx. IsFound (λ rank. (m : ℕ) × IsCommitted ds m tx rank) c.rank.result) c.tx.ensures ranked;
@@ -33,7 +33,7 @@ pub returns-in-None : goal.returns-in-None
 returns-in-None c =
     let ds = c.args.self.now.decisions in
     let table =
-        subst (λ (k : Certificate). IsTableOf k.decisions c.self.inside.table) c.self.view_is c.self.invariant in
+    subst (λ (k : Certificate). IsTableOf k.decisions c.self.inside.table) c.self.view_is c.self.invariant in
     let none = missed ds (placed_at c.self.inside.table) table c.tx.result (sym c.in-None.ensures) in
     no-ruling ds c.args.entry.now c.no_ruling.result (λ n by. none n (by.0, by.1, by.2 ∙ sym c.tx.ensures))
-        c.no_ruling.ensures
+    c.no_ruling.ensures

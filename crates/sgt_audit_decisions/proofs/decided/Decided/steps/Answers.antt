@@ -11,9 +11,9 @@ pub returns : goal.returns
 returns c =
     IfOk-weaker c.new.result _ _ (λ steps is spelled.
     let within =
-        subst (λ (b : Certificate). All (λ (e : Edge). e.step.label.site < b.sites)
-        (edges_in c.args.self.now.decisions)) (sym c.self.view_is) (certificate-within c.args.self.now spelled) in
+    subst (λ (b : Certificate). All (λ (e : Edge). e.step.label.site < b.sites)
+    (edges_in c.args.self.now.decisions)) (sym c.self.view_is) (certificate-within c.args.self.now spelled) in
     subst (λ (ds : List Decision). AreStepsOf ds steps) c.decisions.ensures.same
     (is (subst (λ (ds : List Decision). All (λ (e : Edge). e.step.label.site < c.self.inside.certificate.sites)
-        (edges_in ds)) (sym c.decisions.ensures.same) within)))
+    (edges_in ds)) (sym c.decisions.ensures.same) within)))
     c.new.ensures

@@ -7,4 +7,4 @@ pub returns-in-Some : goal.returns-in-Some
 returns-in-Some c decisions is =
     let there = got _ _ _ _ c.deref.ensures.value c.in-Some.ensures.lookup.0 c.in-Some.ensures.lookup.1 in
     subst (AreStepsAt decisions c.args.site) (sym c.as_slice.ensures.value)
-        (steps-at decisions c.args.self.now c.args.site c.in-Some.group.now is there)
+    (steps-at decisions c.args.self.now c.args.site c.in-Some.group.now is there)

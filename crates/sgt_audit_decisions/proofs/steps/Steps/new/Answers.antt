@@ -11,9 +11,9 @@ pub returns : goal.returns
 returns c within =
     let ds = c.args.decisions.now in
     let items = with_items_is c.in_ok-groups.groups c.add_decisions.new.groups (c.add_decisions.auto.groups
-        ∙ c.as_mut_slice.ensures.len) in
+    ∙ c.as_mut_slice.ensures.len) in
     let empty =
-        subst (All (λ (g : Group). g.edges.items ≡ [])) (sym c.as_mut_slice.ensures.value) c.in_ok-groups.ensures.1 in
+    subst (All (λ (g : Group). g.edges.items ≡ [])) (sym c.as_mut_slice.ensures.value) c.in_ok-groups.ensures.1 in
     record {
       grouped =
           subst (AreGrouped (edges_in ds)) (sym items)
