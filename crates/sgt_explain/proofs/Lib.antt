@@ -13,4 +13,3 @@ pub mod SiteEnds
 pub mod Taken
 pub mod Telling
 pub mod UnmetSteps
-pub mod Naming
