@@ -13,7 +13,7 @@ import sys
 import tempfile
 
 PAGES = ["README.md", *sorted(glob.glob("docs/*.md")), *sorted(glob.glob("crates/*/README.md"))]
-WORDS = "crates/sgt_words/src"
+WORDS = "crates/sgt_command_line/src"
 LINE = "crates/sgt_line/src"
 TOPICS = "crates/sgt_explain/src/topics.rt"
 WORDS_AT_MOST = {"README.md": 1100, "docs/BENCH.md": 1500, "docs/GATE.md": 750}

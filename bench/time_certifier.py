@@ -14,7 +14,7 @@ import sys
 import tempfile
 
 TOP = os.path.join(os.path.dirname(os.path.abspath(__file__)), "..")
-CRATES = ["sgt_names", "sgt_notation", "sgt_arena", "sgt_site", "sgt_edges", "sgt_order", "sgt_cert", "sgt_certifier"]
+CRATES = ["sgt_names", "sgt_notation", "sgt_arena", "sgt_site", "sgt_edges", "sgt_order", "sgt_bundle", "sgt_certifier"]
 
 PROGRAM = r"""//! Runs a certifier over windows of a thousand transactions, and says how many decisions it took.
 //!
@@ -169,7 +169,7 @@ def built(scratch):
         lines = [it for it in file if it.split(":")[0] in CRATES]
     with open(f"{scratch}/crates.txt", "w", encoding="utf-8") as file:
         file.writelines(lines)
-        file.write("certifier_load: sgt_names sgt_arena sgt_edges sgt_order sgt_cert sgt_certifier anyhow\n")
+        file.write("certifier_load: sgt_names sgt_arena sgt_edges sgt_order sgt_bundle sgt_certifier anyhow\n")
     subprocess.run(["rt", "fmt"], cwd=home, check=True)
     ran = subprocess.run(["rt", "run", "certifier_load"], cwd=home, stdout=subprocess.PIPE, stderr=subprocess.STDOUT, text=True)
     if ran.returncode:

@@ -17,7 +17,7 @@ import tempfile
 
 TOP = os.path.join(os.path.dirname(os.path.abspath(__file__)), "..")
 CRATES = [
-    "sgt_names", "sgt_notation", "sgt_arena", "sgt_site", "sgt_edges", "sgt_order", "sgt_cert", "sgt_certifier", "sgt_service_agreement",
+    "sgt_names", "sgt_notation", "sgt_arena", "sgt_site", "sgt_edges", "sgt_order", "sgt_bundle", "sgt_certifier", "sgt_service_agreement",
     "sgt_workers", "sgt_service_settle",
 ]
 
@@ -209,7 +209,7 @@ def built(scratch, unproved):
         lines = [it for it in file if it.split(":")[0].split(" ")[0] in CRATES]
     with open(f"{scratch}/crates.txt", "w", encoding="utf-8") as file:
         file.writelines(lines)
-        file.write("settle_load: sgt_names sgt_arena sgt_site sgt_edges sgt_cert sgt_certifier sgt_service_agreement sgt_workers sgt_service_settle anyhow\n")
+        file.write("settle_load: sgt_names sgt_arena sgt_site sgt_edges sgt_bundle sgt_certifier sgt_service_agreement sgt_workers sgt_service_settle anyhow\n")
     subprocess.run(["rt", "fmt"], cwd=home, check=True)
     if unproved:
         return ["rt", "try", "settle_load", "--seconds", "600", "--"], home

@@ -9,7 +9,7 @@ set -eu
 cd "$(dirname "$0")/.."
 out=${1:-examples/out/package}
 kit=$(dirname "$(dirname "$(readlink -f "$(command -v rt)")")")
-version=$(sed -n 's/^const VERSION: &str = "\([0-9.]*\).*/\1/p' crates/sgt_words/src/commands.rt)
+version=$(sed -n 's/^const VERSION: &str = "\([0-9.]*\).*/\1/p' crates/sgt_command_line/src/commands.rt)
 SOURCE_DATE_EPOCH=$(git log -1 --format=%ct)
 export SOURCE_DATE_EPOCH
 TZ=UTC

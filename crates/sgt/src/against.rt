@@ -3,10 +3,10 @@
 use crate::devices::{Held, Input, LastWords, Retrying, Steady};
 use crate::host::{Host, ended, open, refuse_file};
 use crate::unreadable::{Fronted, tell_unreadable};
+use sgt_command_line::CheckWanted;
 use sgt_line::Line;
 use sgt_names::{FromRead, Sink, ToWrite};
 use sgt_program::check_order;
-use sgt_words::CheckWanted;
 use std::fs::File;
 
 // The reader of the order; the status, where it can't be opened. Standard input gives one text, so not this one and

@@ -2,9 +2,9 @@
 
 use crate::devices::{LastWords, Steady};
 use crate::host::Host;
+use sgt_command_line::{Choice, NoChoice};
 use sgt_history_words::{Asked, Tail, answered, unreadable};
 use sgt_names::{Failed, Sink, ToWrite, write_all};
-use sgt_words::{Choice, NoChoice};
 use std::alloc::Global;
 use std::io::Read;
 

@@ -1,10 +1,10 @@
 -- What from_line says of the certificate's line.
 use Rattle.std.proofs.Common.{◌≡◌, ℕ, List, Result, Ok, Err, IfOk, subst}
 use Rattle.std.specs.Prelude.{MatchResult}
-use Rattle.sgt_cert.specs.Text.{IsCertificate, certificate_text}
-use Rattle.sgt_cert.specs.declared.certificate.Certificate.{Certificate}
-use Rattle.sgt_cert.specs.declared.fault.CertFault.{CertFault}
-use Rattle.sgt_cert.specs.declared.fault.CertFault.TheVariants as cert
+use Rattle.sgt_bundle.specs.Text.{IsCertificate, certificate_text}
+use Rattle.sgt_bundle.specs.declared.certificate.Certificate.{Certificate}
+use Rattle.sgt_bundle.specs.declared.fault.CertFault.{CertFault}
+use Rattle.sgt_bundle.specs.declared.fault.CertFault.TheVariants as cert
 use Rattle.sgt_audit.specs.private.Certified.{IsReadingOf}
 
 -- another fault than want of memory

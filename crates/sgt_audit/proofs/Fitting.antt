@@ -1,12 +1,12 @@
 -- The parts of a bundle that is spelled fit together.
 use Rattle.std.proofs.Common.{ℕ, ◌<◌, List}
 use Rattle.sgt_names.proofs.Lists.{All-weaken}
-use Rattle.sgt_cert.specs.Parts.{FitTogether, HasStepsWithin, IsShaped}
-use Rattle.sgt_cert.specs.Text.{IsCertificate, IsDecision, IsStep}
-use Rattle.sgt_cert.specs.declared.certificate.Certificate.{Certificate}
-use Rattle.sgt_cert.specs.declared.certificate.Decision.{Decision}
-use Rattle.sgt_cert.specs.declared.certificate.Decision.TheVariants.{Commit, Refuse, Withdraw}
-use Rattle.sgt_cert.specs.declared.bundle.SiteLog.{SiteLog}
+use Rattle.sgt_bundle.specs.Parts.{FitTogether, HasStepsWithin, IsShaped}
+use Rattle.sgt_bundle.specs.Text.{IsCertificate, IsDecision, IsStep}
+use Rattle.sgt_bundle.specs.declared.certificate.Certificate.{Certificate}
+use Rattle.sgt_bundle.specs.declared.certificate.Decision.{Decision}
+use Rattle.sgt_bundle.specs.declared.certificate.Decision.TheVariants.{Commit, Refuse, Withdraw}
+use Rattle.sgt_bundle.specs.declared.bundle.SiteLog.{SiteLog}
 
 steps-within : (sites : ℕ) (d : Decision) → IsDecision sites d → HasStepsWithin sites d
 steps-within sites (Commit tx rank) is = tt

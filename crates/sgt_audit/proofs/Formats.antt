@@ -12,11 +12,11 @@ use Rattle.sgt_names.proofs.Lists.{AllByRecursion-append, Any_at, Any-from_at}
 use Rattle.sgt_notation.specs.Spelling.{IsLine}
 use Rattle.sgt_notation.specs.declared.SectionLine.{SectionLine}
 use Rattle.sgt_notation.specs.declared.SectionLine.TheVariants.{Initial, Logged, Final, End}
-use Rattle.sgt_cert.specs.Text.{format_line, has_increments, section_lines, sections_from}
-use Rattle.sgt_cert.specs.declared.bundle.SiteLog.{SiteLog}
+use Rattle.sgt_bundle.specs.Text.{format_line, has_increments, section_lines, sections_from}
+use Rattle.sgt_bundle.specs.declared.bundle.SiteLog.{SiteLog}
 use Rattle.sgt_audit.specs.Faults.{Allows, IsLineIn}
 use Rattle.sgt_audit.proofs.SectionLines.{AllByRecursion-map}
-use Rattle.sgt_cert.proofs.OneText.{front-all}
+use Rattle.sgt_bundle.proofs.OneText.{front-all}
 
 -- the two formats have two lines, which end in two digits
 other_digit : format_line false ≡ format_line true → ⊥

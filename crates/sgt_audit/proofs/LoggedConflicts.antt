@@ -7,13 +7,13 @@ use Rattle.sgt_names.proofs.Places.{All-from_at, All_at, Contains-from_at}
 use Rattle.sgt_names.proofs.Lists.{All_in, front_at, middle_at, within_at}
 use Rattle.sgt_notation.specs.declared.SectionLine.{SectionLine}
 use Rattle.sgt_notation.specs.declared.SectionLine.TheVariants.{End}
-use Rattle.sgt_cert.specs.Text.{IsCertificate}
-use Rattle.sgt_cert.specs.Valid.{AreLogged}
-use Rattle.sgt_cert.specs.declared.bundle.SiteLog.{SiteLog}
-use Rattle.sgt_cert.specs.declared.certificate.Certificate.{Certificate}
-use Rattle.sgt_cert.specs.declared.certificate.Decision.{Decision}
-use Rattle.sgt_cert.specs.declared.certificate.Decision.TheVariants.{Refuse}
-use Rattle.sgt_cert.specs.declared.certificate.Step.{Step}
+use Rattle.sgt_bundle.specs.Text.{IsCertificate}
+use Rattle.sgt_bundle.specs.Valid.{AreLogged}
+use Rattle.sgt_bundle.specs.declared.bundle.SiteLog.{SiteLog}
+use Rattle.sgt_bundle.specs.declared.certificate.Certificate.{Certificate}
+use Rattle.sgt_bundle.specs.declared.certificate.Decision.{Decision}
+use Rattle.sgt_bundle.specs.declared.certificate.Decision.TheVariants.{Refuse}
+use Rattle.sgt_bundle.specs.declared.certificate.Step.{Step}
 use Rattle.sgt_audit_decisions.specs.Steps.{AreStepsAt, AreStepsOf, edges_from, edges_in}
 use Rattle.sgt_audit_decisions.specs.declared.steps.Edge.{Edge}
 use Rattle.sgt_audit_decisions.proofs.Grouping.{cons-cases, cons-first, cons-rest, edge-found, edge-there, certificate-within}

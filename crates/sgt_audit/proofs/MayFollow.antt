@@ -12,10 +12,10 @@ use Rattle.sgt_names.specs.declared.entry.Holding.{Holding}
 use Rattle.sgt_names.proofs.Lists.{heads, tails, list_cases, middle_at, front_at}
 use Rattle.sgt_notation.specs.declared.SectionLine.{SectionLine}
 use Rattle.sgt_notation.specs.declared.SectionLine.TheVariants.{Site, Initial, Logged, Final, End}
-use Rattle.sgt_cert.specs.Parts.{ComesBefore, IsShapedLog, IsShaped}
-use Rattle.sgt_cert.specs.Text.{section_lines, sections_from, Begins, AreSections}
-use Rattle.sgt_cert.specs.declared.bundle.SiteLog.{SiteLog}
-use Rattle.sgt_cert.proofs.OneText.{section-one, initial-one, logged-one, final-one, section_spread}
+use Rattle.sgt_bundle.specs.Parts.{ComesBefore, IsShapedLog, IsShaped}
+use Rattle.sgt_bundle.specs.Text.{section_lines, sections_from, Begins, AreSections}
+use Rattle.sgt_bundle.specs.declared.bundle.SiteLog.{SiteLog}
+use Rattle.sgt_bundle.proofs.OneText.{section-one, initial-one, logged-one, final-one, section_spread}
 use Rattle.sgt_audit.specs.Reading.{Begun, open_lines, lines_read, IsOpenLog, HasRoomFor, IsBegun}
 use Rattle.sgt_audit.specs.private.Following.{Fits, FitsBetween, MayFollow, with_line, no_log, with_next}
 use Rattle.sgt_audit.proofs.LinePlaces.{no_cons}

@@ -7,12 +7,12 @@ use Rattle.sgt_notation.specs.Spelling.{line_text, text_of_lines}
 use Rattle.sgt_notation.specs.declared.SectionLine.{SectionLine}
 use Rattle.sgt_notation.proofs.Decidable.{Decidable}
 use Rattle.sgt_notation.proofs.OneSpelling.{cut_at_byte, line-one, line-one_line}
-use Rattle.sgt_cert.specs.Parts.{Parts}
-use Rattle.sgt_cert.specs.Text.{certificate_text, format_line, sections_from, Begins, AreSections, IsCertificate, Spells}
-use Rattle.sgt_cert.specs.declared.certificate.Certificate.{Certificate}
-use Rattle.sgt_cert.proofs.Reading.{certificate-one}
-use Rattle.sgt_cert.proofs.OneLine.{certificate-one_line}
-use Rattle.sgt_cert.proofs.OneText.{format-one_line, lines_front, logs-from_lines, sections-lines, sections-one}
+use Rattle.sgt_bundle.specs.Parts.{Parts}
+use Rattle.sgt_bundle.specs.Text.{certificate_text, format_line, sections_from, Begins, AreSections, IsCertificate, Spells}
+use Rattle.sgt_bundle.specs.declared.certificate.Certificate.{Certificate}
+use Rattle.sgt_bundle.proofs.Reading.{certificate-one}
+use Rattle.sgt_bundle.proofs.OneLine.{certificate-one_line}
+use Rattle.sgt_bundle.proofs.OneText.{format-one_line, lines_front, logs-from_lines, sections-lines, sections-one}
 use Rattle.sgt_audit.specs.declared.faults.Fault.{Fault}
 use Rattle.sgt_audit.specs.declared.faults.Fault.TheVariants as fault
 use Rattle.sgt_audit.specs.Faults.{IsLineIn, Keeps, Stage, start, headed, within, complete, lines_so_far, Piece, whole, last, ComesNext, Rule}

@@ -10,9 +10,9 @@ use Rattle.sgt_notation.specs.Reading.{SpellsNone}
 use Rattle.sgt_notation.specs.declared.SectionLine.{SectionLine}
 use Rattle.sgt_notation.specs.declared.SectionLine.TheVariants.{Site, Initial, Logged, Final, End}
 use Rattle.sgt_notation.proofs.Short.{line-short}
-use Rattle.sgt_cert.specs.Text.{certificate_text, format_line, IsCertificate, AreSections}
-use Rattle.sgt_cert.specs.declared.certificate.Certificate.{Certificate}
-use Rattle.sgt_cert.proofs.Reading.{certificate-one}
+use Rattle.sgt_bundle.specs.Text.{certificate_text, format_line, IsCertificate, AreSections}
+use Rattle.sgt_bundle.specs.declared.certificate.Certificate.{Certificate}
+use Rattle.sgt_bundle.proofs.Reading.{certificate-one}
 use Rattle.sgt_audit.specs.declared.faults.Fault.{Fault}
 use Rattle.sgt_audit.specs.declared.faults.FirstFault.{FirstFault}
 use Rattle.sgt_audit.specs.declared.faults.Fault.TheVariants as fault

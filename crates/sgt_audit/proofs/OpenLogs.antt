@@ -8,9 +8,9 @@ use Rattle.sgt_names.specs.declared.entry.Entry.{Entry}
 use Rattle.sgt_names.proofs.Places.{take-next}
 use Rattle.sgt_notation.specs.declared.SectionLine.{SectionLine}
 use Rattle.sgt_notation.specs.declared.SectionLine.TheVariants.{Site, Initial, Logged, Final, End}
-use Rattle.sgt_cert.specs.Text.{Begins, section_lines, sections_from}
-use Rattle.sgt_cert.specs.declared.certificate.Certificate.{Certificate}
-use Rattle.sgt_cert.specs.declared.bundle.SiteLog.{SiteLog}
+use Rattle.sgt_bundle.specs.Text.{Begins, section_lines, sections_from}
+use Rattle.sgt_bundle.specs.declared.certificate.Certificate.{Certificate}
+use Rattle.sgt_bundle.specs.declared.bundle.SiteLog.{SiteLog}
 use Rattle.sgt_audit.specs.Faults.{Keeps}
 use Rattle.sgt_audit.specs.private.Judging.{HasOpen, KeptBelow}
 use Rattle.sgt_audit.specs.Reading.{Begun, lines_read, open_lines}

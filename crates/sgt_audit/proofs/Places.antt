@@ -17,9 +17,9 @@ use Rattle.sgt_names.proofs.Places.{All_at, All-from_at, AllPairs_at}
 use Rattle.sgt_names.specs.Name.{Name}
 use Rattle.sgt_notation.specs.declared.SectionLine.{SectionLine}
 use Rattle.sgt_notation.specs.declared.SectionLine.TheVariants.{Site, Initial, Logged, Final, End}
-use Rattle.sgt_cert.specs.Parts.{ComesBefore}
-use Rattle.sgt_cert.specs.Text.{Begins, AreSections}
-use Rattle.sgt_cert.specs.declared.bundle.SiteLog.{SiteLog}
+use Rattle.sgt_bundle.specs.Parts.{ComesBefore}
+use Rattle.sgt_bundle.specs.Text.{Begins, AreSections}
+use Rattle.sgt_bundle.specs.declared.bundle.SiteLog.{SiteLog}
 use Rattle.sgt_audit.specs.declared.place.Last.{Last}
 use Rattle.sgt_audit.specs.declared.place.Last.TheVariants as last
 use Rattle.sgt_audit.specs.declared.place.OpenPlace.{OpenPlace}

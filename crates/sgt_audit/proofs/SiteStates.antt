@@ -21,17 +21,17 @@ use Rattle.sgt_names.specs.declared.entry.Kind.{Kind}
 use Rattle.sgt_names.specs.declared.entry.Kind.TheVariants.{Wr, Rw, Ww}
 use Rattle.sgt_notation.specs.declared.SectionLine.{SectionLine}
 use Rattle.sgt_notation.specs.declared.SectionLine.TheVariants.{Site, Initial, Logged, Final, End}
-use Rattle.sgt_cert.specs.Parts.{ComesBefore}
-use Rattle.sgt_cert.specs.Valid.{IsDecided, RiseInRank, EndInOrder}
-use Rattle.sgt_cert.specs.declared.bundle.SiteLog.{SiteLog}
-use Rattle.sgt_cert.specs.declared.certificate.Decision.{Decision}
+use Rattle.sgt_bundle.specs.Parts.{ComesBefore}
+use Rattle.sgt_bundle.specs.Valid.{IsDecided, RiseInRank, EndInOrder}
+use Rattle.sgt_bundle.specs.declared.bundle.SiteLog.{SiteLog}
+use Rattle.sgt_bundle.specs.declared.certificate.Decision.{Decision}
 use Rattle.sgt_audit_decisions.specs.Decided.{Decides, IsFound}
 use Rattle.sgt_audit_cells.specs.Tracks.{TracksOpen, IsReadyFor, IsPlaceAmong, IsNumberOf}
 use Rattle.sgt_audit_cells.specs.declared.state.SiteState.{SiteState}
 use Rattle.sgt_audit_cells.proofs.Tracking.{ready-next}
-use Rattle.sgt_cert.specs.Certificate.{IsDecidedOnce}
-use Rattle.sgt_cert.specs.Text.{Begins}
-use Rattle.sgt_cert.specs.declared.certificate.Certificate.{Certificate}
+use Rattle.sgt_bundle.specs.Certificate.{IsDecidedOnce}
+use Rattle.sgt_bundle.specs.Text.{Begins}
+use Rattle.sgt_bundle.specs.declared.certificate.Certificate.{Certificate}
 use Rattle.sgt_audit.specs.declared.faults.Fault.TheVariants as fault
 use Rattle.sgt_audit.specs.declared.tracked.Tracked.{Tracked}
 use Rattle.sgt_audit.specs.Faults.{Keeps}

@@ -9,16 +9,16 @@ use Rattle.std.proofs.lemmas.List.Elements.{recursion_from_All, All-push}
 use Rattle.sgt_notation.specs.Spelling.{line_text, text_of_lines, HasNoLf, IsLine}
 use Rattle.sgt_notation.specs.declared.SectionLine.{SectionLine}
 use Rattle.sgt_notation.proofs.OneSpelling.{cut_at_byte, line-one, line-one_line}
-use Rattle.sgt_cert.specs.Parts.{FitTogether, Parts}
-use Rattle.sgt_cert.specs.Text.{certificate_text, format_line, text_in, sections_from, Begins, AreSections, IsCertificate, Spells}
-use Rattle.sgt_cert.specs.declared.certificate.Certificate.{Certificate}
-use Rattle.sgt_cert.proofs.OneText.{format-one_line, lines_front, lines-one, logs-from_lines, sections-lines}
-use Rattle.sgt_cert.proofs.OneLine.{certificate-one_line}
+use Rattle.sgt_bundle.specs.Parts.{FitTogether, Parts}
+use Rattle.sgt_bundle.specs.Text.{certificate_text, format_line, text_in, sections_from, Begins, AreSections, IsCertificate, Spells}
+use Rattle.sgt_bundle.specs.declared.certificate.Certificate.{Certificate}
+use Rattle.sgt_bundle.proofs.OneText.{format-one_line, lines_front, lines-one, logs-from_lines, sections-lines}
+use Rattle.sgt_bundle.proofs.OneLine.{certificate-one_line}
 use Rattle.sgt_audit.specs.Faults.{IsLineIn}
 use Rattle.sgt_audit.specs.Reading.{Begun, open_lines, lines_read}
 use Rattle.sgt_audit.specs.Spelled.{AnswersBundle}
 use Rattle.sgt_audit.specs.private.SpelledSections.{AreSpelled, SpellsSections}
-use Rattle.sgt_cert.specs.declared.bundle.SiteLog.{SiteLog}
+use Rattle.sgt_bundle.specs.declared.bundle.SiteLog.{SiteLog}
 use Rattle.sgt_audit.proofs.Fitting.{fit-together}
 use Rattle.sgt_audit.proofs.Formats.{format-one, lines-of, lines-allowed, logs-allowed}
 use Rattle.sgt_audit.proofs.OneFault.{has_lf}

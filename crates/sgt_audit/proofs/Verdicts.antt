@@ -5,12 +5,12 @@ use Rattle.std.proofs.lemmas.Bool.{false≢true}
 use Rattle.std.proofs.lemmas.Option.{none-some}
 use Rattle.sgt_notation.specs.Spelling.{text_of_lines}
 use Rattle.sgt_notation.specs.declared.SectionLine.{SectionLine}
-use Rattle.sgt_cert.specs.Parts.{FitTogether, Parts}
-use Rattle.sgt_cert.specs.Valid.{IsRanked, IsValidLog, IsValid}
-use Rattle.sgt_cert.specs.Text.{AreSections, Spells}
-use Rattle.sgt_cert.specs.declared.bundle.SiteLog.{SiteLog}
-use Rattle.sgt_cert.proofs.Headline.{valid-agrees}
-use Rattle.sgt_cert.proofs.OneText.{bundle-one}
+use Rattle.sgt_bundle.specs.Parts.{FitTogether, Parts}
+use Rattle.sgt_bundle.specs.Valid.{IsRanked, IsValidLog, IsValid}
+use Rattle.sgt_bundle.specs.Text.{AreSections, Spells}
+use Rattle.sgt_bundle.specs.declared.bundle.SiteLog.{SiteLog}
+use Rattle.sgt_bundle.proofs.Headline.{valid-agrees}
+use Rattle.sgt_bundle.proofs.OneText.{bundle-one}
 use Rattle.sgt_names.proofs.Places.{All-from_at, All_at}
 use Rattle.sgt_audit.specs.declared.kept.Kept.{Kept}
 use Rattle.sgt_audit.specs.declared.verdict.Verdict.{Verdict}

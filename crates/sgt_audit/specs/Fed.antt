@@ -1,8 +1,8 @@
 -- What an auditor was fed.
 use Rattle.std.specs.Prelude.{◌≡◌, ℕ, ◌+◌, ◌<◌, ◌≤◌, ◌^◌, Bool, List, ◌∷◌, ◌++◌, length, Option, Some, None}
 use Rattle.sgt_notation.specs.Spelling.{text_of_lines}
-use Rattle.sgt_cert.specs.Text.{certificate_text, format_line}
-use Rattle.sgt_cert.specs.declared.certificate.Certificate.{Certificate}
+use Rattle.sgt_bundle.specs.Text.{certificate_text, format_line}
+use Rattle.sgt_bundle.specs.declared.certificate.Certificate.{Certificate}
 use Rattle.sgt_audit.specs.declared.faults.Fault.{Fault}
 use Rattle.sgt_audit.specs.declared.auditor.Auditor.{Auditor}
 use Rattle.sgt_audit.specs.declared.auditor.Standing.{Standing}

@@ -5,9 +5,9 @@ use Rattle.sgt_names.specs.Limits.{max_items, max_sites}
 use Rattle.sgt_names.specs.Log.{names}
 use Rattle.sgt_notation.specs.declared.SectionLine.{SectionLine}
 use Rattle.sgt_notation.specs.declared.SectionLine.TheVariants.{Site, Initial, Logged, Final}
-use Rattle.sgt_cert.specs.Parts.{ComesBefore, IsShapedLog}
-use Rattle.sgt_cert.specs.Text.{sections_from}
-use Rattle.sgt_cert.specs.declared.bundle.SiteLog.{SiteLog}
+use Rattle.sgt_bundle.specs.Parts.{ComesBefore, IsShapedLog}
+use Rattle.sgt_bundle.specs.Text.{sections_from}
+use Rattle.sgt_bundle.specs.declared.bundle.SiteLog.{SiteLog}
 
 -- how many sites there are to be, the logs that are whole, and the log whose section is open
 pub record Begun : Type 0 where

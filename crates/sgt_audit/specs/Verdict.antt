@@ -1,12 +1,12 @@
 -- The auditor's verdict on a text.
 use Rattle.std.specs.Prelude.{◌≡◌, ◌<◌, ℕ, List, ◌++◌, length, take, codes, decimal, count_by, Option, All, ◌⊎◌, [], IfSome}
 use Rattle.sgt_names.specs.Device.{AppendsOrForgets}
-use Rattle.sgt_cert.specs.Parts.{Parts}
-use Rattle.sgt_cert.specs.Certificate.{AreRanks, IsDecidedOnce, is_commit, is_refusal, is_withdrawal, ranks}
-use Rattle.sgt_cert.specs.Serial.{SerialAgrees}
-use Rattle.sgt_cert.specs.Valid.{IsRanked, IsValid, RefusedLieOnCycles}
-use Rattle.sgt_cert.specs.Text.{Spells}
-use Rattle.sgt_cert.specs.declared.certificate.Decision.{Decision}
+use Rattle.sgt_bundle.specs.Parts.{Parts}
+use Rattle.sgt_bundle.specs.Certificate.{AreRanks, IsDecidedOnce, is_commit, is_refusal, is_withdrawal, ranks}
+use Rattle.sgt_bundle.specs.Serial.{SerialAgrees}
+use Rattle.sgt_bundle.specs.Valid.{IsRanked, IsValid, RefusedLieOnCycles}
+use Rattle.sgt_bundle.specs.Text.{Spells}
+use Rattle.sgt_bundle.specs.declared.certificate.Decision.{Decision}
 use Rattle.sgt_audit.specs.declared.verdict.Verdict.{Verdict}
 use Rattle.sgt_audit.specs.declared.verdict.Verdict.TheVariants.{Yes, No}
 use Rattle.sgt_audit.specs.declared.engine.Audited.{Audited}

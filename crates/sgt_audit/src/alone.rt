@@ -45,12 +45,12 @@ fn meets_steps(certificate: &Decided, state: &SiteState, edges: &[Edge], line: &
 
 impl Alone {
     ghost use Rattle.std.specs.Prelude.{None, IsTrue, ◌↔◌, ◌<◌};
-    ghost use Rattle.sgt_cert.specs.Certificate.{IsDecidedOnce, AreRanks, ranks};
-    ghost use Rattle.sgt_cert.specs.declared.bundle.SiteLog.{SiteLog};
-    ghost use Rattle.sgt_cert.specs.declared.certificate.Certificate.{Certificate};
+    ghost use Rattle.sgt_bundle.specs.Certificate.{IsDecidedOnce, AreRanks, ranks};
+    ghost use Rattle.sgt_bundle.specs.declared.bundle.SiteLog.{SiteLog};
+    ghost use Rattle.sgt_bundle.specs.declared.certificate.Certificate.{Certificate};
     ghost use Rattle.std.specs.Prelude.{[], ◌∷◌, ◌++◌, ◌≢◌, Some};
     ghost use Rattle.sgt_notation.specs.declared.SectionLine.TheVariants.{Logged};
-    ghost use Rattle.sgt_cert.specs.Text.{Begins};
+    ghost use Rattle.sgt_bundle.specs.Text.{Begins};
     ghost use Rattle.sgt_audit.specs.Faults.{IsLineIn, Keeps};
     ghost use Rattle.sgt_audit.specs.Reading.{IsBegun, lines_read};
     ghost use Rattle.sgt_audit.specs.private.Judging.{JudgedLine};

@@ -2,7 +2,7 @@
 
 ghost use Rattle.std.specs.Prelude.{◌≡◌, ℕ, ◌+◌, ◌<◌, ◌^◌, List, [], ◌∷◌, ◌++◌, length, Bool, true, false, Err, IfOk, IfErr, OnOk, OnErr};
 ghost use Rattle.sgt_notation.specs.Spelling.{HasNoLf, text_of_lines};
-ghost use Rattle.sgt_cert.specs.declared.certificate.Certificate.{Certificate};
+ghost use Rattle.sgt_bundle.specs.declared.certificate.Certificate.{Certificate};
 ghost use Rattle.sgt_audit.specs.Verdict.{IsVerdict};
 ghost use Rattle.sgt_audit.specs.declared.faults.Fault.{Fault};
 
@@ -10,7 +10,7 @@ use crate::faults;
 use crate::faults::Fault;
 use crate::machine::{Machine, Progress};
 use crate::verdict::{Verdict, verdict_on};
-use sgt_cert::{Certificate, to_line};
+use sgt_bundle::{Certificate, to_line};
 use sgt_names::EngineFail;
 use std::alloc::Global;
 

@@ -2,7 +2,6 @@
 
 ghost use Rattle.std.specs.Prelude.{◌≡◌, ◌≤◌, [], ◌∷◌, ◌++◌, ℕ, ◌+◌, ◌<◌, length, take, drop, IfOk, IfErr, IfSome, IfNone};
 ghost use Rattle.sgt_names.specs.Limits.{max_sites};
-ghost use Rattle.sgt_notation.specs.Spelling.{HasNoLf};
 ghost use Rattle.sgt_audit.specs.Spelled.{AnswersBundle};
 ghost use Rattle.sgt_audit.specs.Kept.{IsPlace};
 ghost use Rattle.sgt_audit.specs.Reading.{IsBegun, lines_read};
@@ -11,21 +10,10 @@ ghost use Rattle.sgt_audit.specs.private.SpelledSections.{AnswersSections, AreSp
 use crate::format::{read_format, read_line};
 use crate::place::Place;
 use crate::sections::Sections;
-use sgt_cert::{Bundle, CertFault, from_line};
+use sgt_bundle::{Bundle, CertFault, from_line};
 use sgt_names::EngineFail;
-use sgt_notation::find_lf;
+use sgt_notation::split_line;
 use std::alloc::{AllocError, Global};
-
-/// The first line, without its LF, and the bytes behind it.
-pub(crate) fn split_line(bytes: &[u8]) -> Option<(&[u8], &[u8])>
-    ensures some { IfSome result (λ r. HasNoLf r.0.now × (bytes.now ≡ r.0.now ++ 10 ∷ r.1.now)) }
-    ensures none { IfNone result (HasNoLf bytes.now) }
-{
-    match find_lf(bytes) {
-        Some(n) => Some((&bytes[..n], &bytes[n + 1..])),
-        None => None,
-    }
-}
 
 /// Adds the lines of sections that the bytes spell in the second format, or in the first. Whether they are all
 /// sections.

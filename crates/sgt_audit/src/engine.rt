@@ -2,6 +2,7 @@
 
 ghost use Rattle.std.specs.Prelude.{◌≡◌, ◌≢◌, ◌-◌, ◌<◌, ◌≤◌, ◌⊎◌, Err, length, IfOk, OnErr, IfSome, IsErrOf};
 ghost use Rattle.std.specs.Io.KnownBytes.{Appends};
+ghost use Rattle.sgt_names.specs.Limits.{most_reads};
 ghost use Rattle.sgt_notation.specs.Lines.{ReadFaultIsDue};
 ghost use Rattle.sgt_audit.specs.Faults.{BeginsNoneBehind, ReadsNoFurther};
 ghost use Rattle.sgt_audit.specs.Verdict.{IsVerdict, IsAudited, HandsOutValid, SaysHeadline, WroteFront, text_of};
@@ -10,8 +11,8 @@ use crate::faults::Fault;
 use crate::kept::Kept;
 use crate::reading::judge;
 use crate::verdict::{Verdict, verdict_on};
-use sgt_cert::Bundle;
-use sgt_names::{EngineFail, Sink, Source, write_all};
+use sgt_bundle::Bundle;
+use sgt_names::{Asks, Bytes, EngineFail, Nowhere, Sink, Source, write_all};
 use std::alloc::Global;
 
 /// What a text was found to spell.
@@ -115,4 +116,24 @@ pub fn audit<R: Source, W: Sink>(
         return Err(EngineFail::WriteFault);
     }
     Ok(verdict)
+}
+
+/// The verdict of `audit` on bytes that are held. An Err is ReadFault, where that takes too many reads, or Memory.
+pub fn audit_bytes(alloc: Global, bytes: &[u8]) -> Result<Verdict, EngineFail>
+    ensures verdict { IfOk result (IsVerdict bytes.now) }
+    ensures headline { IfOk result (SaysHeadline bytes.now) }
+    ensures read_fault { IsErrOf result EngineFail.ReadFault → most_reads ≤ length bytes.now }
+    ensures write_fault { result ≢ Err EngineFail.WriteFault }
+{
+    let mut reader = Bytes {
+        rest: bytes,
+        asks: Asks::none(),
+        last: 0,
+    };
+    match audit(alloc, &mut reader, &mut Nowhere) {
+        Ok(verdict) => Ok(verdict),
+        Err(EngineFail::Memory) => Err(EngineFail::Memory),
+        Err(EngineFail::ReadFault) => Err(EngineFail::ReadFault),
+        Err(EngineFail::WriteFault) => unreachable!(),
+    }
 }

@@ -3,13 +3,13 @@
 ghost use Rattle.std.specs.Prelude.{◌≡◌, ◌↔◌, Bool, IsTrue, IfSome, IfNone};
 ghost use Rattle.sgt_notation.specs.Reading.{Finds};
 ghost use Rattle.sgt_notation.specs.Spelling.{line_text};
-ghost use Rattle.sgt_cert.specs.Text.{format_line};
+ghost use Rattle.sgt_bundle.specs.Text.{format_line};
 ghost use Rattle.sgt_audit.specs.Faults.{Allows, IsLineIn};
 
 use sgt_notation::{SectionLine, read_section};
 
 /// Whether the line says the second format, if it says one of the two.
-pub(crate) fn read_format(line: &[u8]) -> Option<bool>
+pub fn read_format(line: &[u8]) -> Option<bool>
     ensures some { IfSome result (λ second. line.now ≡ format_line second) }
     ensures none { IfNone result ((second : Bool) → line.now ≡ format_line second → ⊥) }
 {
@@ -34,7 +34,7 @@ pub(crate) fn is_allowed(second: bool, line: &SectionLine) -> bool
 }
 
 /// The line of a section in this format that the line spells.
-pub(crate) fn read_line(second: bool, line: &[u8]) -> Option<SectionLine>
+pub fn read_line(second: bool, line: &[u8]) -> Option<SectionLine>
     ensures { Finds (IsLineIn second) line_text line.now result }
 {
     match read_section(line) {

@@ -4,13 +4,13 @@ ghost use Rattle.std.specs.Prelude.{◌≡◌, ◌↔◌, ◌∷◌, ◌++◌, [
 ghost use Rattle.sgt_notation.specs.declared.SectionLine.{SectionLine};
 ghost use Rattle.sgt_notation.specs.declared.SectionLine.TheVariants.{Logged, Final, End};
 ghost use Rattle.sgt_names.specs.Log.{names, value_at};
-ghost use Rattle.sgt_cert.specs.Certificate.{IsDecidedOnce, AreRanks, ranks};
-ghost use Rattle.sgt_cert.specs.declared.certificate.Decision.{Decision};
+ghost use Rattle.sgt_bundle.specs.Certificate.{IsDecidedOnce, AreRanks, ranks};
+ghost use Rattle.sgt_bundle.specs.declared.certificate.Decision.{Decision};
 ghost use Rattle.sgt_audit_cells.specs.Tracks.{TracksOpen};
 ghost use Rattle.sgt_audit.specs.Kept.{IsOpenPlace, IsPlace, IsTracked};
-ghost use Rattle.sgt_cert.specs.Text.{Begins};
-ghost use Rattle.sgt_cert.specs.declared.bundle.SiteLog.{SiteLog};
-ghost use Rattle.sgt_cert.specs.declared.certificate.Certificate.{Certificate};
+ghost use Rattle.sgt_bundle.specs.Text.{Begins};
+ghost use Rattle.sgt_bundle.specs.declared.bundle.SiteLog.{SiteLog};
+ghost use Rattle.sgt_bundle.specs.declared.certificate.Certificate.{Certificate};
 ghost use Rattle.sgt_audit.specs.Faults.{Keeps};
 ghost use Rattle.sgt_audit.specs.private.Judging.{ContinuesLog, HasOpen, JudgedLine, AnswersItself};
 ghost use Rattle.sgt_audit.specs.private.Known.{IsKnownOf, IsKnownLine};
@@ -26,7 +26,7 @@ use crate::tracked::{
 };
 use sgt_audit_cells::SiteState;
 use sgt_audit_decisions::{Decided, are_cycles, are_ranks};
-use sgt_cert::Certificate;
+use sgt_bundle::Certificate;
 use sgt_names::{Entry, Holding};
 use sgt_notation::SectionLine;
 use std::alloc::{AllocError, Global};

@@ -8,7 +8,7 @@ use crate::judging::judge_certificate;
 use crate::kept::Kept;
 use crate::sections::sections_of;
 use crate::tracked::Tracked;
-use sgt_cert::{CertFault, Certificate, from_line};
+use sgt_bundle::{CertFault, Certificate, from_line};
 use sgt_names::{EngineFail, MAX_LINE};
 use std::alloc::Global;
 

@@ -3,9 +3,9 @@
 
 ghost use Rattle.std.specs.Prelude.{◌≡◌, ◌-◌, ◌↔◌, [], ◌∷◌, ◌++◌, IsTrue, OnOk, Some, None, length, slice_get};
 ghost use Rattle.std.specs.Option.{ForSome};
-ghost use Rattle.sgt_cert.specs.Parts.{ComesBefore};
-ghost use Rattle.sgt_cert.specs.Text.{Begins, AreSections};
-ghost use Rattle.sgt_cert.specs.declared.bundle.SiteLog.{SiteLog};
+ghost use Rattle.sgt_bundle.specs.Parts.{ComesBefore};
+ghost use Rattle.sgt_bundle.specs.Text.{Begins, AreSections};
+ghost use Rattle.sgt_bundle.specs.declared.bundle.SiteLog.{SiteLog};
 ghost use Rattle.sgt_audit.specs.Kept.{IsOpenPlace, IsPlace, last_of};
 ghost use Rattle.sgt_audit.specs.Reading.{Begun, IsBegun, IsOpenLog, lines_read};
 ghost use Rattle.sgt_audit.specs.private.Following.{Fits, FitsAt, MayFollow, with_line, with_next};

@@ -4,7 +4,7 @@ ghost use Rattle.std.specs.Prelude.{◌≡◌, [], OnOk, OnErr, IsTrue, IsSome, 
 ghost use Rattle.sgt_audit.specs.Reading.{Begun};
 ghost use Rattle.sgt_audit.specs.private.Following.{with_next};
 
-use sgt_cert::SiteLog;
+use sgt_bundle::SiteLog;
 use sgt_names::{Entry, Holding, Listed};
 use sgt_notation::SectionLine;
 use std::alloc::{AllocError, Global};
@@ -19,7 +19,7 @@ pub struct OpenLog {
 }
 
 impl Model for OpenLog {
-    ghost use Rattle.sgt_cert.specs.declared.bundle.SiteLog.{SiteLog};
+    ghost use Rattle.sgt_bundle.specs.declared.bundle.SiteLog.{SiteLog};
 
     ghost Value = { SiteLog };
 

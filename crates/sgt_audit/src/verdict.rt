@@ -6,7 +6,7 @@ ghost use Rattle.sgt_audit.specs.private.Stops.{IsJudged};
 
 use crate::faults::{Fault, FirstFault};
 use crate::kept::Kept;
-use sgt_cert::Decision;
+use sgt_bundle::Decision;
 use std::alloc::{AllocError, Global};
 
 /// What the auditor says of a text.

@@ -11,7 +11,7 @@ use Rattle.sgt_names.specs.declared.entry.Entry.{Entry}
 use Rattle.sgt_names.specs.declared.entry.Holding.{Holding}
 use Rattle.sgt_names.specs.declared.entry.Kind.{Kind}
 use Rattle.sgt_names.specs.declared.entry.Kind.TheVariants.{Wr, Rw, Ww}
-use Rattle.sgt_cert.specs.declared.certificate.Decision.{Decision}
+use Rattle.sgt_bundle.specs.declared.certificate.Decision.{Decision}
 use Rattle.sgt_audit_cells.specs.Records.{AreActs, deed_of}
 use Rattle.sgt_audit_cells.specs.private.Deeds.{act, changes, adds, deeds_clash, ClashesWith}
 use Rattle.sgt_audit_cells.specs.Tracks.{IsNumberOf, TracksOpen}

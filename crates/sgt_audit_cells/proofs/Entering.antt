@@ -10,7 +10,7 @@ use Rattle.sgt_names.specs.Entry.{item_of}
 use Rattle.sgt_names.specs.Log.{names}
 use Rattle.sgt_names.specs.declared.entry.Entry.{Entry}
 use Rattle.sgt_names.specs.declared.entry.Holding.{Holding}
-use Rattle.sgt_cert.specs.declared.certificate.Decision.{Decision}
+use Rattle.sgt_bundle.specs.declared.certificate.Decision.{Decision}
 use Rattle.sgt_audit_cells.specs.Cells.{IsCell, AreCells}
 use Rattle.sgt_audit_cells.specs.private.Noted.{IsPlaceOf}
 use Rattle.sgt_audit_cells.specs.declared.cell.Cell.{Cell}
@@ -18,7 +18,7 @@ use Rattle.sgt_audit_cells.specs.Tracks.{TracksOpen, IsPlaceAmong}
 use Rattle.sgt_audit_cells.specs.declared.state.SiteState.{SiteState}
 use Rattle.sgt_audit_cells.proofs.Noted.{other-cell}
 use Rattle.sgt_names.proofs.Elements.{none-unless_some}
-use Rattle.sgt_cert.proofs.InRange.{on_ok-anyway}
+use Rattle.sgt_bundle.proofs.InRange.{on_ok-anyway}
 
 module _ (ds : List Decision) (items : List Holding) (entries : List Entry) (cells : List Cell)
     (are : AreCells ds items entries cells) (e : Entry) where

@@ -12,8 +12,8 @@ use Rattle.sgt_names.specs.Name.{Name}
 use Rattle.sgt_names.specs.Log.{names, value_in}
 use Rattle.sgt_names.specs.declared.entry.Entry.{Entry}
 use Rattle.sgt_names.specs.declared.entry.Holding.{Holding}
-use Rattle.sgt_cert.specs.Certificate.{decided_tx}
-use Rattle.sgt_cert.specs.declared.certificate.Decision.{Decision}
+use Rattle.sgt_bundle.specs.Certificate.{decided_tx}
+use Rattle.sgt_bundle.specs.declared.certificate.Decision.{Decision}
 use Rattle.sgt_audit_cells.specs.Cells.{IsGreatest, IsCell, AreCells}
 use Rattle.sgt_audit_cells.specs.Records.{live_among}
 use Rattle.sgt_audit_cells.specs.Tracks.{EndsBy, TracksOpen}

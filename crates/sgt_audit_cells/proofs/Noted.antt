@@ -19,8 +19,8 @@ use Rattle.sgt_names.specs.declared.entry.Change.TheVariants as change
 use Rattle.sgt_names.specs.declared.entry.Entry.{Entry}
 use Rattle.sgt_names.specs.declared.entry.Entry.TheVariants.{Read, Write, Add, Want, WantAdd, Commit, Refuse, Withdraw}
 use Rattle.sgt_names.specs.declared.entry.Holding.{Holding}
-use Rattle.sgt_cert.specs.Certificate.{IsDecidedOnce}
-use Rattle.sgt_cert.specs.declared.certificate.Decision.{Decision}
+use Rattle.sgt_bundle.specs.Certificate.{IsDecidedOnce}
+use Rattle.sgt_bundle.specs.declared.certificate.Decision.{Decision}
 use Rattle.sgt_audit_cells.specs.declared.cell.Cell.{Cell}
 use Rattle.sgt_audit_cells.specs.Cells.{IsGreatest, IsRankedWith, Puts, Increments, IsCell, AreCells, IsRankOf}
 use Rattle.sgt_audit_cells.specs.private.Noted.{raised, noted}

@@ -11,10 +11,10 @@ use Rattle.sgt_names.specs.declared.entry.Entry.{Entry}
 use Rattle.sgt_names.specs.declared.entry.Entry.TheVariants.{Read, Write, Add, Want, WantAdd, Commit, Refuse, Withdraw}
 use Rattle.sgt_names.specs.declared.entry.Holding.{Holding}
 use Rattle.sgt_names.specs.declared.entry.Kind.TheVariants.{Wr, Rw, Ww}
-use Rattle.sgt_cert.specs.Certificate.{IsCommitted, IsDecidedOnce, AreRanks, ranks}
-use Rattle.sgt_cert.specs.Valid.{RiseInRank}
-use Rattle.sgt_cert.specs.declared.certificate.Decision.{Decision}
-use Rattle.sgt_cert.proofs.Ranks.{rank_of-committed, of_rank}
+use Rattle.sgt_bundle.specs.Certificate.{IsCommitted, IsDecidedOnce, AreRanks, ranks}
+use Rattle.sgt_bundle.specs.Valid.{RiseInRank}
+use Rattle.sgt_bundle.specs.declared.certificate.Decision.{Decision}
+use Rattle.sgt_bundle.proofs.Ranks.{rank_of-committed, of_rank}
 use Rattle.sgt_audit_cells.specs.declared.cell.Cell.{Cell}
 use Rattle.sgt_audit_cells.specs.Cells.{IsGreatest, IsRankedWith, Puts, Increments, IsCell, IsRankOf}
 use Rattle.sgt_audit_cells.specs.private.Noted.{IsUpTo, Passes, raised}

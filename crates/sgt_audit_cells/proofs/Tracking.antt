@@ -13,9 +13,9 @@ use Rattle.sgt_names.specs.Entry.{tx_of, item_of, IsEnd, Repeats}
 use Rattle.sgt_names.specs.Log.{names, value_at, AllEnded}
 use Rattle.sgt_names.specs.declared.entry.Entry.{Entry}
 use Rattle.sgt_names.specs.declared.entry.Holding.{Holding}
-use Rattle.sgt_cert.specs.Certificate.{decided_tx, IsDecidedOnce}
-use Rattle.sgt_cert.specs.Valid.{IsDecided, EndInOrder}
-use Rattle.sgt_cert.specs.declared.certificate.Decision.{Decision}
+use Rattle.sgt_bundle.specs.Certificate.{decided_tx, IsDecidedOnce}
+use Rattle.sgt_bundle.specs.Valid.{IsDecided, EndInOrder}
+use Rattle.sgt_bundle.specs.declared.certificate.Decision.{Decision}
 use Rattle.sgt_audit_cells.specs.Cells.{IsGreatest, AreCells, IsCell}
 use Rattle.sgt_audit_cells.specs.private.Noted.{IsPlaceOf, IsUpTo, raised}
 use Rattle.sgt_audit_cells.specs.Records.{Record, no_record, Did, IsRecord, is_live, live_among}

@@ -6,9 +6,9 @@ use Rattle.sgt_names.specs.Entry.{item_of, IsEnd}
 use Rattle.sgt_names.specs.Log.{names}
 use Rattle.sgt_names.specs.declared.entry.Entry.{Entry}
 use Rattle.sgt_names.specs.declared.entry.Holding.{Holding}
-use Rattle.sgt_cert.specs.Certificate.{decided_tx}
-use Rattle.sgt_cert.specs.Valid.{IsDecided}
-use Rattle.sgt_cert.specs.declared.certificate.Decision.{Decision}
+use Rattle.sgt_bundle.specs.Certificate.{decided_tx}
+use Rattle.sgt_bundle.specs.Valid.{IsDecided}
+use Rattle.sgt_bundle.specs.declared.certificate.Decision.{Decision}
 use Rattle.sgt_audit_decisions.specs.Decided.{Decides, IsFound}
 use Rattle.sgt_audit_cells.specs.Cells.{IsGreatest, AreCells}
 use Rattle.sgt_audit_cells.specs.Records.{Record, IsRecord, live_among}

@@ -5,11 +5,11 @@ use Rattle.std.proofs.lemmas.Option.{none-some, same_Some, slice_get_within}
 use Rattle.sgt_names.specs.declared.entry.Holding.{Holding}
 use Rattle.sgt_names.proofs.Lists.{front_at, middle_at}
 use Rattle.sgt_names.proofs.Places.{All_at}
-use Rattle.sgt_cert.specs.Parts.{Parts}
-use Rattle.sgt_cert.specs.Text.{Spells}
-use Rattle.sgt_cert.specs.Valid.{IsValid}
-use Rattle.sgt_cert.specs.declared.bundle.SiteLog.{SiteLog}
-use Rattle.sgt_cert.proofs.OneText.{bundle-one}
+use Rattle.sgt_bundle.specs.Parts.{Parts}
+use Rattle.sgt_bundle.specs.Text.{Spells}
+use Rattle.sgt_bundle.specs.Valid.{IsValid}
+use Rattle.sgt_bundle.specs.declared.bundle.SiteLog.{SiteLog}
+use Rattle.sgt_bundle.proofs.OneText.{bundle-one}
 use Rattle.sgt_audit.proofs.Faultless.{valid-no_fault}
 use Rattle.sgt_audit.proofs.OneFault.{first_fault-excluded}
 use Rattle.sgt_audit_chain.specs.Audited.{HasFault, SpellEach}

@@ -10,8 +10,8 @@ use Rattle.std.proofs.lemmas.Slice.Eq.{bytes_eq-Decides}
 use Rattle.sgt_names.specs.Name.{Name}
 use Rattle.sgt_names.specs.declared.entry.Holding.{Holding}
 use Rattle.sgt_names.proofs.Places.{take-next}
-use Rattle.sgt_cert.specs.Text.{section_lines, sections_from}
-use Rattle.sgt_cert.specs.declared.bundle.SiteLog.{SiteLog}
+use Rattle.sgt_bundle.specs.Text.{section_lines, sections_from}
+use Rattle.sgt_bundle.specs.declared.bundle.SiteLog.{SiteLog}
 use Rattle.sgt_audit.proofs.MayFollow.{sections-append}
 use Rattle.sgt_audit_chain.specs.Break.{BreaksHere, site_line}
 use Rattle.sgt_audit_chain.specs.Chain.{initial_of}

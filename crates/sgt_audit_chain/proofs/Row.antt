@@ -17,11 +17,11 @@ use Rattle.sgt_names.specs.declared.entry.Entry.TheVariants as entry
 use Rattle.sgt_names.specs.declared.entry.Holding.{Holding}
 use Rattle.sgt_names.proofs.Lists.{option_cases, heads, tails}
 use Rattle.sgt_names.proofs.Places.{All_at}
-use Rattle.sgt_cert.specs.Parts.{FitTogether, IsShapedLog, Parts}
-use Rattle.sgt_cert.specs.Serial.{Store, entries_of, initial_store, own_entries, store_after, RunsSerially}
-use Rattle.sgt_cert.specs.Valid.{IsValid, IsValidLog}
-use Rattle.sgt_cert.specs.declared.bundle.SiteLog.{SiteLog}
-use Rattle.sgt_cert.proofs.Headline.{valid-agrees}
+use Rattle.sgt_bundle.specs.Parts.{FitTogether, IsShapedLog, Parts}
+use Rattle.sgt_bundle.specs.Serial.{Store, entries_of, initial_store, own_entries, store_after, RunsSerially}
+use Rattle.sgt_bundle.specs.Valid.{IsValid, IsValidLog}
+use Rattle.sgt_bundle.specs.declared.bundle.SiteLog.{SiteLog}
+use Rattle.sgt_bundle.proofs.Headline.{valid-agrees}
 use Rattle.sgt_audit_chain.specs.Chain.{IsChain, final_of, final_values, initial_of}
 use Rattle.sgt_audit_chain.specs.Serial.{ChainAgrees, RunInARow, committed_of, store_behind}
 use Rattle.sgt_names.proofs.Elements.{All-tail}

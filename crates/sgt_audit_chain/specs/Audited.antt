@@ -1,11 +1,11 @@
 -- What texts in a row are found to be.
 use Rattle.std.specs.Prelude.{◌≡◌, ℕ, Bool, List, [], ◌∷◌, ◌++◌, All, Option, Some, None, IfSome, codes, decimal, count_by, sum_by, option_map}
 use Rattle.sgt_names.specs.declared.entry.Holding.{Holding}
-use Rattle.sgt_cert.specs.Parts.{FitTogether, Parts}
-use Rattle.sgt_cert.specs.Certificate.{is_commit, is_refusal, is_withdrawal}
-use Rattle.sgt_cert.specs.Valid.{IsValid}
-use Rattle.sgt_cert.specs.Text.{Spells}
-use Rattle.sgt_cert.specs.declared.certificate.Decision.{Decision}
+use Rattle.sgt_bundle.specs.Parts.{FitTogether, Parts}
+use Rattle.sgt_bundle.specs.Certificate.{is_commit, is_refusal, is_withdrawal}
+use Rattle.sgt_bundle.specs.Valid.{IsValid}
+use Rattle.sgt_bundle.specs.Text.{Spells}
+use Rattle.sgt_bundle.specs.declared.certificate.Decision.{Decision}
 use Rattle.sgt_audit.specs.Faults.{fault_number, FirstFault}
 use Rattle.sgt_audit_chain.specs.Break.{FirstBreak}
 use Rattle.sgt_audit_chain.specs.Chain.{IsChain, values_behind}

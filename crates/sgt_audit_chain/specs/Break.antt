@@ -1,8 +1,8 @@
 -- Where a bundle doesn't go on from the values that one before it left.
 use Rattle.std.specs.Prelude.{◌≡◌, ◌≢◌, ℕ, ◌+◌, List, length, map, take, Option, Some, None, slice_get}
 use Rattle.sgt_names.specs.declared.entry.Holding.{Holding}
-use Rattle.sgt_cert.specs.Text.{sections_from}
-use Rattle.sgt_cert.specs.declared.bundle.SiteLog.{SiteLog}
+use Rattle.sgt_bundle.specs.Text.{sections_from}
+use Rattle.sgt_bundle.specs.declared.bundle.SiteLog.{SiteLog}
 use Rattle.sgt_audit_chain.specs.Chain.{initial_of}
 
 -- the line of a bundle's text on which the section of this site begins, or would begin

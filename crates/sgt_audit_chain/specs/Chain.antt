@@ -1,9 +1,9 @@
 -- Bundles of one system in a row.
 use Rattle.std.specs.Prelude.{◌≡◌, ℕ, suc, ◌-◌, List, length, map, All, Option, Some, option_map, slice_get}
 use Rattle.sgt_names.specs.declared.entry.Holding.{Holding}
-use Rattle.sgt_cert.specs.Parts.{Parts}
-use Rattle.sgt_cert.specs.Valid.{IsValid}
-use Rattle.sgt_cert.specs.declared.bundle.SiteLog.{SiteLog}
+use Rattle.sgt_bundle.specs.Parts.{Parts}
+use Rattle.sgt_bundle.specs.Valid.{IsValid}
+use Rattle.sgt_bundle.specs.declared.bundle.SiteLog.{SiteLog}
 
 -- the initial values of the items of a log, and the final ones
 abbrev pub initial_of : SiteLog → List Holding

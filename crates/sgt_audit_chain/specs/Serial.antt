@@ -1,9 +1,9 @@
 -- The committed transactions of bundles in a row, run alone one after another: bundle by bundle, and
 -- those of a bundle by rank.
 use Rattle.std.specs.Prelude.{ℕ, List, [], ◌∷◌, fold}
-use Rattle.sgt_cert.specs.Parts.{Parts}
-use Rattle.sgt_cert.specs.Certificate.{by_rank}
-use Rattle.sgt_cert.specs.Serial.{Store, initial_store, store_after, RunsSerially}
+use Rattle.sgt_bundle.specs.Parts.{Parts}
+use Rattle.sgt_bundle.specs.Certificate.{by_rank}
+use Rattle.sgt_bundle.specs.Serial.{Store, initial_store, store_after, RunsSerially}
 
 -- the committed transactions of a bundle by rank
 abbrev pub committed_of : Parts → List ℕ

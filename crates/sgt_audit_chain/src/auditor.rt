@@ -4,7 +4,7 @@ use crate::counts::Counts;
 use crate::faults::ChainFault;
 use crate::going_on::{first_break, values_left};
 use sgt_audit::{Audited, audit_bundle};
-use sgt_cert::Bundle;
+use sgt_bundle::Bundle;
 use sgt_names::{EngineFail, Holding, Listed, Source};
 use std::alloc::{AllocError, Global};
 
@@ -19,8 +19,8 @@ pub struct ChainAuditor {
 
 impl ChainAuditor {
     ghost use Rattle.std.specs.Prelude.{◌≡◌, ◌≢◌, ◌-◌, ◌<◌, ◌∷◌, ◌++◌, [], ℕ, List, Option, Err, IfOk, IfNone, IfSome, IsErrOf, OnErr, OnSome, length, string_bytes};
-    ghost use Rattle.sgt_cert.specs.Parts.{FitTogether, Parts};
-    ghost use Rattle.sgt_cert.specs.Valid.{IsValid};
+    ghost use Rattle.sgt_bundle.specs.Parts.{FitTogether, Parts};
+    ghost use Rattle.sgt_bundle.specs.Valid.{IsValid};
     ghost use Rattle.sgt_notation.specs.Lines.{ReadFaultIsDue};
     ghost use Rattle.sgt_audit.specs.Faults.{BeginsNoneBehind, ReadsNoFurther};
     ghost use Rattle.sgt_audit_chain.specs.Audited.{FollowsIn, HasAudited, HasFault, HoldsHeadline, IsYes, KeepsOf};

@@ -1,6 +1,6 @@
 //! How many decisions of each kind there are.
 
-use sgt_cert::Decision;
+use sgt_bundle::Decision;
 
 /// How many transactions were committed, refused and withdrawn.
 #[derive(Clone, Copy, Debug, PartialEq, Eq)]
@@ -12,7 +12,7 @@ pub struct Counts {
 
 impl Counts {
     ghost use Rattle.std.specs.Prelude.{◌≡◌, ◌+◌, ◌^◌, ◌<◌, ℕ, count_by};
-    ghost use Rattle.sgt_cert.specs.Certificate.{is_commit, is_refusal, is_withdrawal};
+    ghost use Rattle.sgt_bundle.specs.Certificate.{is_commit, is_refusal, is_withdrawal};
     ghost use Rattle.sgt_audit_chain.specs.Sums.{in_64_bits};
 
     /// None of each.

@@ -1,12 +1,12 @@
 //! Whether a bundle goes on from the values that the one before it left.
 
 ghost use Rattle.std.specs.Prelude.{◌≡◌, ◌≢◌, ◌+◌, ℕ, List, length, map, take, slice_get, IfSome, IfNone, IfOk};
-ghost use Rattle.sgt_cert.specs.Text.{section_lines};
+ghost use Rattle.sgt_bundle.specs.Text.{section_lines};
 ghost use Rattle.sgt_audit_chain.specs.Break.{FirstBreak};
 ghost use Rattle.sgt_audit_chain.specs.Chain.{final_of, initial_of};
 ghost use Rattle.sgt_audit_chain.specs.Sums.{in_64_bits};
 
-use sgt_cert::SiteLog;
+use sgt_bundle::SiteLog;
 use sgt_names::{Holding, Listed};
 use std::alloc::{AllocError, Global};
 

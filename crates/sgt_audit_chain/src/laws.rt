@@ -1,7 +1,7 @@
 //! Laws of chains.
 
 ghost use Rattle.std.specs.Prelude.{ℕ, List, All, Some, [], ◌∷◌, ◌++◌, map};
-ghost use Rattle.sgt_cert.specs.Parts.{FitTogether, Parts};
+ghost use Rattle.sgt_bundle.specs.Parts.{FitTogether, Parts};
 ghost use Rattle.sgt_audit_chain.specs.Audited.{HasFault, SpellEach};
 ghost use Rattle.sgt_audit_chain.specs.Chain.{IsChain};
 ghost use Rattle.sgt_audit_chain.specs.Serial.{ChainAgrees};

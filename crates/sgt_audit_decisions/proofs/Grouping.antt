@@ -9,11 +9,11 @@ use Rattle.std.proofs.lemmas.List.Elements.{Contains-push, Contains-append_left,
 use Rattle.std.proofs.lemmas.Option.{same_Some, none-some, slice_get_within}
 use Rattle.sgt_names.proofs.Places.{All_at, All-from_at, Contains_at, Contains-from_at}
 use Rattle.sgt_names.proofs.Lists.{All_in, element_at, drop_next, take_next}
-use Rattle.sgt_cert.specs.Text.{IsCertificate, IsDecision, IsStep}
-use Rattle.sgt_cert.specs.declared.certificate.Step.{Step}
-use Rattle.sgt_cert.specs.declared.certificate.Certificate.{Certificate}
-use Rattle.sgt_cert.specs.declared.certificate.Decision.{Decision}
-use Rattle.sgt_cert.specs.declared.certificate.Decision.TheVariants.{Commit, Refuse, Withdraw}
+use Rattle.sgt_bundle.specs.Text.{IsCertificate, IsDecision, IsStep}
+use Rattle.sgt_bundle.specs.declared.certificate.Step.{Step}
+use Rattle.sgt_bundle.specs.declared.certificate.Certificate.{Certificate}
+use Rattle.sgt_bundle.specs.declared.certificate.Decision.{Decision}
+use Rattle.sgt_bundle.specs.declared.certificate.Decision.TheVariants.{Commit, Refuse, Withdraw}
 use Rattle.sgt_audit_decisions.specs.Steps.{AreStepsAt, AreStepsOf, edges_from, edges_of, edges_in}
 use Rattle.sgt_audit_decisions.specs.private.Grouped.{AreGrouped}
 use Rattle.sgt_audit_decisions.specs.declared.steps.Edge.{Edge}

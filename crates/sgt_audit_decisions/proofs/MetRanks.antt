@@ -6,7 +6,7 @@ use Rattle.std.proofs.lemmas.Bool.{cases_eq, cases_order, true≢false, false≢
 use Rattle.std.proofs.lemmas.List.{get_or_past}
 use Rattle.std.proofs.lemmas.Option.{same_Some, slice_get_within}
 use Rattle.sgt_names.proofs.Places.{All_at, All-from_at, AllPairs_at, AllPairs-from_at}
-use Rattle.sgt_cert.specs.Certificate.{AreRanks}
+use Rattle.sgt_bundle.specs.Certificate.{AreRanks}
 
 -- the first n are below their count, no two are the same, and their places alone are marked
 pub record AreMet (rs : List ℕ) (n : ℕ) (met : List Bool) : Type 0 where

@@ -7,7 +7,7 @@ use Rattle.std.specs.List.{list_any}
 use Rattle.std.proofs.lemmas.Bool.{cases_eq, true≢false, false≢true}
 use Rattle.std.proofs.lemmas.Option.{same_Some, slice_get_within}
 use Rattle.sgt_names.proofs.Places.{AllPairs_at, AllPairs-from_at}
-use Rattle.sgt_cert.specs.declared.certificate.Step.{Step}
+use Rattle.sgt_bundle.specs.declared.certificate.Step.{Step}
 use Rattle.sgt_names.proofs.Elements.{nat_cmp-same, nat_cmp-other}
 
 -- one of the first n steps leads to the transaction

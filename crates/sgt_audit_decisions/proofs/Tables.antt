@@ -9,8 +9,8 @@ use Rattle.std.proofs.lemmas.Bool.{cases_eq, cases_order}
 use Rattle.std.proofs.lemmas.List.{get_or_past}
 use Rattle.std.proofs.lemmas.Option.{same_Some, slice_get_within}
 use Rattle.sgt_names.proofs.Places.{AllPairs_at, AllPairs-from_at}
-use Rattle.sgt_cert.specs.Certificate.{decided_tx, IsDecidedOnce}
-use Rattle.sgt_cert.specs.declared.certificate.Decision.{Decision}
+use Rattle.sgt_bundle.specs.Certificate.{decided_tx, IsDecidedOnce}
+use Rattle.sgt_bundle.specs.declared.certificate.Decision.{Decision}
 use Rattle.sgt_audit_decisions.specs.Decided.{Decides}
 use Rattle.sgt_audit_decisions.specs.private.Table.{IsPlacedOf, ArePlacedOf}
 use Rattle.sgt_audit_decisions.specs.private.Outcome.{outcome_of}

@@ -5,9 +5,9 @@ use Rattle.std.proofs.lemmas.List.{map-append, length-map}
 use Rattle.std.proofs.lemmas.Option.{slice_get-map}
 use Rattle.sgt_names.proofs.Places.{All-from_at, All_at, AllPairs-from_at, AllPairs_at}
 use Rattle.sgt_names.proofs.Lists.{map_at}
-use Rattle.sgt_cert.specs.Certificate.{IsCommitted, IsCycle, stops}
-use Rattle.sgt_cert.specs.declared.certificate.Step.{Step}
-use Rattle.sgt_cert.specs.declared.certificate.Decision.{Decision}
+use Rattle.sgt_bundle.specs.Certificate.{IsCommitted, IsCycle, stops}
+use Rattle.sgt_bundle.specs.declared.certificate.Step.{Step}
+use Rattle.sgt_bundle.specs.declared.certificate.Decision.{Decision}
 
 pub push-one : {A : Type 0} (xs ys : List A) (x y : A) → xs ++ x ∷ [] ≡ ys ++ y ∷ [] → (xs ≡ ys) × (x ≡ y)
 push-one [] [] x y e = (refl, cc)

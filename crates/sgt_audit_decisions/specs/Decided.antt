@@ -2,9 +2,9 @@
 use Rattle.std.specs.Prelude.{◌≡◌, ℕ, List, Option, Some, None, slice_get}
 use Rattle.sgt_names.specs.Entry.{tx_of}
 use Rattle.sgt_names.specs.declared.entry.Entry.{Entry}
-use Rattle.sgt_cert.specs.Certificate.{decided_tx, IsCommitted}
-use Rattle.sgt_cert.specs.Valid.{IsDecided}
-use Rattle.sgt_cert.specs.declared.certificate.Decision.{Decision}
+use Rattle.sgt_bundle.specs.Certificate.{decided_tx, IsCommitted}
+use Rattle.sgt_bundle.specs.Valid.{IsDecided}
+use Rattle.sgt_bundle.specs.declared.certificate.Decision.{Decision}
 use Rattle.sgt_audit_decisions.specs.declared.decided.Ruling.{Ruling}
 
 -- the decision of this number is on the transaction

@@ -1,12 +1,12 @@
 //! The walks of a certificate by themselves.
 
 ghost use Rattle.std.specs.Prelude.{◌≡◌, ◌≢◌, ◌<◌, ◌↔◌, ℕ, [], List, IsTrue, IfOk, Some, All, AllPairs, slice_get};
-ghost use Rattle.sgt_cert.specs.Certificate.{IsCommitted, IsCycle};
-ghost use Rattle.sgt_cert.specs.declared.certificate.Decision.TheVariants.{Refuse};
-ghost use Rattle.sgt_cert.specs.declared.certificate.Step.{Step};
+ghost use Rattle.sgt_bundle.specs.Certificate.{IsCommitted, IsCycle};
+ghost use Rattle.sgt_bundle.specs.declared.certificate.Decision.TheVariants.{Refuse};
+ghost use Rattle.sgt_bundle.specs.declared.certificate.Step.{Step};
 
 use crate::decided::Decided;
-use sgt_cert::{Decision, Step};
+use sgt_bundle::{Decision, Step};
 use sgt_names::Tx;
 use std::alloc::{AllocError, Global};
 use std::collections::BTreeSet;

@@ -1,15 +1,15 @@
 //! A certificate whose decisions are found by their transactions.
 
 ghost use Rattle.std.specs.Prelude.{◌≡◌, ◌<◌, ◌↔◌, ℕ, [], false, IfOk, IfSome, IfNone, IsSome, IsTrue, Some, None, slice_get};
-ghost use Rattle.sgt_cert.specs.Certificate.{decided_tx, IsCommitted, IsDecidedOnce};
-ghost use Rattle.sgt_cert.specs.Valid.{IsDecided};
-ghost use Rattle.sgt_cert.specs.Text.{IsCertificate};
+ghost use Rattle.sgt_bundle.specs.Certificate.{decided_tx, IsCommitted, IsDecidedOnce};
+ghost use Rattle.sgt_bundle.specs.Valid.{IsDecided};
+ghost use Rattle.sgt_bundle.specs.Text.{IsCertificate};
 ghost use Rattle.sgt_audit_decisions.specs.Decided.{Decides, IsRulingOn};
 ghost use Rattle.sgt_audit_decisions.specs.Steps.{AreStepsOf};
 
 use crate::steps::Steps;
 use crate::table::Table;
-use sgt_cert::{Certificate, Decision};
+use sgt_bundle::{Certificate, Decision};
 use sgt_names::{Entry, Tx};
 use std::alloc::{AllocError, Global};
 use std::marker::Model;
@@ -22,7 +22,7 @@ pub struct Decided {
 }
 
 impl Model for Decided {
-    ghost use Rattle.sgt_cert.specs.declared.certificate.Certificate.{Certificate};
+    ghost use Rattle.sgt_bundle.specs.declared.certificate.Certificate.{Certificate};
     ghost use Rattle.sgt_audit_decisions.specs.private.Table.{IsTableOf};
 
     ghost Value = { Certificate };

@@ -3,7 +3,7 @@
 ghost use Rattle.std.specs.Prelude.{◌≡◌, ◌↔◌, IsTrue};
 ghost use Rattle.sgt_audit_decisions.specs.private.Outcome.{outcome_of, rank_with, SuitsWith};
 
-use sgt_cert::Decision;
+use sgt_bundle::Decision;
 use sgt_names::Entry;
 
 /// What a decision comes to.

@@ -1,9 +1,9 @@
 //! The ranks of a certificate by themselves.
 
 ghost use Rattle.std.specs.Prelude.{◌≡◌, ◌↔◌, IsTrue, IfOk, All, false, length};
-ghost use Rattle.sgt_cert.specs.Certificate.{ranks, AreRanks};
+ghost use Rattle.sgt_bundle.specs.Certificate.{ranks, AreRanks};
 
-use sgt_cert::Decision;
+use sgt_bundle::Decision;
 use std::alloc::{AllocError, Global};
 
 /// The ranks of the commits.

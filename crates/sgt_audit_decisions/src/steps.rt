@@ -1,13 +1,13 @@
 //! The steps of the walks of a certificate, by their sites.
 
 ghost use Rattle.std.specs.Prelude.{◌≡◌, ◌∷◌, ◌++◌, ◌<◌, [], List, IfOk, OnOk, Some, All, length, slice_get, slice_set};
-ghost use Rattle.sgt_cert.specs.declared.certificate.Decision.{Decision};
+ghost use Rattle.sgt_bundle.specs.declared.certificate.Decision.{Decision};
 ghost use Rattle.sgt_audit_decisions.specs.Steps.{AreStepsAt, AreStepsOf, edges_from, edges_of, edges_in};
 ghost use Rattle.sgt_audit_decisions.specs.private.Grouped.{AreGrouped};
 ghost use Rattle.sgt_audit_decisions.specs.declared.steps.Edge.{Edge};
 ghost use Rattle.sgt_audit_decisions.specs.declared.steps.Group.{Group};
 
-use sgt_cert::{Decision, Step};
+use sgt_bundle::{Decision, Step};
 use sgt_names::Tx;
 use std::alloc::{AllocError, Global};
 

@@ -3,11 +3,11 @@
 ghost use Rattle.std.specs.Prelude.{◌≡◌, ◌<◌, ◌≤◌, ◌^◌, ◌↔◌, [], None, All, IfOk, IfSome, IsSome, IsTrue, length, slice_index_or};
 ghost use Rattle.std.specs.Ordering.{nat_cmp};
 ghost use Rattle.std.specs.BTreeMap.{get};
-ghost use Rattle.sgt_cert.specs.Certificate.{decided_tx, IsDecidedOnce};
+ghost use Rattle.sgt_bundle.specs.Certificate.{decided_tx, IsDecidedOnce};
 ghost use Rattle.sgt_audit_decisions.specs.private.Table.{placed_at, ArePlacedOf, IsTableOf};
 
 use crate::outcome::{Outcome, outcome_of};
-use sgt_cert::Decision;
+use sgt_bundle::Decision;
 use sgt_names::Tx;
 use std::alloc::{AllocError, Global};
 use std::collections::BTreeMap;

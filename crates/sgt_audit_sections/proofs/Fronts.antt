@@ -19,11 +19,11 @@ use Rattle.sgt_names.proofs.Lists.{heads, back_at, last_or-append}
 use Rattle.sgt_notation.specs.Spelling.{line_text}
 use Rattle.sgt_notation.specs.declared.SectionLine.{SectionLine}
 use Rattle.sgt_notation.specs.declared.SectionLine.TheVariants.{Site, Initial, Logged, Final, End}
-use Rattle.sgt_cert.specs.Parts.{IsShapedLog}
-use Rattle.sgt_cert.specs.Valid.{EndInOrder, RiseInRank}
-use Rattle.sgt_cert.specs.Text.{Begins, sections_from}
-use Rattle.sgt_cert.specs.declared.bundle.SiteLog.{SiteLog}
-use Rattle.sgt_cert.specs.declared.certificate.Certificate.{Certificate}
+use Rattle.sgt_bundle.specs.Parts.{IsShapedLog}
+use Rattle.sgt_bundle.specs.Valid.{EndInOrder, RiseInRank}
+use Rattle.sgt_bundle.specs.Text.{Begins, sections_from}
+use Rattle.sgt_bundle.specs.declared.bundle.SiteLog.{SiteLog}
+use Rattle.sgt_bundle.specs.declared.certificate.Certificate.{Certificate}
 use Rattle.sgt_audit.specs.declared.faults.Fault.{Fault}
 use Rattle.sgt_audit.specs.declared.faults.Fault.TheVariants as fault
 use Rattle.sgt_audit.specs.Faults.{fault_number, section_with, open_section, initial_in, logged_in, items_in, entries_in, IsLineIn, Keeps, whole, last, Rule, within}

@@ -12,14 +12,14 @@ use Rattle.sgt_notation.proofs.OneSpelling.{cut_at_byte, line-one, line-one_line
 use Rattle.sgt_notation.proofs.Short.{line-no_lf}
 use Rattle.sgt_notation.specs.declared.SectionLine.{SectionLine}
 use Rattle.sgt_notation.specs.declared.SectionLine.TheVariants.{Site, Initial, Logged, Final, End}
-use Rattle.sgt_cert.specs.Parts.{IsShapedLog, IsShaped}
-use Rattle.sgt_cert.specs.Valid.{AreLogged}
-use Rattle.sgt_cert.specs.Text.{certificate_text, format_line, section_lines, sections_from, Begins, AreSections}
-use Rattle.sgt_cert.specs.declared.bundle.SiteLog.{SiteLog}
-use Rattle.sgt_cert.specs.declared.certificate.Certificate.{Certificate}
-use Rattle.sgt_cert.specs.declared.certificate.Decision.TheVariants.{Refuse}
-use Rattle.sgt_cert.specs.declared.certificate.Step.{Step}
-use Rattle.sgt_cert.proofs.OneText.{sections-one}
+use Rattle.sgt_bundle.specs.Parts.{IsShapedLog, IsShaped}
+use Rattle.sgt_bundle.specs.Valid.{AreLogged}
+use Rattle.sgt_bundle.specs.Text.{certificate_text, format_line, section_lines, sections_from, Begins, AreSections}
+use Rattle.sgt_bundle.specs.declared.bundle.SiteLog.{SiteLog}
+use Rattle.sgt_bundle.specs.declared.certificate.Certificate.{Certificate}
+use Rattle.sgt_bundle.specs.declared.certificate.Decision.TheVariants.{Refuse}
+use Rattle.sgt_bundle.specs.declared.certificate.Step.{Step}
+use Rattle.sgt_bundle.proofs.OneText.{sections-one}
 use Rattle.sgt_audit_decisions.specs.Steps.{edges_in}
 use Rattle.sgt_audit_decisions.specs.declared.steps.Edge.{Edge}
 use Rattle.sgt_audit.specs.declared.faults.Fault.{Fault}

@@ -3,9 +3,9 @@ use Rattle.std.specs.Prelude.{◌≡◌, ◌↔◌, ◌≤◌, ◌+◌, ℕ, Lis
 use Rattle.sgt_names.specs.Limits.{max_line}
 use Rattle.sgt_notation.specs.Spelling.{HasNoLf, line_text, text_of_lines}
 use Rattle.sgt_notation.specs.declared.SectionLine.{SectionLine}
-use Rattle.sgt_cert.specs.Text.{section_lines}
-use Rattle.sgt_cert.specs.declared.bundle.SiteLog.{SiteLog}
-use Rattle.sgt_cert.specs.declared.certificate.Certificate.{Certificate}
+use Rattle.sgt_bundle.specs.Text.{section_lines}
+use Rattle.sgt_bundle.specs.declared.bundle.SiteLog.{SiteLog}
+use Rattle.sgt_bundle.specs.declared.certificate.Certificate.{Certificate}
 use Rattle.sgt_audit.specs.Alone.{StandsAlone}
 use Rattle.sgt_audit.specs.Reading.{Begun, lines_read}
 use Rattle.sgt_audit.specs.declared.alone.Alone.{Alone}

@@ -1,8 +1,8 @@
 //! What the faults of sections have to do with the first fault of the text.
 
 ghost use Rattle.std.specs.Prelude.{◌≡◌, ◌≢◌, ◌<◌, ◌↔◌, ◌+◌, ◌++◌, [], ℕ, Bool, List, length};
-ghost use Rattle.sgt_cert.specs.declared.bundle.SiteLog.{SiteLog};
-ghost use Rattle.sgt_cert.specs.declared.certificate.Certificate.{Certificate};
+ghost use Rattle.sgt_bundle.specs.declared.bundle.SiteLog.{SiteLog};
+ghost use Rattle.sgt_bundle.specs.declared.certificate.Certificate.{Certificate};
 ghost use Rattle.sgt_audit.specs.Faults.{FirstFault, HasNoFault};
 ghost use Rattle.sgt_audit.specs.declared.faults.Fault.{Fault};
 ghost use Rattle.sgt_audit.specs.declared.faults.Fault.TheVariants as fault;

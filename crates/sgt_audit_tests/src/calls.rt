@@ -2,7 +2,7 @@
 
 use crate::bundles::{INCREMENTS, ONLY_CYCLE, OWN_READ_BEFORE_WRITE, READER_TORN};
 use sgt_audit::{Audited, Auditor, Fault, Verdict, audit_bundle, read_bundle};
-use sgt_cert::from_line;
+use sgt_bundle::from_line;
 use sgt_names::MemSource;
 use sgt_notation::find_lf;
 use std::alloc::Global;

@@ -1,7 +1,7 @@
 //! Certificates with their tables.
 
 use sgt_audit_decisions::{Decided, Steps, are_cycles, are_ranks};
-use sgt_cert::from_line;
+use sgt_bundle::from_line;
 use sgt_names::{Entry, Tx};
 use std::alloc::{AllocError, Global};
 use std::test::Fail;

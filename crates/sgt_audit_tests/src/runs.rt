@@ -1,6 +1,6 @@
 //! Expected values are worked by hand.
 
-use sgt_cert::{Bundle, SiteLog, from_line};
+use sgt_bundle::{Bundle, SiteLog, from_line};
 use sgt_names::{Item, Listed, SiteNo};
 use sgt_notation::{SectionLine, read_section};
 use sgt_serial::{SerialFail, SerialReport, serial_run};

@@ -12,8 +12,8 @@ use Rattle.sgt_notation.specs.Lines.{Ahead, Gives, IsNext, Spends, coming}
 use Rattle.sgt_notation.specs.Spelling.{HasNoLf, text_of_lines}
 use Rattle.sgt_notation.specs.declared.lines.Next.{Next}
 use Rattle.sgt_notation.specs.declared.lines.Next.TheVariants.{Line, Cut, TooLong, End}
-use Rattle.sgt_cert.specs.Text.{certificate_text, format_line}
-use Rattle.sgt_cert.specs.declared.certificate.Certificate.{Certificate}
+use Rattle.sgt_bundle.specs.Text.{certificate_text, format_line}
+use Rattle.sgt_bundle.specs.declared.certificate.Certificate.{Certificate}
 use Rattle.sgt_audit.specs.declared.faults.Fault.{Fault}
 use Rattle.sgt_audit.specs.declared.faults.Fault.TheVariants as fault
 use Rattle.sgt_audit.specs.declared.machine.Progress.TheVariants as at

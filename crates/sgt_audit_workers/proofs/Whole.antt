@@ -5,13 +5,13 @@ use Rattle.std.proofs.lemmas.List.{append-nil}
 use Rattle.sgt_names.proofs.Places.{All_at, All-from_at}
 use Rattle.sgt_notation.specs.declared.SectionLine.{SectionLine}
 use Rattle.sgt_notation.specs.declared.SectionLine.TheVariants.{End}
-use Rattle.sgt_cert.specs.Valid.{AreLogged}
-use Rattle.sgt_cert.specs.Text.{sections_from, AreSections}
-use Rattle.sgt_cert.specs.declared.bundle.SiteLog.{SiteLog}
-use Rattle.sgt_cert.specs.declared.certificate.Certificate.{Certificate}
-use Rattle.sgt_cert.specs.declared.certificate.Decision.TheVariants.{Refuse}
-use Rattle.sgt_cert.specs.declared.certificate.Step.{Step}
-use Rattle.sgt_cert.proofs.OneText.{sections-one}
+use Rattle.sgt_bundle.specs.Valid.{AreLogged}
+use Rattle.sgt_bundle.specs.Text.{sections_from, AreSections}
+use Rattle.sgt_bundle.specs.declared.bundle.SiteLog.{SiteLog}
+use Rattle.sgt_bundle.specs.declared.certificate.Certificate.{Certificate}
+use Rattle.sgt_bundle.specs.declared.certificate.Decision.TheVariants.{Refuse}
+use Rattle.sgt_bundle.specs.declared.certificate.Step.{Step}
+use Rattle.sgt_bundle.proofs.OneText.{sections-one}
 use Rattle.sgt_audit_decisions.specs.Steps.{edges_in}
 use Rattle.sgt_audit_decisions.specs.declared.steps.Edge.{Edge}
 use Rattle.sgt_audit.specs.declared.faults.Fault.TheVariants as fault

@@ -2,7 +2,7 @@
 use Rattle.std.specs.Prelude.{◌≡◌, ℕ, Bool, List, Result, Ok, Err}
 use Rattle.sgt_names.specs.declared.outcome.EngineFail.{EngineFail}
 use Rattle.sgt_names.specs.declared.outcome.EngineFail.TheVariants.{Memory}
-use Rattle.sgt_cert.specs.Text.{certificate_text}
+use Rattle.sgt_bundle.specs.Text.{certificate_text}
 use Rattle.sgt_audit_decisions.specs.Steps.{AreStepsOf}
 use Rattle.sgt_audit.specs.Faults.{Breaks, Rule, headed, whole}
 use Rattle.sgt_audit.specs.declared.faults.Fault.{Fault}

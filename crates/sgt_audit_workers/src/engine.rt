@@ -24,7 +24,7 @@ use crate::sections::{Section, State, Text, read_line, read_on, state_behind, ta
 use crate::tally::Tally;
 use crate::workers::Workers;
 use sgt_audit::{Verdict, audit};
-use sgt_cert::Decision;
+use sgt_bundle::Decision;
 use sgt_names::{EngineFail, MAX_LINE, Sink, Source, write_all};
 use sgt_notation::Next;
 use std::alloc::Global;

@@ -4,7 +4,7 @@ ghost use Rattle.std.specs.Prelude.{◌≡◌, ◌≢◌, ◌+◌, ◌-◌, ◌*
 ghost use Rattle.sgt_names.specs.Limits.{max_line};
 ghost use Rattle.sgt_notation.specs.Lines.{IsNext};
 ghost use Rattle.sgt_notation.specs.Spelling.{text_of_lines};
-ghost use Rattle.sgt_cert.specs.Text.{IsCertificate, certificate_text, format_line};
+ghost use Rattle.sgt_bundle.specs.Text.{IsCertificate, certificate_text, format_line};
 ghost use Rattle.sgt_audit.specs.Faults.{Breaks, FirstFault, Rule, headed, whole};
 ghost use Rattle.sgt_audit.specs.private.Judging.{AnswersItself};
 ghost use Rattle.sgt_audit_workers.specs.Head.{IsHead};
@@ -20,7 +20,7 @@ use crate::judging::{Judging, finish, start};
 use crate::sections::{Beside, Section, Text, read_ahead, read_line};
 use sgt_audit::{Fault, Verdict};
 use sgt_audit_decisions::{Decided, Steps, are_cycles, are_ranks};
-use sgt_cert::{CertFault, Certificate, from_line};
+use sgt_bundle::{CertFault, Certificate, from_line};
 use sgt_names::{EngineFail, MAX_LINE, Source};
 use sgt_notation::Next;
 use std::alloc::{AllocError, Global};

@@ -1,7 +1,7 @@
 //! Line 2, judged by threads.
 
 ghost use Rattle.std.specs.Prelude.{◌≡◌, Bool, List, ℕ, IfOk, IfSome};
-ghost use Rattle.sgt_cert.specs.Text.{IsCertificate, certificate_text};
+ghost use Rattle.sgt_bundle.specs.Text.{IsCertificate, certificate_text};
 ghost use Rattle.sgt_audit_workers.specs.Head.{IsHeadOf};
 ghost use Rattle.sgt_audit_workers.specs.private.Judging.{IsFoundOf, IsOnceOf, WillFind, WillSay};
 
@@ -9,7 +9,7 @@ use crate::head::{Head, certificate_of, head_of};
 use crate::rules::{Once, judge_once};
 use sgt_audit::Fault;
 use sgt_audit_decisions::Decided;
-use sgt_cert::Certificate;
+use sgt_bundle::Certificate;
 use sgt_names::EngineFail;
 use std::alloc::{AllocError, Global};
 use std::snapshot::Snapshot;

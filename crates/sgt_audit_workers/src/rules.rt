@@ -4,7 +4,7 @@ ghost use Rattle.std.specs.Prelude.{◌↔◌, ℕ, List, IsTrue, IfOk};
 ghost use Rattle.sgt_audit_decisions.specs.Steps.{AreStepsOf};
 ghost use Rattle.sgt_audit.specs.Faults.{KeepsItself};
 ghost use Rattle.sgt_audit.specs.declared.faults.Fault.TheVariants as fault;
-ghost use Rattle.sgt_cert.specs.Text.{IsCertificate};
+ghost use Rattle.sgt_bundle.specs.Text.{IsCertificate};
 ghost use Rattle.sgt_audit_workers.specs.Head.{IsHeadOf};
 ghost use Rattle.sgt_audit_workers.specs.private.Judging.{IsLeast, IsOnceOf};
 

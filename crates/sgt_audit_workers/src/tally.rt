@@ -1,8 +1,8 @@
 //! The sections judged so far, in their order.
 
 ghost use Rattle.std.specs.Prelude.{◌≡◌, ◌≢◌, ◌<◌, ◌≤◌, ◌↔◌, ◌+◌, ◌^◌, ◌&&◌, None, [], ℕ, Bool, IsTrue, IfOk, IfErr, IfSome, IfNone, OnOk, OnErr, List, length};
-ghost use Rattle.sgt_cert.specs.declared.bundle.SiteLog.{SiteLog};
-ghost use Rattle.sgt_cert.specs.declared.certificate.Certificate.{Certificate};
+ghost use Rattle.sgt_bundle.specs.declared.bundle.SiteLog.{SiteLog};
+ghost use Rattle.sgt_bundle.specs.declared.certificate.Certificate.{Certificate};
 ghost use Rattle.sgt_audit_sections.specs.Judged.{IsJudgedSection, IsWhole};
 ghost use Rattle.sgt_audit_sections.specs.Sections.{IsFaultlessCertificate, front_text, AllStepsAreFound};
 ghost use Rattle.sgt_audit_workers.specs.Tallies.{Adds, IsLost, IsTally, IsVerdictBehind};

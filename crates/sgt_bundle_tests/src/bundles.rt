@@ -1,6 +1,6 @@
 //! Bundles: what they are made of, and their texts.
 
-use sgt_cert::{
+use sgt_bundle::{
     Bundle, Certificate, SiteLog, bundles_are_spelled_in_their_formats, committed_transactions_run,
     from_line, no_bytes_spell_two_bundles, ranks_are_distinct, serial_order_is_by_rank,
     valid_bundles_run_serially,

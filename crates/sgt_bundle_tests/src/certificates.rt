@@ -1,6 +1,6 @@
 //! Certificates, by themselves and as lines.
 
-use sgt_cert::{
+use sgt_bundle::{
     CertFault, Certificate, Decision, certificates_are_read_back, certificates_have_one_reading,
     from_line, lines_are_read_or_refused, lines_are_refused_once, to_line,
 };

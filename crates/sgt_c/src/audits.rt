@@ -8,10 +8,8 @@ ghost use Rattle.sgt_c.specs.declared.answers.NoAnswer.{NoAnswer};
 ghost use Rattle.sgt_c.specs.Answers.{IsAnswered, IsLong, IsNumber, IsYes, told_none, told_verdict};
 
 use crate::answers::{NoAnswer, SgtVerdict};
-use crate::memory::{Given, Nowhere};
 use crate::texts::no_answer;
-use sgt_audit::{Verdict, audit};
-use sgt_names::Asks;
+use sgt_audit::{Verdict, audit_bytes};
 use std::alloc::Global;
 
 /// The auditor's verdict on the bytes.
@@ -20,12 +18,7 @@ fn verdict_on(alloc: Global, bytes: &[u8]) -> Result<Verdict, NoAnswer>
     ensures headline { IfOk result (SaysHeadline bytes.now) }
     ensures long { result ≡ Err NoAnswer.Long → most_reads ≤ length bytes.now }
 {
-    let mut reader = Given {
-        rest: bytes,
-        asks: Asks::none(),
-        last: 0,
-    };
-    match audit(alloc, &mut reader, &mut Nowhere) {
+    match audit_bytes(alloc, bytes) {
         Ok(verdict) => Ok(verdict),
         Err(fail) => Err(no_answer(fail)),
     }

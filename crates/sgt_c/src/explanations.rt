@@ -5,10 +5,9 @@ ghost use Rattle.sgt_names.specs.Limits.{most_reads};
 ghost use Rattle.sgt_c.specs.Answers.{IsAnswered, IsExplainText, IsLong, IsNumber, IsRoom};
 
 use crate::answers::NoAnswer;
-use crate::memory::{Given, Written};
 use crate::texts::{Answered, measure, no_answer, number_of_answer, put};
 use sgt_explain::explain;
-use sgt_names::Asks;
+use sgt_names::{Asks, Bytes, Written};
 use std::alloc::Global;
 
 /// What the bytes are answered by.
@@ -16,7 +15,7 @@ fn explain_text(alloc: Global, bytes: &[u8]) -> Result<Answered, NoAnswer>
     ensures text { IfOk result (λ a. IsExplainText bytes.now a.number a.text.items) }
     ensures long { result ≡ Err NoAnswer.Long → most_reads ≤ length bytes.now }
 {
-    let mut reader = Given {
+    let mut reader = Bytes {
         rest: bytes,
         asks: Asks::none(),
         last: 0,

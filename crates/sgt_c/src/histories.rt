@@ -6,10 +6,9 @@ ghost use Rattle.sgt_check.specs.Answer.{SpellsSerializable};
 ghost use Rattle.sgt_c.specs.Answers.{IsChecked, IsCheckText, IsLong, IsNumber, IsRoom, IsUnreadable, IsYes, number_of_check};
 
 use crate::answers::{NoAnswer, SGT_NO, SGT_UNREADABLE, SGT_YES};
-use crate::memory::{Given, Written};
 use crate::texts::{Answered, measure, no_answer, put};
 use sgt_check::{Options, check};
-use sgt_names::{Asks, Outcome};
+use sgt_names::{Asks, Bytes, Outcome, Written};
 use std::alloc::Global;
 
 /// The number of an outcome.
@@ -28,7 +27,7 @@ fn check_text(alloc: Global, bytes: &[u8]) -> Result<Answered, NoAnswer>
     ensures text { IfOk result (λ a. IsCheckText bytes.now a.number a.text.items) }
     ensures long { result ≡ Err NoAnswer.Long → most_reads ≤ length bytes.now }
 {
-    let mut reader = Given {
+    let mut reader = Bytes {
         rest: bytes,
         asks: Asks::none(),
         last: 0,

@@ -7,7 +7,6 @@ mod audits;
 mod certificates;
 mod explanations;
 mod histories;
-mod memory;
 mod serials;
 #[cfg(test)]
 mod tests;

@@ -15,7 +15,7 @@ use crate::call::{CertifierFault, Decided, Walk};
 use crate::install::is_among;
 use crate::ranking::{Ruled, decisions_of, rank_all, tx_of};
 use sgt_arena::{Handle, MAX_PLACES};
-use sgt_cert::{Certificate, Step};
+use sgt_bundle::{Certificate, Step};
 use sgt_edges::{Edge, EdgeList};
 use sgt_names::{Listed, MAX_SITES, SiteNo, Tx};
 use sgt_order::{Admit, Graph};

@@ -7,7 +7,7 @@ ghost use Rattle.sgt_certifier.specs.Kept.{with_rank_in, tx_at};
 
 use crate::call::Walk;
 use sgt_arena::Handle;
-use sgt_cert::Decision;
+use sgt_bundle::Decision;
 use sgt_names::{Listed, Tx};
 use std::alloc::{AllocError, Global};
 

@@ -2,7 +2,7 @@
 
 use crate::common::{Names, handle};
 use sgt_arena::Handle;
-use sgt_cert::Decision;
+use sgt_bundle::Decision;
 use sgt_certifier::{Certifier, CertifierFault, Decided, HandedEdges, Incident};
 use sgt_edges::{Edge, EdgeList};
 use sgt_names::{Kind, Tx};

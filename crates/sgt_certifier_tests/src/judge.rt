@@ -2,7 +2,7 @@
 
 use crate::common::Names;
 use sgt_arena::Handle;
-use sgt_cert::Decision;
+use sgt_bundle::Decision;
 use sgt_certifier::{CertifierFault, Decided, Judge};
 use sgt_edges::EdgeList;
 use std::test::Fail;

@@ -8,13 +8,13 @@ use Rattle.sgt_names.proofs.Places.{All_at, All-from_at}
 use Rattle.sgt_names.specs.Limits.{max_sites}
 use Rattle.sgt_names.specs.declared.outcome.Outcome.{Outcome}
 use Rattle.sgt_names.specs.declared.outcome.Outcome.TheVariants.{Yes, No, Unreadable}
-use Rattle.sgt_cert.specs.Text.{IsCertificate, IsDecision, IsStep, certificate_text}
-use Rattle.sgt_cert.specs.Valid.{AreLogged, IsValid}
-use Rattle.sgt_cert.specs.declared.certificate.Certificate.{Certificate}
-use Rattle.sgt_cert.specs.declared.certificate.Decision.{Decision}
-use Rattle.sgt_cert.specs.declared.certificate.Decision.TheVariants.{Commit, Refuse, Withdraw}
-use Rattle.sgt_cert.specs.declared.certificate.Step.{Step}
-use Rattle.sgt_cert.specs.declared.bundle.SiteLog.{SiteLog}
+use Rattle.sgt_bundle.specs.Text.{IsCertificate, IsDecision, IsStep, certificate_text}
+use Rattle.sgt_bundle.specs.Valid.{AreLogged, IsValid}
+use Rattle.sgt_bundle.specs.declared.certificate.Certificate.{Certificate}
+use Rattle.sgt_bundle.specs.declared.certificate.Decision.{Decision}
+use Rattle.sgt_bundle.specs.declared.certificate.Decision.TheVariants.{Commit, Refuse, Withdraw}
+use Rattle.sgt_bundle.specs.declared.certificate.Step.{Step}
+use Rattle.sgt_bundle.specs.declared.bundle.SiteLog.{SiteLog}
 use Rattle.sgt_certify_faults.specs.Faults.{IsFaultless}
 use Rattle.sgt_certify_logs.specs.Certifiable.{IsWithLine, SpellsLogs}
 use Rattle.sgt_certify_logs.specs.Sound.{AreSound, SpellsSoundLogs}

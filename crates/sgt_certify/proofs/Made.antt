@@ -8,12 +8,12 @@ use Rattle.sgt_notation.specs.Spelling.{HasNoLf, line_text, text_of_lines}
 use Rattle.sgt_names.specs.Limits.{max_sites}
 use Rattle.sgt_notation.proofs.OneSpelling.{cut_at_byte}
 use Rattle.sgt_audit.proofs.OneFault.{has_lf}
-use Rattle.sgt_cert.specs.Parts.{Parts}
-use Rattle.sgt_cert.specs.Text.{IsDecision, Spells, certificate_text, format_line, sections_from}
-use Rattle.sgt_cert.proofs.Reading.{certificate-one}
-use Rattle.sgt_cert.specs.declared.certificate.Certificate.{Certificate}
-use Rattle.sgt_cert.specs.Valid.{IsValid}
-use Rattle.sgt_cert.specs.declared.bundle.SiteLog.{SiteLog}
+use Rattle.sgt_bundle.specs.Parts.{Parts}
+use Rattle.sgt_bundle.specs.Text.{IsDecision, Spells, certificate_text, format_line, sections_from}
+use Rattle.sgt_bundle.proofs.Reading.{certificate-one}
+use Rattle.sgt_bundle.specs.declared.certificate.Certificate.{Certificate}
+use Rattle.sgt_bundle.specs.Valid.{IsValid}
+use Rattle.sgt_bundle.specs.declared.bundle.SiteLog.{SiteLog}
 use Rattle.sgt_audit.specs.Spelled.{AnswersBundle}
 use Rattle.sgt_certify_logs.specs.Certifiable.{AreCertifiable, HasNoCertificate, IsWithLine, SpellsLogs}
 use Rattle.sgt_certify_logs.proofs.Cycles.{conflicts-no_cycle, ends-no_cycle}

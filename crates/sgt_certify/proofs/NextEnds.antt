@@ -1,6 +1,6 @@
 -- The lines of the next ends, by whatever says who is decided.
 use Rattle.std.proofs.Common.{◌≡◌, refl, ℕ, List, [], ◌∷◌, Option, Some, None, IfSome, IfNone, suc, inl, inr}
-use Rattle.sgt_cert.specs.declared.bundle.SiteLog.{SiteLog}
+use Rattle.sgt_bundle.specs.declared.bundle.SiteLog.{SiteLog}
 use Rattle.sgt_certify.specs.Lines.{AreLeftLines, IsLeftLine}
 use Rattle.sgt_names.proofs.Elements.{some-weaker, none-weaker}
 

@@ -6,7 +6,7 @@ use Rattle.sgt_names.specs.declared.entry.Entry.{Entry}
 use Rattle.sgt_names.specs.declared.entry.Kind.{Kind}
 use Rattle.sgt_names.specs.declared.entry.Kind.TheVariants.{Wr, Rw, Ww}
 use Rattle.sgt_notation.specs.Spelling.{entry_text}
-use Rattle.sgt_cert.specs.declared.bundle.SiteLog.{SiteLog}
+use Rattle.sgt_bundle.specs.declared.bundle.SiteLog.{SiteLog}
 use Rattle.sgt_certify_logs.specs.Steps.{IsConflictCycle, IsEndCycle}
 use Rattle.sgt_certify_logs.specs.Witness.{EndsBefore, IsStuck, PrecedesCommitted}
 use Rattle.sgt_certify_logs.specs.declared.checks.ConflictStep.{ConflictStep}

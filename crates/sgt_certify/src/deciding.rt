@@ -1,8 +1,8 @@
 //! The answer to a text of sound logs, by a search that always finds one.
 
 ghost use Rattle.std.specs.Prelude.{◌≡◌, ◌<◌, ◌≤◌, ◌++◌, ℕ, List, length, IfOk, IfErr};
-ghost use Rattle.sgt_cert.specs.Valid.{IsValid};
-ghost use Rattle.sgt_cert.specs.declared.bundle.SiteLog.{SiteLog};
+ghost use Rattle.sgt_bundle.specs.Valid.{IsValid};
+ghost use Rattle.sgt_bundle.specs.declared.bundle.SiteLog.{SiteLog};
 ghost use Rattle.std.specs.List.{flat_map};
 ghost use Rattle.sgt_certify.specs.Answer.{IsCertified, IsCertifiedBy, IsAnswer, refusal_text};
 ghost use Rattle.sgt_certify.specs.Lines.{tx_line};
@@ -14,7 +14,7 @@ ghost use Rattle.sgt_certify_logs.specs.Sound.{AreSound, SpellsSoundLogs};
 use crate::making::with_line;
 use crate::refuting::{Refusal, joined, line_of, logs_of};
 use crate::telling::tx_lines;
-use sgt_cert::{Bundle, Certificate, to_line};
+use sgt_bundle::{Bundle, Certificate, to_line};
 use sgt_certify_greedy::{Answer as Decided, decide};
 use sgt_names::{EngineFail, MAX_SITES, Outcome, Tx};
 use std::alloc::{AllocError, Global};

@@ -4,7 +4,7 @@ ghost use Rattle.std.specs.Prelude.{◌≡◌, ◌↔◌, ℕ, List};
 ghost use Rattle.sgt_names.specs.declared.outcome.Outcome.{Outcome};
 ghost use Rattle.sgt_names.specs.declared.outcome.Outcome.TheVariants.{Yes};
 ghost use Rattle.sgt_names.specs.declared.outcome.Outcome.TheVariants.{No};
-ghost use Rattle.sgt_cert.specs.declared.bundle.SiteLog.{SiteLog};
+ghost use Rattle.sgt_bundle.specs.declared.bundle.SiteLog.{SiteLog};
 ghost use Rattle.sgt_audit.specs.Faults.{fault_number};
 ghost use Rattle.sgt_audit.specs.declared.faults.Fault.{Fault};
 ghost use Rattle.sgt_certify_faults.specs.Faults.{IsFaultless, IsFirstFault};

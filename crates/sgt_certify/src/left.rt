@@ -9,7 +9,7 @@ ghost use Rattle.sgt_certify.specs.Lines.{AreDecidedBefore, AreLeftLines, IsLeft
 ghost use Rattle.sgt_certify.specs.Reasons.{AreNumbered};
 
 use crate::telling::line_at;
-use sgt_cert::SiteLog;
+use sgt_bundle::SiteLog;
 use sgt_certify_stuck::set_of;
 use sgt_names::{Entry, Tx};
 use sgt_notation::push_number;

@@ -2,26 +2,15 @@
 
 ghost use Rattle.std.specs.Prelude.{◌≡◌, ◌∷◌, ◌++◌, ℕ, false, List, IfOk, IfErr, IfSome, IfNone, IsTrue};
 ghost use Rattle.sgt_notation.specs.Spelling.{HasNoLf};
-ghost use Rattle.sgt_cert.specs.Text.{certificate_text};
+ghost use Rattle.sgt_bundle.specs.Text.{certificate_text};
 ghost use Rattle.sgt_certify.specs.Answer.{IsCertified, SpellsValid};
 ghost use Rattle.sgt_certify_logs.specs.Certifiable.{IsWithLine};
 
 use sgt_audit::{Verdict, audit};
-use sgt_cert::{Certificate, to_line};
+use sgt_bundle::{Certificate, to_line};
 use sgt_names::{EngineFail, MemSink, MemSource};
-use sgt_notation::find_lf;
+use sgt_notation::split_line;
 use std::alloc::{AllocError, Global};
-
-/// The first line, without its LF, and what stands behind it.
-fn split_line(bytes: &[u8]) -> Option<(&[u8], &[u8])>
-    ensures some { IfSome result (λ r. HasNoLf r.0.now × (bytes.now ≡ r.0.now ++ 10 ∷ r.1.now)) }
-    ensures none { IfNone result (HasNoLf bytes.now) }
-{
-    match find_lf(bytes) {
-        Some(n) => Some((&bytes[..n], &bytes[n + 1..])),
-        None => None,
-    }
-}
 
 /// Two lines, and what stands behind them.
 fn assembled(alloc: Global, first: &[u8], second: &[u8], rest: &[u8]) -> Result<Vec<u8>, AllocError>

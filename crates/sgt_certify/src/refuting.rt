@@ -3,7 +3,7 @@
 ghost use Rattle.std.specs.Prelude.{◌≡◌, ◌≤◌, ◌↔◌, ◌++◌, List, [], length, Contains, IsTrue, IfOk, IfErr, IfSome, IfNone};
 ghost use Rattle.std.specs.List.{flat_map};
 ghost use Rattle.sgt_names.specs.Limits.{max_sites};
-ghost use Rattle.sgt_cert.specs.declared.bundle.SiteLog.{SiteLog};
+ghost use Rattle.sgt_bundle.specs.declared.bundle.SiteLog.{SiteLog};
 ghost use Rattle.sgt_certify.specs.Answer.{Excludes, IsFirst, IsRefused, refusal_text};
 ghost use Rattle.sgt_certify.specs.Lines.{AreLeftLines, AreLinesOf, conflict_line, end_line};
 ghost use Rattle.sgt_certify.specs.Reasons.{AreNumbered, Holds, IsToldBy, Passes, Tells};
@@ -14,14 +14,14 @@ ghost use Rattle.sgt_certify_faults.specs.Faults.{IsFaultless};
 ghost use Rattle.sgt_certify_logs.specs.Certifiable.{SpellsLogs};
 ghost use Rattle.sgt_certify.specs.declared.refuting.Refusal.{Refusal as AnyRefusal};
 ghost use Rattle.sgt_certify_logs.specs.Witness.{HaveConflictsInACycle, HaveEndsInACycle};
-ghost use Rattle.sgt_cert.specs.Text.{certificate_text};
+ghost use Rattle.sgt_bundle.specs.Text.{certificate_text};
 ghost use Rattle.sgt_notation.specs.Spelling.{HasNoLf};
 
 use crate::left::left_lines;
 use crate::making::with_line;
 use crate::telling::{conflict_lines, end_lines};
 use sgt_audit::read_bundle;
-use sgt_cert::{Bundle, Certificate, SiteLog, to_line};
+use sgt_bundle::{Bundle, Certificate, SiteLog, to_line};
 use sgt_certify_logs::{ConflictStep, EndStep, is_conflict_cycle, is_end_cycle};
 use sgt_certify_search::{Proof, Reason};
 use sgt_certify_stuck::{StuckSet, conflicts_follow, ends_follow, is_stuck};

@@ -6,7 +6,7 @@ ghost use Rattle.sgt_certify.specs.Lines.{conflict_line, end_line, kind_text, li
 ghost use Rattle.sgt_certify.specs.Reasons.{AreNumbered};
 ghost use Rattle.sgt_certify_logs.specs.Steps.{IsConflictCycle, IsConflictStep, IsEndCycle, IsEndStep};
 
-use sgt_cert::SiteLog;
+use sgt_bundle::SiteLog;
 use sgt_certify_logs::{ConflictStep, EndStep};
 use sgt_names::{Kind, Tx};
 use sgt_notation::push_number;

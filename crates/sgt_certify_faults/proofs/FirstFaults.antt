@@ -9,10 +9,10 @@ use Rattle.sgt_notation.specs.Spelling.{line_text, text_of_lines, HasNoLf, IsLin
 use Rattle.sgt_notation.proofs.OneSpelling.{cut_at_byte, line-one, line-one_line}
 use Rattle.sgt_notation.specs.declared.SectionLine.{SectionLine}
 use Rattle.sgt_notation.specs.declared.SectionLine.TheVariants.{Site, Initial, Logged, Final, End}
-use Rattle.sgt_cert.specs.Parts.{IsShaped}
-use Rattle.sgt_cert.specs.Text.{format_line, sections_from, AreSections, Begins}
-use Rattle.sgt_cert.specs.declared.bundle.SiteLog.{SiteLog}
-use Rattle.sgt_cert.proofs.OneText.{format-one_line}
+use Rattle.sgt_bundle.specs.Parts.{IsShaped}
+use Rattle.sgt_bundle.specs.Text.{format_line, sections_from, AreSections, Begins}
+use Rattle.sgt_bundle.specs.declared.bundle.SiteLog.{SiteLog}
+use Rattle.sgt_bundle.proofs.OneText.{format-one_line}
 use Rattle.sgt_audit.specs.declared.faults.Fault.{Fault}
 use Rattle.sgt_audit.specs.declared.faults.Fault.TheVariants as fault
 use Rattle.sgt_audit.specs.Faults.{fault_number, IsLineIn, Piece, whole, last, ComesNext, Rule, start, Breaks}

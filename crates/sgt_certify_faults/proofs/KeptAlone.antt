@@ -16,13 +16,13 @@ use Rattle.sgt_names.proofs.Places.{All_at, AllPairs_at, All-from_at, slice_get-
 use Rattle.sgt_names.proofs.Lists.{front_at}
 use Rattle.sgt_notation.specs.declared.SectionLine.{SectionLine}
 use Rattle.sgt_notation.specs.declared.SectionLine.TheVariants.{Site, Initial, Logged, Final, End}
-use Rattle.sgt_cert.specs.Parts.{Parts, IsShaped}
-use Rattle.sgt_cert.specs.Certificate.{Suits}
-use Rattle.sgt_cert.specs.Valid.{EndInOrder, RiseInRank, IsValidLog, IsValid}
-use Rattle.sgt_cert.specs.Text.{section_lines, sections_from, Begins}
-use Rattle.sgt_cert.specs.declared.certificate.Certificate.{Certificate}
-use Rattle.sgt_cert.specs.declared.bundle.SiteLog.{SiteLog}
-use Rattle.sgt_cert.proofs.OneText.{section_spread}
+use Rattle.sgt_bundle.specs.Parts.{Parts, IsShaped}
+use Rattle.sgt_bundle.specs.Certificate.{Suits}
+use Rattle.sgt_bundle.specs.Valid.{EndInOrder, RiseInRank, IsValidLog, IsValid}
+use Rattle.sgt_bundle.specs.Text.{section_lines, sections_from, Begins}
+use Rattle.sgt_bundle.specs.declared.certificate.Certificate.{Certificate}
+use Rattle.sgt_bundle.specs.declared.bundle.SiteLog.{SiteLog}
+use Rattle.sgt_bundle.proofs.OneText.{section_spread}
 use Rattle.sgt_audit.specs.declared.faults.Fault.{Fault}
 use Rattle.sgt_audit.specs.declared.faults.Fault.TheVariants as fault
 use Rattle.sgt_audit.specs.Faults.{entries_in, logged_in}

@@ -17,10 +17,10 @@ use Rattle.sgt_names.proofs.Places.{All_at, All-from_at, AllPairs_at, AllPairs-f
 use Rattle.sgt_notation.specs.Spelling.{IsLine, line_text, text_of_lines}
 use Rattle.sgt_notation.specs.declared.SectionLine.{SectionLine}
 use Rattle.sgt_notation.specs.declared.SectionLine.TheVariants.{Logged}
-use Rattle.sgt_cert.specs.Certificate.{Suits, decided_tx, IsDecidedOnce}
-use Rattle.sgt_cert.specs.Valid.{IsDecided}
-use Rattle.sgt_cert.specs.declared.certificate.Decision.{Decision}
-use Rattle.sgt_cert.specs.declared.certificate.Decision.TheVariants as decision
+use Rattle.sgt_bundle.specs.Certificate.{Suits, decided_tx, IsDecidedOnce}
+use Rattle.sgt_bundle.specs.Valid.{IsDecided}
+use Rattle.sgt_bundle.specs.declared.certificate.Decision.{Decision}
+use Rattle.sgt_bundle.specs.declared.certificate.Decision.TheVariants as decision
 use Rattle.sgt_audit.specs.Faults.{IsLineIn, logged_in}
 use Rattle.sgt_certify_logs.specs.Sound.{EndAlike}
 use Rattle.sgt_certify_logs.proofs.Decisions.{one-number}

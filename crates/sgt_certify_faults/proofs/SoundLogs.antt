@@ -18,11 +18,11 @@ use Rattle.sgt_names.proofs.Lists.{option_cases, front_at, middle_at, back_at}
 use Rattle.sgt_notation.specs.Spelling.{IsHolding, IsEntry}
 use Rattle.sgt_notation.specs.declared.SectionLine.{SectionLine}
 use Rattle.sgt_notation.specs.declared.SectionLine.TheVariants.{Initial, Logged, Final, End}
-use Rattle.sgt_cert.specs.Certificate.{Suits}
-use Rattle.sgt_cert.specs.Text.{section_lines, sections_from, IsLog, has_increments}
-use Rattle.sgt_cert.specs.declared.certificate.Decision.{Decision}
-use Rattle.sgt_cert.specs.declared.certificate.Decision.TheVariants as decision
-use Rattle.sgt_cert.specs.declared.bundle.SiteLog.{SiteLog}
+use Rattle.sgt_bundle.specs.Certificate.{Suits}
+use Rattle.sgt_bundle.specs.Text.{section_lines, sections_from, IsLog, has_increments}
+use Rattle.sgt_bundle.specs.declared.certificate.Decision.{Decision}
+use Rattle.sgt_bundle.specs.declared.certificate.Decision.TheVariants as decision
+use Rattle.sgt_bundle.specs.declared.bundle.SiteLog.{SiteLog}
 use Rattle.sgt_audit.specs.declared.faults.Fault.{Fault}
 use Rattle.sgt_audit.specs.declared.faults.Fault.TheVariants as fault
 use Rattle.sgt_audit.specs.Faults.{items_in, entries_in, logged_in}

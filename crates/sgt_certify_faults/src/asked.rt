@@ -9,7 +9,7 @@ ghost use Rattle.sgt_certify_faults.specs.private.Asked.{asked_end, asking_with,
 
 use crate::lines::split_read;
 use sgt_audit_decisions::Decided;
-use sgt_cert::{Certificate, Decision};
+use sgt_bundle::{Certificate, Decision};
 use sgt_names::{Entry, Listed, Tx};
 use sgt_notation::SectionLine;
 use std::alloc::{AllocError, Global};

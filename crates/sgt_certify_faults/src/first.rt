@@ -2,17 +2,17 @@
 
 ghost use Rattle.std.specs.Prelude.{◌≡◌, ◌∷◌, ◌++◌, ℕ, List, IsTrue, IfOk, IfSome, IfNone};
 ghost use Rattle.sgt_notation.specs.Spelling.{HasNoLf};
-ghost use Rattle.sgt_cert.specs.Text.{format_line};
+ghost use Rattle.sgt_bundle.specs.Text.{format_line};
 ghost use Rattle.sgt_certify_faults.specs.Faults.{GoesOn, IsFaultless, IsFirstFault};
 ghost use Rattle.sgt_certify_faults.specs.private.Asked.{AreDecidedAsAsked};
 ghost use Rattle.sgt_certify_logs.specs.Sound.{SpellsSoundLogs};
 
 use crate::asked::decided_as_asked;
-use crate::lines::{read_format, split_line};
 use crate::reading::Reading;
-use sgt_audit::Fault;
+use sgt_audit::{Fault, read_format};
 use sgt_audit_decisions::Decided;
 use sgt_names::MAX_LINE;
+use sgt_notation::split_line;
 use std::alloc::{AllocError, Global};
 
 /// The first line of a text with a fault that no certificate mends, and the least of its faults.

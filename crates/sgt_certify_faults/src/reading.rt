@@ -3,8 +3,8 @@
 ghost use Rattle.std.specs.Prelude.{◌≡◌, ◌<◌, ◌∷◌, ◌++◌, [], ℕ, List, Bool, IfOk, IfSome, IfNone, length};
 ghost use Rattle.sgt_names.specs.Limits.{max_line, max_sites};
 ghost use Rattle.sgt_notation.specs.Spelling.{line_text};
-ghost use Rattle.sgt_cert.specs.Text.{AreSections};
-ghost use Rattle.sgt_cert.specs.declared.certificate.Decision.{Decision};
+ghost use Rattle.sgt_bundle.specs.Text.{AreSections};
+ghost use Rattle.sgt_bundle.specs.declared.certificate.Decision.{Decision};
 ghost use Rattle.sgt_audit.specs.Faults.{Breaks, IsLineIn, Piece, last, bytes_of};
 ghost use Rattle.sgt_audit.specs.Kept.{IsPlace, Tracks};
 ghost use Rattle.sgt_audit.specs.Reading.{Begun, IsBegun, lines_read};
@@ -15,8 +15,7 @@ ghost use Rattle.sgt_certify_faults.specs.private.Judging.{IsJudged, TellsLineOd
 ghost use Rattle.sgt_certify_faults.specs.private.Reading.{Follows, HasRead};
 
 use crate::judging::judge_inside;
-use crate::lines::read_line;
-use sgt_audit::{Fault, Known, Place, enter_line, look_up};
+use sgt_audit::{Fault, Known, Place, enter_line, look_up, read_line};
 use sgt_audit_cells::SiteState;
 use sgt_audit_decisions::Decided;
 use sgt_names::{MAX_LINE, MAX_SITES};

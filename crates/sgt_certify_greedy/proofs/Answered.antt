@@ -1,7 +1,7 @@
 -- An answer is a certificate exactly where there is one.
 use Rattle.std.proofs.Common.{List}
 use Rattle.std.specs.Prelude.{◌↔◌}
-use Rattle.sgt_cert.specs.declared.bundle.SiteLog.{SiteLog}
+use Rattle.sgt_bundle.specs.declared.bundle.SiteLog.{SiteLog}
 use Rattle.sgt_certify_logs.specs.Certifiable.{AreCertifiable}
 use Rattle.sgt_certify_logs.specs.Witness.{EndsBefore, PrecedesCommitted}
 use Rattle.sgt_certify_logs.proofs.Cycles.{conflicts-no_cycle, ends-no_cycle}

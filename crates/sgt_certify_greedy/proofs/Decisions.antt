@@ -9,10 +9,10 @@ use Rattle.sgt_names.proofs.Lists.{All-weaken, front_at, map_at, middle_at}
 use Rattle.sgt_names.specs.Entry.{tx_of, IsEnd}
 use Rattle.sgt_names.specs.declared.entry.Entry.{Entry}
 use Rattle.sgt_names.specs.declared.entry.Entry.TheVariants as entry
-use Rattle.sgt_cert.specs.Certificate.{decided_tx, is_commit}
-use Rattle.sgt_cert.specs.declared.bundle.SiteLog.{SiteLog}
-use Rattle.sgt_cert.specs.declared.certificate.Decision.{Decision}
-use Rattle.sgt_cert.specs.declared.certificate.Decision.TheVariants.{Commit, Refuse, Withdraw}
+use Rattle.sgt_bundle.specs.Certificate.{decided_tx, is_commit}
+use Rattle.sgt_bundle.specs.declared.bundle.SiteLog.{SiteLog}
+use Rattle.sgt_bundle.specs.declared.certificate.Decision.{Decision}
+use Rattle.sgt_bundle.specs.declared.certificate.Decision.TheVariants.{Commit, Refuse, Withdraw}
 use Rattle.sgt_certify_logs.specs.Witness.{EndsBefore, HasEnd, IsFree, IsIn, IsStuck, LiesOnCycle}
 use Rattle.sgt_certify_greedy.specs.Sorted.{without}
 use Rattle.sgt_certify_greedy.specs.Walks.{IsRound}

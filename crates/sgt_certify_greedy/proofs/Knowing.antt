@@ -5,7 +5,7 @@ use Rattle.sgt_names.specs.Entry.{tx_of}
 use Rattle.sgt_names.proofs.Places.{Contains_at, Contains-from_at, slice_get-take}
 use Rattle.sgt_names.proofs.Lists.{All_in}
 use Rattle.sgt_names.specs.declared.entry.Entry.TheVariants.{Commit}
-use Rattle.sgt_cert.specs.declared.bundle.SiteLog.{SiteLog}
+use Rattle.sgt_bundle.specs.declared.bundle.SiteLog.{SiteLog}
 use Rattle.sgt_certify_logs.specs.Witness.{EndsBefore, HasCycle, HasEnd, HaveConflictsInACycle, HaveEndsInACycle, IsIn, PrecedesCommitted}
 use Rattle.sgt_certify_logs.proofs.Cycles.{no-cycle}
 use Rattle.sgt_certify_greedy.specs.declared.pairs.Pair.{Pair}

@@ -11,14 +11,14 @@ use Rattle.sgt_names.specs.Entry.{tx_of, Clash, IsEnd}
 use Rattle.sgt_names.specs.declared.entry.Entry.{Entry}
 use Rattle.sgt_names.specs.declared.entry.Entry.TheVariants as entry
 use Rattle.sgt_names.specs.declared.entry.Kind.{Kind}
-use Rattle.sgt_cert.specs.Parts.{Parts}
-use Rattle.sgt_cert.specs.Certificate.{decided_tx, rank_in, ranks, stops, AreRanks, IsCommitted, IsCycle, IsDecidedOnce, Suits}
-use Rattle.sgt_cert.specs.Valid.{Agrees, EndInOrder, IsDecided, IsValid, IsValidLog, RefusedLieOnCycles, RiseInRank}
-use Rattle.sgt_cert.specs.declared.bundle.SiteLog.{SiteLog}
-use Rattle.sgt_cert.specs.declared.certificate.Certificate.{Certificate}
-use Rattle.sgt_cert.specs.declared.certificate.Decision.{Decision}
-use Rattle.sgt_cert.specs.declared.certificate.Decision.TheVariants.{Commit, Refuse, Withdraw}
-use Rattle.sgt_cert.specs.declared.certificate.Step.{Step}
+use Rattle.sgt_bundle.specs.Parts.{Parts}
+use Rattle.sgt_bundle.specs.Certificate.{decided_tx, rank_in, ranks, stops, AreRanks, IsCommitted, IsCycle, IsDecidedOnce, Suits}
+use Rattle.sgt_bundle.specs.Valid.{Agrees, EndInOrder, IsDecided, IsValid, IsValidLog, RefusedLieOnCycles, RiseInRank}
+use Rattle.sgt_bundle.specs.declared.bundle.SiteLog.{SiteLog}
+use Rattle.sgt_bundle.specs.declared.certificate.Certificate.{Certificate}
+use Rattle.sgt_bundle.specs.declared.certificate.Decision.{Decision}
+use Rattle.sgt_bundle.specs.declared.certificate.Decision.TheVariants.{Commit, Refuse, Withdraw}
+use Rattle.sgt_bundle.specs.declared.certificate.Step.{Step}
 use Rattle.sgt_certify_logs.specs.Sound.{AreSound, IsSoundLog}
 use Rattle.sgt_certify_logs.specs.Witness.{EndsBefore, HasEnd, IsIn}
 use Rattle.sgt_certify_logs.proofs.Decisions.{Decides, one-number}

@@ -7,10 +7,10 @@ use Rattle.std.proofs.lemmas.List.Elements.{All-push, Contains-append_left, Cont
 use Rattle.sgt_names.proofs.Places.{All_at, All-from_at, AllPairs_at, AllPairs-from_at, Contains-from_at}
 use Rattle.sgt_names.proofs.Lists.{All_in, All-weaken, heads, tails}
 use Rattle.sgt_names.specs.Entry.{tx_of}
-use Rattle.sgt_cert.specs.Certificate.{stops}
-use Rattle.sgt_cert.specs.Valid.{AreLogged, IsLogged}
-use Rattle.sgt_cert.specs.declared.bundle.SiteLog.{SiteLog}
-use Rattle.sgt_cert.specs.declared.certificate.Step.{Step}
+use Rattle.sgt_bundle.specs.Certificate.{stops}
+use Rattle.sgt_bundle.specs.Valid.{AreLogged, IsLogged}
+use Rattle.sgt_bundle.specs.declared.bundle.SiteLog.{SiteLog}
+use Rattle.sgt_bundle.specs.declared.certificate.Step.{Step}
 use Rattle.sgt_certify_greedy.specs.declared.pairs.Pair.{Pair}
 use Rattle.sgt_certify_greedy.specs.declared.pairs.Rule.TheVariants.{Conflicts}
 use Rattle.sgt_certify_greedy.specs.declared.walks.Reached.{Reached}

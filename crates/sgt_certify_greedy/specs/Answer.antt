@@ -1,7 +1,7 @@
 -- The answer to sound logs.
 use Rattle.std.specs.Prelude.{◌≡◌, ℕ, List, length}
-use Rattle.sgt_cert.specs.Valid.{IsValid}
-use Rattle.sgt_cert.specs.declared.bundle.SiteLog.{SiteLog}
+use Rattle.sgt_bundle.specs.Valid.{IsValid}
+use Rattle.sgt_bundle.specs.declared.bundle.SiteLog.{SiteLog}
 use Rattle.sgt_certify_logs.specs.Witness.{EndsBefore, HaveConflictsInACycle, HaveEndsInACycle, IsStuck, PrecedesCommitted}
 use Rattle.sgt_certify_greedy.specs.declared.deciding.Answer.{Answer}
 use Rattle.sgt_certify_greedy.specs.declared.deciding.Answer.TheVariants as answer

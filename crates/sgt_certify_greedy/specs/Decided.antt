@@ -4,10 +4,10 @@ use Rattle.sgt_names.specs.Limits.{max_sites}
 use Rattle.sgt_names.specs.Entry.{tx_of, IsEnd}
 use Rattle.sgt_names.specs.declared.entry.Entry.{Entry}
 use Rattle.sgt_names.specs.declared.entry.Entry.TheVariants as entry
-use Rattle.sgt_cert.specs.Certificate.{decided_tx, IsCommitted}
-use Rattle.sgt_cert.specs.declared.bundle.SiteLog.{SiteLog}
-use Rattle.sgt_cert.specs.declared.certificate.Decision.{Decision}
-use Rattle.sgt_cert.specs.declared.certificate.Decision.TheVariants.{Commit, Refuse, Withdraw}
+use Rattle.sgt_bundle.specs.Certificate.{decided_tx, IsCommitted}
+use Rattle.sgt_bundle.specs.declared.bundle.SiteLog.{SiteLog}
+use Rattle.sgt_bundle.specs.declared.certificate.Decision.{Decision}
+use Rattle.sgt_bundle.specs.declared.certificate.Decision.TheVariants.{Commit, Refuse, Withdraw}
 use Rattle.sgt_certify_logs.specs.Witness.{EndsBefore, HasEnd, IsIn}
 use Rattle.sgt_certify_greedy.specs.declared.greedy.Known.{Known}
 use Rattle.sgt_certify_greedy.specs.declared.pairs.Rule.TheVariants.{Conflicts, Ends}

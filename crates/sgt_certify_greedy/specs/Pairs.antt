@@ -4,7 +4,7 @@ use Rattle.sgt_names.specs.Name.{Name}
 use Rattle.sgt_names.specs.Entry.{tx_of, Clash, IsEnd}
 use Rattle.sgt_names.specs.declared.entry.Entry.{Entry}
 use Rattle.sgt_names.specs.declared.entry.Kind.{Kind}
-use Rattle.sgt_cert.specs.declared.bundle.SiteLog.{SiteLog}
+use Rattle.sgt_bundle.specs.declared.bundle.SiteLog.{SiteLog}
 use Rattle.sgt_certify_greedy.specs.declared.pairs.Pair.{Pair}
 use Rattle.sgt_certify_greedy.specs.declared.pairs.Rule.{Rule}
 use Rattle.sgt_certify_greedy.specs.declared.pairs.Rule.TheVariants.{Ends, Conflicts}

@@ -1,9 +1,9 @@
 -- Walks of logged conflicts from a transaction, and back to it.
 use Rattle.std.specs.Prelude.{◌≡◌, ◌≢◌, ℕ, ◌≤◌, List, [], ◌∷◌, ◌++◌, length, All, AllPairs, Contains}
-use Rattle.sgt_cert.specs.Certificate.{stops}
-use Rattle.sgt_cert.specs.Valid.{AreLogged}
-use Rattle.sgt_cert.specs.declared.certificate.Step.{Step}
-use Rattle.sgt_cert.specs.declared.bundle.SiteLog.{SiteLog}
+use Rattle.sgt_bundle.specs.Certificate.{stops}
+use Rattle.sgt_bundle.specs.Valid.{AreLogged}
+use Rattle.sgt_bundle.specs.declared.certificate.Step.{Step}
+use Rattle.sgt_bundle.specs.declared.bundle.SiteLog.{SiteLog}
 use Rattle.sgt_certify_greedy.specs.declared.walks.Reached.{Reached}
 
 -- where a walk from the transaction leads

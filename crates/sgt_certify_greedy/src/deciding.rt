@@ -13,7 +13,7 @@ use crate::greedy::{Known, Settled, decide_each, decided_by};
 use crate::pairs::{Pair, Rule, pairs_of};
 use crate::sets::{committed, ended};
 use crate::sorting::{Sorting, cycle_in, sorted, source};
-use sgt_cert::{Certificate, SiteLog};
+use sgt_bundle::{Certificate, SiteLog};
 use sgt_names::{Listed, Tx};
 use std::alloc::{AllocError, Global};
 

@@ -1,7 +1,7 @@
 //! Decisions that are taken one by one.
 
 ghost use Rattle.std.specs.Prelude.{◌≡◌, ◌↔◌, ◌≤◌, ◌^◌, IsTrue, ℕ, length, map, All, Contains, IfOk, OnOk, IfSome, IfNone, Some, slice_get};
-ghost use Rattle.sgt_cert.specs.Certificate.{decided_tx};
+ghost use Rattle.sgt_bundle.specs.Certificate.{decided_tx};
 ghost use Rattle.sgt_certify_logs.specs.Witness.{HasEnd};
 ghost use Rattle.sgt_certify_greedy.specs.Pairs.{Leads};
 ghost use Rattle.sgt_certify_greedy.specs.Decided.{AreCommitsWith, AreKnown, IsFitting, IsHopeless, IsSettled, IsUnpreceded};
@@ -10,7 +10,7 @@ use crate::pairs::Pair;
 use crate::sets::{note_if, place_of, stands_in, take_out};
 use crate::sorting::predecessor;
 use crate::walks::walk_back;
-use sgt_cert::{Decision, SiteLog};
+use sgt_bundle::{Decision, SiteLog};
 use sgt_names::{Entry, Tx};
 use std::alloc::{AllocError, Global};
 

@@ -1,7 +1,7 @@
 //! What an answer tells of logs.
 
 ghost use Rattle.std.specs.Prelude.{◌↔◌, List};
-ghost use Rattle.sgt_cert.specs.declared.bundle.SiteLog.{SiteLog};
+ghost use Rattle.sgt_bundle.specs.declared.bundle.SiteLog.{SiteLog};
 ghost use Rattle.sgt_certify_logs.specs.Certifiable.{AreCertifiable};
 ghost use Rattle.sgt_certify_greedy.specs.Answer.{IsAnswerTo, IsCertifying};
 ghost use Rattle.sgt_certify_greedy.specs.declared.deciding.Answer.{Answer};

@@ -4,11 +4,11 @@ ghost use Rattle.std.specs.Prelude.{◌≡◌, ◌↔◌, ◌⊎◌, ℕ, ◌<�
 ghost use Rattle.sgt_names.specs.Name.{Name};
 ghost use Rattle.sgt_names.specs.Entry.{Clash};
 ghost use Rattle.sgt_names.specs.declared.entry.Kind.{Kind as AnyKind};
-ghost use Rattle.sgt_cert.specs.declared.bundle.SiteLog.{SiteLog as Log};
+ghost use Rattle.sgt_bundle.specs.declared.bundle.SiteLog.{SiteLog as Log};
 ghost use Rattle.sgt_certify_greedy.specs.Pairs.{ArePaired, ArePairsOf, HasPairsTo, IsPair};
 ghost use Rattle.sgt_certify_greedy.specs.declared.pairs.Pair.{Pair as Found};
 
-use sgt_cert::SiteLog;
+use sgt_bundle::SiteLog;
 use sgt_names::{Entry, Item, Kind, Tx};
 use std::alloc::{AllocError, Global};
 

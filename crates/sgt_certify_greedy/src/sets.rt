@@ -6,7 +6,7 @@ ghost use Rattle.sgt_certify_logs.specs.Witness.{HasEnd, IsIn};
 ghost use Rattle.sgt_certify_greedy.specs.Decided.{HasEnders};
 ghost use Rattle.sgt_certify_greedy.specs.Sorted.{without};
 
-use sgt_cert::SiteLog;
+use sgt_bundle::SiteLog;
 use sgt_names::{Entry, Tx};
 use std::alloc::{AllocError, Global};
 

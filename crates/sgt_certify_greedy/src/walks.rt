@@ -2,7 +2,7 @@
 
 ghost use Rattle.std.specs.Prelude.{◌≡◌, ℕ, ◌≤◌, ◌∷◌, ◌++◌, [], length, All, Contains, IfOk, IfSome, IfNone, Some, slice_get};
 ghost use Rattle.sgt_names.specs.Limits.{max_sites};
-ghost use Rattle.sgt_cert.specs.Valid.{IsLogged};
+ghost use Rattle.sgt_bundle.specs.Valid.{IsLogged};
 ghost use Rattle.sgt_certify_greedy.specs.Pairs.{ArePairsOf, IsPair, Leads};
 ghost use Rattle.sgt_certify_greedy.specs.Walks.{HasNoRound, IsPath, IsReached, IsRound};
 ghost use Rattle.sgt_certify_greedy.specs.declared.pairs.Rule.TheVariants.{Conflicts};
@@ -10,7 +10,7 @@ ghost use Rattle.sgt_certify_greedy.specs.declared.walks.Reached.{Reached as Met
 
 use crate::pairs::{Pair, conflict_of};
 use crate::sets::{is_among, take_out};
-use sgt_cert::{SiteLog, Step};
+use sgt_bundle::{SiteLog, Step};
 use sgt_names::{Label, Listed, SiteNo, Tx};
 use std::alloc::{AllocError, Global};
 

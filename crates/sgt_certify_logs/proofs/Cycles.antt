@@ -1,10 +1,10 @@
 -- Numbers that rise along a relation can't rise round a cycle of it.
 use Rattle.std.proofs.Common.{◌≡◌, ℕ, ◌<◌, List, [], ◌∷◌, ◌++◌, sym, arith, ◌∙◌}
 use Rattle.std.proofs.lemmas.Option.{same_Some}
-use Rattle.sgt_cert.specs.Parts.{Parts}
-use Rattle.sgt_cert.specs.Certificate.{IsCommitted}
-use Rattle.sgt_cert.proofs.Ranks.{rank_of-committed}
-use Rattle.sgt_cert.specs.declared.bundle.SiteLog.{SiteLog}
+use Rattle.sgt_bundle.specs.Parts.{Parts}
+use Rattle.sgt_bundle.specs.Certificate.{IsCommitted}
+use Rattle.sgt_bundle.proofs.Ranks.{rank_of-committed}
+use Rattle.sgt_bundle.specs.declared.bundle.SiteLog.{SiteLog}
 use Rattle.sgt_certify_logs.specs.Certifiable.{AreCertifiable}
 use Rattle.sgt_certify_logs.specs.Witness.{IsChain, HasCycle, EndsBefore, PrecedesCommitted, HaveEndsInACycle, HaveConflictsInACycle}
 use Rattle.sgt_certify_logs.proofs.Decisions.{Decides, one-number, ends-rise, conflicts-rise}

@@ -8,12 +8,12 @@ use Rattle.sgt_names.proofs.Lists.{All_in}
 use Rattle.sgt_names.specs.Entry.{tx_of, IsEnd}
 use Rattle.sgt_names.specs.declared.entry.Entry.{Entry}
 use Rattle.sgt_names.specs.declared.entry.Entry.TheVariants as entry
-use Rattle.sgt_cert.specs.Parts.{Parts}
-use Rattle.sgt_cert.specs.Certificate.{decided_tx, IsDecidedOnce, IsCommitted, Suits}
-use Rattle.sgt_cert.specs.Valid.{IsDecided, IsValidLog, IsValid, EndInOrder, RiseInRank}
-use Rattle.sgt_cert.specs.declared.certificate.Decision.{Decision}
-use Rattle.sgt_cert.specs.declared.certificate.Decision.TheVariants.{Commit, Refuse, Withdraw}
-use Rattle.sgt_cert.specs.declared.bundle.SiteLog.{SiteLog}
+use Rattle.sgt_bundle.specs.Parts.{Parts}
+use Rattle.sgt_bundle.specs.Certificate.{decided_tx, IsDecidedOnce, IsCommitted, Suits}
+use Rattle.sgt_bundle.specs.Valid.{IsDecided, IsValidLog, IsValid, EndInOrder, RiseInRank}
+use Rattle.sgt_bundle.specs.declared.certificate.Decision.{Decision}
+use Rattle.sgt_bundle.specs.declared.certificate.Decision.TheVariants.{Commit, Refuse, Withdraw}
+use Rattle.sgt_bundle.specs.declared.bundle.SiteLog.{SiteLog}
 use Rattle.sgt_certify_logs.specs.Witness.{IsIn, EndsBefore, PrecedesCommitted}
 
 -- the decision of this number is on the transaction

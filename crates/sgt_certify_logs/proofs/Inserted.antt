@@ -3,12 +3,12 @@ use Rattle.std.proofs.Common.{◌≡◌, ◌≢◌, ℕ, suc, List, [], ◌∷�
 use Rattle.std.proofs.lemmas.List.Elements.{recursion_from_All}
 use Rattle.sgt_notation.specs.Spelling.{line_text, text_of_lines, HasNoLf}
 use Rattle.sgt_notation.proofs.OneSpelling.{HasNot, cut_at_byte}
-use Rattle.sgt_cert.specs.Parts.{Parts, IsShaped}
-use Rattle.sgt_cert.specs.Text.{certificate_text, format_line, sections_from, IsCertificate, Spells}
-use Rattle.sgt_cert.specs.declared.certificate.Certificate.{Certificate}
-use Rattle.sgt_cert.specs.declared.bundle.SiteLog.{SiteLog}
-use Rattle.sgt_cert.proofs.OneLine.{certificate-one_line}
-use Rattle.sgt_cert.proofs.OneText.{lines-one, section-one, sections-lines, format-one_line}
+use Rattle.sgt_bundle.specs.Parts.{Parts, IsShaped}
+use Rattle.sgt_bundle.specs.Text.{certificate_text, format_line, sections_from, IsCertificate, Spells}
+use Rattle.sgt_bundle.specs.declared.certificate.Certificate.{Certificate}
+use Rattle.sgt_bundle.specs.declared.bundle.SiteLog.{SiteLog}
+use Rattle.sgt_bundle.proofs.OneLine.{certificate-one_line}
+use Rattle.sgt_bundle.proofs.OneText.{lines-one, section-one, sections-lines, format-one_line}
 use Rattle.sgt_certify_logs.specs.Certifiable.{SpellsLogs, IsWithLine}
 use Rattle.sgt_notation.proofs.Texts.{has_no_lf, first_line}
 

@@ -7,7 +7,7 @@ use Rattle.sgt_names.proofs.Places.{Contains-from_at, split_at}
 use Rattle.sgt_names.specs.Entry.{tx_of}
 use Rattle.sgt_names.specs.declared.entry.Entry.{Entry}
 use Rattle.sgt_names.specs.declared.entry.Entry.TheVariants.{Commit}
-use Rattle.sgt_cert.specs.declared.bundle.SiteLog.{SiteLog}
+use Rattle.sgt_bundle.specs.declared.bundle.SiteLog.{SiteLog}
 use Rattle.sgt_certify_logs.specs.Steps.{IsConflictStep, IsEndStep, LeadFrom, LeadRound, StandsAt}
 use Rattle.sgt_certify_logs.specs.Witness.{EndsBefore, HasCycle, IsChain, IsIn, PrecedesCommitted}
 use Rattle.sgt_certify_logs.specs.declared.checks.ConflictStep.{ConflictStep}

@@ -11,13 +11,13 @@ use Rattle.sgt_notation.proofs.Decidable.{Decidable, decidable-Contains}
 use Rattle.sgt_names.specs.Entry.{tx_of, IsEnd}
 use Rattle.sgt_names.specs.declared.entry.Entry.{Entry}
 use Rattle.sgt_names.specs.declared.entry.Entry.TheVariants as entry
-use Rattle.sgt_cert.specs.Parts.{Parts}
-use Rattle.sgt_cert.specs.Certificate.{decided_tx, IsCommitted, Suits, stops}
-use Rattle.sgt_cert.specs.Valid.{IsValid, AreLogged}
-use Rattle.sgt_cert.specs.declared.certificate.Decision.{Decision}
-use Rattle.sgt_cert.specs.declared.certificate.Decision.TheVariants.{Commit, Refuse, Withdraw}
-use Rattle.sgt_cert.specs.declared.certificate.Step.{Step}
-use Rattle.sgt_cert.specs.declared.bundle.SiteLog.{SiteLog}
+use Rattle.sgt_bundle.specs.Parts.{Parts}
+use Rattle.sgt_bundle.specs.Certificate.{decided_tx, IsCommitted, Suits, stops}
+use Rattle.sgt_bundle.specs.Valid.{IsValid, AreLogged}
+use Rattle.sgt_bundle.specs.declared.certificate.Decision.{Decision}
+use Rattle.sgt_bundle.specs.declared.certificate.Decision.TheVariants.{Commit, Refuse, Withdraw}
+use Rattle.sgt_bundle.specs.declared.certificate.Step.{Step}
+use Rattle.sgt_bundle.specs.declared.bundle.SiteLog.{SiteLog}
 use Rattle.sgt_certify_logs.specs.Certifiable.{AreCertifiable}
 use Rattle.sgt_certify_logs.specs.Witness.{IsIn, HasEnd, IsFree, IsStuck}
 use Rattle.sgt_certify_logs.proofs.Decisions.{Decides, one-number, ds, log_of, decided_in, ends-rise}

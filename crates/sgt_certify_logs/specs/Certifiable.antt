@@ -1,11 +1,11 @@
 -- Logs without a certificate: their text, and whether some certificate makes them valid.
 use Rattle.std.specs.Prelude.{◌≡◌, ℕ, Bool, IsTrue, List, ◌∷◌, ◌++◌, length, map, All}
 use Rattle.sgt_notation.specs.Spelling.{line_text, text_of_lines, HasNoLf}
-use Rattle.sgt_cert.specs.Parts.{IsShaped}
-use Rattle.sgt_cert.specs.Text.{format_line, sections_from, has_increments, IsLog}
-use Rattle.sgt_cert.specs.Valid.{IsValid}
-use Rattle.sgt_cert.specs.declared.certificate.Certificate.{Certificate}
-use Rattle.sgt_cert.specs.declared.bundle.SiteLog.{SiteLog}
+use Rattle.sgt_bundle.specs.Parts.{IsShaped}
+use Rattle.sgt_bundle.specs.Text.{format_line, sections_from, has_increments, IsLog}
+use Rattle.sgt_bundle.specs.Valid.{IsValid}
+use Rattle.sgt_bundle.specs.declared.certificate.Certificate.{Certificate}
+use Rattle.sgt_bundle.specs.declared.bundle.SiteLog.{SiteLog}
 
 -- the bytes spell these logs alone: the text of a bundle without its second line
 pub record SpellsLogs (bytes : List ℕ) (sites : List SiteLog) : Type 0 where

@@ -3,7 +3,7 @@ use Rattle.std.specs.Prelude.{◌≡◌, ◌≢◌, ℕ, ◌<◌, List, [], ◌�
 use Rattle.sgt_names.specs.Entry.{tx_of, Clash, IsEnd}
 use Rattle.sgt_names.specs.declared.entry.Entry.{Entry}
 use Rattle.sgt_names.specs.declared.entry.Entry.TheVariants.{Commit}
-use Rattle.sgt_cert.specs.declared.bundle.SiteLog.{SiteLog}
+use Rattle.sgt_bundle.specs.declared.bundle.SiteLog.{SiteLog}
 use Rattle.sgt_certify_logs.specs.declared.checks.ConflictStep.{ConflictStep}
 use Rattle.sgt_certify_logs.specs.declared.checks.EndStep.{EndStep}
 use Rattle.sgt_certify_logs.specs.declared.checks.Spot.{Spot}

@@ -6,7 +6,7 @@ ghost use Rattle.sgt_names.specs.declared.entry.Entry.{Entry as Found};
 ghost use Rattle.sgt_names.specs.declared.entry.Entry.TheVariants.{Commit as Committed};
 ghost use Rattle.sgt_certify_logs.specs.Steps.{AreCommittedBy, HasConflict, IsConflictCycle, IsConflictStep, IsEndCycle, IsEndStep, StandsAt};
 
-use sgt_cert::SiteLog;
+use sgt_bundle::SiteLog;
 use sgt_names::{Entry, Item, Kind, Tx};
 
 /// A place in a log: the site's, and the entry's, both counted from 0.

@@ -1,10 +1,10 @@
 //! Logs with a certificate, and what shows that logs have none.
 
 ghost use Rattle.std.specs.Prelude.{◌≡◌, ℕ, List, length};
-ghost use Rattle.sgt_cert.specs.Parts.{Parts};
-ghost use Rattle.sgt_cert.specs.Text.{IsCertificate, Spells, certificate_text};
-ghost use Rattle.sgt_cert.specs.declared.bundle.SiteLog.{SiteLog};
-ghost use Rattle.sgt_cert.specs.declared.certificate.Certificate.{Certificate};
+ghost use Rattle.sgt_bundle.specs.Parts.{Parts};
+ghost use Rattle.sgt_bundle.specs.Text.{IsCertificate, Spells, certificate_text};
+ghost use Rattle.sgt_bundle.specs.declared.bundle.SiteLog.{SiteLog};
+ghost use Rattle.sgt_bundle.specs.declared.certificate.Certificate.{Certificate};
 ghost use Rattle.sgt_certify_logs.specs.Certifiable.{AreCertifiable, IsWithLine, SpellsLogs};
 ghost use Rattle.sgt_certify_logs.specs.declared.checks.ConflictStep.{ConflictStep};
 ghost use Rattle.sgt_certify_logs.specs.declared.checks.EndStep.{EndStep};

@@ -6,12 +6,12 @@ use crate::faults::LineFault;
 use crate::reading::Reader;
 use crate::search::{Finding, Stuck, numbers_of, search};
 use crate::steps::{conflict_steps, end_steps};
-use sgt_cert::Certificate;
+use sgt_bundle::Certificate;
 use sgt_certify_history::History;
 use sgt_certify_logs::{ConflictStep, EndStep};
 use sgt_certify_stuck::StuckSet;
 use sgt_names::{Listed, Tx};
-use sgt_notation::{SectionLine, find_lf, front_line};
+use sgt_notation::{SectionLine, front_line, split_line};
 use std::alloc::{AllocError, Global};
 
 /// What shows that there is no certificate.
@@ -48,14 +48,6 @@ pub enum Found {
     Refused(Reason),
     /// There is none: a line has a fault that no certificate mends.
     Fault,
-}
-
-/// The first line, without its LF, and what stands behind it.
-fn split_line(text: &[u8]) -> Option<(&[u8], &[u8])>
-    ensures { IfSome result (λ split. length split.1.now < length text.now) }
-{
-    let at = find_lf(text)?;
-    Some((&text[..at], &text[at + 1..]))
 }
 
 /// A line at the front of a text: read already, where it is one of a section, or its bytes.

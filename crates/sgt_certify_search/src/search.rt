@@ -1,6 +1,6 @@
 //! The search for a certificate of what the logs say.
 
-use sgt_cert::{Decision, Step};
+use sgt_bundle::{Decision, Step};
 use sgt_certify_history::{
     Asked, Before, Bounds, Fate, Front, History, Link, Marks, Spread, Targets, Waiting, ask,
     clear_mark, is_marked, met_from, number_at, rank_order, set_mark, set_number, short, walk_of,

@@ -4,7 +4,7 @@ use Rattle.std.specs.BTreeSet.{contains}
 use Rattle.std.specs.Ordering.{nat_cmp}
 use Rattle.std.proofs.lemmas.Bool.{true≢false}
 use Rattle.sgt_names.specs.Entry.{tx_of}
-use Rattle.sgt_cert.specs.declared.bundle.SiteLog.{SiteLog}
+use Rattle.sgt_bundle.specs.declared.bundle.SiteLog.{SiteLog}
 use Rattle.sgt_certify_stuck.proofs.Elements.{only-one, the-one}
 use Rattle.sgt_certify_stuck.proofs.StuckSets.{bool_or}
 use Rattle.sgt_certify_stuck.specs.Apart.{AreApart, HasTx}

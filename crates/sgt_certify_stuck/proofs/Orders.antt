@@ -9,7 +9,7 @@ use Rattle.sgt_names.specs.Name.{Name}
 use Rattle.sgt_names.specs.Entry.{tx_of, is_increment, IsEnd}
 use Rattle.sgt_names.specs.declared.entry.Entry.{Entry}
 use Rattle.sgt_names.specs.declared.entry.Entry.TheVariants.{Commit}
-use Rattle.sgt_cert.specs.declared.bundle.SiteLog.{SiteLog}
+use Rattle.sgt_bundle.specs.declared.bundle.SiteLog.{SiteLog}
 use Rattle.sgt_certify_logs.specs.Witness.{EndsBefore, HasEnd, HaveConflictsInACycle, HaveEndsInACycle, IsIn, PrecedesCommitted}
 use Rattle.sgt_certify_logs.proofs.Cycles.{no-cycle}
 use Rattle.sgt_certify_stuck.specs.Apart.{Does}

@@ -6,7 +6,7 @@ use Rattle.sgt_names.specs.Entry.{tx_of, Clash}
 use Rattle.sgt_names.specs.declared.entry.Entry.{Entry}
 use Rattle.sgt_names.specs.declared.entry.Entry.TheVariants.{Commit, Refuse}
 use Rattle.sgt_names.specs.declared.entry.Kind.{Kind}
-use Rattle.sgt_cert.specs.declared.bundle.SiteLog.{SiteLog}
+use Rattle.sgt_bundle.specs.declared.bundle.SiteLog.{SiteLog}
 use Rattle.sgt_certify_logs.specs.Witness.{IsFree, IsIn}
 use Rattle.sgt_certify_stuck.specs.declared.stuck.Circle.{Circle}
 use Rattle.sgt_certify_stuck.specs.declared.stuck.StuckSet.{StuckSet}

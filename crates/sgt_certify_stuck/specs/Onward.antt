@@ -10,7 +10,7 @@ use Rattle.sgt_names.specs.Log.{Conflicts}
 use Rattle.sgt_names.specs.declared.entry.Entry.{Entry}
 use Rattle.sgt_names.specs.declared.entry.Entry.TheVariants.{Commit}
 use Rattle.sgt_names.specs.declared.entry.Kind.{Kind}
-use Rattle.sgt_cert.specs.declared.bundle.SiteLog.{SiteLog}
+use Rattle.sgt_bundle.specs.declared.bundle.SiteLog.{SiteLog}
 use Rattle.sgt_certify_logs.specs.Witness.{EndsBefore, HasEnd, IsIn}
 use Rattle.sgt_certify_stuck.specs.Apart.{Does}
 use Rattle.sgt_certify_stuck.specs.declared.apart.Class.{Class}

@@ -3,10 +3,10 @@
 ghost use Rattle.std.specs.Prelude.{◌≡◌, ◌↔◌, ◌⊎◌, IsTrue, IfOk, IfSome, OnOk, Contains, Some};
 ghost use Rattle.sgt_names.specs.Name.{Name};
 ghost use Rattle.sgt_names.specs.Entry.{tx_of};
-ghost use Rattle.sgt_cert.specs.declared.bundle.SiteLog.{SiteLog as Log};
+ghost use Rattle.sgt_bundle.specs.declared.bundle.SiteLog.{SiteLog as Log};
 ghost use Rattle.sgt_certify_stuck.specs.Apart.{AreApart, Does, HasItem, HasTx, IsClear};
 
-use sgt_cert::SiteLog;
+use sgt_bundle::SiteLog;
 use sgt_names::{Entry, Item, Tx};
 use std::alloc::{AllocError, Global};
 use std::collections::BTreeSet;

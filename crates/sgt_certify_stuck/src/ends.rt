@@ -9,7 +9,7 @@ ghost use Rattle.sgt_certify_stuck.specs.Apart.{HasTx};
 ghost use Rattle.sgt_certify_stuck.specs.Ends.{AllDecided, IsFirstLeft};
 ghost use Rattle.sgt_certify_stuck.specs.private.Ends.{AreUncommitted, EndsBehind, HasFree, HasNoCommit, IsBehind, IsFreeIn, IsNext, IsNextInAll};
 
-use sgt_cert::SiteLog;
+use sgt_bundle::SiteLog;
 use sgt_names::{Entry, Tx};
 use std::collections::BTreeSet;
 

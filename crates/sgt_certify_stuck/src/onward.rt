@@ -6,13 +6,13 @@ ghost use Rattle.std.specs.BTreeMap.{get};
 ghost use Rattle.std.specs.Cmp.Lexicographic.{slice_cmp};
 ghost use Rattle.std.specs.Ordering.{nat_cmp};
 ghost use Rattle.sgt_names.specs.Name.{Name};
-ghost use Rattle.sgt_cert.specs.declared.bundle.SiteLog.{SiteLog as Log};
+ghost use Rattle.sgt_bundle.specs.declared.bundle.SiteLog.{SiteLog as Log};
 ghost use Rattle.sgt_certify_logs.specs.Witness.{HaveConflictsInACycle, HaveEndsInACycle};
 ghost use Rattle.sgt_certify_stuck.specs.Apart.{Does};
 ghost use Rattle.sgt_certify_stuck.specs.Onward.{ArePlacesOf, CommitsStand, ConflictsFollow, ConflictsLeadOnward, EndsFollow, EndsLeadOnward, EndsStand, IsTop, LogCommitsStand, PairLeadsOnward, StandsAt};
 
 use crate::apart::{CHANGES, Class, PUT_OVER, PUTS, Pair, READS, item_by};
-use sgt_cert::SiteLog;
+use sgt_bundle::SiteLog;
 use sgt_names::{Entry, Item, Tx};
 use std::alloc::{AllocError, Global};
 use std::collections::BTreeMap;

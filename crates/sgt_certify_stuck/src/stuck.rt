@@ -9,7 +9,7 @@ ghost use Rattle.sgt_certify_stuck.specs.private.Ends.{AreShown, IsLogShown, IsS
 use crate::apart::are_all_apart;
 use crate::ends::{are_uncommitted, first_left, has_free, is_refused, waits};
 use crate::sets::{others_of, set_of};
-use sgt_cert::SiteLog;
+use sgt_bundle::SiteLog;
 use sgt_names::Tx;
 use std::alloc::{AllocError, Global};
 use std::collections::BTreeSet;

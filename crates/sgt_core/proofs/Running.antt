@@ -10,9 +10,9 @@ use Rattle.sgt_notation.specs.declared.event.SiteLine.{SiteLine}
 use Rattle.sgt_site.specs.State.{AreItems}
 use Rattle.sgt_site.specs.declared.fault.SiteFault.{SiteFault}
 use Rattle.sgt_site.specs.declared.fault.SiteFault.TheVariants as site_fault
-use Rattle.sgt_cert.specs.Parts.{Parts as Logs}
-use Rattle.sgt_cert.specs.Text.{text_of}
-use Rattle.sgt_cert.specs.Valid.{IsValid}
+use Rattle.sgt_bundle.specs.Parts.{Parts as Logs}
+use Rattle.sgt_bundle.specs.Text.{text_of}
+use Rattle.sgt_bundle.specs.Valid.{IsValid}
 use Rattle.sgt_notation.specs.Events.{IsSiteLine}
 use Rattle.sgt_notation.specs.Spelling.{text_of_lines}
 use Rattle.sgt_notation.specs.declared.event.Event.{Event}

@@ -9,8 +9,8 @@ use Rattle.sgt_notation.specs.declared.event.EventLine.{EventLine}
 use Rattle.sgt_notation.specs.declared.event.EventLine.TheVariants.{One, ToDecide}
 use Rattle.sgt_notation.specs.declared.fault.NotationFault.{NotationFault}
 use Rattle.sgt_notation.specs.declared.fault.NotationFault.TheVariants as fault
-use Rattle.sgt_cert.specs.Text.{text_of}
-use Rattle.sgt_cert.specs.Valid.{IsValid}
+use Rattle.sgt_bundle.specs.Text.{text_of}
+use Rattle.sgt_bundle.specs.Valid.{IsValid}
 use Rattle.sgt_core_model.specs.Core.{CoreState, fresh, bundle_of}
 use Rattle.sgt_core_model.specs.Runs.{IsMemory}
 use Rattle.sgt_core_model.specs.Step.{MayDecide, MayStep}

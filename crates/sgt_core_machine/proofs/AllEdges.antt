@@ -2,7 +2,7 @@
 use Rattle.std.proofs.Common.{◌≡◌, ℕ, List, [], ◌∷◌, ◌++◌, refl, sym, ◌∙◌, ◌⊎◌, inl, inr, Contains, Some, subst, ap}
 use Rattle.std.specs.Prelude.{true, All}
 use Rattle.std.proofs.lemmas.List.Elements.{Contains-append_cases, Contains-append_left, Contains-append_right}
-use Rattle.sgt_cert.specs.declared.certificate.Step.{Step}
+use Rattle.sgt_bundle.specs.declared.certificate.Step.{Step}
 use Rattle.sgt_order.specs.Graph.{Leads, Reaches, placed}
 use Rattle.sgt_edges.specs.declared.edge.Edge.{Edge}
 use Rattle.sgt_certifier.specs.Certifier.{State, Arc, Joins, Walks, Commits, Refuses, committed, refused, serial}

@@ -11,11 +11,11 @@ use Rattle.sgt_names.specs.declared.entry.Entry.{Entry}
 use Rattle.sgt_names.specs.declared.entry.Holding.{Holding}
 use Rattle.sgt_names.proofs.Lists.{map_at, heads, tails}
 use Rattle.sgt_names.proofs.Places.{All_at}
-use Rattle.sgt_cert.specs.declared.bundle.SiteLog.{SiteLog}
-use Rattle.sgt_cert.specs.declared.certificate.Certificate.{Certificate}
-use Rattle.sgt_cert.specs.Parts.{Parts as BundleParts, FitTogether}
+use Rattle.sgt_bundle.specs.declared.bundle.SiteLog.{SiteLog}
+use Rattle.sgt_bundle.specs.declared.certificate.Certificate.{Certificate}
+use Rattle.sgt_bundle.specs.Parts.{Parts as BundleParts, FitTogether}
 use Rattle.sgt_certifier.specs.Certifier.{State, certificate_of}
-use Rattle.sgt_cert.specs.Valid.{IsValid}
+use Rattle.sgt_bundle.specs.Valid.{IsValid}
 use Rattle.sgt_core_model.specs.declared.reply.CoreFault.{CoreFault}
 use Rattle.sgt_core_machine.specs.declared.machine.Place.{Place}
 use Rattle.sgt_core_model.proofs.Kept.{IsKept}

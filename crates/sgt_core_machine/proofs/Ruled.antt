@@ -4,7 +4,7 @@ use Rattle.std.specs.Prelude.{slice_set, Any}
 use Rattle.sgt_names.specs.declared.entry.Entry.{Entry}
 use Rattle.sgt_names.proofs.Lists.{Any_at, Any-from_at}
 use Rattle.sgt_arena.specs.declared.handle.Handle.{Handle}
-use Rattle.sgt_cert.specs.declared.certificate.Step.{Step}
+use Rattle.sgt_bundle.specs.declared.certificate.Step.{Step}
 use Rattle.sgt_site.specs.State.{commit_block, refuse_block}
 use Rattle.sgt_edges.specs.declared.edge.Edge.{Edge}
 use Rattle.sgt_certifier.specs.Certifier.{State, Commits, Refuses, with_finished}

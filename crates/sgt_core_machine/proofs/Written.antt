@@ -12,14 +12,14 @@ use Rattle.sgt_names.proofs.Places.{All_at, All-from_at, AllPairs_at, AllPairs-f
 use Rattle.sgt_site.specs.State.{AreItems}
 use Rattle.sgt_site.specs.declared.fault.SiteFault.{SiteFault}
 use Rattle.sgt_site.specs.declared.fault.SiteFault.TheVariants as site_fault
-use Rattle.sgt_cert.specs.Parts.{ComesBefore, IsShapedLog, FitTogether}
+use Rattle.sgt_bundle.specs.Parts.{ComesBefore, IsShapedLog, FitTogether}
 use Rattle.sgt_core_model.specs.Runs.{AreSites}
 use Rattle.sgt_names.specs.declared.entry.Holding.{Holding}
 use Rattle.sgt_notation.specs.Spelling.{line_text, text_of_lines}
-use Rattle.sgt_cert.specs.Text.{certificate_text, format_line, has_increments, sections_from, text_of}
-use Rattle.sgt_cert.specs.declared.bundle.SiteLog.{SiteLog}
-use Rattle.sgt_cert.specs.declared.certificate.Certificate.{Certificate}
-use Rattle.sgt_cert.specs.Parts.{Parts as BundleParts}
+use Rattle.sgt_bundle.specs.Text.{certificate_text, format_line, has_increments, sections_from, text_of}
+use Rattle.sgt_bundle.specs.declared.bundle.SiteLog.{SiteLog}
+use Rattle.sgt_bundle.specs.declared.certificate.Certificate.{Certificate}
+use Rattle.sgt_bundle.specs.Parts.{Parts as BundleParts}
 use Rattle.sgt_certifier.specs.Certifier.{certificate_of}
 use Rattle.sgt_core_model.specs.Core.{CoreState, bundle_of}
 use Rattle.sgt_core_machine.specs.Machine.{Parts, StandsFor, RefusesSites}

@@ -1,8 +1,8 @@
 -- Where a log is cut: what the next one begins with.
 use Rattle.std.specs.Prelude.{List, map}
 use Rattle.sgt_names.specs.declared.entry.Holding.{Holding}
-use Rattle.sgt_cert.specs.Parts.{Parts}
-use Rattle.sgt_cert.specs.declared.bundle.SiteLog.{SiteLog}
+use Rattle.sgt_bundle.specs.Parts.{Parts}
+use Rattle.sgt_bundle.specs.declared.bundle.SiteLog.{SiteLog}
 use Rattle.sgt_core_model.specs.Core.{CoreState, bundle_of, site_log}
 use Rattle.sgt_core_machine.specs.declared.machine.Place.{Place}
 

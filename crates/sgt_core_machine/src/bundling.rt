@@ -6,7 +6,7 @@ ghost use Rattle.sgt_core_model.specs.Core.{CoreState, site_log, bundle_of};
 ghost use Rattle.sgt_core_machine.specs.Machine.{parts_of, StandsFor, Stands};
 
 use crate::machine::{Machine, Place};
-use sgt_cert::{Bundle, SiteLog};
+use sgt_bundle::{Bundle, SiteLog};
 use sgt_core_model::CoreFault;
 use sgt_names::Listed;
 use sgt_site::{Site, SiteFault};

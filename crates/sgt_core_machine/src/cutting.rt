@@ -4,7 +4,7 @@ ghost use Rattle.std.specs.Prelude.{◌≡◌, ◌++◌, ◌≤◌, IfOk, OnOk, 
 ghost use Rattle.std.specs.List.{list_any};
 ghost use Rattle.sgt_names.specs.Limits.{max_sites};
 ghost use Rattle.sgt_notation.specs.Spelling.{line_text, text_of_lines};
-ghost use Rattle.sgt_cert.specs.Text.{has_increments, section_lines, sections_from, text_of};
+ghost use Rattle.sgt_bundle.specs.Text.{has_increments, section_lines, sections_from, text_of};
 ghost use Rattle.sgt_core_model.specs.Core.{CoreState, bundle_of, finals_of, site_log};
 ghost use Rattle.sgt_core_machine.specs.Cut.{finals_at, last_values, logs_at};
 ghost use Rattle.sgt_core_machine.specs.Machine.{parts_of, StandsFor, Stands};

@@ -2,8 +2,8 @@
 
 ghost use Rattle.std.specs.Prelude.{◌≡◌, ◌≢◌, ◌≤◌, [], length, IfOk, IfErr, OnOk, OnErr, option_map};
 ghost use Rattle.sgt_names.specs.Limits.{max_sites};
-ghost use Rattle.sgt_cert.specs.Text.{text_of};
-ghost use Rattle.sgt_cert.specs.Valid.{IsValid};
+ghost use Rattle.sgt_bundle.specs.Text.{text_of};
+ghost use Rattle.sgt_bundle.specs.Valid.{IsValid};
 ghost use Rattle.sgt_core_model.specs.Core.{CoreState, OpenStep, fresh, bundle_of};
 ghost use Rattle.sgt_core_machine.specs.Cut.{last_values};
 ghost use Rattle.sgt_core_model.specs.Step.{MayStep, MayDecide, Run};
@@ -11,7 +11,7 @@ ghost use Rattle.sgt_core_model.specs.Runs.{AreSites};
 ghost use Rattle.sgt_core_machine.specs.Machine.{StandsFor, Stands, GoesOn, RefusesSites, RefusesBundle};
 
 use crate::machine::Machine;
-use sgt_cert::Bundle;
+use sgt_bundle::Bundle;
 use sgt_core_model::{CoreFault, Reply};
 use sgt_names::{Holding, Listed, Tx};
 use sgt_notation::Event;

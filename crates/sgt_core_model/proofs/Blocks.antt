@@ -13,7 +13,7 @@ use Rattle.sgt_names.specs.declared.entry.Entry.TheVariants as entry
 use Rattle.sgt_names.specs.declared.entry.Holding.{Holding}
 use Rattle.sgt_names.proofs.Places.{AllPairs-from_at, AllPairs_at}
 use Rattle.sgt_site.specs.State.{change_entry, want_entry}
-use Rattle.sgt_cert.specs.declared.certificate.Step.{Step}
+use Rattle.sgt_bundle.specs.declared.certificate.Step.{Step}
 use Rattle.sgt_certifier.specs.Certifier.{Ruling, committed, refused, withdrawn}
 use Rattle.sgt_core_model.proofs.Kept.{IsRead, SuitsRuling, AreBlocks, AreApart}
 use Rattle.sgt_core_model.proofs.Entries.{of_change, change_tx, want_tx, change_item, want_item, change_open, want_open, change_suits, want_suits, want_writes}

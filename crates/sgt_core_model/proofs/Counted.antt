@@ -18,7 +18,7 @@ use Rattle.sgt_names.specs.declared.entry.Entry.TheVariants as entry
 use Rattle.sgt_names.specs.declared.entry.Holding.{Holding}
 use Rattle.sgt_names.proofs.Places.{PairsByRecursion, recursion_from_AllPairs}
 use Rattle.sgt_site.specs.State.{version_at, change_entry, want_entry, commit_block, refuse_block}
-use Rattle.sgt_cert.specs.declared.certificate.Step.{Step}
+use Rattle.sgt_bundle.specs.declared.certificate.Step.{Step}
 use Rattle.sgt_certifier.specs.Certifier.{State, Arc, Install, Commits, Refuses, with_finished, with_install}
 use Rattle.sgt_certifier.specs.History.{changes_item}
 use Rattle.sgt_certifier.proofs.Members.{placed_self}

@@ -5,8 +5,8 @@ use Rattle.std.proofs.lemmas.Bool.{cases_eq}
 use Rattle.std.proofs.lemmas.List.Elements.{Contains-append_cases}
 use Rattle.sgt_names.proofs.Places.{PairsByRecursion, AllPairs-from_recursion, All-from_at, Contains-from_at}
 use Rattle.sgt_order.specs.Graph.{Leads, Reaches}
-use Rattle.sgt_cert.specs.Certificate.{stops}
-use Rattle.sgt_cert.specs.declared.certificate.Step.{Step}
+use Rattle.sgt_bundle.specs.Certificate.{stops}
+use Rattle.sgt_bundle.specs.declared.certificate.Step.{Step}
 use Rattle.sgt_certifier.specs.Certifier.{State, Arc, Joins, Walks, IsWalk}
 use Rattle.sgt_certifier.specs.Sound.{IsSoundCertifier, AreNew}
 use Rattle.sgt_certifier.proofs.Members.{cons_here}

@@ -6,8 +6,8 @@ use Rattle.sgt_names.specs.Name.{Name}
 use Rattle.sgt_names.specs.declared.entry.Entry.TheVariants as entry
 use Rattle.sgt_names.proofs.Lists.{heads, tails}
 use Rattle.sgt_order.specs.Graph.{Leads}
-use Rattle.sgt_cert.specs.Certificate.{stops}
-use Rattle.sgt_cert.specs.declared.certificate.Step.{Step}
+use Rattle.sgt_bundle.specs.Certificate.{stops}
+use Rattle.sgt_bundle.specs.declared.certificate.Step.{Step}
 use Rattle.sgt_certifier.specs.Certifier.{Arc, Joins, Walks}
 use Rattle.sgt_notation.specs.declared.event.Event.{Event}
 use Rattle.sgt_notation.specs.declared.event.Event.TheVariants.{Begin, Read, Put, Add, Gather, Decide, Install, Commit, Withdraw, Close}

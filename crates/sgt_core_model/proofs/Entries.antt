@@ -11,7 +11,7 @@ use Rattle.sgt_names.specs.declared.entry.Entry.TheVariants as entry
 use Rattle.sgt_names.specs.declared.entry.Holding.{Holding}
 use Rattle.sgt_names.proofs.Places.{Contains_at, Contains-from_at}
 use Rattle.sgt_site.specs.State.{change_entry, want_entry}
-use Rattle.sgt_cert.specs.declared.certificate.Step.{Step}
+use Rattle.sgt_bundle.specs.declared.certificate.Step.{Step}
 use Rattle.sgt_certifier.specs.Certifier.{Ruling, committed, refused}
 use Rattle.sgt_core_model.proofs.Kept.{IsRead, SuitsRuling}
 use Rattle.sgt_site.proofs.Entries.{writes_one}

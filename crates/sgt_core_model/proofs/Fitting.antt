@@ -14,8 +14,8 @@ use Rattle.sgt_names.specs.declared.entry.Entry.{Entry}
 use Rattle.sgt_names.specs.declared.entry.Holding.{Holding}
 use Rattle.sgt_names.proofs.Places.{All_at, All-from_at, AllPairs_at, AllPairs-from_at}
 use Rattle.sgt_site.specs.State.{AreItems}
-use Rattle.sgt_cert.specs.Parts.{ComesBefore, IsShapedLog, HasStepsWithin, FitTogether}
-use Rattle.sgt_cert.specs.declared.certificate.Step.{Step}
+use Rattle.sgt_bundle.specs.Parts.{ComesBefore, IsShapedLog, HasStepsWithin, FitTogether}
+use Rattle.sgt_bundle.specs.declared.certificate.Step.{Step}
 use Rattle.sgt_certifier.specs.Certifier.{Ruling, committed, refused, withdrawn, serial, ranked}
 use Rattle.sgt_notation.specs.declared.event.Event.{Event}
 use Rattle.sgt_notation.specs.declared.event.Event.TheVariants.{Begin, Read, Put, Add, Gather, Decide, Install, Commit, Withdraw, Close}

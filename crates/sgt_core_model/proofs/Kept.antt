@@ -14,7 +14,7 @@ use Rattle.sgt_names.specs.declared.entry.Kind.{Kind}
 use Rattle.sgt_names.specs.declared.entry.Label.{Label}
 use Rattle.sgt_site.specs.State.{version_at, commit_block, refuse_block}
 use Rattle.sgt_order.specs.Graph.{IsTopological}
-use Rattle.sgt_cert.specs.declared.certificate.Step.{Step}
+use Rattle.sgt_bundle.specs.declared.certificate.Step.{Step}
 use Rattle.sgt_certifier.specs.Certifier.{State, Arc, Install, Ruling, committed, refused, withdrawn, ruled}
 use Rattle.sgt_certifier.specs.History.{changes_item}
 use Rattle.sgt_certifier.specs.Sound.{IsSoundCertifier, IsRuled}

@@ -12,7 +12,7 @@ use Rattle.sgt_names.specs.Log.{names, value_at}
 use Rattle.sgt_names.specs.declared.entry.Entry.{Entry}
 use Rattle.sgt_names.specs.declared.entry.Entry.TheVariants as entry
 use Rattle.sgt_names.specs.declared.entry.Holding.{Holding}
-use Rattle.sgt_cert.specs.declared.certificate.Step.{Step}
+use Rattle.sgt_bundle.specs.declared.certificate.Step.{Step}
 use Rattle.sgt_certifier.specs.Certifier.{State, Arc, committed, refused, withdrawn, Commits, Refuses, with_begun, with_finished, with_withdrawn, with_install, with_closed}
 use Rattle.sgt_certifier.specs.Sound.{IsRuled}
 use Rattle.sgt_certifier.proofs.Members.{cons_here, member_filter}

@@ -15,7 +15,7 @@ use Rattle.sgt_names.specs.declared.entry.Kind.{Kind}
 use Rattle.sgt_names.specs.declared.entry.Kind.TheVariants.{Wr, Rw, Ww}
 use Rattle.sgt_names.proofs.Places.{AllPairs-from_at, AllPairs_at, Contains-from_at}
 use Rattle.sgt_order.specs.Graph.{IsTopological}
-use Rattle.sgt_cert.specs.declared.certificate.Step.{Step}
+use Rattle.sgt_bundle.specs.declared.certificate.Step.{Step}
 use Rattle.sgt_certifier.specs.Certifier.{State, Arc, committed, refused, Joins, Commits, Refuses, serial, with_begun, with_finished, with_withdrawn, with_install, with_closed}
 use Rattle.sgt_certifier.specs.Sound.{IsSoundCertifier, IsOfWindow, AreNew}
 use Rattle.sgt_certifier.proofs.Members.{place_cases, placed_member, AllPairs-append}

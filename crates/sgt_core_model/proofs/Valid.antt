@@ -18,12 +18,12 @@ use Rattle.sgt_names.specs.declared.entry.Entry.TheVariants as entry
 use Rattle.sgt_names.specs.declared.entry.Holding.{Holding}
 use Rattle.sgt_names.proofs.Places.{All-from_at, AllPairs-from_at, AllPairs_at, Contains-from_at, slice_get-none}
 use Rattle.sgt_names.proofs.Lists.{option_cases, map_at}
-use Rattle.sgt_cert.specs.Certificate.{decided_tx, Suits}
-use Rattle.sgt_cert.specs.Valid.{IsDecided, EndInOrder, Agrees, RiseInRank, IsRanked, IsLogged, AreLogged, IsValidLog, IsValid}
-use Rattle.sgt_cert.specs.declared.certificate.Step.{Step}
-use Rattle.sgt_cert.specs.declared.bundle.SiteLog.{SiteLog}
-use Rattle.sgt_cert.specs.declared.certificate.Decision.{Decision}
-use Rattle.sgt_cert.specs.declared.certificate.Decision.TheVariants as decision
+use Rattle.sgt_bundle.specs.Certificate.{decided_tx, Suits}
+use Rattle.sgt_bundle.specs.Valid.{IsDecided, EndInOrder, Agrees, RiseInRank, IsRanked, IsLogged, AreLogged, IsValidLog, IsValid}
+use Rattle.sgt_bundle.specs.declared.certificate.Step.{Step}
+use Rattle.sgt_bundle.specs.declared.bundle.SiteLog.{SiteLog}
+use Rattle.sgt_bundle.specs.declared.certificate.Decision.{Decision}
+use Rattle.sgt_bundle.specs.declared.certificate.Decision.TheVariants as decision
 use Rattle.sgt_certifier.specs.Certifier.{Ruling, committed, refused, withdrawn, ruled, serial, ranked, place_in}
 use Rattle.sgt_certifier.proofs.Members.{cons_here, forward}
 use Rattle.sgt_certifier.proofs.Ruling.{certificate-once, certificate-ranks, certificate-cycles, decided_ranked, ranked_refusal}
@@ -32,7 +32,7 @@ use Rattle.sgt_core_model.specs.Runs.{IsLoggedConflict}
 use Rattle.sgt_core_model.proofs.Kept.{SuitsRuling, IsRuledBy, IsLegalSite, EndInRulingOrder, IsAt, AreAt, IsSound, written}
 use Rattle.sgt_core_model.proofs.Conflicting.{in_longer}
 use Rattle.sgt_core_model.proofs.Ordered.{ordered-serial}
-use Rattle.sgt_cert.proofs.Headline.{listed}
+use Rattle.sgt_bundle.proofs.Headline.{listed}
 use Rattle.sgt_names.proofs.Elements.{contains-cases, contains-none, get-mapped}
 
 -- ---- values

@@ -16,7 +16,7 @@ use Rattle.sgt_names.specs.declared.entry.Holding.{Holding}
 use Rattle.sgt_names.specs.declared.entry.Label.{Label}
 use Rattle.sgt_names.specs.declared.entry.Kind.{Kind}
 use Rattle.sgt_names.proofs.Places.{Contains-from_at}
-use Rattle.sgt_cert.specs.declared.certificate.Step.{Step}
+use Rattle.sgt_bundle.specs.declared.certificate.Step.{Step}
 use Rattle.sgt_certifier.specs.Certifier.{State, Arc, Walks, Commits, Refuses, committed, refused, withdrawn, with_finished, with_withdrawn}
 use Rattle.sgt_certifier.proofs.Members.{cons_here}
 use Rattle.sgt_core_model.specs.Core.{items_in, items_at, OpenStep, CoreState, fresh, with_entries, only_at, changed_at, touches, is_some_change, sites_of, as_changes, IsEdgeOf, AreEdges, committed_block, refused_block, withdrawn_block, is_empty, is_written}

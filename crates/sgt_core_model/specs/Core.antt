@@ -13,8 +13,8 @@ use Rattle.sgt_names.specs.declared.entry.Entry.{Entry}
 use Rattle.sgt_names.specs.declared.entry.Entry.TheVariants.{Read}
 use Rattle.sgt_names.specs.declared.entry.Holding.{Holding}
 use Rattle.sgt_site.specs.State.{change_entry, commit_block, refuse_block, withdraw_block}
-use Rattle.sgt_cert.specs.Parts.{Parts}
-use Rattle.sgt_cert.specs.declared.bundle.SiteLog.{SiteLog}
+use Rattle.sgt_bundle.specs.Parts.{Parts}
+use Rattle.sgt_bundle.specs.declared.bundle.SiteLog.{SiteLog}
 use Rattle.sgt_certifier.specs.Certifier.{State, Arc, opening, with_install, with_finished, certificate_of}
 
 -- the step of a transaction, and the sites at which it is gathered

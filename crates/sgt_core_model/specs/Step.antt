@@ -5,7 +5,7 @@ use Rattle.sgt_names.specs.Draft.{added_to}
 use Rattle.sgt_names.specs.Log.{names, value_at}
 use Rattle.sgt_names.specs.declared.entry.Change.TheVariants as change
 use Rattle.sgt_names.specs.declared.entry.Entry.TheVariants as entry
-use Rattle.sgt_cert.specs.declared.certificate.Step.{Step}
+use Rattle.sgt_bundle.specs.declared.certificate.Step.{Step}
 use Rattle.sgt_certifier.specs.Certifier.{State, Arc, window_room, serial, with_begun, with_withdrawn, with_closed, Commits, Refuses}
 use Rattle.sgt_notation.specs.declared.event.Event.{Event}
 use Rattle.sgt_notation.specs.declared.event.Event.TheVariants.{Begin, Read, Put, Add, Gather, Decide, Install, Commit, Withdraw, Close}

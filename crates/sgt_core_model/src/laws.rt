@@ -4,8 +4,8 @@ ghost use Rattle.std.specs.Prelude.{◌≡◌, ◌⊎◌, ◌↔◌, ◌<◌, �
 ghost use Rattle.sgt_names.specs.Name.{Name};
 ghost use Rattle.sgt_names.specs.declared.entry.Holding.{Holding};
 ghost use Rattle.sgt_site.specs.State.{version_at};
-ghost use Rattle.sgt_cert.specs.Parts.{FitTogether};
-ghost use Rattle.sgt_cert.specs.Valid.{IsValid};
+ghost use Rattle.sgt_bundle.specs.Parts.{FitTogether};
+ghost use Rattle.sgt_bundle.specs.Valid.{IsValid};
 ghost use Rattle.sgt_order.specs.Graph.{IsAcyclic, IsTopological};
 ghost use Rattle.sgt_certifier.specs.Certifier.{Install, Joins, serial};
 ghost use Rattle.sgt_certifier.specs.History.{changes_item};

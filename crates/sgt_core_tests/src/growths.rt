@@ -3,7 +3,7 @@
 //! refuses each in turn.
 
 use crate::rows::{ROWS, Row, opened};
-use sgt_cert::Bundle;
+use sgt_bundle::Bundle;
 use sgt_core::{Core, CoreFault, Event, Reply, write_reply};
 use sgt_names::{Item, SiteNo, Tx};
 use sgt_notation::{EventLine, read_event};

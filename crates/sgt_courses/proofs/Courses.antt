@@ -11,9 +11,9 @@ use Rattle.sgt_notation.specs.declared.event.Event.{Event}
 use Rattle.sgt_notation.specs.declared.event.Event.TheVariants.{Commit as ACommit}
 use Rattle.sgt_notation.specs.declared.event.EventLine.{EventLine}
 use Rattle.sgt_notation.specs.declared.event.EventLine.TheVariants.{One, ToDecide}
-use Rattle.sgt_cert.specs.Parts.{Parts, FitTogether}
-use Rattle.sgt_cert.specs.Valid.{IsValid}
-use Rattle.sgt_cert.specs.declared.bundle.SiteLog.{SiteLog}
+use Rattle.sgt_bundle.specs.Parts.{Parts, FitTogether}
+use Rattle.sgt_bundle.specs.Valid.{IsValid}
+use Rattle.sgt_bundle.specs.declared.bundle.SiteLog.{SiteLog}
 use Rattle.sgt_core_model.specs.Core.{CoreState, fresh, bundle_of, site_log, touched}
 use Rattle.sgt_core_model.specs.Step.{MayDecide, MayStep, Run, parts_of_decision, replies_of_decision}
 use Rattle.sgt_core_model.specs.Runs.{AreSites, IsAnswer}

@@ -1,7 +1,7 @@
 -- Bundles that go on from one another.
 use Rattle.std.specs.Prelude.{◌≡◌, ℕ, suc, List, map, Some, slice_get}
-use Rattle.sgt_cert.specs.Parts.{Parts}
-use Rattle.sgt_cert.specs.declared.bundle.SiteLog.{SiteLog}
+use Rattle.sgt_bundle.specs.Parts.{Parts}
+use Rattle.sgt_bundle.specs.declared.bundle.SiteLog.{SiteLog}
 use Rattle.sgt_core_machine.specs.Cut.{finals_in}
 use Rattle.sgt_names.specs.declared.entry.Holding.{Holding}
 

@@ -7,7 +7,7 @@ use Rattle.sgt_notation.specs.Reading.{SpellsNone}
 use Rattle.sgt_notation.specs.Spelling.{HasNoLf}
 use Rattle.sgt_notation.specs.declared.event.Event.{Event}
 use Rattle.sgt_notation.specs.declared.event.EventLine.{EventLine}
-use Rattle.sgt_cert.specs.Parts.{Parts}
+use Rattle.sgt_bundle.specs.Parts.{Parts}
 use Rattle.sgt_core_model.specs.Core.{CoreState, fresh, bundle_of}
 use Rattle.sgt_core_model.specs.Step.{Run}
 use Rattle.sgt_core_model.specs.declared.reply.Reply.{Reply}

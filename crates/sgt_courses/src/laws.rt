@@ -2,8 +2,8 @@
 
 ghost use Rattle.std.specs.Prelude.{◌≡◌, List, ◌++◌, ◌∷◌, ℕ, suc, Some, slice_get, All, map};
 ghost use Rattle.sgt_names.specs.declared.entry.Holding.{Holding};
-ghost use Rattle.sgt_cert.specs.Parts.{Parts, FitTogether};
-ghost use Rattle.sgt_cert.specs.Valid.{IsValid};
+ghost use Rattle.sgt_bundle.specs.Parts.{Parts, FitTogether};
+ghost use Rattle.sgt_bundle.specs.Valid.{IsValid};
 ghost use Rattle.sgt_core_model.specs.Core.{CoreState, bundle_of, fresh};
 ghost use Rattle.sgt_core_model.specs.Runs.{AreSites};
 ghost use Rattle.sgt_courses.specs.Course.{AreRuns, Course, Numbered, Turn, bundles_in};

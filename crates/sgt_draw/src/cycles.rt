@@ -2,7 +2,7 @@
 
 use crate::canvas::{Canvas, Part};
 use crate::marks::{Fate, Point, put_label, put_node, put_text, stroke_of};
-use sgt_cert::Step;
+use sgt_bundle::Step;
 use sgt_names::Tx;
 use std::alloc::AllocError;
 

@@ -4,7 +4,7 @@ use crate::canvas::{Canvas, Part};
 use crate::edges::Edge;
 use crate::marks::put_label;
 use crate::scene::Scene;
-use sgt_cert::{Decision, Step};
+use sgt_bundle::{Decision, Step};
 use sgt_names::{Kind, Tx};
 use std::alloc::AllocError;
 

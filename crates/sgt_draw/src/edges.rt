@@ -5,7 +5,7 @@ ghost use Rattle.sgt_names.specs.Entry.{Clash};
 ghost use Rattle.sgt_names.specs.declared.entry.Kind.{Kind};
 
 use crate::scene::Scene;
-use sgt_cert::SiteLog;
+use sgt_bundle::SiteLog;
 use sgt_names::{Entry, Item, Kind};
 use std::alloc::{AllocError, Global};
 

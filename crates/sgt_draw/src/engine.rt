@@ -14,7 +14,7 @@ use crate::lanes::laid_in;
 use crate::scene::Scene;
 use crate::svg::{Picture, put_alone};
 use sgt_audit::{Audited, Verdict, audit_bundle};
-use sgt_cert::Bundle;
+use sgt_bundle::Bundle;
 use sgt_names::{EngineFail, Outcome, Sink, Source, Tx, write_all};
 use std::alloc::{AllocError, Global};
 

@@ -1,6 +1,6 @@
 //! Which transactions of a bundle are drawn.
 
-use sgt_cert::Decision;
+use sgt_bundle::Decision;
 use sgt_names::Tx;
 use std::alloc::{AllocError, Global};
 

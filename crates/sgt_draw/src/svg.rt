@@ -5,7 +5,7 @@ use crate::cycles::{Cycle, HIGH, LOW};
 use crate::lanes::Laid;
 use crate::marks::{Fate, Point, put_label, put_left, put_node, put_text, stroke_of};
 use crate::scene::Scene;
-use sgt_cert::Decision;
+use sgt_bundle::Decision;
 use sgt_names::{Kind, Tx};
 use std::alloc::AllocError;
 

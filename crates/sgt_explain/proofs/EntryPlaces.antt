@@ -10,13 +10,13 @@ use Rattle.sgt_names.specs.declared.entry.Entry.{Entry}
 use Rattle.sgt_names.specs.declared.entry.Holding.{Holding}
 use Rattle.sgt_notation.specs.declared.SectionLine.{SectionLine}
 use Rattle.sgt_notation.specs.declared.SectionLine.TheVariants.{Site, Initial, Logged, Final, End}
-use Rattle.sgt_cert.specs.Text.{section_lines, sections_from}
-use Rattle.sgt_cert.specs.declared.bundle.SiteLog.{SiteLog}
+use Rattle.sgt_bundle.specs.Text.{section_lines, sections_from}
+use Rattle.sgt_bundle.specs.declared.bundle.SiteLog.{SiteLog}
 use Rattle.sgt_audit.proofs.SectionLines.{NotSite, AllByRecursion-map, inner}
 use Rattle.sgt_explain_lines.specs.Numbered.{with_site, open_site}
 use Rattle.sgt_explain_lines.specs.Sited.{StandsAt, site_at}
 use Rattle.sgt_explain_lines.specs.declared.section.Logged.{Logged as LoggedEntry}
-use Rattle.sgt_cert.proofs.OneText.{logged-one}
+use Rattle.sgt_bundle.proofs.OneText.{logged-one}
 use Rattle.sgt_audit.proofs.NoFault.{final-logged}
 
 -- an element of two lists in a row is one of the first, or of the second

@@ -3,9 +3,9 @@ use Rattle.std.proofs.Common.{◌≡◌, ◌≢◌, ℕ, ◌+◌, ◌≤◌, Lis
 use Rattle.std.proofs.lemmas.List.Elements.{All-from_recursion, recursion_from_All}
 use Rattle.sgt_notation.specs.Spelling.{line_text, text_of_lines, HasNoLf}
 use Rattle.sgt_names.specs.Limits.{max_line}
-use Rattle.sgt_cert.specs.Text.{certificate_text, format_line}
-use Rattle.sgt_cert.proofs.OneLine.{certificate-one_line}
-use Rattle.sgt_cert.proofs.OneText.{format-one_line}
+use Rattle.sgt_bundle.specs.Text.{certificate_text, format_line}
+use Rattle.sgt_bundle.proofs.OneLine.{certificate-one_line}
+use Rattle.sgt_bundle.proofs.OneText.{format-one_line}
 use Rattle.sgt_audit.specs.declared.faults.Fault.{Fault}
 use Rattle.sgt_audit.specs.declared.faults.Fault.TheVariants as fault
 use Rattle.sgt_audit.specs.Faults.{Stage, start, headed, within, complete, lines_so_far, IsFaultless, Piece, whole, last, ComesNext, Rule, FirstFault, bytes_of}

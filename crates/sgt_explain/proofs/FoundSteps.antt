@@ -11,14 +11,14 @@ use Rattle.sgt_names.specs.Log.{Conflicts}
 use Rattle.sgt_notation.specs.Spelling.{line_text, text_of_lines, HasNoLf, IsLine}
 use Rattle.sgt_notation.specs.declared.SectionLine.{SectionLine}
 use Rattle.sgt_notation.specs.declared.SectionLine.TheVariants.{End}
-use Rattle.sgt_cert.specs.Certificate.{stops, IsCycle}
-use Rattle.sgt_cert.specs.Text.{sections_from, IsStep, IsDecision}
-use Rattle.sgt_cert.specs.Valid.{IsLogged, AreLogged}
-use Rattle.sgt_cert.specs.declared.certificate.Certificate.{Certificate}
-use Rattle.sgt_cert.specs.declared.certificate.Decision.{Decision}
-use Rattle.sgt_cert.specs.declared.certificate.Decision.TheVariants.{Refuse}
-use Rattle.sgt_cert.specs.declared.certificate.Step.{Step}
-use Rattle.sgt_cert.specs.declared.bundle.SiteLog.{SiteLog}
+use Rattle.sgt_bundle.specs.Certificate.{stops, IsCycle}
+use Rattle.sgt_bundle.specs.Text.{sections_from, IsStep, IsDecision}
+use Rattle.sgt_bundle.specs.Valid.{IsLogged, AreLogged}
+use Rattle.sgt_bundle.specs.declared.certificate.Certificate.{Certificate}
+use Rattle.sgt_bundle.specs.declared.certificate.Decision.{Decision}
+use Rattle.sgt_bundle.specs.declared.certificate.Decision.TheVariants.{Refuse}
+use Rattle.sgt_bundle.specs.declared.certificate.Step.{Step}
+use Rattle.sgt_bundle.specs.declared.bundle.SiteLog.{SiteLog}
 use Rattle.sgt_audit.specs.declared.faults.Fault.TheVariants as fault
 use Rattle.sgt_audit.specs.Faults.{Keeps, FirstFault}
 use Rattle.sgt_audit.proofs.SectionLines.{up_to, around, at_end}

@@ -11,10 +11,10 @@ use Rattle.sgt_names.specs.Log.{AllEnded}
 use Rattle.sgt_names.specs.declared.entry.Entry.{Entry}
 use Rattle.sgt_notation.specs.declared.SectionLine.{SectionLine}
 use Rattle.sgt_notation.specs.declared.SectionLine.TheVariants.{Site, Initial, Logged, Final, End}
-use Rattle.sgt_cert.specs.Certificate.{decided_tx, IsDecidedOnce}
-use Rattle.sgt_cert.specs.Valid.{IsDecided, EndInOrder}
-use Rattle.sgt_cert.specs.declared.certificate.Certificate.{Certificate}
-use Rattle.sgt_cert.specs.declared.certificate.Decision.{Decision}
+use Rattle.sgt_bundle.specs.Certificate.{decided_tx, IsDecidedOnce}
+use Rattle.sgt_bundle.specs.Valid.{IsDecided, EndInOrder}
+use Rattle.sgt_bundle.specs.declared.certificate.Certificate.{Certificate}
+use Rattle.sgt_bundle.specs.declared.certificate.Decision.{Decision}
 use Rattle.sgt_audit.specs.declared.faults.Fault.TheVariants as fault
 use Rattle.sgt_audit.specs.Faults.{section_with, open_section, entries_in, Keeps, AllKept}
 use Rattle.sgt_audit.specs.Faults.{logged_in as entry_in}

@@ -7,9 +7,9 @@ use Rattle.sgt_names.specs.Log.{names}
 use Rattle.sgt_names.specs.declared.entry.Holding.{Holding}
 use Rattle.sgt_notation.specs.declared.SectionLine.{SectionLine}
 use Rattle.sgt_notation.specs.declared.SectionLine.TheVariants.{Logged, Final}
-use Rattle.sgt_cert.specs.Parts.{IsShapedLog}
-use Rattle.sgt_cert.specs.Text.{Begins}
-use Rattle.sgt_cert.specs.declared.bundle.SiteLog.{SiteLog}
+use Rattle.sgt_bundle.specs.Parts.{IsShapedLog}
+use Rattle.sgt_bundle.specs.Text.{Begins}
+use Rattle.sgt_bundle.specs.declared.bundle.SiteLog.{SiteLog}
 use Rattle.sgt_audit.specs.Faults.{items_in}
 use Rattle.sgt_audit.proofs.SectionLines.{items_in-is}
 use Rattle.sgt_audit.proofs.LinePlaces.{EachPlace, in_sections}

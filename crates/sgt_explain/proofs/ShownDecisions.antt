@@ -6,13 +6,13 @@ use Rattle.std.proofs.lemmas.Option.{same_Some, none-some, slice_get_within}
 use Rattle.sgt_notation.specs.Spelling.{line_text, text_of_lines, HasNoLf}
 use Rattle.sgt_notation.specs.declared.SectionLine.{SectionLine}
 use Rattle.sgt_notation.specs.declared.SectionLine.TheVariants.{Logged}
-use Rattle.sgt_cert.specs.Text.{certificate_text, format_line, IsCertificate}
-use Rattle.sgt_cert.specs.declared.certificate.Certificate.{Certificate}
-use Rattle.sgt_cert.specs.Certificate.{IsDecidedOnce}
-use Rattle.sgt_cert.specs.declared.certificate.Decision.{Decision}
-use Rattle.sgt_cert.specs.declared.certificate.Decision.TheVariants.{Refuse}
+use Rattle.sgt_bundle.specs.Text.{certificate_text, format_line, IsCertificate}
+use Rattle.sgt_bundle.specs.declared.certificate.Certificate.{Certificate}
+use Rattle.sgt_bundle.specs.Certificate.{IsDecidedOnce}
+use Rattle.sgt_bundle.specs.declared.certificate.Decision.{Decision}
+use Rattle.sgt_bundle.specs.declared.certificate.Decision.TheVariants.{Refuse}
 use Rattle.sgt_names.specs.Entry.{tx_of}
-use Rattle.sgt_cert.proofs.OneText.{format-one_line}
+use Rattle.sgt_bundle.proofs.OneText.{format-one_line}
 use Rattle.sgt_audit.specs.declared.faults.Fault.{Fault}
 use Rattle.sgt_audit.specs.declared.faults.Fault.TheVariants as fault
 use Rattle.sgt_audit.specs.Faults.{Keeps, Stage, start, headed, within, complete, lines_so_far, Piece, whole, last, ComesNext, Rule, FirstFault, bytes_of}

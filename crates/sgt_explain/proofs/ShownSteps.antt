@@ -16,12 +16,12 @@ use Rattle.sgt_names.specs.declared.entry.Holding.{Holding}
 use Rattle.sgt_notation.specs.Spelling.{line_text, text_of_lines, HasNoLf, IsLine}
 use Rattle.sgt_notation.specs.declared.SectionLine.{SectionLine}
 use Rattle.sgt_notation.specs.declared.SectionLine.TheVariants.{Site, Initial, Logged, Final, End}
-use Rattle.sgt_cert.specs.Certificate.{stops, IsCycle}
-use Rattle.sgt_cert.specs.Text.{certificate_text, sections_from, IsCertificate}
-use Rattle.sgt_cert.specs.declared.certificate.Certificate.{Certificate}
-use Rattle.sgt_cert.specs.declared.certificate.Decision.TheVariants.{Refuse}
-use Rattle.sgt_cert.specs.declared.certificate.Step.{Step}
-use Rattle.sgt_cert.specs.declared.bundle.SiteLog.{SiteLog}
+use Rattle.sgt_bundle.specs.Certificate.{stops, IsCycle}
+use Rattle.sgt_bundle.specs.Text.{certificate_text, sections_from, IsCertificate}
+use Rattle.sgt_bundle.specs.declared.certificate.Certificate.{Certificate}
+use Rattle.sgt_bundle.specs.declared.certificate.Decision.TheVariants.{Refuse}
+use Rattle.sgt_bundle.specs.declared.certificate.Step.{Step}
+use Rattle.sgt_bundle.specs.declared.bundle.SiteLog.{SiteLog}
 use Rattle.sgt_audit.specs.declared.faults.Fault.TheVariants as fault
 use Rattle.sgt_audit.specs.Faults.{entries_in, Keeps, bytes_of, FirstFault}
 use Rattle.sgt_audit.proofs.SectionLines.{NotSite, AllByRecursion-map, inner, up_to, entries_in-is}

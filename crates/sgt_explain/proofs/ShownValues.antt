@@ -16,11 +16,11 @@ use Rattle.sgt_names.specs.declared.entry.Holding.{Holding}
 use Rattle.sgt_notation.specs.Spelling.{line_text, HasNoLf}
 use Rattle.sgt_notation.specs.declared.SectionLine.{SectionLine}
 use Rattle.sgt_notation.specs.declared.SectionLine.TheVariants.{Logged, Final}
-use Rattle.sgt_cert.specs.Certificate.{IsCommitted, IsDecidedOnce}
-use Rattle.sgt_cert.specs.Valid.{RiseInRank}
-use Rattle.sgt_cert.specs.declared.certificate.Decision.{Decision}
-use Rattle.sgt_cert.specs.Text.{certificate_text, IsCertificate}
-use Rattle.sgt_cert.specs.declared.certificate.Certificate.{Certificate}
+use Rattle.sgt_bundle.specs.Certificate.{IsCommitted, IsDecidedOnce}
+use Rattle.sgt_bundle.specs.Valid.{RiseInRank}
+use Rattle.sgt_bundle.specs.declared.certificate.Decision.{Decision}
+use Rattle.sgt_bundle.specs.Text.{certificate_text, IsCertificate}
+use Rattle.sgt_bundle.specs.declared.certificate.Certificate.{Certificate}
 use Rattle.sgt_audit.specs.declared.faults.Fault.TheVariants as fault
 use Rattle.sgt_audit.specs.Faults.{items_in, entries_in, Keeps, bytes_of, FirstFault}
 use Rattle.sgt_explain_lines.specs.Numbered.{HasLine, IsSectionOf, logged_in, numbered_entries}

@@ -13,12 +13,12 @@ use Rattle.sgt_names.specs.declared.entry.Kind.{Kind}
 use Rattle.sgt_names.specs.declared.entry.Kind.TheVariants.{Wr, Rw, Ww}
 use Rattle.sgt_notation.specs.declared.SectionLine.{SectionLine}
 use Rattle.sgt_notation.specs.declared.SectionLine.TheVariants.{Logged, End}
-use Rattle.sgt_cert.specs.Certificate.{stops}
-use Rattle.sgt_cert.specs.Text.{sections_from}
-use Rattle.sgt_cert.specs.Valid.{IsLogged, AreLogged}
-use Rattle.sgt_cert.specs.declared.certificate.Certificate.{Certificate}
-use Rattle.sgt_cert.specs.declared.certificate.Step.{Step}
-use Rattle.sgt_cert.specs.declared.bundle.SiteLog.{SiteLog}
+use Rattle.sgt_bundle.specs.Certificate.{stops}
+use Rattle.sgt_bundle.specs.Text.{sections_from}
+use Rattle.sgt_bundle.specs.Valid.{IsLogged, AreLogged}
+use Rattle.sgt_bundle.specs.declared.certificate.Certificate.{Certificate}
+use Rattle.sgt_bundle.specs.declared.certificate.Step.{Step}
+use Rattle.sgt_bundle.specs.declared.bundle.SiteLog.{SiteLog}
 use Rattle.sgt_audit.specs.declared.faults.Fault.TheVariants as fault
 use Rattle.sgt_audit.specs.Faults.{AllKept, entries_in}
 use Rattle.sgt_audit.proofs.SectionLines.{up_to, entries_in-is, around, at_logged}

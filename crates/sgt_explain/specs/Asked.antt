@@ -1,14 +1,14 @@
 -- What is told of one transaction that is asked for.
 use Rattle.std.specs.Prelude.{◌≡◌, ◌≢◌, ◌⊎◌, ℕ, ◌+◌, List, ◌∷◌, ◌++◌, All, length, Option, Some, None, IsSome}
 use Rattle.sgt_notation.specs.Spelling.{HasNoLf, text_of_lines}
-use Rattle.sgt_cert.specs.Text.{certificate_text, sections_from, IsCertificate, Spells}
-use Rattle.sgt_cert.specs.declared.certificate.Certificate.{Certificate}
+use Rattle.sgt_bundle.specs.Text.{certificate_text, sections_from, IsCertificate, Spells}
+use Rattle.sgt_bundle.specs.declared.certificate.Certificate.{Certificate}
 use Rattle.sgt_explain_decisions.specs.Fate.{TellsFate, TellsRefusals}
-use Rattle.sgt_explain_dealings.specs.Dealings.{TellsDealings, TellsOwn, own_of}
+use Rattle.sgt_explain_transaction.specs.Dealings.{TellsDealings, TellsOwn, own_of}
 use Rattle.sgt_audit.specs.Faults.{FirstFault}
 use Rattle.sgt_audit.specs.declared.verdict.Verdict.{Verdict}
 use Rattle.sgt_audit.specs.declared.verdict.Verdict.TheVariants.{Yes, No}
-use Rattle.sgt_cert.specs.Parts.{Parts}
+use Rattle.sgt_bundle.specs.Parts.{Parts}
 use Rattle.sgt_notation.specs.declared.SectionLine.{SectionLine}
 use Rattle.sgt_explain.specs.Shown.{lines_before}
 

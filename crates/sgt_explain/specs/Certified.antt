@@ -1,12 +1,12 @@
 -- What is told of a first fault by the certificate.
 use Rattle.std.specs.Prelude.{◌≡◌, ◌≢◌, ℕ, List, unwrap_or}
 use Rattle.sgt_notation.specs.declared.SectionLine.{SectionLine}
-use Rattle.sgt_cert.specs.Text.{certificate_text, IsCertificate}
-use Rattle.sgt_cert.specs.Line.{Refuses}
-use Rattle.sgt_cert.specs.declared.certificate.Certificate.{Certificate}
-use Rattle.sgt_cert.specs.declared.certificate.Decision.{Decision}
-use Rattle.sgt_cert.specs.declared.fault.CertFault.{CertFault}
-use Rattle.sgt_cert.specs.declared.fault.CertFault.TheVariants.{Memory}
+use Rattle.sgt_bundle.specs.Text.{certificate_text, IsCertificate}
+use Rattle.sgt_bundle.specs.Line.{Refuses}
+use Rattle.sgt_bundle.specs.declared.certificate.Certificate.{Certificate}
+use Rattle.sgt_bundle.specs.declared.certificate.Decision.{Decision}
+use Rattle.sgt_bundle.specs.declared.fault.CertFault.{CertFault}
+use Rattle.sgt_bundle.specs.declared.fault.CertFault.TheVariants.{Memory}
 use Rattle.sgt_audit.specs.declared.faults.Fault.TheVariants as fault
 use Rattle.sgt_audit.specs.Faults.{FirstFault, bytes_of}
 use Rattle.sgt_explain_lines.specs.Told.{ShowsLine}

@@ -16,7 +16,7 @@ use Rattle.sgt_explain_decisions.specs.Told.{rank_order_text}
 use Rattle.sgt_explain_steps.specs.Told.{walk_step_text}
 use Rattle.sgt_explain_decisions.specs.declared.order.RanksShown.{RanksShown}
 use Rattle.sgt_explain_steps.specs.declared.unmet.Unmet.{Unmet}
-use Rattle.sgt_cert.specs.declared.certificate.Certificate.{Certificate}
+use Rattle.sgt_bundle.specs.declared.certificate.Certificate.{Certificate}
 use Rattle.sgt_explain_certificate.specs.Ranks.{TellsRanks}
 use Rattle.sgt_explain_decisions.specs.Twice.{TellsTwice}
 use Rattle.sgt_explain_decisions.specs.Walks.{TellsWalk}

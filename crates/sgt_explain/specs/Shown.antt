@@ -7,8 +7,8 @@ use Rattle.sgt_names.specs.declared.entry.Entry.TheVariants.{Read}
 use Rattle.sgt_notation.specs.Spelling.{line_text}
 use Rattle.sgt_notation.specs.declared.SectionLine.{SectionLine}
 use Rattle.sgt_notation.specs.declared.SectionLine.TheVariants.{Logged, Final}
-use Rattle.sgt_cert.specs.Certificate.{IsCommitted}
-use Rattle.sgt_cert.specs.declared.certificate.Decision.{Decision}
+use Rattle.sgt_bundle.specs.Certificate.{IsCommitted}
+use Rattle.sgt_bundle.specs.declared.certificate.Decision.{Decision}
 use Rattle.sgt_audit.specs.Faults.{Stage, start, headed, within, complete, items_in, entries_in}
 use Rattle.sgt_explain_lines.specs.Numbered.{open_site, numbered_items, numbered_entries}
 use Rattle.sgt_explain_lines.specs.Values.{last_change, stated_as, HadUntil}

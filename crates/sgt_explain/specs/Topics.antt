@@ -1,7 +1,7 @@
 -- The names of topics.
 use Rattle.std.specs.Prelude.{◌≡◌, ⊤, ℕ, ◌+◌, List, ◌++◌, length, take, codes}
-use Rattle.sgt_cert.specs.declared.fault.CertFault.{CertFault}
-use Rattle.sgt_cert.specs.declared.fault.CertFault.TheVariants as line
+use Rattle.sgt_bundle.specs.declared.fault.CertFault.{CertFault}
+use Rattle.sgt_bundle.specs.declared.fault.CertFault.TheVariants as line
 use Rattle.sgt_audit.specs.declared.faults.Fault.{Fault}
 use Rattle.sgt_audit.specs.declared.faults.Fault.TheVariants as fault
 use Rattle.sgt_explain.specs.declared.topics.Anomaly.{Anomaly}

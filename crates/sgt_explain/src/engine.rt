@@ -8,10 +8,10 @@ ghost use Rattle.sgt_explain.specs.Explained.{IsExplainedOf, WroteExplained, Wro
 ghost use Rattle.sgt_explain.specs.Topics.{topic_name, IsRuleOf};
 
 use crate::answers::{Answer, answer_to};
-use crate::judging::verdict_on;
 use crate::reading::read_all;
 use crate::rules::rule_of;
 use crate::topics::Topic;
+use sgt_audit::audit_bytes;
 use sgt_names::{EngineFail, Failed, Outcome, Sink, Source, Tx, write_all};
 use std::alloc::Global;
 
@@ -27,7 +27,7 @@ fn answer<R: Source>(alloc: Global, reader: &mut R, asked: Option<Tx>) -> Result
     ensures write_fault { result ≢ Err EngineFail.WriteFault }
 {
     let text = read_all(alloc, reader)?;
-    let verdict = verdict_on(alloc, text.as_slice())?;
+    let verdict = audit_bytes(alloc, text.as_slice())?;
     match answer_to(alloc, text.as_slice(), verdict, asked) {
         Ok(answer) => Ok(answer),
         Err(_) => Err(EngineFail::Memory),

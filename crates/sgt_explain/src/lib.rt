@@ -5,7 +5,6 @@ mod anomalies;
 mod answers;
 mod certified;
 mod engine;
-mod judging;
 mod lines;
 mod noes;
 mod reading;

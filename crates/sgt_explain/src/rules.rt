@@ -6,7 +6,7 @@ use crate::anomalies::anomaly_rule;
 use crate::replies::reply_rule;
 use crate::topics::Topic;
 use sgt_audit::Fault;
-use sgt_cert::CertFault;
+use sgt_bundle::CertFault;
 
 const FORMAT: &str = "F1 Format\n\
     Line 1 is `sgt 1`, or `sgt 2`, under which there may be increments.\n\

@@ -4,8 +4,8 @@
 ghost use Rattle.std.specs.Prelude.{◌≡◌, ◌≤◌, ◌+◌, ℕ, List, ◌∷◌, ◌++◌, All, Some, length, take, IfOk, OnOk, IfSome, IsSomeAnd, string_bytes};
 ghost use Rattle.sgt_notation.specs.Spelling.{HasNoLf, text_of_lines};
 ghost use Rattle.sgt_notation.specs.declared.SectionLine.{SectionLine};
-ghost use Rattle.sgt_cert.specs.Text.{certificate_text, IsCertificate};
-ghost use Rattle.sgt_cert.specs.declared.certificate.Certificate.{Certificate};
+ghost use Rattle.sgt_bundle.specs.Text.{certificate_text, IsCertificate};
+ghost use Rattle.sgt_bundle.specs.declared.certificate.Certificate.{Certificate};
 ghost use Rattle.sgt_audit.specs.Faults.{FirstFault, bytes_of};
 ghost use Rattle.sgt_audit.specs.declared.faults.Fault.TheVariants.{ReadValue, Final, RankOrder};
 ghost use Rattle.sgt_audit.specs.declared.verdict.Verdict.TheVariants.{No};
@@ -15,7 +15,7 @@ ghost use Rattle.sgt_explain_decisions.specs.Told.{rank_order_text};
 ghost use Rattle.sgt_explain.specs.Explained.{Tells};
 ghost use Rattle.sgt_explain.specs.Shown.{lines_before, decisions_before, ShowsRead, ShowsFinal, ShowsRanks, read_in, final_in};
 
-use sgt_cert::{CertFault, Certificate, from_line};
+use sgt_bundle::{CertFault, Certificate, from_line};
 use sgt_explain_decisions::{RanksShown, against_ranks, placed_in, push_rank_order};
 use sgt_explain_lines::{
     Logged, Misvalued, after_line, cut_line, push_final, push_read, section_before,

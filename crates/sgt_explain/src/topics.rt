@@ -2,13 +2,13 @@
 
 ghost use Rattle.std.specs.Prelude.{◌≡◌, ◌≢◌, ◌↔◌, IfSome, IfNone, IsTrue};
 ghost use Rattle.sgt_audit.specs.declared.faults.Fault.{Fault};
-ghost use Rattle.sgt_cert.specs.declared.fault.CertFault.{CertFault};
+ghost use Rattle.sgt_bundle.specs.declared.fault.CertFault.{CertFault};
 ghost use Rattle.sgt_explain.specs.declared.topics.Anomaly.{Anomaly};
 ghost use Rattle.sgt_explain.specs.declared.topics.Reply.{Reply};
 ghost use Rattle.sgt_explain.specs.Topics.{HasNeither, HasSessions, HasTimes, anomaly_name, fault_name, line_name, reply_name, topic_name};
 
 use sgt_audit::Fault;
-use sgt_cert::CertFault;
+use sgt_bundle::CertFault;
 
 /// What a replay tells of an event, and a replay or a run of its input or of itself.
 #[derive(Clone, Copy, Debug, PartialEq, Eq)]

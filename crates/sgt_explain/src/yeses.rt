@@ -1,14 +1,14 @@
 //! What is said of a yes, and of one transaction.
 
 ghost use Rattle.std.specs.Prelude.{◌≡◌, ℕ, List, OnOk, string_bytes};
-ghost use Rattle.sgt_cert.specs.declared.certificate.Certificate.{Certificate};
+ghost use Rattle.sgt_bundle.specs.declared.certificate.Certificate.{Certificate};
 ghost use Rattle.sgt_explain_decisions.specs.Fate.{TellsFate, TellsRefusals};
 ghost use Rattle.sgt_explain.specs.Asked.{HoldsCertificate, IsSeenText, TellsTransaction, TellsYes, seen_before};
 
 use crate::shown::{certificate_of, text_before};
 use sgt_audit::Verdict;
-use sgt_explain_dealings::push_dealings;
 use sgt_explain_decisions::{push_fate, push_refusals};
+use sgt_explain_transaction::push_dealings;
 use sgt_names::Tx;
 use std::alloc::{AllocError, Global};
 

@@ -10,9 +10,9 @@ use Rattle.std.proofs.lemmas.Option.{same_Some, slice_get_within, get_or_from_sl
 use Rattle.std.proofs.lemmas.Bool.{cases_order}
 use Rattle.sgt_names.proofs.Lists.{take_next, map_at, All_in, All-next}
 use Rattle.sgt_names.proofs.Places.{All-from_at, Contains_at, Contains-from_at, slice_get-none, slice_get-take, slice_get-take_at}
-use Rattle.sgt_cert.specs.Certificate.{IsCommitted, ranks}
-use Rattle.sgt_cert.specs.declared.certificate.Decision.{Decision}
-use Rattle.sgt_cert.specs.declared.certificate.Decision.TheVariants.{Commit, Refuse, Withdraw}
+use Rattle.sgt_bundle.specs.Certificate.{IsCommitted, ranks}
+use Rattle.sgt_bundle.specs.declared.certificate.Decision.{Decision}
+use Rattle.sgt_bundle.specs.declared.certificate.Decision.TheVariants.{Commit, Refuse, Withdraw}
 use Rattle.sgt_explain_certificate.specs.declared.ranks.Given.{Given}
 use Rattle.sgt_explain_certificate.specs.Ranks.{given_by, given_of, all_given, IsGiven, HasRank, AreDoubled, AreSingle}
 

@@ -1,9 +1,9 @@
 -- What is said of ranks that aren't 0 to n - 1, each once.
 use Rattle.std.specs.Prelude.{◌≡◌, ℕ, ◌-◌, ◌<◌, ◌≤◌, List, ◌++◌, length, Contains, codes, decimal, Option, Some, None, IfSome, IfNone}
 use Rattle.std.specs.List.{filter_map, enumerate_from}
-use Rattle.sgt_cert.specs.Certificate.{IsCommitted, ranks}
-use Rattle.sgt_cert.specs.declared.certificate.Decision.{Decision}
-use Rattle.sgt_cert.specs.declared.certificate.Decision.TheVariants.{Commit}
+use Rattle.sgt_bundle.specs.Certificate.{IsCommitted, ranks}
+use Rattle.sgt_bundle.specs.declared.certificate.Decision.{Decision}
+use Rattle.sgt_bundle.specs.declared.certificate.Decision.TheVariants.{Commit}
 use Rattle.sgt_explain_certificate.specs.declared.ranks.Given.{Given}
 use Rattle.sgt_explain_certificate.specs.declared.ranks.RanksFound.{RanksFound}
 

@@ -1,7 +1,7 @@
 -- The names of the faults of a line that is no certificate.
 use Rattle.std.specs.Prelude.{List, ℕ, codes}
-use Rattle.sgt_cert.specs.declared.fault.CertFault.{CertFault}
-use Rattle.sgt_cert.specs.declared.fault.CertFault.TheVariants.{NotJson, Shape, Range, Memory}
+use Rattle.sgt_bundle.specs.declared.fault.CertFault.{CertFault}
+use Rattle.sgt_bundle.specs.declared.fault.CertFault.TheVariants.{NotJson, Shape, Range, Memory}
 
 -- why a line is no certificate, by its name
 abbrev pub fault_words : CertFault → List ℕ

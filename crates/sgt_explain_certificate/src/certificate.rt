@@ -1,17 +1,17 @@
 //! What is said of a second line that is no certificate.
 
 ghost use Rattle.std.specs.Prelude.{◌≡◌, ◌≢◌, ◌<◌, ◌≤◌, ◌++◌, ℕ, List, Some, OnOk, codes, length, slice_get, string_bytes};
-ghost use Rattle.sgt_cert.specs.Line.{Refuses};
-ghost use Rattle.sgt_cert.specs.Text.{certificate_text, IsCertificate};
-ghost use Rattle.sgt_cert.specs.declared.certificate.Certificate.{Certificate};
-ghost use Rattle.sgt_cert.specs.declared.fault.CertFault.{CertFault};
+ghost use Rattle.sgt_bundle.specs.Line.{Refuses};
+ghost use Rattle.sgt_bundle.specs.Text.{certificate_text, IsCertificate};
+ghost use Rattle.sgt_bundle.specs.declared.certificate.Certificate.{Certificate};
+ghost use Rattle.sgt_bundle.specs.declared.fault.CertFault.{CertFault};
 ghost use Rattle.sgt_explain_lines.specs.Told.{Adds, ShowsLine};
 ghost use Rattle.sgt_explain_certificate.specs.Columns.{IsBehind, IsFoundAt, IsStanding, IsToldByte, ShowsBetween, bytes_before, column_text};
 ghost use Rattle.sgt_explain_certificate.specs.Told.{fault_words};
 
 use crate::compact::{Turn, turn_in};
 use serde_json::Value;
-use sgt_cert::{CertFault, from_line};
+use sgt_bundle::{CertFault, from_line};
 use sgt_explain_lines::{push_numbered, push_shown};
 use std::alloc::{AllocError, Global};
 use std::fmt::Write;

@@ -5,7 +5,7 @@ ghost use Rattle.std.specs.List.Sorted.{IsNonDecreasingBy};
 ghost use Rattle.sgt_explain_certificate.specs.Ranks.{given_by, all_given, HasRank, AreDoubled, AreSingle, AreRanksFound, ranks_head, doubled_text, if_doubled, if_above, if_missing, TellsRanks};
 ghost use Rattle.sgt_explain_certificate.specs.declared.ranks.Given.{Given as AGiven};
 
-use sgt_cert::Decision;
+use sgt_bundle::Decision;
 use sgt_names::Tx;
 use std::alloc::{AllocError, Global};
 use std::fmt::Write;

@@ -6,8 +6,8 @@ use Rattle.std.proofs.lemmas.Option.{same_Some, none-some}
 use Rattle.sgt_names.proofs.Lists.{All-next, All-weaken, All-whole}
 use Rattle.sgt_names.proofs.Places.{All_at, Contains-from_at, slice_get-take_at}
 use Rattle.sgt_names.specs.Entry.{tx_of, IsEnd}
-use Rattle.sgt_cert.specs.Certificate.{decided_tx}
-use Rattle.sgt_cert.specs.declared.certificate.Decision.{Decision}
+use Rattle.sgt_bundle.specs.Certificate.{decided_tx}
+use Rattle.sgt_bundle.specs.declared.certificate.Decision.{Decision}
 use Rattle.sgt_explain_lines.specs.declared.section.Logged.{Logged}
 use Rattle.sgt_explain_decisions.specs.declared.order.Decided.{Decided}
 use Rattle.sgt_explain_decisions.specs.Placed.{IsFirstOn, IsUndecided}

@@ -13,9 +13,9 @@ use Rattle.std.proofs.lemmas.List.Sorted.{Contains-permutation, IsPermutation-sy
 use Rattle.std.proofs.lemmas.Option.{same_Some, none-some, slice_get_within, get_or_from_slice_get}
 use Rattle.sgt_names.proofs.Lists.{take_next, within_at, All_in}
 use Rattle.sgt_names.proofs.Places.{All-from_at, AllPairs_at, Contains_at, Contains-from_at, slice_get-take}
-use Rattle.sgt_cert.specs.Certificate.{decided_tx, IsCommitted, IsDecidedOnce, rank_in}
-use Rattle.sgt_cert.specs.declared.certificate.Decision.{Decision}
-use Rattle.sgt_cert.specs.declared.certificate.Decision.TheVariants.{Commit, Refuse, Withdraw}
+use Rattle.sgt_bundle.specs.Certificate.{decided_tx, IsCommitted, IsDecidedOnce, rank_in}
+use Rattle.sgt_bundle.specs.declared.certificate.Decision.{Decision}
+use Rattle.sgt_bundle.specs.declared.certificate.Decision.TheVariants.{Commit, Refuse, Withdraw}
 use Rattle.sgt_explain_decisions.specs.declared.placed.Placed.{Placed}
 use Rattle.sgt_explain_decisions.specs.Placed.{placed_of, all_placed, TiesRise, ArePlaced, StandBefore, IsDecisionOn, IsFirstOn, IsUndecided, IsUncommitted}
 use Rattle.sgt_names.proofs.Elements.{some-weaker, none-weaker}

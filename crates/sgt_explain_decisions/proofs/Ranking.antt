@@ -4,9 +4,9 @@ use Rattle.std.proofs.lemmas.Bool.{cases_order}
 use Rattle.sgt_names.specs.Name.{Name}
 use Rattle.sgt_names.specs.Entry.{tx_of}
 use Rattle.sgt_names.specs.declared.entry.Kind.{Kind}
-use Rattle.sgt_cert.specs.Certificate.{IsCommitted, IsDecidedOnce}
-use Rattle.sgt_cert.specs.Valid.{RiseInRank}
-use Rattle.sgt_cert.specs.declared.certificate.Decision.{Decision}
+use Rattle.sgt_bundle.specs.Certificate.{IsCommitted, IsDecidedOnce}
+use Rattle.sgt_bundle.specs.Valid.{RiseInRank}
+use Rattle.sgt_bundle.specs.declared.certificate.Decision.{Decision}
 use Rattle.std.specs.Prelude.{List, IfSome, slice_get}
 use Rattle.sgt_names.specs.declared.entry.Entry.{Entry}
 use Rattle.sgt_explain_lines.specs.declared.section.Logged.{Logged}

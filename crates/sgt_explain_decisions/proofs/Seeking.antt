@@ -21,9 +21,9 @@ use Rattle.sgt_names.specs.declared.entry.Entry.TheVariants as entry
 use Rattle.sgt_notation.specs.Spelling.{line_text, text_of_lines, HasNoLf, IsLine}
 use Rattle.sgt_notation.specs.declared.SectionLine.{SectionLine}
 use Rattle.sgt_notation.specs.declared.SectionLine.TheVariants as Line
-use Rattle.sgt_cert.specs.declared.certificate.Step.{Step}
-use Rattle.sgt_cert.specs.declared.certificate.Decision.{Decision}
-use Rattle.sgt_cert.specs.declared.certificate.Decision.TheVariants.{Refuse}
+use Rattle.sgt_bundle.specs.declared.certificate.Step.{Step}
+use Rattle.sgt_bundle.specs.declared.certificate.Decision.{Decision}
+use Rattle.sgt_bundle.specs.declared.certificate.Decision.TheVariants.{Refuse}
 use Rattle.sgt_explain_lines.specs.Numbered.{site_behind, entry_in}
 use Rattle.sgt_explain_lines.specs.Sited.{HasLines, HasBefore, StandsAt, site_at}
 use Rattle.sgt_explain_lines.specs.declared.section.Logged.{Logged}

@@ -4,8 +4,8 @@ use Rattle.std.specs.Prelude.{Result, Ok, Err, IfOk, slice_get, is_some}
 use Rattle.std.proofs.lemmas.List.{append-nil}
 use Rattle.std.proofs.lemmas.Bool.{cases_order, false≢true}
 use Rattle.std.proofs.lemmas.Option.{same_Some}
-use Rattle.sgt_cert.specs.declared.certificate.Step.{Step}
-use Rattle.sgt_cert.specs.declared.certificate.Decision.{Decision}
+use Rattle.sgt_bundle.specs.declared.certificate.Step.{Step}
+use Rattle.sgt_bundle.specs.declared.certificate.Decision.{Decision}
 use Rattle.sgt_explain_lines.specs.declared.section.Logged.{Logged}
 use Rattle.sgt_explain_decisions.specs.declared.sought.Sought.{Sought}
 use Rattle.sgt_explain_decisions.specs.Cycles.{IsShownStep, Shows, step_text, TellsCycle, TellsRefusal, TellsCycles, AreShown}

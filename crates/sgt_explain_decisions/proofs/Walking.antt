@@ -7,10 +7,10 @@ use Rattle.std.proofs.lemmas.List.{map-append, length-map, length-take-le}
 use Rattle.std.proofs.lemmas.Option.{same_Some, slice_get_within}
 use Rattle.sgt_names.proofs.Lists.{take_next, map_at, All-next, All-weaken, All-from_map}
 use Rattle.sgt_names.proofs.Places.{AllPairs_at, AllPairs-from_at}
-use Rattle.sgt_cert.specs.Certificate.{decided_tx, is_commit, stops, IsCommitted, IsCycle}
-use Rattle.sgt_cert.specs.declared.certificate.Step.{Step}
-use Rattle.sgt_cert.specs.declared.certificate.Decision.{Decision}
-use Rattle.sgt_cert.specs.declared.certificate.Decision.TheVariants.{Commit, Refuse, Withdraw}
+use Rattle.sgt_bundle.specs.Certificate.{decided_tx, is_commit, stops, IsCommitted, IsCycle}
+use Rattle.sgt_bundle.specs.declared.certificate.Step.{Step}
+use Rattle.sgt_bundle.specs.declared.certificate.Decision.{Decision}
+use Rattle.sgt_bundle.specs.declared.certificate.Decision.TheVariants.{Commit, Refuse, Withdraw}
 use Rattle.sgt_explain_decisions.specs.Placed.{IsFirstOn}
 use Rattle.sgt_explain_decisions.specs.Walks.{IsRefusal, IsCommittedBefore, MayBePassed, steps_between, LeadsTo, AreApart, IsFirstAgain, HaveCycles}
 use Rattle.sgt_explain_decisions.proofs.Doubling.{pairs-next}

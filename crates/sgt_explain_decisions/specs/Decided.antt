@@ -1,7 +1,7 @@
 -- What is said of ends that stand against the order of their decisions.
 use Rattle.std.specs.Prelude.{◌≡◌, ℕ, ◌<◌, ◌≤◌, List, ◌++◌, All, take, slice_get, codes, decimal, Some}
 use Rattle.sgt_names.specs.Entry.{tx_of, IsEnd}
-use Rattle.sgt_cert.specs.declared.certificate.Decision.{Decision}
+use Rattle.sgt_bundle.specs.declared.certificate.Decision.{Decision}
 use Rattle.sgt_explain_lines.specs.declared.section.Logged.{Logged}
 use Rattle.sgt_explain_lines.specs.Told.{noted_line}
 use Rattle.sgt_explain_decisions.specs.declared.order.Decided.{Decided}

@@ -2,9 +2,9 @@
 use Rattle.std.specs.Prelude.{◌≡◌, ◌⊎◌, ℕ, ◌<◌, ◌≤◌, Bool, List, ◌++◌, take, slice_get, All, Contains, codes, decimal, Option, Some, None, is_some, IfSome, IfNone, IsSomeAnd, if◌then◌else◌}
 use Rattle.sgt_names.specs.Entry.{tx_of, IsEnd}
 use Rattle.sgt_names.specs.declared.entry.Entry.{Entry}
-use Rattle.sgt_cert.specs.Certificate.{decided_tx}
-use Rattle.sgt_cert.specs.declared.certificate.Decision.{Decision}
-use Rattle.sgt_cert.specs.declared.certificate.Decision.TheVariants.{Commit, Refuse, Withdraw}
+use Rattle.sgt_bundle.specs.Certificate.{decided_tx}
+use Rattle.sgt_bundle.specs.declared.certificate.Decision.{Decision}
+use Rattle.sgt_bundle.specs.declared.certificate.Decision.TheVariants.{Commit, Refuse, Withdraw}
 use Rattle.sgt_explain_lines.specs.declared.section.Logged.{Logged}
 use Rattle.sgt_explain_lines.specs.Told.{shown_line}
 use Rattle.sgt_explain_lines.specs.Beside.{line_if_there}

@@ -1,9 +1,9 @@
 -- What is said of the decision on one transaction.
 use Rattle.std.specs.Prelude.{◌≡◌, ◌⊎◌, ℕ, List, ◌++◌, codes, length}
 use Rattle.sgt_notation.specs.declared.SectionLine.{SectionLine}
-use Rattle.sgt_cert.specs.declared.certificate.Decision.{Decision}
-use Rattle.sgt_cert.specs.declared.certificate.Decision.TheVariants.{Commit, Refuse, Withdraw}
-use Rattle.sgt_cert.specs.declared.certificate.Step.{Step}
+use Rattle.sgt_bundle.specs.declared.certificate.Decision.{Decision}
+use Rattle.sgt_bundle.specs.declared.certificate.Decision.TheVariants.{Commit, Refuse, Withdraw}
+use Rattle.sgt_bundle.specs.declared.certificate.Step.{Step}
 use Rattle.sgt_explain_lines.specs.Sited.{HasBefore}
 use Rattle.sgt_explain_decisions.specs.declared.sought.Sought.{Sought}
 use Rattle.sgt_explain_decisions.specs.Cycles.{TellsCycle, TellsCycles}

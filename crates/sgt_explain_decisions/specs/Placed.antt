@@ -2,8 +2,8 @@
 use Rattle.std.specs.Prelude.{◌≡◌, ◌≢◌, ℕ, ◌+◌, ◌<◌, ◌≤◌, List, All, IsPermutation, map, take, Some, slice_get}
 use Rattle.std.specs.List.{enumerate_from}
 use Rattle.std.specs.List.Sorted.{IsNonDecreasingBy}
-use Rattle.sgt_cert.specs.Certificate.{decided_tx, IsCommitted}
-use Rattle.sgt_cert.specs.declared.certificate.Decision.{Decision}
+use Rattle.sgt_bundle.specs.Certificate.{decided_tx, IsCommitted}
+use Rattle.sgt_bundle.specs.declared.certificate.Decision.{Decision}
 use Rattle.sgt_explain_decisions.specs.declared.placed.Placed.{Placed}
 
 abbrev pub placed_of : ℕ × Decision → Placed

@@ -1,8 +1,8 @@
 -- How decisions are told, and two entries that stand against the ranks.
 use Rattle.std.specs.Prelude.{List, ◌++◌, ℕ, codes, decimal}
 use Rattle.sgt_names.specs.Entry.{tx_of}
-use Rattle.sgt_cert.specs.declared.certificate.Decision.{Decision}
-use Rattle.sgt_cert.specs.declared.certificate.Decision.TheVariants.{Commit, Refuse, Withdraw}
+use Rattle.sgt_bundle.specs.declared.certificate.Decision.{Decision}
+use Rattle.sgt_bundle.specs.declared.certificate.Decision.TheVariants.{Commit, Refuse, Withdraw}
 use Rattle.sgt_explain_lines.specs.Told.{noted_line, verb_text, kind_text}
 use Rattle.sgt_explain_decisions.specs.declared.order.Ranked.{Ranked}
 use Rattle.sgt_explain_decisions.specs.declared.order.RanksShown.{RanksShown}

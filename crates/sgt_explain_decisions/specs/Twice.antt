@@ -1,7 +1,7 @@
 -- What is said of two decisions on one transaction.
 use Rattle.std.specs.Prelude.{◌≡◌, ℕ, ◌<◌, List, ◌++◌, take, slice_get, codes, Some}
-use Rattle.sgt_cert.specs.Certificate.{decided_tx, IsDecidedOnce}
-use Rattle.sgt_cert.specs.declared.certificate.Decision.{Decision}
+use Rattle.sgt_bundle.specs.Certificate.{decided_tx, IsDecidedOnce}
+use Rattle.sgt_bundle.specs.declared.certificate.Decision.{Decision}
 use Rattle.sgt_explain_decisions.specs.Told.{decision_text}
 
 -- two decisions of these numbers are on one transaction

@@ -1,9 +1,9 @@
 -- What is said of a walk that is no cycle.
 use Rattle.std.specs.Prelude.{◌≡◌, ◌≢◌, ℕ, ◌+◌, ◌-◌, ◌<◌, ◌≤◌, List, [], ◌∷◌, ◌++◌, All, AllPairs, length, take, slice_get, codes, decimal, Some}
-use Rattle.sgt_cert.specs.Certificate.{IsCommitted, IsCycle}
-use Rattle.sgt_cert.specs.declared.certificate.Step.{Step}
-use Rattle.sgt_cert.specs.declared.certificate.Decision.{Decision}
-use Rattle.sgt_cert.specs.declared.certificate.Decision.TheVariants.{Refuse}
+use Rattle.sgt_bundle.specs.Certificate.{IsCommitted, IsCycle}
+use Rattle.sgt_bundle.specs.declared.certificate.Step.{Step}
+use Rattle.sgt_bundle.specs.declared.certificate.Decision.{Decision}
+use Rattle.sgt_bundle.specs.declared.certificate.Decision.TheVariants.{Refuse}
 use Rattle.sgt_explain_decisions.specs.declared.walks.Flaw.{Flaw}
 use Rattle.sgt_explain_decisions.specs.declared.walks.Flaw.TheVariants as flaw
 use Rattle.sgt_explain_decisions.specs.declared.walks.Flawed.{Flawed}

@@ -6,7 +6,7 @@ ghost use Rattle.sgt_explain_decisions.specs.Cycles.{AreInOrder, IsShownStep, Sh
 ghost use Rattle.sgt_explain_decisions.specs.Cycles.{AreShown, IsFirstUnshown, IsUnshownAt, IsShownWhole, IsFirstUnmet};
 
 use crate::sought::{Sought, first_of, found_of, second_of};
-use sgt_cert::{Decision, Step};
+use sgt_bundle::{Decision, Step};
 use sgt_explain_lines::{Logged, push_conflict};
 use sgt_names::Tx;
 use std::alloc::AllocError;

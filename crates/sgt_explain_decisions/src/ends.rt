@@ -2,7 +2,7 @@
 
 ghost use Rattle.std.specs.Prelude.{◌≡◌, ◌↔◌, ◌⊎◌, ◌<◌, ◌≤◌, ◌++◌, ℕ, List, All, Contains, IfNone, IfOk, IfSome, IsSomeAnd, IsTrue, IsFalse, OnOk, string_bytes, unwrap_or};
 ghost use Rattle.sgt_names.specs.Entry.{tx_of, IsEnd};
-ghost use Rattle.sgt_cert.specs.declared.certificate.Decision.{Decision};
+ghost use Rattle.sgt_bundle.specs.declared.certificate.Decision.{Decision};
 ghost use Rattle.sgt_explain_decisions.specs.Placed.{ArePlaced, IsUndecided};
 ghost use Rattle.sgt_explain_decisions.specs.Ends.{EndsTx, HasEnd, HasNoEnd, letters_of, letters_text, reason_text, IsReason, end_head, TellsEnd, without_end, not_ended_head};
 ghost use Rattle.sgt_explain_decisions.specs.Ends.{IsFirstUnended, IsLastBefore, IsFirstBehind, wanted_end, wanted_text, beside_text, both_beside, TellsPlace, TellsNotEnded};
@@ -10,7 +10,7 @@ ghost use Rattle.sgt_explain_decisions.specs.Ends.{IsFirstUnended, IsLastBefore,
 use crate::order::{Decided, decided_end};
 use crate::placed::{Placed, decision_on};
 use crate::words::{push_decision, push_no_decision};
-use sgt_cert::Decision;
+use sgt_bundle::Decision;
 use sgt_explain_lines::{Logged, Section, push_if_there, push_logged};
 use sgt_names::{Entry, Tx};
 use std::alloc::{AllocError, Global};

@@ -8,7 +8,7 @@ use crate::cycles::{push_cycle, push_cycles};
 use crate::placed::{decision_on, placed_in};
 use crate::sought::{Sought, sought_in};
 use crate::words::{push_decision, push_no_decision};
-use sgt_cert::{Decision, Step};
+use sgt_bundle::{Decision, Step};
 use sgt_names::Tx;
 use std::alloc::{AllocError, Global};
 

@@ -3,16 +3,16 @@
 ghost use Rattle.std.specs.Prelude.{◌≡◌, ◌<◌, ◌++◌, ℕ, List, All, IfSome, IfNone, OnOk, Contains, string_bytes, unwrap_or};
 ghost use Rattle.sgt_names.specs.Name.{Name};
 ghost use Rattle.sgt_names.specs.Entry.{tx_of, IsEnd};
-ghost use Rattle.sgt_cert.specs.Certificate.{IsCommitted, IsDecidedOnce};
-ghost use Rattle.sgt_cert.specs.Valid.{RiseInRank};
-ghost use Rattle.sgt_cert.specs.declared.certificate.Decision.{Decision};
+ghost use Rattle.sgt_bundle.specs.Certificate.{IsCommitted, IsDecidedOnce};
+ghost use Rattle.sgt_bundle.specs.Valid.{RiseInRank};
+ghost use Rattle.sgt_bundle.specs.declared.certificate.Decision.{Decision};
 ghost use Rattle.sgt_explain_decisions.specs.Against.{StandAgainst, IsAgainst, IsFirstAgainst};
 ghost use Rattle.sgt_explain_decisions.specs.Decided.{IsDecidedEnd, IsNotLater, IsFirstLater, IsOvertaken, decided_text, decision_order_head, TellsDecisionOrder};
 ghost use Rattle.sgt_explain_decisions.specs.Placed.{ArePlaced, IsUndecided, IsUncommitted};
 ghost use Rattle.sgt_explain_decisions.specs.Told.{ranked_text, both_ranked, first_deed, second_deed, rank_wish, ranks_wanted, rank_order_head, rank_order_text};
 
 use crate::placed::{Placed, number_on, rank_on};
-use sgt_cert::Decision;
+use sgt_bundle::Decision;
 use sgt_explain_lines::{Logged, Section, clash, kind_name, push_aside, verb};
 use sgt_names::{Item, Kind, Tx};
 use std::alloc::AllocError;

@@ -2,11 +2,11 @@
 
 ghost use Rattle.std.specs.Prelude.{◌≡◌, ◌≢◌, List, Some, IfOk, IfSome, IfNone, All, Contains, slice_get};
 ghost use Rattle.std.specs.List.Sorted.{IsNonDecreasingBy};
-ghost use Rattle.sgt_cert.specs.Certificate.{decided_tx, IsCommitted, IsDecidedOnce};
-ghost use Rattle.sgt_cert.specs.declared.certificate.Decision.{Decision};
+ghost use Rattle.sgt_bundle.specs.Certificate.{decided_tx, IsCommitted, IsDecidedOnce};
+ghost use Rattle.sgt_bundle.specs.declared.certificate.Decision.{Decision};
 ghost use Rattle.sgt_explain_decisions.specs.Placed.{ArePlaced, StandBefore, IsDecisionOn, IsFirstOn, IsUndecided, IsUncommitted};
 
-use sgt_cert::Decision;
+use sgt_bundle::Decision;
 use sgt_names::Tx;
 use std::alloc::{AllocError, Global};
 

@@ -5,15 +5,15 @@ ghost use Rattle.sgt_names.specs.Name.{Name};
 ghost use Rattle.sgt_names.specs.Entry.{tx_of, item_of, Reads, Writes};
 ghost use Rattle.sgt_notation.specs.Spelling.{line_text, IsLine};
 ghost use Rattle.sgt_notation.specs.declared.SectionLine.{SectionLine};
-ghost use Rattle.sgt_cert.specs.declared.certificate.Step.{Step};
-ghost use Rattle.sgt_cert.specs.declared.certificate.Decision.TheVariants.{Refuse};
+ghost use Rattle.sgt_bundle.specs.declared.certificate.Step.{Step};
+ghost use Rattle.sgt_bundle.specs.declared.certificate.Decision.TheVariants.{Refuse};
 ghost use Rattle.sgt_explain_lines.specs.Numbered.{site_behind};
 ghost use Rattle.sgt_explain_lines.specs.Sited.{HasBefore};
 ghost use Rattle.sgt_explain_decisions.specs.declared.sought.Found.{Found};
 ghost use Rattle.sgt_explain_decisions.specs.Sought.{Key, found_at, AreFoundIn, AreFound, AreSoughtFor, WalksAreSought, IsSoughtFor, key_of, found_of, begun_by, ended_by, nothing};
 ghost use Rattle.sgt_explain_decisions.specs.Sought.{AreUnfound, IsUnfound, KeepsKeys, Seeks, PutsAt, IsWith, TakesPlace, TakesOne, FindsOne, FindsAny, AreMarked};
 
-use sgt_cert::{Decision, Step};
+use sgt_bundle::{Decision, Step};
 use sgt_explain_lines::{Logged, cut_line, entry_of};
 use sgt_names::{Entry, Item, Kind, Tx};
 use std::alloc::{AllocError, Global};

@@ -1,14 +1,14 @@
 //! What is said of a transaction that is decided twice.
 
 ghost use Rattle.std.specs.Prelude.{◌≡◌, ◌++◌, ◌<◌, List, Some, IfSome, IfNone, OnOk, slice_get, string_bytes, take};
-ghost use Rattle.sgt_cert.specs.Certificate.{IsDecidedOnce};
-ghost use Rattle.sgt_cert.specs.declared.certificate.Decision.{Decision};
+ghost use Rattle.sgt_bundle.specs.Certificate.{IsDecidedOnce};
+ghost use Rattle.sgt_bundle.specs.declared.certificate.Decision.{Decision};
 ghost use Rattle.sgt_explain_decisions.specs.Placed.{ArePlaced, IsFirstOn, IsUndecided};
 ghost use Rattle.sgt_explain_decisions.specs.Twice.{IsTwice, IsFirstTwice, decided_twice_head, decision_line, twice_text, TellsTwice};
 
 use crate::placed::{Placed, number_on, placed_in};
 use crate::words::push_decision;
-use sgt_cert::Decision;
+use sgt_bundle::Decision;
 use sgt_names::Tx;
 use std::alloc::{AllocError, Global};
 

@@ -1,15 +1,15 @@
 //! What is said of a walk that is no cycle.
 
 ghost use Rattle.std.specs.Prelude.{◌≡◌, ◌≢◌, ◌↔◌, ◌<◌, ◌≤◌, ◌++◌, ℕ, List, Some, All, IfOk, IfSome, IfNone, IsTrue, IsFalse, OnOk, length, slice_get, string_bytes};
-ghost use Rattle.sgt_cert.specs.Certificate.{IsCommitted, IsCycle, decided_tx};
-ghost use Rattle.sgt_cert.specs.declared.certificate.Step.{Step};
+ghost use Rattle.sgt_bundle.specs.Certificate.{IsCommitted, IsCycle, decided_tx};
+ghost use Rattle.sgt_bundle.specs.declared.certificate.Step.{Step};
 ghost use Rattle.sgt_explain_decisions.specs.Placed.{ArePlaced, IsFirstOn};
 ghost use Rattle.sgt_explain_decisions.specs.Walks.{IsRefusal, IsCommittedBefore, MayBePassed, IsFlawOfStep, steps_between, LeadsTo, IsFirstFlaw, AreApart, IsFirstAgain, IsFlaw, HaveCycles, IsFirstFlawed};
 ghost use Rattle.sgt_explain_decisions.specs.Walks.{walk_shape_head, step_leads, not_before_text, TellsFlaw, TellsWalk};
 
 use crate::placed::{Placed, number_on, placed_in};
 use crate::words::push_decision;
-use sgt_cert::{Decision, Step};
+use sgt_bundle::{Decision, Step};
 use sgt_names::Tx;
 use std::alloc::{AllocError, Global};
 use std::collections::BTreeMap;

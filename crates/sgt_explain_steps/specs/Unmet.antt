@@ -5,10 +5,10 @@ use Rattle.sgt_names.specs.Entry.{tx_of, Reads, Writes, IsIncrement, Clash}
 use Rattle.sgt_names.specs.Log.{Conflicts}
 use Rattle.sgt_names.specs.declared.entry.Entry.{Entry}
 use Rattle.sgt_names.specs.declared.entry.Kind.{Kind}
-use Rattle.sgt_cert.specs.Certificate.{stops}
-use Rattle.sgt_cert.specs.declared.certificate.Step.{Step}
-use Rattle.sgt_cert.specs.declared.certificate.Decision.{Decision}
-use Rattle.sgt_cert.specs.declared.certificate.Decision.TheVariants.{Refuse}
+use Rattle.sgt_bundle.specs.Certificate.{stops}
+use Rattle.sgt_bundle.specs.declared.certificate.Step.{Step}
+use Rattle.sgt_bundle.specs.declared.certificate.Decision.{Decision}
+use Rattle.sgt_bundle.specs.declared.certificate.Decision.TheVariants.{Refuse}
 use Rattle.sgt_explain_lines.specs.Values.{entries_of}
 use Rattle.sgt_explain_lines.specs.declared.section.Logged.{Logged}
 use Rattle.sgt_explain_steps.specs.declared.unmet.Met.{Met}

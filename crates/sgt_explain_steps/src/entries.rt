@@ -9,7 +9,7 @@ ghost use Rattle.sgt_explain_steps.specs.Unmet.{Does, ShowsOwn, StepsTo, MeetsTh
 
 use crate::told::ends_with_read;
 use crate::unmet::Met;
-use sgt_cert::Step;
+use sgt_bundle::Step;
 use sgt_explain_lines::Logged;
 use sgt_names::{Entry, Item, Tx};
 

@@ -2,7 +2,7 @@
 
 ghost use Rattle.std.specs.Prelude.{◌≡◌, ◌∷◌, IfSome, IfNone, slice_get};
 ghost use Rattle.sgt_names.specs.Log.{Conflicts};
-ghost use Rattle.sgt_cert.specs.Certificate.{stops};
+ghost use Rattle.sgt_bundle.specs.Certificate.{stops};
 ghost use Rattle.sgt_explain_lines.specs.Values.{entries_of};
 ghost use Rattle.sgt_explain_steps.specs.Told.{begins_with_read, ends_with_read};
 ghost use Rattle.sgt_explain_steps.specs.Unmet.{ShowsOwn, IsStepAt, NoStepAt, SameStep, ShowsOther};
@@ -10,7 +10,7 @@ ghost use Rattle.sgt_explain_steps.specs.Unmet.{ShowsOwn, IsStepAt, NoStepAt, Sa
 use crate::entries::{is_met, met_in, own_in};
 use crate::told::{begins_with_read, ends_with_read};
 use crate::unmet::Unmet;
-use sgt_cert::{Decision, Step};
+use sgt_bundle::{Decision, Step};
 use sgt_explain_lines::Logged;
 use sgt_names::Tx;
 

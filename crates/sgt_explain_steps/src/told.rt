@@ -5,7 +5,7 @@ ghost use Rattle.sgt_names.specs.Entry.{is_increment};
 ghost use Rattle.sgt_explain_steps.specs.Told.{begins_with_read, ends_with_read, deed_text, step_head, wish_text, absent_text, pair_text, misfit_reason, misfit_text, reason_text, met_head, met_text, other_text, walk_step_text};
 
 use crate::unmet::{Met, Unmet};
-use sgt_cert::Step;
+use sgt_bundle::Step;
 use sgt_explain_lines::{Logged, kind_name, push_logged};
 use sgt_names::{Kind, Tx};
 use std::alloc::AllocError;

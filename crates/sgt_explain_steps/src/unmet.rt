@@ -2,7 +2,7 @@
 
 ghost use Rattle.std.specs.Prelude.{◌<◌};
 
-use sgt_cert::Step;
+use sgt_bundle::Step;
 use sgt_explain_lines::Logged;
 use sgt_names::{Kind, Tx};
 

@@ -5,9 +5,9 @@ ghost use Rattle.std.specs.List.{list_any};
 ghost use Rattle.sgt_names.specs.Entry.{is_increment};
 ghost use Rattle.sgt_notation.specs.Spelling.{line_text, text_of_lines};
 ghost use Rattle.sgt_notation.specs.declared.SectionLine.{SectionLine};
-ghost use Rattle.sgt_cert.specs.Text.{certificate_text, format_line, section_lines};
+ghost use Rattle.sgt_bundle.specs.Text.{certificate_text, format_line, section_lines};
 
-use sgt_cert::{Certificate, to_line};
+use sgt_bundle::{Certificate, to_line};
 use sgt_names::{Entry, Holding, SiteNo};
 use sgt_notation::{SectionLine, write_section};
 use std::alloc::{AllocError, Global};

@@ -3,6 +3,7 @@
 #![tactic(auto)]
 
 mod asks;
+mod bytes;
 mod draft;
 mod draft_parts;
 mod entry;
@@ -20,6 +21,7 @@ mod standard;
 mod touch_list;
 
 pub use asks::Asks;
+pub use bytes::{Bytes, Nowhere, Written};
 pub use draft::{Draft, Seen, Touch};
 pub use draft_parts::Part;
 pub use entry::{Change, Entry, Holding, Kind, Label};

@@ -77,6 +77,18 @@ pub fn find_lf(bytes: &[u8]) -> Option<usize>
     memchr(b'\n', bytes)
 }
 
+/// The first line, without its LF, and what stands behind it.
+pub fn split_line(bytes: &[u8]) -> Option<(&[u8], &[u8])>
+    ensures some { IfSome result (λ r. HasNoLf r.0.now × (bytes.now ≡ r.0.now ++ 10 ∷ r.1.now)) }
+    ensures less { IfSome result (λ r. length r.1.now < length bytes.now) }
+    ensures none { IfNone result (HasNoLf bytes.now) }
+{
+    match find_lf(bytes) {
+        Some(n) => Some((&bytes[..n], &bytes[n + 1..])),
+        None => None,
+    }
+}
+
 /// Moves the bytes before the first LF, or all of them where there is none, to the end of the line, unless it gets too
 /// long by them. The first number is that of these bytes. The second is how many of the held bytes are used up: with
 /// the LF, or none of too long a line.

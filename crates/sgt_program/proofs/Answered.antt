@@ -16,9 +16,9 @@ use Rattle.sgt_serial.specs.Answer as serial
 use Rattle.sgt_explain.specs.Topics.{IsRuleOf, topic_name}
 use Rattle.sgt_explain.specs.declared.topics.Topic.{Topic}
 use Rattle.sgt_line.specs.declared.name.CommandName.TheVariants as command
-use Rattle.sgt_words.specs.Words.{AsksHelp, command_of}
-use Rattle.sgt_words.specs.declared.choice.Choice.{Choice}
-use Rattle.sgt_words.specs.declared.choice.Choice.TheVariants.{Run}
+use Rattle.sgt_command_line.specs.Words.{AsksHelp, command_of}
+use Rattle.sgt_command_line.specs.declared.choice.Choice.{Choice}
+use Rattle.sgt_command_line.specs.declared.choice.Choice.TheVariants.{Run}
 use Rattle.sgt_program.specs.Commands.{Answers, AnswersAudit, AnswersRule, AnswersSerial, AnswersOthers, ByStatus, outcome}
 use Rattle.sgt_program.specs.Ending.{status_of}
 use Rattle.sgt_program.specs.declared.ending.Ending.TheVariants.{Ran}

@@ -2,12 +2,12 @@
 use Rattle.std.proofs.Common.{◌≡◌, ◌⊎◌, ◌∙◌, ℕ, Bool, true, false, not, List, ◌∷◌, Result, Ok, Err, inl, inr, ap, sym, subst}
 use Rattle.sgt_line.specs.Names.{command_text}
 use Rattle.sgt_line.specs.declared.name.CommandName.TheVariants as command
-use Rattle.sgt_words.specs.Words.{AsksFor, NamesExplain, command_of}
-use Rattle.sgt_words.specs.declared.choice.Choice.{Choice}
-use Rattle.sgt_words.specs.declared.choice.Choice.TheVariants.{Audit, AuditWith, Certify, Check, Draw, DrawWith, Explain, Replay, Rule, Run, Serial, Transaction}
+use Rattle.sgt_command_line.specs.Words.{AsksFor, NamesExplain, command_of}
+use Rattle.sgt_command_line.specs.declared.choice.Choice.{Choice}
+use Rattle.sgt_command_line.specs.declared.choice.Choice.TheVariants.{Audit, AuditWith, Certify, Check, Draw, DrawWith, Explain, Replay, Rule, Run, Serial, Transaction}
 use Rattle.sgt_program.specs.Commands.{LeavesUnread}
-use Rattle.sgt_words.specs.declared.choice.NoChoice.{NoChoice}
-use Rattle.sgt_words.specs.declared.choice.NoChoice.TheVariants.{Help, Usage, Bare, Memory}
+use Rattle.sgt_command_line.specs.declared.choice.NoChoice.{NoChoice}
+use Rattle.sgt_command_line.specs.declared.choice.NoChoice.TheVariants.{Help, Usage, Bare, Memory}
 
 abbrev chosen : Result Choice NoChoice → Choice
 chosen (Ok choice) = choice

@@ -13,9 +13,9 @@ use Rattle.sgt_audit.specs.declared.verdict.Verdict.{Verdict}
 use Rattle.sgt_audit.specs.declared.verdict.Verdict.TheVariants as audit
 use Rattle.sgt_audit_chain.specs.declared.faults.ChainFault.TheVariants.{Broken}
 use Rattle.sgt_audit_workers.specs.Reads.{IsYes}
-use Rattle.sgt_words.specs.Words.{AsksFor}
-use Rattle.sgt_words.specs.declared.choice.Choice.{Choice}
-use Rattle.sgt_words.specs.declared.choice.Choice.TheVariants as made
+use Rattle.sgt_command_line.specs.Words.{AsksFor}
+use Rattle.sgt_command_line.specs.declared.choice.Choice.{Choice}
+use Rattle.sgt_command_line.specs.declared.choice.Choice.TheVariants as made
 use Rattle.sgt_program.specs.Chains.{WroteBrokenFront}
 use Rattle.sgt_program.specs.Commands.{outcome}
 use Rattle.sgt_program.specs.Ending.{AsksWorkers, LeavesDevices, ReadFailed, ReaderIsQuiet, ReadsOn, TellsErrors, status_of, text_of_fail}

@@ -23,10 +23,10 @@ use Rattle.sgt_service.specs.Report as run
 use Rattle.sgt_serial.specs.Answer as serial
 use Rattle.sgt_serial.specs.Answer.{IsAnswer}
 use Rattle.sgt_history_text.specs.declared.wanted.Wanted.{Wanted}
-use Rattle.sgt_words.specs.Words.{AsksFor, AsksHelp, AsksNone, MayLackMemory}
-use Rattle.sgt_words.specs.declared.check.CheckWanted.{CheckWanted}
-use Rattle.sgt_words.specs.declared.choice.Choice.{Choice}
-use Rattle.sgt_words.specs.declared.choice.Choice.TheVariants.{Audit, AuditWith, Certify, Check, Draw, DrawWith, Explain, Replay, Rule, Run, Serial, Transaction}
+use Rattle.sgt_command_line.specs.Words.{AsksFor, AsksHelp, AsksNone, MayLackMemory}
+use Rattle.sgt_command_line.specs.declared.check.CheckWanted.{CheckWanted}
+use Rattle.sgt_command_line.specs.declared.choice.Choice.{Choice}
+use Rattle.sgt_command_line.specs.declared.choice.Choice.TheVariants.{Audit, AuditWith, Certify, Check, Draw, DrawWith, Explain, Replay, Rule, Run, Serial, Transaction}
 
 abbrev pub outcome : Verdict → Outcome
 outcome (Yes c r w) = Outcome_.Yes

@@ -6,9 +6,9 @@ use Rattle.sgt_names.specs.declared.outcome.EngineFail.{EngineFail}
 use Rattle.sgt_names.specs.declared.outcome.EngineFail.TheVariants.{Memory, ReadFault, WriteFault}
 use Rattle.sgt_names.specs.declared.outcome.Outcome.TheVariants.{Yes, No, Unreadable}
 use Rattle.sgt_names.specs.Limits.{most_reads}
-use Rattle.sgt_words.specs.Words.{AsksFor}
-use Rattle.sgt_words.specs.declared.choice.Choice.{Choice}
-use Rattle.sgt_words.specs.declared.choice.Choice.TheVariants.{AuditWith}
+use Rattle.sgt_command_line.specs.Words.{AsksFor}
+use Rattle.sgt_command_line.specs.declared.choice.Choice.{Choice}
+use Rattle.sgt_command_line.specs.declared.choice.Choice.TheVariants.{AuditWith}
 use Rattle.sgt_program.specs.declared.ending.Ending.{Ending}
 use Rattle.sgt_program.specs.declared.ending.Ending.TheVariants.{Ran, NoCommand}
 

@@ -3,15 +3,15 @@
 ghost use Rattle.std.specs.Prelude.{◌≡◌, ◌<◌, Err, map, length, string_bytes, IfErr, IsOk, codes};
 ghost use Rattle.sgt_program.specs.Commands.{Answers, ComesOf, LeavesUnread};
 ghost use Rattle.sgt_program.specs.Ending.{AsksWorkers, LeavesDevices, ReadFailed, ReaderIsQuiet, TellsErrors, WroteOrFailed, status_of, text_of_fail};
-ghost use Rattle.sgt_words.specs.Words.{AsksFor, NamesExplain};
-ghost use Rattle.sgt_words.specs.declared.choice.Choice.{Choice};
+ghost use Rattle.sgt_command_line.specs.Words.{AsksFor, NamesExplain};
+ghost use Rattle.sgt_command_line.specs.declared.choice.Choice.{Choice};
 ghost use Rattle.sgt_program.specs.declared.ending.Ending.{Ending};
 ghost use Rattle.sgt_program.specs.declared.ending.Ending.TheVariants.{Ran, NoCommand};
 
 use crate::ending::{Ending, status, tell, tell_fail};
 use crate::engines::{run_choice, show_help};
+use sgt_command_line::{NoChoice, choose};
 use sgt_names::{EngineFail, Outcome, Sink, Source};
-use sgt_words::{NoChoice, choose};
 use std::alloc::Global;
 use std::sync::Wait;
 use std::thread::Threads;

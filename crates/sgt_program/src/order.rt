@@ -9,8 +9,8 @@ ghost use Rattle.sgt_program.specs.declared.ending.Ending.{Ending};
 use crate::commands::finish;
 use crate::engines::kept_of;
 use sgt_check_order::check_against;
+use sgt_command_line::CheckWanted;
 use sgt_names::{Sink, Source};
-use sgt_words::CheckWanted;
 use std::alloc::Global;
 
 /// Judges the order that `order` gives by the history that `reader` gives, and gives the exit status: 0 it explains

@@ -4,11 +4,11 @@ ghost use Rattle.std.specs.Prelude.{◌<◌};
 
 use crate::row::{Given, Row};
 use sgt_audit_chain::ChainAuditor;
+use sgt_command_line::{CheckWanted, Way, choose, wanted_by, way_of};
 use sgt_line::{cut, shown, strict_status};
 use sgt_names::{MemSink, MemSource, Outcome, write_all};
 use sgt_program::{audit_next, check_order, end_chain, program};
 use sgt_serve::{MemBundles, Pipe, serve};
-use sgt_words::{CheckWanted, Way, choose, wanted_by, way_of};
 use std::alloc::{AllocError, Global};
 use std::sync::Wait;
 use std::thread::Threads;

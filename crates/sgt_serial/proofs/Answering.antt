@@ -7,7 +7,7 @@ use Rattle.sgt_names.specs.declared.outcome.Outcome.{Outcome}
 use Rattle.sgt_names.specs.declared.outcome.Outcome.TheVariants.{Yes, No}
 use Rattle.sgt_names.proofs.Devices.{wrote_nothing}
 use Rattle.std.specs.Prelude.{IfSome}
-use Rattle.sgt_cert.specs.Parts.{Parts}
+use Rattle.sgt_bundle.specs.Parts.{Parts}
 use Rattle.sgt_audit.specs.Verdict.{IsAudited, HandsOutValid, text_of}
 use Rattle.sgt_audit.specs.declared.engine.Audited.{Audited}
 use Rattle.sgt_audit.specs.declared.engine.Audited.TheVariants as audited

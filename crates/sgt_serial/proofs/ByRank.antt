@@ -8,10 +8,10 @@ use Rattle.std.proofs.lemmas.Bool.{cases_Bool}
 use Rattle.std.proofs.lemmas.List.Sorted.{All-permutation}
 use Rattle.std.proofs.lemmas.Option.{same_Some}
 use Rattle.sgt_names.proofs.Places.{All-from_at}
-use Rattle.sgt_cert.specs.Certificate.{IsCommitted, with_rank, rank_limit, by_rank}
-use Rattle.sgt_cert.specs.declared.certificate.Decision.{Decision}
-use Rattle.sgt_cert.specs.declared.certificate.Decision.TheVariants.{Commit, Refuse, Withdraw}
-use Rattle.sgt_cert.proofs.Ranks.{rank-lt-limit}
+use Rattle.sgt_bundle.specs.Certificate.{IsCommitted, with_rank, rank_limit, by_rank}
+use Rattle.sgt_bundle.specs.declared.certificate.Decision.{Decision}
+use Rattle.sgt_bundle.specs.declared.certificate.Decision.TheVariants.{Commit, Refuse, Withdraw}
+use Rattle.sgt_bundle.proofs.Ranks.{rank-lt-limit}
 use Rattle.sgt_serial.specs.private.Order.{ranked_in}
 use Rattle.sgt_serial.specs.declared.order.Ranked.{Ranked}
 use Rattle.sgt_serial.proofs.Sorting.{of_number, by_number, stable-of_number, map-flat_map, flat_map-same}

@@ -12,7 +12,7 @@ use Rattle.sgt_names.specs.Name.{Name}
 use Rattle.sgt_names.specs.Log.{value_with}
 use Rattle.sgt_names.specs.declared.entry.Change.{Change}
 use Rattle.sgt_names.specs.declared.entry.Change.TheVariants.{Put, Add}
-use Rattle.sgt_cert.specs.Serial.{Store}
+use Rattle.sgt_bundle.specs.Serial.{Store}
 use Rattle.sgt_serial.specs.declared.report.SiteChange.{SiteChange}
 use Rattle.sgt_serial.specs.Difference.{Knows}
 use Rattle.sgt_serial.specs.private.Values.{is_of, change_in, with_all}

@@ -5,10 +5,10 @@ use Rattle.std.proofs.lemmas.Bool.{cases_Bool, cases_eq, false≢true}
 use Rattle.std.proofs.lemmas.List.Elements.{All-nil, All-cons}
 use Rattle.std.proofs.lemmas.Option.{same_Some, none-some}
 use Rattle.sgt_names.specs.Name.{Name}
-use Rattle.sgt_cert.specs.Parts.{Parts}
-use Rattle.sgt_cert.specs.Certificate.{by_rank}
-use Rattle.sgt_cert.specs.Serial.{Store, initial_store, store_after, SerialAgrees}
-use Rattle.sgt_cert.specs.declared.bundle.SiteLog.{SiteLog}
+use Rattle.sgt_bundle.specs.Parts.{Parts}
+use Rattle.sgt_bundle.specs.Certificate.{by_rank}
+use Rattle.sgt_bundle.specs.Serial.{Store, initial_store, store_after, SerialAgrees}
+use Rattle.sgt_bundle.specs.declared.bundle.SiteLog.{SiteLog}
 use Rattle.sgt_serial.specs.Difference.{Has, Knows, IsFirstWithout, DiffersIn, AllRunOn, store_after_all, IsFirstDifference}
 use Rattle.sgt_serial.specs.Report.{reads_of, writes_of, finals_of}
 use Rattle.sgt_serial.proofs.Logged.{runs-on}

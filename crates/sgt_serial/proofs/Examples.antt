@@ -9,11 +9,11 @@ use Rattle.sgt_names.specs.declared.entry.Change.TheVariants.{Put, Add}
 use Rattle.sgt_names.specs.declared.entry.Entry.{Entry}
 use Rattle.sgt_names.specs.declared.entry.Entry.TheVariants as e
 use Rattle.sgt_names.specs.declared.entry.Holding.{Holding}
-use Rattle.sgt_cert.specs.Parts.{Parts}
-use Rattle.sgt_cert.specs.Serial.{initial_store, RunsOn, SerialAgrees}
-use Rattle.sgt_cert.specs.declared.certificate.Decision.{Decision}
-use Rattle.sgt_cert.specs.declared.certificate.Decision.TheVariants.{Commit, Withdraw}
-use Rattle.sgt_cert.specs.declared.bundle.SiteLog.{SiteLog}
+use Rattle.sgt_bundle.specs.Parts.{Parts}
+use Rattle.sgt_bundle.specs.Serial.{initial_store, RunsOn, SerialAgrees}
+use Rattle.sgt_bundle.specs.declared.certificate.Decision.{Decision}
+use Rattle.sgt_bundle.specs.declared.certificate.Decision.TheVariants.{Commit, Withdraw}
+use Rattle.sgt_bundle.specs.declared.bundle.SiteLog.{SiteLog}
 use Rattle.sgt_notation.specs.Spelling.{text_of_lines}
 use Rattle.sgt_serial.specs.Difference.{Has, Knows, last_store, IsFirstDifference}
 use Rattle.sgt_serial.specs.Report.{reads_of, writes_of, report_of}

@@ -20,7 +20,7 @@ use Rattle.sgt_names.specs.Log.{names, value_in, value_with}
 use Rattle.sgt_names.specs.declared.entry.Change.{Change}
 use Rattle.sgt_names.specs.declared.entry.Holding.{Holding}
 use Rattle.sgt_names.proofs.Places.{AllPairs_at, AllPairs-tail}
-use Rattle.sgt_cert.specs.Parts.{ComesBefore}
+use Rattle.sgt_bundle.specs.Parts.{ComesBefore}
 use Rattle.sgt_serial.specs.private.Values.{IsRising}
 use Rattle.sgt_audit.proofs.SiteStates.{less-equal}
 use Rattle.sgt_names.proofs.Elements.{bytes_eq-other}

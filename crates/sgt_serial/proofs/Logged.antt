@@ -17,9 +17,9 @@ use Rattle.sgt_names.specs.declared.entry.Entry.TheVariants as entry
 use Rattle.sgt_names.specs.declared.entry.Entry.TheVariants.{Read, Write, Want, WantAdd, Commit, Refuse, Withdraw}
 use Rattle.sgt_names.proofs.Places.{Contains_at, Contains-from_at}
 use Rattle.sgt_names.proofs.Lists.{option_cases}
-use Rattle.sgt_cert.specs.Serial.{Store, entries_of, own_entries, store_after, RunsOn}
-use Rattle.sgt_cert.proofs.Headline.{entries_at}
-use Rattle.sgt_cert.specs.declared.bundle.SiteLog.{SiteLog}
+use Rattle.sgt_bundle.specs.Serial.{Store, entries_of, own_entries, store_after, RunsOn}
+use Rattle.sgt_bundle.proofs.Headline.{entries_at}
+use Rattle.sgt_bundle.specs.declared.bundle.SiteLog.{SiteLog}
 use Rattle.sgt_serial.specs.declared.report.SiteChange.{SiteChange}
 use Rattle.sgt_serial.specs.Report.{read_at, write_at, picked_of, reads_of, writes_of}
 use Rattle.sgt_serial.specs.Difference.{Has, Knows}

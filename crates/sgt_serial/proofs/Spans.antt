@@ -5,7 +5,7 @@ use Rattle.std.specs.List.{filter, filter_map}
 use Rattle.std.proofs.lemmas.List.Elements.{filter_map-append}
 use Rattle.sgt_names.specs.declared.entry.Entry.{Entry}
 use Rattle.sgt_notation.specs.Spelling.{text_of_lines}
-use Rattle.sgt_cert.specs.declared.bundle.SiteLog.{SiteLog}
+use Rattle.sgt_bundle.specs.declared.bundle.SiteLog.{SiteLog}
 use Rattle.sgt_serial.specs.declared.entries.SiteEntry.{SiteEntry}
 use Rattle.sgt_serial.specs.declared.operations.Operations.{Operations}
 use Rattle.sgt_serial.specs.declared.operations.Operations.TheVariants.{Grouped, Sorted}

@@ -4,9 +4,9 @@ use Rattle.std.specs.Io.KnownBytes.{Appends}
 use Rattle.sgt_names.specs.Device.{AppendsOrForgets, WritesFront}
 use Rattle.sgt_names.specs.declared.outcome.Outcome.{Outcome}
 use Rattle.sgt_names.specs.declared.outcome.Outcome.TheVariants.{Yes, No, Unreadable}
-use Rattle.sgt_cert.specs.Parts.{Parts}
-use Rattle.sgt_cert.specs.Text.{Spells}
-use Rattle.sgt_cert.specs.Valid.{IsValid}
+use Rattle.sgt_bundle.specs.Parts.{Parts}
+use Rattle.sgt_bundle.specs.Text.{Spells}
+use Rattle.sgt_bundle.specs.Valid.{IsValid}
 use Rattle.sgt_audit.specs.Faults.{FirstFault}
 use Rattle.sgt_audit.specs.Verdict.{text_of}
 use Rattle.sgt_audit.specs.declared.faults.Fault.{Fault}

@@ -6,10 +6,10 @@ use Rattle.sgt_names.specs.declared.entry.Entry.{Entry}
 use Rattle.sgt_names.specs.declared.entry.Entry.TheVariants.{Read, Write, Add}
 use Rattle.sgt_names.specs.declared.entry.Change.TheVariants as change
 use Rattle.sgt_names.specs.declared.entry.Holding.{Holding}
-use Rattle.sgt_cert.specs.Parts.{Parts}
-use Rattle.sgt_cert.specs.Certificate.{by_rank}
-use Rattle.sgt_cert.specs.Serial.{entries_of, own_entries}
-use Rattle.sgt_cert.specs.declared.bundle.SiteLog.{SiteLog}
+use Rattle.sgt_bundle.specs.Parts.{Parts}
+use Rattle.sgt_bundle.specs.Certificate.{by_rank}
+use Rattle.sgt_bundle.specs.Serial.{entries_of, own_entries}
+use Rattle.sgt_bundle.specs.declared.bundle.SiteLog.{SiteLog}
 use Rattle.sgt_serial.specs.declared.report.SiteChange.{SiteChange}
 use Rattle.sgt_serial.specs.declared.report.SiteValue.{SiteValue}
 use Rattle.sgt_serial.specs.declared.report.SerialTx.{SerialTx}

@@ -13,7 +13,7 @@ ghost use Rattle.sgt_serial.specs.Text.{report_text};
 
 use crate::written::Plan;
 use sgt_audit::{Audited, Fault, Verdict, audit_bundle};
-use sgt_cert::Bundle;
+use sgt_bundle::Bundle;
 use sgt_names::{EngineFail, Outcome, Sink, Source, write_all};
 use std::alloc::Global;
 

@@ -5,7 +5,7 @@ ghost use Rattle.sgt_names.specs.Limits.{max_sites};
 ghost use Rattle.sgt_serial.specs.Report.{final_at, finals_of};
 
 use crate::report::SiteValue;
-use sgt_cert::SiteLog;
+use sgt_bundle::SiteLog;
 use sgt_names::{Holding, SiteNo};
 use std::alloc::{AllocError, Global};
 

@@ -2,8 +2,8 @@
 
 ghost use Rattle.std.specs.Prelude.{◌≡◌, ◌⊎◌, ℕ, Option};
 ghost use Rattle.sgt_names.specs.Name.{Name};
-ghost use Rattle.sgt_cert.specs.Parts.{Parts};
-ghost use Rattle.sgt_cert.specs.Serial.{SerialAgrees};
+ghost use Rattle.sgt_bundle.specs.Parts.{Parts};
+ghost use Rattle.sgt_bundle.specs.Serial.{SerialAgrees};
 ghost use Rattle.sgt_serial.specs.Difference.{IsFirstDifference};
 
 /// A serial run that agrees with the record has no first difference.

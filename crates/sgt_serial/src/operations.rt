@@ -3,7 +3,7 @@
 ghost use Rattle.std.specs.Prelude.{◌≡◌, ◌≤◌, ◌<◌, ◌+◌, ◌++◌, ◌∷◌, [], ℕ, List, length, IfOk};
 ghost use Rattle.std.specs.List.{filter, filter_map};
 ghost use Rattle.sgt_names.specs.Limits.{max_sites};
-ghost use Rattle.sgt_cert.specs.declared.bundle.SiteLog.{SiteLog};
+ghost use Rattle.sgt_bundle.specs.declared.bundle.SiteLog.{SiteLog};
 ghost use Rattle.sgt_serial.specs.Report.{read_at, write_at, run_of};
 ghost use Rattle.sgt_serial.specs.private.Operations.{all_entries, is_by};
 ghost use Rattle.sgt_serial.specs.private.Grouped.{AreOperationsOf, count_in, entries_in};
@@ -12,7 +12,7 @@ use crate::entries::{SiteEntry, read_of, write_of};
 use crate::grouped::Grouped;
 use crate::report::{SerialTx, SiteChange, SiteValue};
 use crate::sorted::Sorted;
-use sgt_cert::SiteLog;
+use sgt_bundle::SiteLog;
 use sgt_names::{Listed, Tx};
 use std::alloc::{AllocError, Global};
 

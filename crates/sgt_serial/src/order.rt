@@ -2,12 +2,12 @@
 
 ghost use Rattle.std.specs.Prelude.{◌≡◌, List, map, IfOk};
 ghost use Rattle.std.specs.List.{filter_map};
-ghost use Rattle.sgt_cert.specs.Certificate.{by_rank};
-ghost use Rattle.sgt_cert.specs.Parts.{FitTogether};
-ghost use Rattle.sgt_cert.specs.declared.certificate.Decision.{Decision as AnyDecision};
+ghost use Rattle.sgt_bundle.specs.Certificate.{by_rank};
+ghost use Rattle.sgt_bundle.specs.Parts.{FitTogether};
+ghost use Rattle.sgt_bundle.specs.declared.certificate.Decision.{Decision as AnyDecision};
 ghost use Rattle.sgt_serial.specs.private.Order.{ranked_in};
 
-use sgt_cert::{Bundle, Decision, SiteLog};
+use sgt_bundle::{Bundle, Decision, SiteLog};
 use sgt_names::Tx;
 use std::alloc::{AllocError, Global};
 

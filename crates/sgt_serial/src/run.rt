@@ -3,8 +3,8 @@
 ghost use Rattle.std.specs.Prelude.{◌≡◌, ◌⊎◌, ℕ, ◌≤◌, length, map, All, Some, Ok, Err, IfOk, OnOk, Option};
 ghost use Rattle.sgt_names.specs.Limits.{max_sites};
 ghost use Rattle.sgt_names.specs.Name.{Name};
-ghost use Rattle.sgt_cert.specs.Serial.{SerialAgrees};
-ghost use Rattle.sgt_cert.specs.Valid.{IsValid};
+ghost use Rattle.sgt_bundle.specs.Serial.{SerialAgrees};
+ghost use Rattle.sgt_bundle.specs.Valid.{IsValid};
 ghost use Rattle.sgt_serial.specs.Difference.{Has, Knows, DiffersFrom, DiffersIn, AllRunOn, store_after_all, IsFirstDifference};
 ghost use Rattle.sgt_serial.specs.Report.{run_of, report_of};
 ghost use Rattle.sgt_serial.specs.private.Values.{store_of, with_all};
@@ -14,7 +14,7 @@ use crate::operations::Operations;
 use crate::order::serial_order;
 use crate::report::{SerialFail, SerialReport, SerialTx};
 use crate::store::Store;
-use sgt_cert::{Bundle, SiteLog};
+use sgt_bundle::{Bundle, SiteLog};
 use sgt_names::{Listed, Tx};
 use std::alloc::Global;
 

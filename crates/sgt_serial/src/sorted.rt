@@ -4,14 +4,14 @@ ghost use Rattle.std.specs.Prelude.{◌≡◌, ℕ, List, true, false, nat_lt, �
 ghost use Rattle.std.specs.List.{filter};
 ghost use Rattle.std.specs.List.Sorted.{IsNonDecreasingBy, IsPartitionPoint};
 ghost use Rattle.sgt_names.specs.Limits.{max_sites};
-ghost use Rattle.sgt_cert.specs.declared.bundle.SiteLog.{SiteLog};
+ghost use Rattle.sgt_bundle.specs.declared.bundle.SiteLog.{SiteLog};
 ghost use Rattle.sgt_serial.specs.declared.operations.Operations.TheVariants as operations;
 ghost use Rattle.sgt_serial.specs.private.Operations.{entry_at, owner, is_by};
 ghost use Rattle.sgt_serial.specs.private.Grouped.{IsSortedOf, entries_in};
 
 use crate::entries::SiteEntry;
 use crate::operations::Span;
-use sgt_cert::SiteLog;
+use sgt_bundle::SiteLog;
 use sgt_names::{Entry, SiteNo, Tx};
 use std::alloc::{AllocError, Global};
 use std::marker::Model;

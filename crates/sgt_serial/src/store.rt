@@ -4,12 +4,12 @@ ghost use Rattle.std.specs.Prelude.{◌≡◌, ℕ, ◌&&◌, map, All, IfOk, If
 ghost use Rattle.std.specs.Str.{bytes_eq};
 ghost use Rattle.sgt_names.specs.Name.{Name};
 ghost use Rattle.sgt_names.specs.Log.{value_in, value_with};
-ghost use Rattle.sgt_cert.specs.Parts.{IsShapedLog};
+ghost use Rattle.sgt_bundle.specs.Parts.{IsShapedLog};
 ghost use Rattle.sgt_serial.specs.Difference.{Has, Knows, IsFirstWithout};
 ghost use Rattle.sgt_serial.specs.private.Values.{IsRising, store_of, is_of, with_all};
 
 use crate::report::{SiteChange, SiteValue};
-use sgt_cert::SiteLog;
+use sgt_bundle::SiteLog;
 use sgt_names::{Change, Holding, Item, SiteNo, Value};
 use std::alloc::{AllocError, Global};
 use std::marker::Model;

@@ -4,7 +4,7 @@ ghost use Rattle.std.specs.Prelude.{◌≤◌, ◌+◌, ◌++◌, [], map, codes
 ghost use Rattle.std.specs.List.{flat_map};
 ghost use Rattle.std.specs.Io.KnownBytes.{Appends};
 ghost use Rattle.sgt_names.specs.Device.{CountsFailures, WritesFront};
-ghost use Rattle.sgt_cert.specs.Parts.{Parts};
+ghost use Rattle.sgt_bundle.specs.Parts.{Parts};
 ghost use Rattle.sgt_notation.specs.Spelling.{text_of_lines};
 ghost use Rattle.sgt_serial.specs.Report.{reads_of, writes_of, run_of, report_of};
 ghost use Rattle.sgt_serial.specs.Text.{operation_line, change_line, run_lines, final_line, report_text};
@@ -18,7 +18,7 @@ use crate::operations::Operations;
 use crate::order::order_and_sites;
 use crate::report::SiteValue;
 use crate::text::{push_change, push_final, push_head, push_read};
-use sgt_cert::{Bundle, SiteLog};
+use sgt_bundle::{Bundle, SiteLog};
 use sgt_names::{Failed, Sink, Tx, write_all};
 use std::alloc::{AllocError, Global};
 

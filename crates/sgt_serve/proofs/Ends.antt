@@ -2,8 +2,8 @@
 use Rattle.std.proofs.Common.{◌≡◌, ◌≢◌, ℕ, List, [], ◌∷◌, ◌++◌, length, map, refl, sym, ◌∙◌, ap, subst, inl, inr, Option, Some, None, Ok, Err}
 use Rattle.std.specs.List.{range_with_len}
 use Rattle.std.proofs.lemmas.List.{append-nil}
-use Rattle.sgt_cert.specs.Parts.{Parts as Logs}
-use Rattle.sgt_cert.specs.Text.{text_of}
+use Rattle.sgt_bundle.specs.Parts.{Parts as Logs}
+use Rattle.sgt_bundle.specs.Text.{text_of}
 use Rattle.sgt_notation.specs.declared.event.Event.{Event}
 use Rattle.sgt_notation.specs.declared.event.Event.TheVariants.{Withdraw}
 use Rattle.sgt_core_model.specs.Core.{CoreState, bundle_of}

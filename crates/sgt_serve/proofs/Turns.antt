@@ -9,7 +9,7 @@ use Rattle.sgt_notation.specs.declared.event.EventLine.{EventLine}
 use Rattle.sgt_pipe.specs.declared.handed.Handed.{Handed}
 use Rattle.sgt_pipe.specs.declared.handed.KeepFault.{KeepFault}
 use Rattle.sgt_pipe.specs.declared.handed.KeepFault.TheVariants as keep
-use Rattle.sgt_cert.specs.Text.{text_of}
+use Rattle.sgt_bundle.specs.Text.{text_of}
 use Rattle.sgt_core_model.specs.Core.{CoreState, bundle_of, fresh}
 use Rattle.sgt_core_model.specs.declared.reply.CoreFault.{CoreFault}
 use Rattle.sgt_core_model.specs.declared.reply.CoreFault.TheVariants as core_fault

@@ -3,7 +3,7 @@ use Rattle.std.specs.Prelude.{◌≡◌, ◌≢◌, ℕ, List, [], ◌∷◌, �
 use Rattle.sgt_notation.specs.Events.{site_text}
 use Rattle.sgt_notation.specs.Spelling.{HasNoLf, text_of_lines}
 use Rattle.sgt_notation.specs.declared.event.SiteLine.{SiteLine}
-use Rattle.sgt_cert.specs.Text.{text_of}
+use Rattle.sgt_bundle.specs.Text.{text_of}
 use Rattle.sgt_core_model.specs.Core.{CoreState, fresh}
 use Rattle.sgt_core.specs.Input.{IsBegun}
 use Rattle.sgt_core.specs.Reply.{answer_text}

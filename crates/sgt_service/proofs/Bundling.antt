@@ -14,9 +14,9 @@ use Rattle.sgt_names.specs.declared.entry.Label.{Label}
 use Rattle.sgt_names.proofs.Lists.{All-weaken, map_at}
 use Rattle.sgt_names.proofs.Places.{AllPairs_at, AllPairs-from_at}
 use Rattle.sgt_site.specs.State.{AreItems, IsSite, SiteState}
-use Rattle.sgt_cert.specs.Parts.{ComesBefore, FitTogether, IsShapedLog, Parts}
-use Rattle.sgt_cert.specs.declared.bundle.SiteLog.{SiteLog}
-use Rattle.sgt_cert.specs.declared.certificate.Certificate.{Certificate}
+use Rattle.sgt_bundle.specs.Parts.{ComesBefore, FitTogether, IsShapedLog, Parts}
+use Rattle.sgt_bundle.specs.declared.bundle.SiteLog.{SiteLog}
+use Rattle.sgt_bundle.specs.declared.certificate.Certificate.{Certificate}
 use Rattle.sgt_certifier.specs.Certifier.{certificate_of, serial}
 use Rattle.sgt_certifier.specs.History.{Replays}
 use Rattle.sgt_service_settle.specs.Settled.{Run, IsSettled, IsSiteSettled}

@@ -25,8 +25,8 @@ use Rattle.sgt_service_locks.specs.declared.seat.Seat.{Seat}
 use Rattle.sgt_service_settle.specs.Settled.{IsSettled, Run, tickets_of}
 use Rattle.sgt_service_locks.specs.Guarded.{decision_count}
 use Rattle.sgt_notation.specs.Spelling.{text_of_lines}
-use Rattle.sgt_cert.specs.Parts.{Parts}
-use Rattle.sgt_cert.specs.Text.{text_of}
+use Rattle.sgt_bundle.specs.Parts.{Parts}
+use Rattle.sgt_bundle.specs.Text.{text_of}
 use Rattle.sgt_audit.specs.Verdict.{IsVerdict, SaysHeadline}
 use Rattle.sgt_audit.specs.Verdict as auditor
 use Rattle.sgt_audit.specs.declared.verdict.Verdict.{Verdict}

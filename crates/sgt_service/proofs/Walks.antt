@@ -5,8 +5,8 @@ use Rattle.std.specs.List.{AllByRecursion}
 use Rattle.std.proofs.lemmas.List.Elements.{All-append, All-cons, All-filter, All-from_recursion, All-head, All-nil, All-push, All-tail}
 use Rattle.sgt_names.specs.declared.entry.Label.{Label}
 use Rattle.sgt_names.proofs.Lists.{All-from_map, All-map, All-weaken, All_in}
-use Rattle.sgt_cert.specs.Parts.{HasStepsWithin}
-use Rattle.sgt_cert.specs.declared.certificate.Step.{Step}
+use Rattle.sgt_bundle.specs.Parts.{HasStepsWithin}
+use Rattle.sgt_bundle.specs.declared.certificate.Step.{Step}
 use Rattle.sgt_edges.specs.declared.edge.Edge.{Edge}
 use Rattle.sgt_certifier.specs.Certifier.{State, Arc, Ruling, committed, refused, withdrawn, opening, ranked, Walks}
 use Rattle.sgt_certifier.specs.History.{arcs_of, tx_under, Serves, RunsFrom, Replays}

@@ -4,8 +4,8 @@ use Rattle.std.specs.List.{AllZip}
 use Rattle.std.specs.List.Sorted.{IsPermutation, IsNonDecreasingBy}
 use Rattle.sgt_names.specs.Log.{names, FinalsAreLegal}
 use Rattle.sgt_site.specs.State.{SiteState}
-use Rattle.sgt_cert.specs.Parts.{Parts}
-use Rattle.sgt_cert.specs.declared.bundle.SiteLog.{SiteLog}
+use Rattle.sgt_bundle.specs.Parts.{Parts}
+use Rattle.sgt_bundle.specs.declared.bundle.SiteLog.{SiteLog}
 use Rattle.sgt_certifier.specs.Certifier.{certificate_of}
 use Rattle.sgt_certifier.specs.History.{Replays}
 use Rattle.sgt_certifier.specs.Kept.{Kept}

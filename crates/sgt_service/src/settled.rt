@@ -13,7 +13,7 @@ ghost use Rattle.sgt_workers.specs.Answers.{JobsRise};
 ghost use Rattle.sgt_workers.specs.declared.ticket.Done.{Done as ADone};
 ghost use Rattle.sgt_service.specs.Bundle.{ArePutInOrder, IsBundleOf, IsLogOf, IsRefused};
 
-use sgt_cert::{Bundle, SiteLog};
+use sgt_bundle::{Bundle, SiteLog};
 use sgt_certifier::Certifier;
 use sgt_names::Listed;
 use sgt_service_agreement::{EntryCounts, ServiceFault};

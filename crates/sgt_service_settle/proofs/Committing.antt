@@ -4,9 +4,9 @@ use Rattle.std.specs.Prelude.{slice_get, slice_set, map}
 use Rattle.std.proofs.lemmas.Bool.{cases_eq, cases_lt}
 use Rattle.std.proofs.lemmas.Option.{same_Some}
 use Rattle.sgt_names.proofs.Places.{AllPairs_at}
-use Rattle.sgt_cert.specs.Certificate.{IsCommitted, IsDecidedOnce, decided_tx}
-use Rattle.sgt_cert.specs.declared.certificate.Decision.{Decision}
-use Rattle.sgt_cert.specs.declared.certificate.Decision.TheVariants.{Commit}
+use Rattle.sgt_bundle.specs.Certificate.{IsCommitted, IsDecidedOnce, decided_tx}
+use Rattle.sgt_bundle.specs.declared.certificate.Decision.{Decision}
+use Rattle.sgt_bundle.specs.declared.certificate.Decision.TheVariants.{Commit}
 use Rattle.sgt_certifier.specs.Certifier.{State, Ruling, committed, refused, withdrawn, ranked, place_in, serial, certificate_of}
 use Rattle.sgt_service_settle.specs.private.Index.{IsIn, AreCommits}
 use Rattle.sgt_names.proofs.Elements.{get-slice_set_same, get-slice_set_other, get-mapped}

@@ -1,10 +1,10 @@
 //! Which decision commits which transaction.
 
 ghost use Rattle.std.specs.Prelude.{◌≡◌, ◌↔◌, ◌<◌, ℕ, Some, IfOk, slice_get, length};
-ghost use Rattle.sgt_cert.specs.Certificate.{IsDecidedOnce, IsCommitted};
+ghost use Rattle.sgt_bundle.specs.Certificate.{IsDecidedOnce, IsCommitted};
 ghost use Rattle.sgt_service_settle.specs.private.Index.{IsIn, AreCommits};
 
-use sgt_cert::Decision;
+use sgt_bundle::Decision;
 use sgt_certifier::Certifier;
 use sgt_names::Tx;
 use std::alloc::{AllocError, Global};

@@ -3,13 +3,13 @@ use Rattle.std.proofs.Common.{◌≡◌, ◌≢◌, ℕ, ◌<◌, ◌≤◌, Lis
 use Rattle.std.proofs.lemmas.Bool.{cases_eq}
 use Rattle.std.proofs.lemmas.List.{length-append}
 use Rattle.sgt_notation.proofs.Decidable.{Decidable, decidable-as, decidable-both, decidable-not, decidable-less, decidable-most, decidable-All, decidable-AllPairs, decidable-each, decidable-found}
-use Rattle.sgt_cert.specs.Certificate.{decided_tx, IsCommitted, ranks, AreRanks, stops, IsCycle}
-use Rattle.sgt_cert.specs.Text.{certificate_text, IsCertificate}
-use Rattle.sgt_cert.specs.declared.certificate.Certificate.{Certificate}
-use Rattle.sgt_cert.specs.declared.certificate.Step.{Step}
-use Rattle.sgt_cert.specs.declared.certificate.Decision.{Decision}
-use Rattle.sgt_cert.specs.declared.certificate.Decision.TheVariants.{Commit, Refuse, Withdraw}
-use Rattle.sgt_cert.proofs.Answered.{read_or_refused, not_refused}
+use Rattle.sgt_bundle.specs.Certificate.{decided_tx, IsCommitted, ranks, AreRanks, stops, IsCycle}
+use Rattle.sgt_bundle.specs.Text.{certificate_text, IsCertificate}
+use Rattle.sgt_bundle.specs.declared.certificate.Certificate.{Certificate}
+use Rattle.sgt_bundle.specs.declared.certificate.Step.{Step}
+use Rattle.sgt_bundle.specs.declared.certificate.Decision.{Decision}
+use Rattle.sgt_bundle.specs.declared.certificate.Decision.TheVariants.{Commit, Refuse, Withdraw}
+use Rattle.sgt_bundle.proofs.Answered.{read_or_refused, not_refused}
 use Rattle.sgt_audit_decisions.proofs.Walks.{push-one}
 use Rattle.sgt_audit.specs.declared.faults.Fault.{Fault}
 use Rattle.sgt_audit.specs.declared.faults.Fault.TheVariants as fault

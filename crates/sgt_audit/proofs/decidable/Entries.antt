@@ -13,12 +13,12 @@ use Rattle.sgt_names.proofs.Lists.{option_cases}
 use Rattle.sgt_names.proofs.Places.{Contains_at, Contains-from_at}
 use Rattle.sgt_notation.proofs.Decidable.{Decidable, decidable-as, decidable-both, decidable-three, decidable-not, decidable-if, decidable-less, decidable-most, decidable-each, decidable-found}
 use Rattle.sgt_notation.proofs.DecidableEntries.{decidable-end, decidable-clash, decidable-clashes}
-use Rattle.sgt_cert.specs.Certificate.{decided_tx, Suits, IsCommitted}
-use Rattle.sgt_cert.specs.Valid.{IsDecided, EndInOrder, RiseInRank, IsLogged, AreLogged}
-use Rattle.sgt_cert.specs.declared.certificate.Step.{Step}
-use Rattle.sgt_cert.specs.declared.certificate.Decision.{Decision}
-use Rattle.sgt_cert.specs.declared.certificate.Decision.TheVariants.{Commit, Refuse, Withdraw}
-use Rattle.sgt_cert.specs.declared.bundle.SiteLog.{SiteLog}
+use Rattle.sgt_bundle.specs.Certificate.{decided_tx, Suits, IsCommitted}
+use Rattle.sgt_bundle.specs.Valid.{IsDecided, EndInOrder, RiseInRank, IsLogged, AreLogged}
+use Rattle.sgt_bundle.specs.declared.certificate.Step.{Step}
+use Rattle.sgt_bundle.specs.declared.certificate.Decision.{Decision}
+use Rattle.sgt_bundle.specs.declared.certificate.Decision.TheVariants.{Commit, Refuse, Withdraw}
+use Rattle.sgt_bundle.specs.declared.bundle.SiteLog.{SiteLog}
 
 -- ---- decisions
 

@@ -13,9 +13,9 @@ use Rattle.sgt_notation.specs.declared.SectionLine.TheVariants.{Site, Initial, L
 use Rattle.sgt_notation.proofs.Decidable.{Decidable, decidable-as, decidable-both, decidable-not, decidable-if, decidable-test, decidable-text, decidable-value, decidable-ForSome, decidable-All, decidable-Any, decidable-Contains}
 use Rattle.sgt_notation.proofs.DecidableEntries.{decidable-end, decidable-open, decidable-continues, decidable-first}
 use Rattle.sgt_notation.proofs.SearchedLines.{searched-lines}
-use Rattle.sgt_cert.specs.Valid.{EndInOrder, RiseInRank}
-use Rattle.sgt_cert.specs.Text.{Begins}
-use Rattle.sgt_cert.specs.declared.certificate.Certificate.{Certificate}
+use Rattle.sgt_bundle.specs.Valid.{EndInOrder, RiseInRank}
+use Rattle.sgt_bundle.specs.Text.{Begins}
+use Rattle.sgt_bundle.specs.declared.certificate.Certificate.{Certificate}
 use Rattle.sgt_audit.specs.declared.faults.Fault.{Fault}
 use Rattle.sgt_audit.specs.declared.faults.Fault.TheVariants as fault
 use Rattle.sgt_audit.specs.Faults.{fault_number, items_in, entries_in, Keeps, Allows, IsLineIn}

@@ -5,9 +5,9 @@ use Rattle.sgt_notation.specs.Spelling.{line_text}
 use Rattle.sgt_notation.specs.declared.SectionLine.{SectionLine}
 use Rattle.sgt_notation.proofs.Decidable.{Decidable, decidable-as, decidable-most, decidable-text, or_else}
 use Rattle.sgt_notation.proofs.OneSpelling.{line-one}
-use Rattle.sgt_cert.specs.Text.{certificate_text, format_line, IsCertificate}
-use Rattle.sgt_cert.specs.declared.certificate.Certificate.{Certificate}
-use Rattle.sgt_cert.proofs.Reading.{certificate-one}
+use Rattle.sgt_bundle.specs.Text.{certificate_text, format_line, IsCertificate}
+use Rattle.sgt_bundle.specs.declared.certificate.Certificate.{Certificate}
+use Rattle.sgt_bundle.proofs.Reading.{certificate-one}
 use Rattle.sgt_audit.specs.declared.faults.Fault.{Fault}
 use Rattle.sgt_audit.specs.declared.faults.Fault.TheVariants as fault
 use Rattle.sgt_audit.specs.Faults.{fault_number, Keeps, KeepsItself, IsLineIn, Stage, start, headed, within, complete, Piece, whole, last, Rule}

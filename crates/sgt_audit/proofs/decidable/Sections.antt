@@ -13,10 +13,10 @@ use Rattle.sgt_names.specs.Log.{names}
 use Rattle.sgt_notation.specs.declared.SectionLine.{SectionLine}
 use Rattle.sgt_notation.specs.declared.SectionLine.TheVariants.{Site, Initial, Logged, Final, End}
 use Rattle.sgt_notation.proofs.Decidable.{Decidable, decidable-as, decidable-both, decidable-less, decidable-text, decidable-value, decidable-All}
-use Rattle.sgt_cert.specs.Parts.{ComesBefore, IsShapedLog}
-use Rattle.sgt_cert.specs.Text.{Begins, AreSections, IsCertificate, sections_from}
-use Rattle.sgt_cert.specs.declared.certificate.Certificate.{Certificate}
-use Rattle.sgt_cert.specs.declared.bundle.SiteLog.{SiteLog}
+use Rattle.sgt_bundle.specs.Parts.{ComesBefore, IsShapedLog}
+use Rattle.sgt_bundle.specs.Text.{Begins, AreSections, IsCertificate, sections_from}
+use Rattle.sgt_bundle.specs.declared.certificate.Certificate.{Certificate}
+use Rattle.sgt_bundle.specs.declared.bundle.SiteLog.{SiteLog}
 use Rattle.sgt_audit.specs.Reading.{Begun, open_lines, lines_read, IsBegun}
 use Rattle.sgt_audit.specs.private.Following.{Fits, FitsBetween, MayFollow, with_next}
 use Rattle.sgt_audit.proofs.MayFollow.{follow-decides, added-begun, added-lines, whole-sections, sections-whole, are-sections}

@@ -5,7 +5,7 @@ use Rattle.sgt_names.specs.declared.entry.Entry.{Entry}
 use Rattle.sgt_names.specs.declared.entry.Holding.{Holding}
 use Rattle.sgt_notation.specs.declared.SectionLine.{SectionLine}
 use Rattle.sgt_notation.specs.declared.SectionLine.TheVariants.{Logged}
-use Rattle.sgt_cert.specs.declared.certificate.Decision.{Decision}
+use Rattle.sgt_bundle.specs.declared.certificate.Decision.{Decision}
 use Rattle.sgt_audit_decisions.specs.Decided.{IsRulingOn}
 use Rattle.sgt_audit_cells.specs.Tracks.{TracksOpen, IsPlaceAmong}
 use Rattle.sgt_audit_cells.specs.declared.state.SiteState.{SiteState}

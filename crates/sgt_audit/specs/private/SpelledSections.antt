@@ -2,7 +2,7 @@
 use Rattle.std.specs.Prelude.{◌≡◌, ℕ, Bool, true, false, List, map, All, Option, Some, None}
 use Rattle.sgt_notation.specs.Spelling.{line_text, text_of_lines}
 use Rattle.sgt_notation.specs.declared.SectionLine.{SectionLine}
-use Rattle.sgt_cert.specs.Text.{AreSections}
+use Rattle.sgt_bundle.specs.Text.{AreSections}
 use Rattle.sgt_audit.specs.Faults.{IsLineIn}
 use Rattle.sgt_audit.specs.Reading.{Begun, lines_read}
 

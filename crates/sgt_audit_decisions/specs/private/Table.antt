@@ -2,8 +2,8 @@
 use Rattle.std.specs.Prelude.{◌≡◌, ◌↔◌, ℕ, List, Option, Some, None, slice_get, slice_index_or}
 use Rattle.std.specs.Ordering.{nat_cmp}
 use Rattle.std.specs.BTreeMap.{get}
-use Rattle.sgt_cert.specs.declared.certificate.Decision.{Decision}
-use Rattle.sgt_cert.specs.Certificate.{decided_tx}
+use Rattle.sgt_bundle.specs.declared.certificate.Decision.{Decision}
+use Rattle.sgt_bundle.specs.Certificate.{decided_tx}
 use Rattle.sgt_audit_decisions.specs.private.Outcome.{outcome_of}
 use Rattle.sgt_audit_decisions.specs.declared.table.Placed.{Placed}
 use Rattle.sgt_audit_decisions.specs.declared.table.Table.{Table}

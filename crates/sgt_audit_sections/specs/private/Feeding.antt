@@ -1,7 +1,7 @@
 -- A line at the front of some bytes, fed.
 use Rattle.std.specs.Prelude.{◌≡◌, ◌≤◌, ℕ, List, ◌∷◌, ◌++◌, length, drop, Option}
 use Rattle.sgt_notation.specs.Spelling.{HasNoLf}
-use Rattle.sgt_cert.specs.declared.certificate.Certificate.{Certificate}
+use Rattle.sgt_bundle.specs.declared.certificate.Certificate.{Certificate}
 use Rattle.sgt_audit_decisions.specs.declared.steps.Edge.{Edge}
 use Rattle.sgt_audit.specs.declared.alone.Alone.{Alone}
 use Rattle.sgt_audit.specs.declared.faults.Fault.{Fault}

@@ -2,8 +2,8 @@
 use Rattle.std.specs.Prelude.{◌≡◌, ℕ, Bool, List, Option, Some, None, Result, Ok, Err}
 use Rattle.sgt_names.specs.declared.outcome.EngineFail.{EngineFail}
 use Rattle.sgt_names.specs.declared.outcome.EngineFail.TheVariants.{Memory}
-use Rattle.sgt_cert.specs.Text.{IsCertificate, certificate_text}
-use Rattle.sgt_cert.specs.declared.certificate.Decision.{Decision}
+use Rattle.sgt_bundle.specs.Text.{IsCertificate, certificate_text}
+use Rattle.sgt_bundle.specs.declared.certificate.Decision.{Decision}
 use Rattle.sgt_audit.specs.Faults.{Breaks, KeepsItself}
 use Rattle.sgt_audit.specs.declared.faults.Fault.{Fault}
 use Rattle.sgt_audit_workers.specs.Head.{IsHeadOf}

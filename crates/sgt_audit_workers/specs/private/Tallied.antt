@@ -1,8 +1,8 @@
 -- What the first sections of a text came to.
 use Rattle.std.specs.Prelude.{◌≡◌, ◌≤◌, ℕ, ◌+◌, ◌*◌, List, length, Option, Some, None, ⊤, IfSome, Result, Ok, Err}
 use Rattle.std.specs.Io.KnownBytes.{Consumes}
-use Rattle.sgt_cert.specs.Text.{certificate_text}
-use Rattle.sgt_cert.specs.declared.bundle.SiteLog.{SiteLog}
+use Rattle.sgt_bundle.specs.Text.{certificate_text}
+use Rattle.sgt_bundle.specs.declared.bundle.SiteLog.{SiteLog}
 use Rattle.sgt_audit.specs.Faults.{FirstFault, reach}
 use Rattle.sgt_audit.specs.Verdict.{IsVerdict}
 use Rattle.sgt_audit.specs.declared.faults.Fault.{Fault}

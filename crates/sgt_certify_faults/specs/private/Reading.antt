@@ -3,8 +3,8 @@ use Rattle.std.specs.Prelude.{◌≡◌, ℕ, ◌+◌, Bool, List, ◌++◌, len
 use Rattle.std.specs.List.{filter_map}
 use Rattle.sgt_names.specs.Limits.{max_sites}
 use Rattle.sgt_notation.specs.Spelling.{line_text, text_of_lines}
-use Rattle.sgt_cert.specs.Valid.{IsDecided}
-use Rattle.sgt_cert.specs.declared.certificate.Decision.{Decision}
+use Rattle.sgt_bundle.specs.Valid.{IsDecided}
+use Rattle.sgt_bundle.specs.declared.certificate.Decision.{Decision}
 use Rattle.sgt_audit.specs.Faults.{Breaks, logged_in, whole}
 use Rattle.sgt_audit.specs.Kept.{IsPlace, Tracks}
 use Rattle.sgt_audit.specs.Reading.{Begun, IsBegun, lines_read}

@@ -3,8 +3,8 @@ use Rattle.std.specs.Prelude.{ℕ, List, map, Bool, ◌==◌}
 use Rattle.std.specs.List.{filter, filter_map}
 use Rattle.sgt_names.specs.Entry.{tx_of}
 use Rattle.sgt_names.specs.declared.entry.Entry.{Entry}
-use Rattle.sgt_cert.specs.Serial.{entries_of}
-use Rattle.sgt_cert.specs.declared.bundle.SiteLog.{SiteLog}
+use Rattle.sgt_bundle.specs.Serial.{entries_of}
+use Rattle.sgt_bundle.specs.declared.bundle.SiteLog.{SiteLog}
 use Rattle.sgt_serial.specs.declared.entries.SiteEntry.{SiteEntry}
 use Rattle.sgt_serial.specs.declared.report.SerialTx.{SerialTx}
 use Rattle.sgt_serial.specs.Report.{by_site, read_at, write_at}

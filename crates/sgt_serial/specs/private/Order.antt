@@ -1,7 +1,7 @@
 -- Committed transactions with their ranks.
 use Rattle.std.specs.Prelude.{Option, Some, None}
-use Rattle.sgt_cert.specs.declared.certificate.Decision.{Decision}
-use Rattle.sgt_cert.specs.declared.certificate.Decision.TheVariants.{Commit}
+use Rattle.sgt_bundle.specs.declared.certificate.Decision.{Decision}
+use Rattle.sgt_bundle.specs.declared.certificate.Decision.TheVariants.{Commit}
 use Rattle.sgt_serial.specs.declared.order.Ranked.{Ranked}
 
 -- the transaction and its rank, if the decision commits it

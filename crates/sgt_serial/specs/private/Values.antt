@@ -6,8 +6,8 @@ use Rattle.sgt_names.specs.Name.{Name}
 use Rattle.sgt_names.specs.Log.{names, value_in, value_with}
 use Rattle.sgt_names.specs.declared.entry.Change.{Change}
 use Rattle.sgt_names.specs.declared.entry.Holding.{Holding}
-use Rattle.sgt_cert.specs.Parts.{ComesBefore}
-use Rattle.sgt_cert.specs.Serial.{Store}
+use Rattle.sgt_bundle.specs.Parts.{ComesBefore}
+use Rattle.sgt_bundle.specs.Serial.{Store}
 use Rattle.sgt_serial.specs.declared.report.SiteChange.{SiteChange}
 
 -- the items stand by rising name

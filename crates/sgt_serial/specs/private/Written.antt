@@ -2,8 +2,8 @@
 use Rattle.std.specs.Prelude.{◌≡◌, ℕ, ◌≤◌, List, [], ◌∷◌, ◌++◌, map, codes, vec_capacity, Option}
 use Rattle.std.specs.List.{filter_map}
 use Rattle.std.specs.Io.KnownBytes.{Appends}
-use Rattle.sgt_cert.specs.Parts.{Parts}
-use Rattle.sgt_cert.specs.Certificate.{by_rank}
+use Rattle.sgt_bundle.specs.Parts.{Parts}
+use Rattle.sgt_bundle.specs.Certificate.{by_rank}
 use Rattle.sgt_serial.specs.declared.report.SiteChange.{SiteChange}
 use Rattle.sgt_serial.specs.declared.report.SiteValue.{SiteValue}
 use Rattle.sgt_serial.specs.declared.written.Plan.{Plan}

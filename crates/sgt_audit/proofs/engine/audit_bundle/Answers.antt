@@ -1,10 +1,10 @@
 use Rattle.std.proofs.Common.{List, refl, subst, sym, ap, ap₂, ◌∙◌}
 use Rattle.std.specs.Prelude.{Ok}
-use Rattle.sgt_cert.specs.Parts.{FitTogether, Parts}
-use Rattle.sgt_cert.specs.Text.{Spells}
-use Rattle.sgt_cert.specs.Valid.{IsValid}
-use Rattle.sgt_cert.specs.declared.certificate.Certificate.{Certificate}
-use Rattle.sgt_cert.specs.declared.bundle.SiteLog.{SiteLog}
+use Rattle.sgt_bundle.specs.Parts.{FitTogether, Parts}
+use Rattle.sgt_bundle.specs.Text.{Spells}
+use Rattle.sgt_bundle.specs.Valid.{IsValid}
+use Rattle.sgt_bundle.specs.declared.certificate.Certificate.{Certificate}
+use Rattle.sgt_bundle.specs.declared.bundle.SiteLog.{SiteLog}
 use Rattle.sgt_audit.specs.Reading.{Begun}
 use Rattle.sgt_audit.specs.private.Stops.{IsJudged}
 use Rattle.sgt_audit.proofs.Verdicts.{judged-bundle, kept-fit, kept-sections, none-kept, told-map, whole-bundle}

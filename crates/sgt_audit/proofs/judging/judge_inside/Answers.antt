@@ -1,6 +1,6 @@
 use Rattle.std.proofs.Common.{◌++◌, ◌∷◌, [], sym, subst}
 use Rattle.sgt_notation.specs.declared.SectionLine.{SectionLine}
-use Rattle.sgt_cert.specs.Text.{Begins}
+use Rattle.sgt_bundle.specs.Text.{Begins}
 use Rattle.sgt_audit.specs.Faults.{Keeps}
 use Rattle.sgt_audit.specs.private.Following.{Fits}
 use Rattle.sgt_audit.proofs.SiteStates.{final-listed, known-entry, known-missing}

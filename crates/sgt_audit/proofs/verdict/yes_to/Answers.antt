@@ -1,5 +1,5 @@
 use Rattle.std.proofs.Common.{arith}
-use Rattle.sgt_cert.specs.Certificate.{is_commit, is_refusal, is_withdrawal}
+use Rattle.sgt_bundle.specs.Certificate.{is_commit, is_refusal, is_withdrawal}
 use Rattle.sgt_audit.proofs.Counts.{count-few, count-next}
 use Rattle.sgt_audit.proofs.verdict.yes_to.Goals as goal
 

@@ -1,8 +1,8 @@
 use Rattle.std.proofs.Common.{◌≡◌, ◌<◌, ℕ, List, Some}
 use Rattle.std.specs.Prelude.{slice_get}
-use Rattle.sgt_cert.specs.Certificate.{IsCycle}
-use Rattle.sgt_cert.specs.declared.certificate.Step.{Step}
-use Rattle.sgt_cert.specs.declared.certificate.Decision.TheVariants.{Refuse}
+use Rattle.sgt_bundle.specs.Certificate.{IsCycle}
+use Rattle.sgt_bundle.specs.declared.certificate.Step.{Step}
+use Rattle.sgt_bundle.specs.declared.certificate.Decision.TheVariants.{Refuse}
 use Rattle.sgt_audit_decisions.proofs.cycles.are_cycles.Given as goal
 
 abbrev pub invariant-loop-number : goal.invariant-loop-number

@@ -3,7 +3,7 @@ use Rattle.std.proofs.Math.ListN.{set, length-set}
 use Rattle.std.proofs.lemmas.List.{get_or_default}
 use Rattle.sgt_names.proofs.Places.{All_at}
 use Rattle.sgt_names.proofs.Lists.{element_at}
-use Rattle.sgt_cert.specs.Certificate.{decided_tx}
+use Rattle.sgt_bundle.specs.Certificate.{decided_tx}
 use Rattle.sgt_audit_decisions.proofs.Loops.{answered-no, answered-yes}
 use Rattle.sgt_audit_decisions.proofs.Tables.{told-as, none-entered, entered, decided-twice, whole-table, whole-once, empty-places, place-here, place-others}
 use Rattle.sgt_audit_decisions.specs.declared.table.Placed.{Placed}

@@ -1,6 +1,6 @@
 use Rattle.std.proofs.Common.{◌≤◌, arith}
 use Rattle.sgt_names.proofs.Lists.{element_at, All-next, All-weaken, All-whole}
-use Rattle.sgt_cert.specs.Certificate.{decided_tx}
+use Rattle.sgt_bundle.specs.Certificate.{decided_tx}
 use Rattle.sgt_audit_decisions.proofs.table.greatest.Goals as goal
 use Rattle.sgt_audit_decisions.proofs.table.greatest.Goals.{then-most-number, else-most-number}
 

@@ -1,5 +1,5 @@
 use Rattle.std.proofs.Common.{◌≤◌, All, take}
-use Rattle.sgt_cert.specs.Certificate.{decided_tx}
+use Rattle.sgt_bundle.specs.Certificate.{decided_tx}
 use Rattle.sgt_audit_decisions.proofs.table.greatest.Given as goal
 
 abbrev pub invariant-loop-decision : goal.invariant-loop-decision

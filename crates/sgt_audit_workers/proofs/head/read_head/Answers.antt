@@ -2,7 +2,7 @@ use Rattle.std.proofs.Common.{◌+◌, ◌*◌, ◌∷◌, ◌++◌, [], ◌∙�
 use Rattle.sgt_names.specs.Limits.{max_line}
 use Rattle.sgt_notation.specs.Lines.{Gives, IsNext, coming}
 use Rattle.sgt_notation.specs.declared.lines.Next.TheVariants.{Line}
-use Rattle.sgt_cert.specs.Text.{certificate_text, format_line}
+use Rattle.sgt_bundle.specs.Text.{certificate_text, format_line}
 use Rattle.sgt_audit.specs.declared.verdict.Verdict.TheVariants.{No}
 use Rattle.sgt_audit_workers.specs.Cut.{longest}
 use Rattle.sgt_audit_workers.specs.Reads.{reader}

@@ -1,5 +1,5 @@
 use Rattle.std.proofs.Common.{◌≤◌, ◌-◌, List, length}
-use Rattle.sgt_cert.specs.declared.bundle.SiteLog.{SiteLog}
+use Rattle.sgt_bundle.specs.declared.bundle.SiteLog.{SiteLog}
 use Rattle.sgt_certify_logs.specs.Certifiable.{SpellsLogs}
 use Rattle.sgt_certify.proofs.deciding.all_logs.Given as goal
 

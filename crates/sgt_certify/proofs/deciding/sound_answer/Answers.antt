@@ -1,6 +1,6 @@
 use Rattle.std.proofs.Common.{◌≤◌, List, length, sym, subst}
 use Rattle.sgt_names.specs.Limits.{max_sites}
-use Rattle.sgt_cert.specs.declared.bundle.SiteLog.{SiteLog}
+use Rattle.sgt_bundle.specs.declared.bundle.SiteLog.{SiteLog}
 use Rattle.sgt_certify_logs.specs.Sound.{AreSound}
 use Rattle.sgt_certify_greedy.specs.Answer.{IsAnswerTo}
 use Rattle.sgt_certify_greedy.specs.declared.deciding.Answer.{Answer}

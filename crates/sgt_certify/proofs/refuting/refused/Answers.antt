@@ -1,5 +1,5 @@
 use Rattle.std.proofs.Common.{ℕ, List, ◌++◌, ap, ap₂, ◌∙◌, subst, arith}
-use Rattle.sgt_cert.specs.declared.bundle.SiteLog.{SiteLog}
+use Rattle.sgt_bundle.specs.declared.bundle.SiteLog.{SiteLog}
 use Rattle.sgt_certify_logs.proofs.Inserted.{logs-one}
 use Rattle.sgt_certify.specs.Answer.{Excludes, IsFirst, refusal_text}
 use Rattle.sgt_certify.specs.Reasons.{AreNumbered, Holds, Tells}

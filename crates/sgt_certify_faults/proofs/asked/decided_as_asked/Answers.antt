@@ -1,8 +1,8 @@
 use Rattle.std.proofs.Common.{List, sym, ap, ◌∙◌, subst}
 use Rattle.std.proofs.lemmas.Option.{none-some}
 use Rattle.sgt_names.proofs.Lists.{IsSome-value}
-use Rattle.sgt_cert.specs.Certificate.{IsDecidedOnce}
-use Rattle.sgt_cert.specs.declared.certificate.Certificate.{Certificate}
+use Rattle.sgt_bundle.specs.Certificate.{IsDecidedOnce}
+use Rattle.sgt_bundle.specs.declared.certificate.Certificate.{Certificate}
 use Rattle.sgt_certify_faults.specs.private.Asked.{AreDecidedAsAsked}
 use Rattle.sgt_certify_faults.proofs.Odds.{decided-as_asked}
 use Rattle.sgt_certify_faults.proofs.asked.decided_as_asked.Goals as goal

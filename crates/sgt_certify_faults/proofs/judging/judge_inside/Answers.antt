@@ -1,7 +1,7 @@
 use Rattle.std.proofs.Common.{◌++◌, ◌∷◌, [], None, sym, subst}
 use Rattle.sgt_names.specs.Limits.{max_sites}
 use Rattle.sgt_notation.specs.declared.SectionLine.{SectionLine}
-use Rattle.sgt_cert.specs.Text.{Begins}
+use Rattle.sgt_bundle.specs.Text.{Begins}
 use Rattle.sgt_audit.specs.private.Following.{Fits}
 use Rattle.sgt_audit.proofs.SiteStates.{final-listed, known-entry, known-missing}
 use Rattle.sgt_certify_faults.specs.Faults.{KeepsAlone}

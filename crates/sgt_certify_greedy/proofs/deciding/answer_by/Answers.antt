@@ -1,8 +1,8 @@
 use Rattle.std.proofs.Common.{◌≡◌, ℕ, List, [], sym, ap, ◌∙◌, subst, inl, inr, map, Contains}
 use Rattle.std.proofs.lemmas.Bool.{eqb-true}
-use Rattle.sgt_cert.specs.Certificate.{decided_tx}
-use Rattle.sgt_cert.specs.Valid.{IsValid}
-use Rattle.sgt_cert.specs.declared.certificate.Decision.{Decision}
+use Rattle.sgt_bundle.specs.Certificate.{decided_tx}
+use Rattle.sgt_bundle.specs.Valid.{IsValid}
+use Rattle.sgt_bundle.specs.declared.certificate.Decision.{Decision}
 use Rattle.sgt_certify_logs.specs.Witness.{IsStuck}
 use Rattle.sgt_certify_greedy.specs.Decided.{IsUnpreceded}
 use Rattle.sgt_certify_greedy.proofs.Decisions.{left-stuck, positive-length}

@@ -1,5 +1,5 @@
 use Rattle.std.proofs.Common.{◌≡◌, map, take}
-use Rattle.sgt_cert.specs.Certificate.{decided_tx}
+use Rattle.sgt_bundle.specs.Certificate.{decided_tx}
 use Rattle.sgt_certify_greedy.proofs.greedy.decided_by.Given as goal
 
 abbrev pub invariant-loop-decision : goal.invariant-loop-decision

@@ -5,7 +5,7 @@ use Rattle.sgt_names.proofs.Places.{All-from_at, Contains-from_at}
 use Rattle.sgt_names.proofs.Lists.{All_in}
 use Rattle.sgt_names.specs.Entry.{tx_of}
 use Rattle.sgt_names.specs.declared.entry.Entry.{Entry}
-use Rattle.sgt_cert.specs.declared.bundle.SiteLog.{SiteLog}
+use Rattle.sgt_bundle.specs.declared.bundle.SiteLog.{SiteLog}
 use Rattle.sgt_certify_greedy.specs.declared.pairs.Pair.{Pair}
 use Rattle.sgt_certify_greedy.specs.Pairs.{ArePaired, IsPair, Leads}
 use Rattle.sgt_certify_greedy.proofs.Pairing.{leads-kept, one-more, read-at}

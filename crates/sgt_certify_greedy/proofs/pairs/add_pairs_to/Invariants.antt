@@ -2,7 +2,7 @@ use Rattle.std.proofs.Common.{◌≡◌, ◌<◌, ℕ, Some, All}
 use Rattle.std.specs.Prelude.{slice_get}
 use Rattle.sgt_names.specs.Entry.{tx_of}
 use Rattle.sgt_names.specs.declared.entry.Entry.{Entry}
-use Rattle.sgt_cert.specs.declared.bundle.SiteLog.{SiteLog}
+use Rattle.sgt_bundle.specs.declared.bundle.SiteLog.{SiteLog}
 use Rattle.sgt_certify_greedy.specs.Pairs.{ArePaired, IsPair, Leads}
 use Rattle.sgt_certify_greedy.proofs.Pairing.{Keeps}
 use Rattle.sgt_certify_greedy.proofs.pairs.add_pairs_to.Given as goal

@@ -5,7 +5,7 @@ use Rattle.sgt_names.proofs.Places.{All-from_at, Contains-from_at}
 use Rattle.sgt_names.proofs.Lists.{All_in, element_at}
 use Rattle.sgt_names.specs.Entry.{tx_of, IsEnd}
 use Rattle.sgt_names.specs.declared.entry.Entry.{Entry}
-use Rattle.sgt_cert.specs.declared.bundle.SiteLog.{SiteLog}
+use Rattle.sgt_bundle.specs.declared.bundle.SiteLog.{SiteLog}
 use Rattle.sgt_certify_logs.specs.Witness.{HasEnd}
 use Rattle.sgt_certify_greedy.proofs.Pairing.{got-entries, one-more}
 use Rattle.sgt_certify_greedy.proofs.sets.add_ended.Goals as goal

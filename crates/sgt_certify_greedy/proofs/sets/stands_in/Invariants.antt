@@ -1,5 +1,5 @@
 use Rattle.std.proofs.Common.{take, All, Contains}
-use Rattle.sgt_cert.specs.declared.bundle.SiteLog.{SiteLog}
+use Rattle.sgt_bundle.specs.declared.bundle.SiteLog.{SiteLog}
 use Rattle.sgt_certify_greedy.proofs.sets.stands_in.Given as goal
 
 abbrev pub invariant-loop-log : goal.invariant-loop-log

@@ -2,8 +2,8 @@ use Rattle.std.proofs.Common.{◌≡◌, ℕ, List, [], ◌∷◌, ◌++◌, Som
 use Rattle.std.specs.Prelude.{slice_get}
 use Rattle.std.proofs.lemmas.Option.{get_or_from_slice_get}
 use Rattle.sgt_names.proofs.Places.{All_at}
-use Rattle.sgt_cert.specs.Valid.{IsLogged}
-use Rattle.sgt_cert.specs.declared.certificate.Step.{Step}
+use Rattle.sgt_bundle.specs.Valid.{IsLogged}
+use Rattle.sgt_bundle.specs.declared.certificate.Step.{Step}
 use Rattle.sgt_certify_greedy.specs.declared.walks.Reached.{Reached}
 use Rattle.sgt_certify_greedy.specs.Pairs.{Leads}
 use Rattle.sgt_certify_greedy.specs.Walks.{IsPath, IsReached}

@@ -1,5 +1,5 @@
 use Rattle.std.proofs.Common.{take, All}
-use Rattle.sgt_cert.specs.declared.bundle.SiteLog.{SiteLog}
+use Rattle.sgt_bundle.specs.declared.bundle.SiteLog.{SiteLog}
 use Rattle.sgt_certify_stuck.specs.private.Ends.{HasNoCommit}
 use Rattle.sgt_certify_stuck.proofs.ends.are_uncommitted.Given as goal
 

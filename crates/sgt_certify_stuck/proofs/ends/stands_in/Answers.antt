@@ -3,7 +3,7 @@ use Rattle.std.proofs.lemmas.Bool.{false≢true}
 use Rattle.sgt_names.specs.declared.entry.Entry.{Entry}
 use Rattle.sgt_names.proofs.Places.{Contains-from_at}
 use Rattle.sgt_names.proofs.Lists.{All_in, All-next, All-whole, element_at}
-use Rattle.sgt_cert.specs.declared.bundle.SiteLog.{SiteLog}
+use Rattle.sgt_bundle.specs.declared.bundle.SiteLog.{SiteLog}
 use Rattle.sgt_certify_stuck.proofs.ends.stands_in.Goals as goal
 
 pub returns-then-has_entry : goal.returns-then-has_entry

@@ -3,7 +3,7 @@ use Rattle.std.proofs.lemmas.Bool.{true≢false}
 use Rattle.sgt_names.proofs.Lists.{element_at}
 use Rattle.sgt_names.proofs.Places.{Contains-from_at}
 use Rattle.sgt_names.specs.declared.entry.Entry.{Entry}
-use Rattle.sgt_cert.specs.declared.bundle.SiteLog.{SiteLog}
+use Rattle.sgt_bundle.specs.declared.bundle.SiteLog.{SiteLog}
 use Rattle.sgt_certify_stuck.specs.Onward.{EndsLeadOnward, EndsStand}
 use Rattle.sgt_certify_stuck.proofs.Elements.{at_more, each-in}
 use Rattle.sgt_certify_stuck.proofs.onward.all_ends_lead_onward.Goals as goal

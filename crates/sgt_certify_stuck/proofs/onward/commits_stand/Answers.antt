@@ -4,7 +4,7 @@ use Rattle.sgt_names.proofs.Lists.{element_at}
 use Rattle.sgt_names.proofs.Places.{Contains_at, Contains-from_at}
 use Rattle.sgt_names.specs.declared.entry.Entry.{Entry}
 use Rattle.sgt_names.specs.declared.entry.Entry.TheVariants.{Commit}
-use Rattle.sgt_cert.specs.declared.bundle.SiteLog.{SiteLog}
+use Rattle.sgt_bundle.specs.declared.bundle.SiteLog.{SiteLog}
 use Rattle.sgt_certify_stuck.specs.Onward.{LogCommitsStand}
 use Rattle.sgt_certify_stuck.proofs.Elements.{at_more, each-in}
 use Rattle.sgt_certify_stuck.proofs.onward.commits_stand.Goals as goal

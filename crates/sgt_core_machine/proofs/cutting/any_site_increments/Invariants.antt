@@ -1,5 +1,5 @@
 use Rattle.std.proofs.Common.{◌≡◌, drop}
-use Rattle.sgt_cert.specs.Text.{has_increments}
+use Rattle.sgt_bundle.specs.Text.{has_increments}
 use Rattle.sgt_core_machine.specs.Cut.{logs_at}
 use Rattle.sgt_core_machine.proofs.cutting.any_site_increments.Given as goal
 

@@ -1,7 +1,7 @@
 use Rattle.std.proofs.Common.{◌++◌, map, ◌∙◌, ap}
 use Rattle.sgt_notation.specs.Spelling.{line_text, text_of_lines}
-use Rattle.sgt_cert.specs.Text.{section_lines}
-use Rattle.sgt_cert.specs.declared.bundle.SiteLog.{SiteLog}
+use Rattle.sgt_bundle.specs.Text.{section_lines}
+use Rattle.sgt_bundle.specs.declared.bundle.SiteLog.{SiteLog}
 use Rattle.sgt_core_machine.proofs.Bundles.{same_log, finals_are}
 use Rattle.sgt_core_machine.proofs.cutting.push_place.Goals as goal
 

@@ -1,6 +1,6 @@
 use Rattle.std.proofs.Common.{◌≡◌, ◌++◌, drop, map}
 use Rattle.sgt_notation.specs.Spelling.{line_text, text_of_lines}
-use Rattle.sgt_cert.specs.Text.{sections_from}
+use Rattle.sgt_bundle.specs.Text.{sections_from}
 use Rattle.sgt_core_machine.specs.Cut.{finals_at, logs_at}
 use Rattle.sgt_core_machine.proofs.cutting.push_sections.Given as goal
 

@@ -1,6 +1,6 @@
 use Rattle.std.proofs.Common.{sym, subst, All}
-use Rattle.sgt_cert.specs.Parts.{FitTogether}
-use Rattle.sgt_cert.specs.Valid.{IsValid}
+use Rattle.sgt_bundle.specs.Parts.{FitTogether}
+use Rattle.sgt_bundle.specs.Valid.{IsValid}
 use Rattle.sgt_courses.specs.Chained.{GoOn}
 use Rattle.sgt_courses.proofs.Courses.{course_runs, all_valid, all_fit, all_go_on}
 use Rattle.sgt_courses.proofs.laws.courses_are_chains.Goals as goal

@@ -1,6 +1,6 @@
 use Rattle.std.proofs.Common.{sym, subst}
 use Rattle.std.specs.Prelude.{OnOk, string_bytes}
-use Rattle.sgt_cert.specs.Line.{Refuses}
+use Rattle.sgt_bundle.specs.Line.{Refuses}
 use Rattle.sgt_audit.specs.Faults.{bytes_of}
 use Rattle.sgt_explain_lines.specs.Told.{ShowsLine}
 use Rattle.sgt_explain_certificate.specs.Told.{fault_words}

@@ -1,7 +1,7 @@
 use Rattle.std.proofs.Common.{List, sym, ◌∙◌, subst}
 use Rattle.std.specs.Prelude.{OnOk, string_bytes}
-use Rattle.sgt_cert.specs.Certificate.{IsDecidedOnce}
-use Rattle.sgt_cert.specs.declared.certificate.Decision.{Decision}
+use Rattle.sgt_bundle.specs.Certificate.{IsDecidedOnce}
+use Rattle.sgt_bundle.specs.declared.certificate.Decision.{Decision}
 use Rattle.sgt_audit.specs.Faults.{bytes_of}
 use Rattle.sgt_explain_decisions.specs.Twice.{TellsTwice}
 use Rattle.sgt_explain.proofs.ShownDecisions.{twice-held, twice-broken, tells-read_certificate, none-read}

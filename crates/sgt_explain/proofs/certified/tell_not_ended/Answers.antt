@@ -1,7 +1,7 @@
 use Rattle.std.proofs.Common.{List, All, sym, subst, ◌∙◌}
 use Rattle.std.specs.Prelude.{OnOk, string_bytes, unwrap_or}
 use Rattle.sgt_names.specs.Entry.{tx_of}
-use Rattle.sgt_cert.specs.declared.certificate.Decision.{Decision}
+use Rattle.sgt_bundle.specs.declared.certificate.Decision.{Decision}
 use Rattle.sgt_explain_lines.specs.declared.section.Logged.{Logged}
 use Rattle.sgt_explain_decisions.specs.Ends.{HasEnd, TellsNotEnded}
 use Rattle.sgt_explain_decisions.specs.Placed.{ArePlaced, IsUndecided}

@@ -1,6 +1,6 @@
 use Rattle.std.proofs.Common.{List, sym, ◌∙◌, subst}
 use Rattle.std.specs.Prelude.{OnOk, string_bytes}
-use Rattle.sgt_cert.specs.declared.certificate.Decision.{Decision}
+use Rattle.sgt_bundle.specs.declared.certificate.Decision.{Decision}
 use Rattle.sgt_audit.specs.Faults.{bytes_of}
 use Rattle.sgt_explain_certificate.specs.Ranks.{TellsRanks}
 use Rattle.sgt_explain.proofs.ShownDecisions.{ranks-held, tells-read_certificate, none-read}

@@ -1,6 +1,6 @@
 use Rattle.std.proofs.Common.{List, length, sym, ◌∙◌, subst}
 use Rattle.std.specs.Prelude.{OnOk, string_bytes}
-use Rattle.sgt_cert.specs.declared.certificate.Decision.{Decision}
+use Rattle.sgt_bundle.specs.declared.certificate.Decision.{Decision}
 use Rattle.sgt_audit.specs.Faults.{bytes_of}
 use Rattle.sgt_explain_decisions.specs.Walks.{HaveCycles, TellsWalk}
 use Rattle.sgt_explain.proofs.ShownDecisions.{walk-held, walk-broken, tells-read_certificate, none-read}

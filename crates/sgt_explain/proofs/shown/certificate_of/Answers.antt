@@ -1,8 +1,8 @@
 use Rattle.std.proofs.Common.{◌≢◌, ap}
 use Rattle.std.specs.Prelude.{Some}
 use Rattle.std.proofs.lemmas.List.Elements.{All-from_recursion}
-use Rattle.sgt_cert.specs.Text.{certificate_text}
-use Rattle.sgt_cert.proofs.OneLine.{certificate-one_line}
+use Rattle.sgt_bundle.specs.Text.{certificate_text}
+use Rattle.sgt_bundle.proofs.OneLine.{certificate-one_line}
 use Rattle.sgt_explain.proofs.shown.certificate_of.Goals as goal
 
 pub returns-in-Ok : goal.returns-in-Ok

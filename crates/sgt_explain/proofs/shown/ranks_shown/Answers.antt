@@ -1,8 +1,8 @@
 use Rattle.std.proofs.Common.{All, sym, ◌∙◌, subst}
 use Rattle.std.specs.Prelude.{IfSome, IfNone}
 use Rattle.sgt_names.specs.Entry.{tx_of}
-use Rattle.sgt_cert.specs.Certificate.{IsCommitted, IsDecidedOnce}
-use Rattle.sgt_cert.specs.Valid.{RiseInRank}
+use Rattle.sgt_bundle.specs.Certificate.{IsCommitted, IsDecidedOnce}
+use Rattle.sgt_bundle.specs.Valid.{RiseInRank}
 use Rattle.sgt_explain_decisions.specs.Against.{IsFirstAgainst}
 use Rattle.sgt_explain_decisions.specs.Placed.{ArePlaced}
 use Rattle.sgt_explain.proofs.ShownValues.{no-certificate, no-entry, shows-ranks-found}

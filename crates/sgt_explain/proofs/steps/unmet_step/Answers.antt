@@ -1,6 +1,6 @@
 use Rattle.std.proofs.Common.{◌≡◌, sym, ap, ◌∙◌, subst, arith}
 use Rattle.std.proofs.lemmas.Option.{same_Some, none-some}
-use Rattle.sgt_cert.specs.declared.certificate.Certificate.{Certificate}
+use Rattle.sgt_bundle.specs.declared.certificate.Certificate.{Certificate}
 use Rattle.sgt_explain.proofs.ShownSteps.{faulty}
 use Rattle.sgt_explain.proofs.FoundSteps.{has-before, some-unshown, step-found}
 use Rattle.sgt_explain.proofs.steps.unmet_step.Goals as goal

@@ -1,7 +1,7 @@
 use Rattle.std.proofs.Common.{sym, ◌∙◌, ap, subst}
 use Rattle.std.specs.Prelude.{OnOk, string_bytes}
 use Rattle.std.proofs.lemmas.Option.{same_Some, none-some}
-use Rattle.sgt_cert.specs.declared.certificate.Certificate.{Certificate}
+use Rattle.sgt_bundle.specs.declared.certificate.Certificate.{Certificate}
 use Rattle.sgt_explain_decisions.specs.Fate.{TellsFate}
 use Rattle.sgt_explain.proofs.Telling.{on-all, on-ok}
 use Rattle.sgt_explain.proofs.yeses.push_decided.Goals as goal

@@ -1,6 +1,6 @@
 use Rattle.std.proofs.Common.{List, ℕ, arith, subst}
 use Rattle.std.specs.Prelude.{string_bytes}
-use Rattle.sgt_explain_dealings.specs.Dealings.{TellsAllOwn}
+use Rattle.sgt_explain_transaction.specs.Dealings.{TellsAllOwn}
 use Rattle.sgt_explain.proofs.SeenLines.{seen-lines}
 use Rattle.sgt_explain.proofs.Telling.{on-ok, on-both}
 use Rattle.sgt_explain.proofs.yeses.push_transaction.Goals as goal

@@ -1,7 +1,7 @@
 use Rattle.std.proofs.Common.{◌++◌, List, ap, sym, subst, ◌∙◌, take, take_all, arith, append_assoc}
 use Rattle.std.specs.Prelude.{string_bytes}
 use Rattle.sgt_names.proofs.Lists.{element_at, take_next}
-use Rattle.sgt_cert.specs.declared.certificate.Step.{Step}
+use Rattle.sgt_bundle.specs.declared.certificate.Step.{Step}
 use Rattle.sgt_explain_decisions.specs.Cycles.{Shows, step_text, TellsCycle}
 use Rattle.sgt_explain_decisions.specs.Sought.{last_stop}
 use Rattle.sgt_explain_decisions.proofs.Telling.{last_stop-next, cycle-next}

@@ -2,7 +2,7 @@ use Rattle.std.proofs.Common.{◌≡◌, ◌+◌, ◌++◌, List, length, ap, sy
 use Rattle.std.specs.Prelude.{string_bytes}
 use Rattle.std.proofs.lemmas.List.{length-take-le}
 use Rattle.sgt_names.proofs.Lists.{element_at, take_next}
-use Rattle.sgt_cert.specs.declared.certificate.Decision.{Decision}
+use Rattle.sgt_bundle.specs.declared.certificate.Decision.{Decision}
 use Rattle.sgt_explain_decisions.specs.Cycles.{TellsRefusal, TellsCycles}
 use Rattle.sgt_explain_decisions.proofs.Telling.{cycles-next}
 use Rattle.sgt_explain_decisions.proofs.cycles.push_cycles.Goals as goal

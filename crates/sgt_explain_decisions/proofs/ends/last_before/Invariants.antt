@@ -1,6 +1,6 @@
 use Rattle.std.proofs.Common.{ℕ, ◌<◌, ◌≤◌, List, All, Contains, take}
 use Rattle.std.specs.Prelude.{IfSome, IsSomeAnd}
-use Rattle.sgt_cert.specs.declared.certificate.Decision.{Decision}
+use Rattle.sgt_bundle.specs.declared.certificate.Decision.{Decision}
 use Rattle.sgt_explain_decisions.specs.Placed.{ArePlaced}
 use Rattle.sgt_explain_decisions.proofs.Besides.{IsBesideSoFar}
 use Rattle.sgt_explain_decisions.proofs.ends.last_before.Given as goal

@@ -1,7 +1,7 @@
 use Rattle.std.proofs.Common.{◌≡◌, Some, length, ap, subst, arith}
 use Rattle.std.specs.Prelude.{slice_get}
 use Rattle.sgt_names.proofs.Lists.{All-whole, element_at}
-use Rattle.sgt_cert.specs.Valid.{RiseInRank}
+use Rattle.sgt_bundle.specs.Valid.{RiseInRank}
 use Rattle.sgt_explain_lines.specs.declared.section.Logged.{Logged}
 use Rattle.sgt_explain_decisions.proofs.Ranking.{first-against}
 use Rattle.sgt_explain_decisions.proofs.order.against_ranks.Goals as goal

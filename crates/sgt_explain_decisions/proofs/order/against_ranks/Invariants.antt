@@ -1,6 +1,6 @@
 use Rattle.std.proofs.Common.{All, take}
-use Rattle.sgt_cert.specs.Certificate.{IsDecidedOnce}
-use Rattle.sgt_cert.specs.Valid.{RiseInRank}
+use Rattle.sgt_bundle.specs.Certificate.{IsDecidedOnce}
+use Rattle.sgt_bundle.specs.Valid.{RiseInRank}
 use Rattle.sgt_explain_decisions.specs.Placed.{ArePlaced}
 use Rattle.sgt_explain_decisions.proofs.order.against_ranks.Given as goal
 

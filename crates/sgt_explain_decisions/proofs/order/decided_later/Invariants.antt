@@ -1,5 +1,5 @@
 use Rattle.std.proofs.Common.{List, All, take}
-use Rattle.sgt_cert.specs.declared.certificate.Decision.{Decision}
+use Rattle.sgt_bundle.specs.declared.certificate.Decision.{Decision}
 use Rattle.sgt_explain_decisions.specs.Placed.{ArePlaced}
 use Rattle.sgt_explain_decisions.specs.Decided.{IsNotLater}
 use Rattle.sgt_explain_decisions.proofs.order.decided_later.Given as goal

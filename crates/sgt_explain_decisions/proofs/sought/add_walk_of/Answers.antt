@@ -1,6 +1,6 @@
 use Rattle.std.proofs.Common.{◌≡◌, List, length, sym, subst, ◌∙◌}
 use Rattle.std.specs.Prelude.{OnOk}
-use Rattle.sgt_cert.specs.declared.certificate.Step.{Step}
+use Rattle.sgt_bundle.specs.declared.certificate.Step.{Step}
 use Rattle.sgt_explain_decisions.specs.Sought.{AreSoughtFor}
 use Rattle.sgt_explain_decisions.proofs.Seeking.{seeks-none, refuse-same}
 use Rattle.sgt_explain_decisions.proofs.sought.add_walk_of.Goals as goal

@@ -1,7 +1,7 @@
 use Rattle.std.proofs.Common.{◌≢◌, take, take_all, subst, arith}
 use Rattle.sgt_names.proofs.Lists.{element_at}
-use Rattle.sgt_cert.specs.Certificate.{decided_tx, IsDecidedOnce}
-use Rattle.sgt_cert.specs.declared.certificate.Decision.{Decision}
+use Rattle.sgt_bundle.specs.Certificate.{decided_tx, IsDecidedOnce}
+use Rattle.sgt_bundle.specs.declared.certificate.Decision.{Decision}
 use Rattle.sgt_explain_decisions.specs.Placed.{IsFirstOn, IsUndecided}
 use Rattle.sgt_explain_decisions.proofs.Doubling.{pairs-next, first-twice}
 use Rattle.sgt_explain_decisions.proofs.twice.twice_in.Goals as goal

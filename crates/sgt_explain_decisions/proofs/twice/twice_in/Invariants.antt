@@ -1,5 +1,5 @@
 use Rattle.std.proofs.Common.{take}
-use Rattle.sgt_cert.specs.Certificate.{IsDecidedOnce}
+use Rattle.sgt_bundle.specs.Certificate.{IsDecidedOnce}
 use Rattle.sgt_explain_decisions.specs.Placed.{ArePlaced}
 use Rattle.sgt_explain_decisions.proofs.twice.twice_in.Given as goal
 

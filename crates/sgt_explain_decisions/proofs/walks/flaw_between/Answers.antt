@@ -1,6 +1,6 @@
 use Rattle.std.proofs.Common.{arith}
 use Rattle.sgt_names.proofs.Lists.{element_at, All-next, All-whole}
-use Rattle.sgt_cert.specs.declared.certificate.Step.{Step}
+use Rattle.sgt_bundle.specs.declared.certificate.Step.{Step}
 use Rattle.sgt_explain_decisions.specs.Walks.{MayBePassed}
 use Rattle.sgt_explain_decisions.proofs.walks.flaw_between.Goals as goal
 

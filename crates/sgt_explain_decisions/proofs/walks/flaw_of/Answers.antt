@@ -1,5 +1,5 @@
 use Rattle.std.proofs.Common.{◌≡◌, List, All, sym, subst}
-use Rattle.sgt_cert.specs.declared.certificate.Step.{Step}
+use Rattle.sgt_bundle.specs.declared.certificate.Step.{Step}
 use Rattle.sgt_explain_decisions.specs.Walks.{MayBePassed, LeadsTo, AreApart, IsFirstAgain}
 use Rattle.sgt_explain_decisions.proofs.Walking.{is-cycle}
 use Rattle.sgt_names.proofs.Elements.{ne-same}

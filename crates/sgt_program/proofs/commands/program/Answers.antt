@@ -6,7 +6,7 @@ use Rattle.sgt_program.proofs.Told.{asks_workers, failed_more, helped, leaves_mo
 use Rattle.sgt_program.specs.Commands as comes
 use Rattle.sgt_program.specs.Commands.{Answers, LeavesUnread}
 use Rattle.sgt_program.specs.Ending.{status_of}
-use Rattle.sgt_words.specs.Words.{AsksFor, TellsHelp}
+use Rattle.sgt_command_line.specs.Words.{AsksFor, TellsHelp}
 use Rattle.sgt_program.specs.declared.ending.Ending.TheVariants.{Ran, NoCommand}
 use Rattle.sgt_program.proofs.commands.program.Goals as goal
 

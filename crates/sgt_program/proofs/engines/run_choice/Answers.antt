@@ -10,7 +10,7 @@ use Rattle.sgt_program.proofs.Answered.{audit-fails, rule-answers, serial-answer
 use Rattle.sgt_program.specs.Ending.{ReadsOn}
 use Rattle.sgt_program.proofs.Told.{due, failed_more, kept, leaves, leaves_fail, leaves_more, leaves_topic, quiet_more}
 use Rattle.sgt_line.specs.declared.name.CommandName.TheVariants as command
-use Rattle.sgt_words.specs.Words.{command_of}
+use Rattle.sgt_command_line.specs.Words.{command_of}
 use Rattle.sgt_program.proofs.engines.run_choice.Goals as goal
 
 pub returns-in-Ok-clause-answers : goal.returns-in-Ok-clause-answers

@@ -1,4 +1,4 @@
-use Rattle.sgt_cert.proofs.Headline.{valid-agrees}
+use Rattle.sgt_bundle.proofs.Headline.{valid-agrees}
 use Rattle.sgt_serial.proofs.Differences.{says-agrees, says-differs}
 use Rattle.sgt_serial.proofs.run.serial_run.Goals as goal
 

@@ -1,5 +1,5 @@
 use Rattle.std.proofs.Common.{ℕ, ◌<◌}
-use Rattle.sgt_cert.specs.Certificate.{IsCommitted}
+use Rattle.sgt_bundle.specs.Certificate.{IsCommitted}
 use Rattle.sgt_service_settle.proofs.committed.above_all.Given as goal
 
 abbrev pub invariant-loop-decision : goal.invariant-loop-decision

@@ -1,6 +1,6 @@
 use Rattle.std.proofs.Common.{◌≡◌, ◌∙◌, ◌↔◌, ℕ, sym, ap, subst, List}
-use Rattle.sgt_cert.specs.Certificate.{IsCommitted, IsDecidedOnce}
-use Rattle.sgt_cert.specs.declared.certificate.Decision.{Decision}
+use Rattle.sgt_bundle.specs.Certificate.{IsCommitted, IsDecidedOnce}
+use Rattle.sgt_bundle.specs.declared.certificate.Decision.{Decision}
 use Rattle.sgt_certifier.proofs.Ruling.{certificate-once}
 use Rattle.sgt_certifier.proofs.Replaying.{replays-good}
 use Rattle.sgt_certifier.specs.Certifier.{certificate_of}

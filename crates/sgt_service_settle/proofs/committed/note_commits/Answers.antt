@@ -1,6 +1,6 @@
 use Rattle.std.proofs.Common.{◌∙◌, Some, sym, ap, arith}
 use Rattle.std.proofs.lemmas.Option.{slice_get_within, same_Some}
-use Rattle.sgt_cert.specs.Certificate.{IsCommitted}
+use Rattle.sgt_bundle.specs.Certificate.{IsCommitted}
 use Rattle.sgt_service_settle.proofs.Committing.{noted_next, noted_other}
 use Rattle.sgt_service_settle.proofs.committed.note_commits.Goals as goal
 use Rattle.sgt_service_settle.proofs.committed.note_commits.Goals.{in-Commit, in_default}

@@ -1,5 +1,5 @@
 use Rattle.std.proofs.Common.{ℕ, ◌<◌, ◌↔◌}
-use Rattle.sgt_cert.specs.Certificate.{IsCommitted}
+use Rattle.sgt_bundle.specs.Certificate.{IsCommitted}
 use Rattle.sgt_service_settle.specs.private.Index.{IsIn}
 use Rattle.sgt_service_settle.proofs.committed.note_commits.Given as goal
 

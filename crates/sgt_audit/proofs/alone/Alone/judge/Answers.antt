@@ -1,5 +1,5 @@
 use Rattle.std.proofs.Common.{◌++◌, ◌∷◌, [], sym, subst}
-use Rattle.sgt_cert.specs.Text.{Begins}
+use Rattle.sgt_bundle.specs.Text.{Begins}
 use Rattle.sgt_audit.specs.Reading.{HasRoomFor, lines_read}
 use Rattle.sgt_audit.proofs.Lone.{two, first, first-begins, first-open, not-walk}
 use Rattle.sgt_audit.proofs.OpenLogs.{has_open, fits-open, kept-between}

@@ -1,6 +1,6 @@
 use Rattle.std.proofs.Common.{[], None, refl, sym, ap, ◌∙◌, subst}
-use Rattle.sgt_cert.specs.Text.{certificate_text, IsCertificate}
-use Rattle.sgt_cert.specs.declared.certificate.Certificate.{Certificate}
+use Rattle.sgt_bundle.specs.Text.{certificate_text, IsCertificate}
+use Rattle.sgt_bundle.specs.declared.certificate.Certificate.{Certificate}
 use Rattle.sgt_audit.specs.declared.faults.Fault.{Fault}
 use Rattle.sgt_audit.specs.Faults.{KeepsItself}
 use Rattle.sgt_audit.specs.Kept.{Means}

@@ -1,6 +1,6 @@
 use Rattle.std.proofs.Common.{◌++◌, ◌∷◌, [], sym, subst}
 use Rattle.sgt_audit_cells.specs.Tracks.{TracksOpen}
-use Rattle.sgt_cert.proofs.InRange.{on_ok-anyway}
+use Rattle.sgt_bundle.proofs.InRange.{on_ok-anyway}
 use Rattle.sgt_audit_cells.proofs.state.SiteState.enter_slowly.Goals as goal
 
 pub returns-clause-tracks : goal.returns-clause-tracks

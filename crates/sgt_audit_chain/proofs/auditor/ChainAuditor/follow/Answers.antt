@@ -3,8 +3,8 @@ use Rattle.std.specs.Prelude.{option_map}
 use Rattle.std.proofs.lemmas.List.Elements.{All-push}
 use Rattle.std.proofs.lemmas.Option.{none-some, same_Some}
 use Rattle.sgt_names.specs.declared.entry.Holding.{Holding}
-use Rattle.sgt_cert.specs.Parts.{FitTogether}
-use Rattle.sgt_cert.specs.declared.certificate.Certificate.{Certificate}
+use Rattle.sgt_bundle.specs.Parts.{FitTogether}
+use Rattle.sgt_bundle.specs.declared.certificate.Certificate.{Certificate}
 use Rattle.sgt_audit_chain.specs.Chain.{final_of, initial_of, initial_values, values_behind}
 use Rattle.sgt_audit_chain.specs.declared.auditor.ChainAuditor.{ChainAuditor}
 use Rattle.sgt_audit_chain.proofs.Growing.{behind-next, chain-next, counts-next}

@@ -1,6 +1,6 @@
 use Rattle.std.proofs.Common.{◌∷◌, ◌++◌, []}
-use Rattle.sgt_cert.specs.Text.{Spells}
-use Rattle.sgt_cert.specs.Valid.{IsValid}
+use Rattle.sgt_bundle.specs.Text.{Spells}
+use Rattle.sgt_bundle.specs.Valid.{IsValid}
 use Rattle.sgt_audit.proofs.Verdicts.{told-map}
 use Rattle.sgt_audit_chain.proofs.Growing.{spell-next}
 use Rattle.sgt_audit_chain.proofs.auditor.ChainAuditor.next.Goals as goal

@@ -1,6 +1,6 @@
 use Rattle.std.proofs.Common.{◌≡◌, ◌+◌, take}
 use Rattle.std.specs.Prelude.{count_by}
-use Rattle.sgt_cert.specs.Certificate.{is_commit, is_refusal, is_withdrawal}
+use Rattle.sgt_bundle.specs.Certificate.{is_commit, is_refusal, is_withdrawal}
 use Rattle.sgt_audit_chain.specs.Sums.{in_64_bits}
 use Rattle.sgt_audit_chain.proofs.counts.Counts.with.Given as goal
 

@@ -2,9 +2,9 @@ use Rattle.std.proofs.Common.{List, length, sym, ap, subst, ◌∙◌, arith}
 use Rattle.std.specs.Prelude.{slice_get}
 use Rattle.std.proofs.lemmas.Option.{same_Some, slice_get_within}
 use Rattle.sgt_names.proofs.Lists.{element_at}
-use Rattle.sgt_cert.specs.Certificate.{decided_tx}
-use Rattle.sgt_cert.specs.declared.certificate.Certificate.{Certificate}
-use Rattle.sgt_cert.specs.declared.certificate.Decision.{Decision}
+use Rattle.sgt_bundle.specs.Certificate.{decided_tx}
+use Rattle.sgt_bundle.specs.declared.certificate.Certificate.{Certificate}
+use Rattle.sgt_bundle.specs.declared.certificate.Decision.{Decision}
 use Rattle.sgt_audit_decisions.specs.private.Table.{placed_at, IsTableOf}
 use Rattle.sgt_audit_decisions.proofs.Tables.{missed, found-decision, only-there}
 use Rattle.sgt_audit_decisions.proofs.decided.Decided.decision_of.Goals as goal

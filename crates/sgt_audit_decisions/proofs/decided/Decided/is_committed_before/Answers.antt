@@ -1,6 +1,6 @@
 use Rattle.std.proofs.Common.{refl}
 use Rattle.std.proofs.lemmas.Bool.{le-ltb}
-use Rattle.sgt_cert.specs.declared.certificate.Decision.TheVariants.{Commit}
+use Rattle.sgt_bundle.specs.declared.certificate.Decision.TheVariants.{Commit}
 use Rattle.sgt_audit_decisions.proofs.Loops.{answered-no}
 use Rattle.sgt_audit_decisions.proofs.Found.{commits-before, committed-late}
 use Rattle.sgt_audit_decisions.proofs.decided.Decided.is_committed_before.Goals as goal

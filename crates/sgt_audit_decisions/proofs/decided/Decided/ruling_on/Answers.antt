@@ -1,6 +1,6 @@
 use Rattle.std.proofs.Common.{ℕ, IsTrue, sym, ap, ◌∙◌, subst}
-use Rattle.sgt_cert.specs.Certificate.{IsCommitted}
-use Rattle.sgt_cert.specs.declared.certificate.Certificate.{Certificate}
+use Rattle.sgt_bundle.specs.Certificate.{IsCommitted}
+use Rattle.sgt_bundle.specs.declared.certificate.Certificate.{Certificate}
 use Rattle.sgt_audit_decisions.specs.Decided.{IsFound}
 use Rattle.sgt_audit_decisions.specs.private.Table.{placed_at, IsTableOf}
 use Rattle.sgt_audit_decisions.specs.private.Outcome.{rank_with}

@@ -2,7 +2,7 @@ use Rattle.std.proofs.Common.{arith, length, true, false, sym, ap, ◌∙◌, su
 use Rattle.std.specs.Prelude.{not}
 use Rattle.std.proofs.lemmas.List.{nil_from_length}
 use Rattle.std.proofs.lemmas.Option.{none-some}
-use Rattle.sgt_cert.specs.Text.{AreSections}
+use Rattle.sgt_bundle.specs.Text.{AreSections}
 use Rattle.sgt_audit.specs.Reading.{lines_read}
 use Rattle.sgt_audit.proofs.Places.{no-open, open-log}
 use Rattle.sgt_audit_decisions.proofs.Loops.{empty, not-empty, refuted}

@@ -1,5 +1,5 @@
 use Rattle.std.proofs.Common.{◌++◌, ◌∷◌, [], subst}
-use Rattle.sgt_cert.specs.Text.{Begins}
+use Rattle.sgt_bundle.specs.Text.{Begins}
 use Rattle.sgt_audit.specs.Reading.{lines_read}
 use Rattle.sgt_audit.proofs.OpenLogs.{has_open, fits-open}
 use Rattle.sgt_audit.proofs.Places.{no-open, open-log}

@@ -1,6 +1,6 @@
 use Rattle.std.proofs.Common.{◌≡◌, ℕ, ◌++◌, ◌∷◌, List, sym, subst, ◌∙◌, ap}
 use Rattle.std.proofs.lemmas.Result.{IfOk-weaker}
-use Rattle.sgt_cert.specs.Text.{AreSections}
+use Rattle.sgt_bundle.specs.Text.{AreSections}
 use Rattle.sgt_audit.specs.Faults.{whole}
 use Rattle.sgt_audit.specs.Reading.{lines_read}
 use Rattle.sgt_audit_decisions.proofs.Loops.{refuted}

@@ -1,5 +1,5 @@
 use Rattle.std.proofs.Common.{sym, subst}
-use Rattle.sgt_cert.specs.Text.{AreSections}
+use Rattle.sgt_bundle.specs.Text.{AreSections}
 use Rattle.sgt_audit.specs.Reading.{lines_read}
 use Rattle.sgt_audit_decisions.proofs.Loops.{refuted}
 use Rattle.sgt_certify_faults.proofs.Broken.{long-broken, long-last, trailing-broken}

@@ -1,6 +1,6 @@
 use Rattle.std.proofs.Common.{sym, ◌∙◌, ap, subst, arith}
 use Rattle.std.proofs.Common.{map}
-use Rattle.sgt_cert.specs.Parts.{FitTogether}
+use Rattle.sgt_bundle.specs.Parts.{FitTogether}
 use Rattle.sgt_core_machine.specs.Machine.{parts_of}
 use Rattle.sgt_core_model.specs.Core.{site_log}
 use Rattle.sgt_core_machine.specs.declared.machine.Place.{Place}

@@ -1,5 +1,5 @@
 use Rattle.std.proofs.Common.{sym, ◌∙◌, subst, arith}
-use Rattle.sgt_cert.specs.Parts.{FitTogether}
+use Rattle.sgt_bundle.specs.Parts.{FitTogether}
 use Rattle.sgt_core_machine.specs.Machine.{parts_of}
 use Rattle.sgt_core_machine.proofs.Bundles.{bundle_is, bundle_fits_there, is_of_some}
 use Rattle.sgt_core_machine.proofs.machine.Machine.into_bundle.Goals as goal

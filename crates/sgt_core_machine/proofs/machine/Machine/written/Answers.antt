@@ -1,6 +1,6 @@
 use Rattle.std.proofs.Common.{◌≡◌, List, ◌++◌, map, ◌∙◌, ap, length}
 use Rattle.sgt_notation.specs.Spelling.{line_text, text_of_lines}
-use Rattle.sgt_cert.specs.Text.{has_increments, sections_from}
+use Rattle.sgt_bundle.specs.Text.{has_increments, sections_from}
 use Rattle.sgt_core_machine.specs.declared.machine.Place.{Place}
 use Rattle.sgt_core_machine.specs.Machine.{parts_of}
 use Rattle.sgt_core_machine.specs.Cut.{finals_at, logs_at}

@@ -6,8 +6,8 @@ use Rattle.std.proofs.lemmas.Result.{OkIff-at_ok}
 use Rattle.sgt_names.specs.Limits.{max_sites}
 use Rattle.sgt_names.specs.declared.entry.Entry.TheVariants.{Commit}
 use Rattle.sgt_names.proofs.Lists.{element_at}
-use Rattle.sgt_cert.specs.Serial.{entries_of}
-use Rattle.sgt_cert.proofs.Headline.{entries_at}
+use Rattle.sgt_bundle.specs.Serial.{entries_of}
+use Rattle.sgt_bundle.proofs.Headline.{entries_at}
 use Rattle.sgt_serial.specs.private.Operations.{entry_at, owner, is_by}
 use Rattle.sgt_serial.proofs.Grouping.{site_more}
 use Rattle.sgt_serial.proofs.Sorting.{stable-of_number}

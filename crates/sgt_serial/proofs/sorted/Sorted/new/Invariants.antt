@@ -1,6 +1,6 @@
 use Rattle.std.proofs.Common.{◌≡◌, map}
 use Rattle.std.specs.List.{flat_map, range_with_len}
-use Rattle.sgt_cert.specs.Serial.{entries_of}
+use Rattle.sgt_bundle.specs.Serial.{entries_of}
 use Rattle.sgt_serial.specs.private.Operations.{entry_at}
 use Rattle.sgt_serial.proofs.sorted.Sorted.new.Given as goal
 

@@ -3,7 +3,7 @@ use Rattle.std.specs.Prelude.{slice_get, AllPairs}
 use Rattle.std.specs.Str.{bytes_eq}
 use Rattle.sgt_names.specs.Log.{value_in, value_with}
 use Rattle.sgt_names.specs.declared.entry.Holding.{Holding}
-use Rattle.sgt_cert.specs.Parts.{ComesBefore}
+use Rattle.sgt_bundle.specs.Parts.{ComesBefore}
 use Rattle.std.proofs.lemmas.Option.{same_Some}
 use Rattle.sgt_serial.proofs.Items.{names-set, value_in-set, change-where, read_at}
 use Rattle.sgt_serial.proofs.store.SiteStore.change.Goals as goal

@@ -1,5 +1,5 @@
 use Rattle.std.proofs.Common.{◌≡◌, map, take}
-use Rattle.sgt_cert.specs.declared.bundle.SiteLog.{SiteLog}
+use Rattle.sgt_bundle.specs.declared.bundle.SiteLog.{SiteLog}
 use Rattle.sgt_serial.proofs.store.Store.initial.Given as goal
 
 abbrev pub invariant-loop-log : goal.invariant-loop-log

@@ -1,7 +1,7 @@
 use Rattle.std.proofs.Common.{◌++◌, [], List, ℕ, sym, ◌∙◌, subst, append-nil}
 use Rattle.sgt_names.specs.Device.{WritesFront}
 use Rattle.std.specs.Io.KnownBytes.{Appends}
-use Rattle.sgt_cert.specs.declared.bundle.SiteLog.{SiteLog}
+use Rattle.sgt_bundle.specs.declared.bundle.SiteLog.{SiteLog}
 use Rattle.sgt_serial.specs.Report.{report_of}
 use Rattle.sgt_serial.specs.Text.{report_text}
 use Rattle.sgt_serial.specs.private.Grouped.{AreOperationsOf}

@@ -1,0 +1,189 @@
+//! The text of a bundle.
+
+ghost use Rattle.std.specs.Prelude.{◌≡◌, ◌++◌, ◌∷◌, [], ◌<◌, ◌≤◌, ◌+◌, All, IfOk, OnOk, length, map};
+ghost use Rattle.sgt_names.specs.Limits.{max_sites};
+ghost use Rattle.sgt_notation.specs.Spelling.{line_text, text_of_lines, IsEntry, IsHolding, IsLine};
+ghost use Rattle.sgt_notation.specs.declared.SectionLine.{SectionLine};
+ghost use Rattle.std.specs.List.{list_any};
+ghost use Rattle.sgt_names.specs.Entry.{is_increment};
+ghost use Rattle.sgt_bundle.specs.Text.{certificate_text, format_line, has_increments, sections_from, section_lines, text_of, IsDecision, IsLog};
+
+use crate::bundle::SiteLog;
+use crate::certificate::Certificate;
+use crate::line::push_certificate;
+use sgt_names::{Entry, Holding, SiteNo};
+use sgt_notation::{SectionLine, write_section};
+use std::alloc::{AllocError, Global};
+
+fn push_line(out: &mut Vec<u8>, line: &SectionLine) -> Result<(), AllocError>
+    ensures text { OnOk result
+        (out.new.items ≡ out.old.items ++ text_of_lines (map line_text (line.now ∷ []))) }
+    ensures in_range { OnOk result (IsLine line.now) }
+{
+    write_section(out, line)?;
+    out.extend_from_slice(b"\n")
+}
+
+fn push_items(out: &mut Vec<u8>, items: &[Holding]) -> Result<(), AllocError>
+    ensures text { OnOk result
+        (out.new.items
+        ≡ out.old.items ++ text_of_lines (map line_text (map SectionLine.Initial items.now))) }
+    ensures in_range { OnOk result (All IsHolding items.now) }
+{
+    for item in items {
+        push_line(out, &SectionLine::Initial(*item))?;
+    }
+    Ok(())
+}
+
+fn push_entries(out: &mut Vec<u8>, entries: &[Entry]) -> Result<(), AllocError>
+    ensures text { OnOk result
+        (out.new.items
+        ≡ out.old.items ++ text_of_lines (map line_text (map SectionLine.Logged entries.now))) }
+    ensures in_range { OnOk result (All IsEntry entries.now) }
+{
+    for entry in entries {
+        push_line(out, &SectionLine::Logged(*entry))?;
+    }
+    Ok(())
+}
+
+fn push_finals(out: &mut Vec<u8>, finals: &[Holding]) -> Result<(), AllocError>
+    ensures text { OnOk result
+        (out.new.items
+        ≡ out.old.items ++ text_of_lines (map line_text (map SectionLine.Final finals.now))) }
+    ensures in_range { OnOk result (All IsHolding finals.now) }
+{
+    for item in finals {
+        push_line(out, &SectionLine::Final(*item))?;
+    }
+    Ok(())
+}
+
+fn push_section(out: &mut Vec<u8>, site: u64, log: &SiteLog) -> Result<(), AllocError>
+    requires { site < max_sites }
+    ensures text { OnOk result
+        (out.new.items
+        ≡ out.old.items ++ text_of_lines (map line_text (section_lines site log.now))) }
+    ensures in_range { OnOk result (IsLog log.now) }
+{
+    let Ok(site) = SiteNo::new(site) else {
+        unreachable!();
+    };
+    push_line(out, &SectionLine::Site(site))?;
+    push_items(out, log.items.as_slice())?;
+    push_entries(out, log.entries.as_slice())?;
+    push_finals(out, log.finals.as_slice())?;
+    push_line(out, &SectionLine::End)
+}
+
+fn push_sections(out: &mut Vec<u8>, sites: &[SiteLog]) -> Result<(), AllocError>
+    requires { length sites.now ≤ max_sites }
+    ensures text { OnOk result
+        (out.new.items
+        ≡ out.old.items ++ text_of_lines (map line_text (sections_from 0 sites.now))) }
+    ensures in_range { OnOk result (All IsLog sites.now) }
+{
+    for (k, log) in sites.iter().enumerate() {
+        push_section(out, k as u64, log)?;
+    }
+    Ok(())
+}
+
+/// The sections of logs that are given up: each is let go once its section is written.
+fn push_given_sections(out: &mut Vec<u8>, sites: Vec<SiteLog>) -> Result<(), AllocError>
+    requires { length sites.items ≤ max_sites }
+    ensures text { OnOk result
+        (out.new.items
+        ≡ out.old.items ++ text_of_lines (map line_text (sections_from 0 sites.items))) }
+    ensures in_range { OnOk result (All IsLog sites.items) }
+{
+    let mut site = 0;
+    for log in sites {
+        push_section(out, site, &log)?;
+        site += 1;
+    }
+    Ok(())
+}
+
+fn any_increment(entries: &[Entry]) -> bool
+    ensures { result ≡ list_any is_increment entries.now }
+{
+    entries.iter().any(|entry| entry.is_increment())
+}
+
+/// Whether an entry of these logs is an increment, or asks for one.
+fn any_log_increments(sites: &[SiteLog]) -> bool
+    ensures { result ≡ has_increments sites.now }
+{
+    sites
+        .iter()
+        .any(|log| any_increment(log.entries.as_slice()))
+}
+
+// The bytes that an entry takes in memory.
+const ENTRY_ROOM: usize = 32;
+
+// How much room a text is made with: for each entry as much as it takes in memory. The text may outgrow it.
+fn room_for(sites: &[SiteLog]) -> usize {
+    let mut room = 64usize;
+    for log in sites {
+        let entries = log.entries.as_slice().len();
+        room = room.saturating_add(entries.saturating_mul(ENTRY_ROOM));
+    }
+    room
+}
+
+/// Lines 1 and 2 of the text: the second format exactly where it has to be, and the certificate. Err: memory ran out.
+fn head(alloc: Global, certificate: &Certificate, sites: &[SiteLog]) -> Result<Vec<u8>, AllocError>
+    ensures text { IfOk result
+        (λ head. head.items
+        ≡ text_of_lines
+        (format_line (has_increments sites.now) ∷ certificate_text certificate.now ∷ [])) }
+    ensures decisions { IfOk result (λ _. All (IsDecision max_sites) certificate.now.decisions) }
+{
+    let second = any_log_increments(sites);
+    let format = if second { b"sgt 2\n" } else { b"sgt 1\n" };
+    let mut head = Vec::with_capacity(alloc, room_for(sites))?;
+    head.extend_from_slice(format)?;
+    push_certificate(&mut head, certificate)?;
+    head.extend_from_slice(b"\n")?;
+    Ok(head)
+}
+
+/// The text of a certificate and its logs. Err: memory ran out.
+pub(crate) fn text(
+    alloc: Global,
+    certificate: &Certificate,
+    sites: &[SiteLog],
+) -> Result<Vec<u8>, AllocError>
+    requires { length sites.now ≤ max_sites }
+    ensures text { IfOk result
+        (λ text. text.items
+        ≡ text_of (record { certificate = certificate.now; sites = sites.now })) }
+    ensures decisions { IfOk result (λ _. All (IsDecision max_sites) certificate.now.decisions) }
+    ensures logs { IfOk result (λ _. All IsLog sites.now) }
+{
+    let mut text = head(alloc, certificate, sites)?;
+    push_sections(&mut text, sites)?;
+    Ok(text)
+}
+
+/// The same of a certificate and logs that are given up: each is let go once it is written.
+pub(crate) fn given_text(
+    alloc: Global,
+    certificate: Certificate,
+    sites: Vec<SiteLog>,
+) -> Result<Vec<u8>, AllocError>
+    requires { length sites.items ≤ max_sites }
+    ensures text { IfOk result
+        (λ text. text.items
+        ≡ text_of (record { certificate = certificate; sites = sites.items })) }
+    ensures decisions { IfOk result (λ _. All (IsDecision max_sites) certificate.decisions) }
+    ensures logs { IfOk result (λ _. All IsLog sites.items) }
+{
+    let mut text = head(alloc, &certificate, sites.as_slice())?;
+    drop(certificate);
+    push_given_sections(&mut text, sites)?;
+    Ok(text)
+}

@@ -1,5 +1,0 @@
-use Rattle.sgt_cert.proofs.OneText.{bundle-one}
-use Rattle.sgt_cert.proofs.laws.no_bytes_spell_two_bundles.Goals as goal
-
-pub returns : goal.returns
-returns c = bundle-one
