@@ -116,7 +116,7 @@ fn found_answer(alloc: Global, text: Vec<u8>, found: Found) -> Result<Answer, En
             Err(text) => no_answer(alloc, text, true, None),
         },
         Found::Refused(reason) => no_answer(alloc, text, true, Some(reason)),
-        Found::Fault => no_answer(alloc, text, true, None),
+        Found::Nothing => no_answer(alloc, text, true, None),
     }
 }
 

@@ -6,9 +6,9 @@ ghost use Rattle.sgt_bundle.specs.Text.{certificate_text};
 ghost use Rattle.sgt_certify.specs.Answer.{IsCertified, SpellsValid};
 ghost use Rattle.sgt_certify_logs.specs.Certifiable.{IsWithLine};
 
-use sgt_audit::{Verdict, audit};
+use sgt_audit::{Verdict, audit_bytes};
 use sgt_bundle::{Certificate, to_line};
-use sgt_names::{EngineFail, MemSink, MemSource};
+use sgt_names::EngineFail;
 use sgt_notation::split_line;
 use std::alloc::{AllocError, Global};
 
@@ -60,18 +60,13 @@ fn with_certificate(
     }
 }
 
-/// Room for the line of a verdict.
-const VERDICT_ROOM: usize = 128;
-
 /// Whether the auditor finds that the text spells a valid bundle.
 fn is_valid(alloc: Global, text: &[u8]) -> Result<bool, EngineFail>
     ensures yes { IfOk result (λ yes. IsTrue yes → SpellsValid text.now) }
     ensures no { IfOk result (λ yes. yes ≡ false → SpellsValid text.now → ⊥) }
     ensures err { IfErr result (λ e. e ≡ EngineFail.Memory) }
 {
-    let mut source = MemSource::new(text, usize::MAX, None);
-    let mut sink = MemSink::new(alloc, VERDICT_ROOM)?;
-    match audit(alloc, &mut source, &mut sink) {
+    match audit_bytes(alloc, text) {
         Ok(Verdict::Yes { .. }) => Ok(true),
         Ok(Verdict::No { .. }) => Ok(false),
         Err(_) => Err(EngineFail::Memory),

@@ -2,7 +2,6 @@
 
 ghost use Rattle.std.specs.Prelude.{◌<◌, length, IfSome};
 
-use crate::faults::LineFault;
 use crate::reading::Reader;
 use crate::search::{Finding, Stuck, numbers_of, search};
 use crate::steps::{conflict_steps, end_steps};
@@ -11,7 +10,7 @@ use sgt_certify_history::History;
 use sgt_certify_logs::{ConflictStep, EndStep};
 use sgt_certify_stuck::StuckSet;
 use sgt_names::{Listed, Tx};
-use sgt_notation::{SectionLine, front_line, split_line};
+use sgt_notation::{SectionLine, front_line, read_section, split_line};
 use std::alloc::{AllocError, Global};
 
 /// What shows that there is no certificate.
@@ -46,64 +45,36 @@ pub enum Found {
     Certificate(Certificate),
     /// There is none, for this reason.
     Refused(Reason),
-    /// There is none: a line has a fault that no certificate mends.
-    Fault,
+    /// No search was made: there is no place for a line.
+    Nothing,
 }
 
-/// A line at the front of a text: read already, where it is one of a section, or its bytes.
-#[derive(Drop)]
-enum Ahead<'a> {
-    Read(SectionLine),
-    Bytes(&'a [u8]),
-}
-
-/// The line of a section that is found at the front, and what stands behind it.
-fn split_front(text: &[u8]) -> Option<(SectionLine, &[u8])>
+/// The line of a section that stands at the front, and what stands behind it.
+fn split_section(text: &[u8]) -> Option<(SectionLine, &[u8])>
     ensures { IfSome result (λ split. length split.1.now < length text.now) }
 {
-    match front_line(text) {
-        Some((line, n)) if n > 0 => Some((line, &text[n..])),
-        _ => None,
+    if let Some((line, n)) = front_line(text) {
+        if n > 0 {
+            return Some((line, &text[n..]));
+        }
+    }
+    let (line, behind) = split_line(text)?;
+    match read_section(line) {
+        Ok(line) => Some((line, behind)),
+        Err(_) => None,
     }
 }
 
-/// The first line, and what stands behind it.
-fn split_ahead(text: &[u8]) -> Option<(Ahead<'_>, &[u8])>
-    ensures { IfSome result (λ split. length split.1.now < length text.now) }
-{
-    if let Some((line, behind)) = split_front(text) {
-        return Some((Ahead::Read(line), behind));
-    }
-    match split_line(text) {
-        Some((line, behind)) => Some((Ahead::Bytes(line), behind)),
-        None => None,
-    }
-}
-
-/// Feeds the reader the line: its fault, if it has one.
-fn feed_one(reader: &mut Reader, ahead: &Ahead) -> Result<Option<LineFault>, AllocError> {
-    match ahead {
-        Ahead::Read(line) => reader.next_read(line),
-        Ahead::Bytes(line) => reader.next(line),
-    }
-}
-
-/// Feeds the reader the lines of the text, up to the first with a fault: that, if there is one. Else what is left
-/// behind the last LF is put into `rest`.
-fn feed(
-    reader: &mut Reader,
-    text: &[u8],
-    rest: &mut usize,
-) -> Result<Option<LineFault>, AllocError> {
+/// Feeds the reader all lines of the text, which are lines of sections. Whether it found a place for each.
+fn feed(reader: &mut Reader, text: &[u8]) -> Result<bool, AllocError> {
     let mut ahead = text;
-    'lines: while let Some((line, behind)) = split_ahead(ahead) {
-        if let Some(fault) = feed_one(reader, &line)? {
-            return Ok(Some(fault));
+    'lines: while let Some((line, behind)) = split_section(ahead) {
+        if !reader.next(&line)? {
+            return Ok(false);
         }
         ahead = behind;
     }
-    *rest = ahead.len();
-    Ok(None)
+    Ok(ahead.is_empty())
 }
 
 /// The number of the sites.
@@ -152,17 +123,13 @@ fn found_in(alloc: Global, history: &History) -> Result<Found, AllocError> {
 
 /// Looks for a certificate of the logs that the text spells, or for the reason why there is none. Err: memory ran out.
 pub fn find(alloc: Global, text: &[u8]) -> Result<Found, AllocError> {
-    let mut reader = Reader::new(alloc, text.len());
-    let mut rest = 0;
-    let fault = match feed(&mut reader, text, &mut rest)? {
-        Some(fault) => Some(fault),
-        None => reader.end(rest),
+    let Some((_, sections)) = split_line(text) else {
+        return Ok(Found::Nothing);
     };
-    match fault {
-        Some(_) => Ok(Found::Fault),
-        None => {
-            let history = reader.finish()?;
-            found_in(alloc, &history)
-        }
+    let mut reader = Reader::new(alloc, text.len());
+    if !feed(&mut reader, sections)? {
+        return Ok(Found::Nothing);
     }
+    let history = reader.finish()?;
+    found_in(alloc, &history)
 }

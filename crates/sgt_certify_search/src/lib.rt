@@ -1,7 +1,6 @@
 //! The search for the certificate of logs that have none. What it finds is checked by who asks for it.
 #![tactic(auto)]
 
-mod faults;
 mod finding;
 mod reading;
 mod search;
