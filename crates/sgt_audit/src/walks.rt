@@ -3,6 +3,7 @@
 ghost use Rattle.std.specs.Prelude.{◌≡◌, ◌↔◌, ℕ, [], List, length, IsTrue, All, Contains};
 ghost use Rattle.sgt_names.specs.declared.entry.Entry.{Entry};
 ghost use Rattle.sgt_names.specs.declared.entry.Holding.{Holding};
+ghost use Rattle.sgt_notation.specs.declared.SectionLine.TheVariants.{End};
 ghost use Rattle.sgt_bundle.specs.Text.{IsCertificate};
 ghost use Rattle.sgt_bundle.specs.Valid.{AreLogged};
 ghost use Rattle.sgt_bundle.specs.declared.bundle.SiteLog.{SiteLog};
@@ -10,9 +11,11 @@ ghost use Rattle.sgt_bundle.specs.declared.certificate.Certificate.{Certificate}
 ghost use Rattle.sgt_bundle.specs.declared.certificate.Decision.{Decision};
 ghost use Rattle.sgt_bundle.specs.declared.certificate.Decision.TheVariants.{Refuse};
 ghost use Rattle.sgt_bundle.specs.declared.certificate.Step.{Step};
-ghost use Rattle.sgt_audit_decisions.specs.Steps.{AreStepsOf};
+ghost use Rattle.sgt_audit_decisions.specs.Steps.{AreStepsAt, AreStepsOf};
+ghost use Rattle.sgt_audit_decisions.specs.declared.steps.Edge.{Edge};
 ghost use Rattle.sgt_audit_cells.specs.Tracks.{TracksOpen};
-ghost use Rattle.sgt_audit.specs.Kept.{IsMet, MeansMet, Tracks};
+ghost use Rattle.sgt_audit.specs.Alone.{MeetsSteps};
+ghost use Rattle.sgt_audit.specs.Kept.{IsMet, MeansMet};
 ghost use Rattle.sgt_audit.specs.Reading.{Begun};
 ghost use Rattle.sgt_audit.specs.private.Following.{MayFollow, with_next};
 
@@ -67,20 +70,32 @@ impl Walks {
         Walks { steps, met: true }
     }
 
-    /// One more line. The end of a section makes its log whole.
+    /// The steps at the site of this number, if the line is the end of its section. No other line asks for them.
     #[inline(always)]
-    pub(crate) fn pass(&mut self, certificate: &Decided, state: &SiteState, line: &SectionLine)
-        ensures { (b : Begun) → MayFollow b b.current line.now
-            → Tracks certificate.now.decisions b state.now
-            → MeansMet certificate.now.decisions b.whole self.old
-            → MeansMet certificate.now.decisions (with_next b b.current line.now).whole self.new }
+    pub(crate) fn due(&self, site: usize, line: &SectionLine) -> &[Edge]
+        ensures { (decisions : List Decision) → AreStepsOf decisions self.now.steps → line.now ≡ End
+            → AreStepsAt decisions site result.now }
     {
-        let SectionLine::End = line else {
-            return;
-        };
-        let edges = self.steps.at(state.section.saturating_sub(1));
-        if !are_met(certificate, state, edges) {
-            self.met = false;
+        match line {
+            SectionLine::End => self.steps.at(site),
+            _ => &[],
+        }
+    }
+
+    /// One more line. The end of a section makes its log whole, and then it is known whether the steps at its site are
+    /// conflicts there.
+    #[inline(always)]
+    pub(crate) fn pass(&mut self, line: &SectionLine, met: bool)
+        ensures { (decisions : List Decision) (b : Begun) (edges : List Edge) → MayFollow b b.current line.now
+            → (line.now ≡ End → AreStepsAt decisions (length b.whole) edges)
+            → MeetsSteps edges b.current line.now met
+            → MeansMet decisions b.whole self.old
+            → MeansMet decisions (with_next b b.current line.now).whole self.new }
+    {
+        if let SectionLine::End = line {
+            if !met {
+                self.met = false;
+            }
         }
     }
 }
