@@ -1,6 +1,6 @@
 -- One section judged by itself.
 use Rattle.std.proofs.Common.{◌≡◌, ◌≢◌, Bool, true, List, [], ◌∷◌, ◌++◌, length, Option, Some, None, IsTrue, refl, sym, ap, ◌∙◌, subst, arith, All}
-use Rattle.std.specs.Prelude.{◌↔◌, ◌×◌}
+use Rattle.std.specs.Prelude.{◌↔◌}
 use Rattle.sgt_names.specs.declared.entry.Holding.{Holding}
 use Rattle.sgt_notation.specs.Spelling.{IsLine, line_text}
 use Rattle.sgt_notation.specs.declared.SectionLine.{SectionLine}

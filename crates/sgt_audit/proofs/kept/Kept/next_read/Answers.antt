@@ -28,7 +28,7 @@ returns-in-Some-clause-follows k is s (b, before, h, stage) =
     let same = k.next_read.ensures.second in
     let open_yet =
     refuted k.is_complete.result (k.is_complete.ensures b h.means.begun h.stands.place) k.if-is_complete.false in
-    let found = k.in-Some.ensures.follows is b h.stands in
+    let found = rw k.in-Some.is at k.in_ok-fault.ensures.follows is b h.stands in
     alone-breaks k.next_read.new.self.second c b before _ k.in-Some.fault
     (subst (λ n. Means n c b before) (sym same) h.means) open_yet found.0 s
     (subst (λ n. IsStageOf n c before s) (sym same) stage)
@@ -43,7 +43,7 @@ returns-then-not-self-clause-follows k is s (b, before, h, stage) =
     let open_yet =
     refuted k.is_complete.result (k.is_complete.ensures b m.begun h.stands.place) k.if-is_complete.false in
     let (read, kept, stands, meets) =
-    alone-follows c k.due-edges.result.now b line alone is (k.in-None.ensures.follows is b h.stands) in
+    alone-follows c k.due-edges.result.now b line alone is (rw k.in_default.is at k.in_ok-fault.ensures.follows is b h.stands) in
     let begins = subst (λ n. Begins n (lines_read b ++ line ∷ [])) (sym m.sites) (kept fault.Section (omega arith)) in
     let next = with_next b b.current line in
     let sites = next-sites b b.current line in
@@ -68,7 +68,7 @@ returns-clause-follows k is s (b, before, h, stage) =
     let m = subst (λ n. Means n c b before) (sym same) h.means in
     let stage_now = subst (λ n. IsStageOf n c before s) (sym same) stage in
     let (read, kept, stands, meets) =
-    alone-follows c k.due-edges.result.now b line alone is (k.in-None.ensures.follows is b h.stands) in
+    alone-follows c k.due-edges.result.now b line alone is (rw k.in_default.is at k.in_ok-fault.ensures.follows is b h.stands) in
     let begins = subst (λ n. Begins n (lines_read b ++ line ∷ [])) (sym m.sites) (kept fault.Section (omega arith)) in
     let next = with_next b b.current line in
     let sites = next-sites b b.current line in
