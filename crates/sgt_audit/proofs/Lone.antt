@@ -86,6 +86,24 @@ alone-follows c edges b line new is (read, is_in, same, kept, stands, meets) =
     × StandsAlone c (with_next b b.current l) new × MeetsSteps edges b.current l new.met)
     (line-one read line is_in.0 is (sym same)) (is_in, kept, stands, meets)
 
+-- behind a line that ends no section one is open, and no more are whole than before
+pub no-end : (b : Begun) (o : Option SiteLog) (line : SectionLine) → line ≢ End → (with_next b o line).current ≢ None
+no-end b None line other same = cc
+no-end b (Some log) End other same = other refl
+no-end b (Some log) (Site k) other same = cc
+no-end b (Some log) (Initial h) other same = cc
+no-end b (Some log) (Logged e) other same = cc
+no-end b (Some log) (Final h) other same = cc
+
+pub same-whole : (b : Begun) (o : Option SiteLog) (line : SectionLine) → line ≢ End
+    → (with_next b o line).whole ≡ b.whole
+same-whole b None line other = refl
+same-whole b (Some log) End other = absurd (other refl)
+same-whole b (Some log) (Site k) other = refl
+same-whole b (Some log) (Initial h) other = refl
+same-whole b (Some log) (Logged e) other = refl
+same-whole b (Some log) (Final h) other = refl
+
 -- ---- a line is not judged by the walks: its section might be the first of two
 
 module _ (ds : List Decision) (log : SiteLog) (is : IsOpenLog log) where

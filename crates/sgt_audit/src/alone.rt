@@ -174,7 +174,7 @@ impl Alone {
     }
 
     /// An entry of a kind that is less frequent, by way of memory that only this way touches.
-    #[inline(always)]
+    #[inline(never)]
     fn next_far_entry(
         &mut self,
         certificate: &Decided,
@@ -186,7 +186,11 @@ impl Alone {
             → IfOk result (FollowsAlone certificate.now edges.now b (line_text line) self.new) }
         ensures second { self.new.second ≡ self.old.second }
     {
-        self.next_other(certificate, edges, &SectionLine::Logged(*entry))
+        if is_allowed(self.second, &SectionLine::Logged(*entry)) {
+            self.follow_entry(certificate, edges, *entry)
+        } else {
+            Ok(Some(Fault::Notation))
+        }
     }
 
     /// A line of another kind, by way of memory that only this way touches.

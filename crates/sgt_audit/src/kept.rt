@@ -1,6 +1,6 @@
 //! A certificate, and lines of sections behind it, none of which has a fault.
 
-ghost use Rattle.std.specs.Prelude.{◌≡◌, ◌≤◌, ◌↔◌, ℕ, List, length, IsTrue, IfOk, is_some};
+ghost use Rattle.std.specs.Prelude.{◌≡◌, ◌≢◌, ◌≤◌, ◌↔◌, ℕ, List, length, IsTrue, IfOk, is_some};
 ghost use Rattle.sgt_notation.specs.Reading.{SpellsNone};
 ghost use Rattle.sgt_notation.specs.Spelling.{IsLine, line_text};
 
@@ -30,6 +30,7 @@ impl Kept {
     ghost use Rattle.sgt_audit.specs.private.NextLine.{Follows};
     ghost use Rattle.sgt_audit.specs.private.Ending.{EndsWith, IsComplete, limit_of};
     ghost use Rattle.sgt_audit.specs.declared.machine.Progress.TheVariants.{Reading};
+    ghost use Rattle.sgt_notation.specs.declared.SectionLine.TheVariants.{End};
 
     /// Whether all sections were read.
     #[inline(always)]
@@ -64,8 +65,7 @@ impl Kept {
         }
     }
 
-    /// The next line, which was read already: the judge of the section says its fault, but for that of a walk, which
-    /// the last line of all has.
+    /// The next line, which was read already.
     #[inline(always)]
     pub(crate) fn next_read(&mut self, line: &SectionLine) -> Result<Option<Fault>, AllocError>
         ensures sections { is_some self.new.sections ≡ is_some self.old.sections }
@@ -75,12 +75,41 @@ impl Kept {
         if self.alone.place.is_complete() {
             return Ok(Some(Fault::Trailing));
         }
-        let edges = self.walks.due(self.alone.place.whole, line);
-        if let Some(fault) = self.alone.next_read(&self.certificate, edges, line)? {
+        match line {
+            SectionLine::End => self.close(),
+            _ => self.go_on(line),
+        }
+    }
+
+    /// The same of a line that ends no section, where sections are still to come: the judge of the section says its
+    /// fault.
+    #[inline(always)]
+    fn go_on(&mut self, line: &SectionLine) -> Result<Option<Fault>, AllocError>
+        ensures sections { is_some self.new.sections ≡ is_some self.old.sections }
+        ensures follows { IsLine line.now → line.now ≢ End → (s : Stage) → IsAt self.old s → (IsComplete s → ⊥)
+            → IfOk result (Follows s (line_text line.now) (Reading self.new)) }
+    {
+        if let Some(fault) = self.alone.next_read(&self.certificate, &[], line)? {
             return Ok(Some(fault));
         }
-        self.walks.pass(line, self.alone.met);
         add_to(&mut self.sections, line)?;
+        Ok(None)
+    }
+
+    /// The same of the end of a section. The judge knows then whether the steps at its site are conflicts in its log;
+    /// a step that isn't is the fault of the last line of all.
+    fn close(&mut self) -> Result<Option<Fault>, AllocError>
+        ensures sections { is_some self.new.sections ≡ is_some self.old.sections }
+        ensures follows { (s : Stage) → IsAt self.old s → (IsComplete s → ⊥)
+            → IfOk result (Follows s (line_text End) (Reading self.new)) }
+    {
+        let edges = self.walks.steps.at(self.alone.place.whole);
+        let line = SectionLine::End;
+        if let Some(fault) = self.alone.next_read(&self.certificate, edges, &line)? {
+            return Ok(Some(fault));
+        }
+        self.walks.pass(self.alone.met);
+        add_to(&mut self.sections, &line)?;
         if self.alone.place.is_complete() && !self.walks.met {
             return Ok(Some(Fault::WalkStep));
         }

@@ -21,7 +21,6 @@ ghost use Rattle.sgt_audit.specs.private.Following.{MayFollow, with_next};
 
 use sgt_audit_cells::SiteState;
 use sgt_audit_decisions::{Decided, Edge, Steps};
-use sgt_notation::SectionLine;
 
 /// The steps of all walks, and whether each at a site whose log is whole is a conflict there.
 #[derive(Drop)]
@@ -70,32 +69,16 @@ impl Walks {
         Walks { steps, met: true }
     }
 
-    /// The steps at the site of this number, if the line is the end of its section. No other line asks for them.
-    #[inline(always)]
-    pub(crate) fn due(&self, site: usize, line: &SectionLine) -> &[Edge]
-        ensures { (decisions : List Decision) → AreStepsOf decisions self.now.steps → line.now ≡ End
-            → AreStepsAt decisions site result.now }
-    {
-        match line {
-            SectionLine::End => self.steps.at(site),
-            _ => &[],
-        }
-    }
-
-    /// One more line. The end of a section makes its log whole, and then it is known whether the steps at its site are
-    /// conflicts there.
-    #[inline(always)]
-    pub(crate) fn pass(&mut self, line: &SectionLine, met: bool)
-        ensures { (decisions : List Decision) (b : Begun) (edges : List Edge) → MayFollow b b.current line.now
-            → (line.now ≡ End → AreStepsAt decisions (length b.whole) edges)
-            → MeetsSteps edges b.current line.now met
+    /// The log of one more site is whole, and it is known whether the steps at the site are conflicts there.
+    pub(crate) fn pass(&mut self, met: bool)
+        ensures { (decisions : List Decision) (b : Begun) (edges : List Edge) → MayFollow b b.current End
+            → AreStepsAt decisions (length b.whole) edges
+            → MeetsSteps edges b.current End met
             → MeansMet decisions b.whole self.old
-            → MeansMet decisions (with_next b b.current line.now).whole self.new }
+            → MeansMet decisions (with_next b b.current End).whole self.new }
     {
-        if let SectionLine::End = line {
-            if !met {
-                self.met = false;
-            }
+        if !met {
+            self.met = false;
         }
     }
 }
