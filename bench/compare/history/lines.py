@@ -28,7 +28,7 @@ def version(text):
 
 
 MISTAKES = [
-    (b"T1,commit,r x 0", "not JSON: column 1: T1,commit,r x 0"),
+    (b"pay-1,commit,r x 0", "not JSON: column 1: pay-1,commit,r x 0"),
     (b'{"tx":"a","end":"commit","ops":[["r","x"', "not JSON: the line ends behind column 40, in the midst of a value"),
     (b'{"tx":"a","end":"com', 'not JSON: column 17: a string with no end: "com'),
     (line('["r","x"]'), 'ops[0] has 2 elements, and has to have 3 or 4: ["r","x"]'),
