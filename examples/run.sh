@@ -132,7 +132,7 @@ if [ -x crates/sgt/out/sgt ]; then
     run_bank 'C, threads watched' $out/bank_tsan
     run_bank Rust $out/cargo/release/bank
     run_bank Python python3 examples/python/bank.py
-    python3 bench/serve/clients.py crates/sgt/out/sgt || failed=1
+    python3 bench/compare/serve/clients.py crates/sgt/out/sgt || failed=1
 fi
 [ $failed = 0 ] && echo 'all agree'
 exit $failed

@@ -51,7 +51,7 @@ def run(connections, rounds):
 
 
 HERE = os.path.dirname(os.path.abspath(__file__))
-PLAIN = os.path.join(HERE, "../../bench/history/plain.py")
+PLAIN = os.path.join(HERE, "../../bench/compare/history/plain.py")
 
 
 def program():

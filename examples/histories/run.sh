@@ -1,6 +1,6 @@
 #!/bin/sh
 # Starts PostgreSQL and MariaDB on the loopback, in a folder that goes at the end, plays the bank on them and on SQLite at each
-# isolation level, and judges what was recorded by `sgt check`, or bench/history/plain.py where there is no `sgt`. A system that isn't installed is left out, and said so.
+# isolation level, and judges what was recorded by `sgt check`, or bench/compare/history/plain.py where there is no `sgt`. A system that isn't installed is left out, and said so.
 # Where `sgt` is on the PATH (or in the variable SGT) it explains each anomaly. It wants of Debian's packages: postgresql, mariadb-server, python3-psycopg2,
 # python3-pymysql. As root it runs the servers as the users postgres and mysql.
 set -eu
