@@ -29,7 +29,10 @@ fn lines_that_are_no_json(rt: HostRuntime) -> Result<(), Fail> {
         ),
         (b"sgt 1", "not JSON, but the line of a bundle: sgt 1"),
         (b"{\"tx\":\"\xff\"}", "not UTF-8: column 8: \\xff\"}"),
-        (b"T1,commit,r x 0", "not JSON: column 1: T1,commit,r x 0"),
+        (
+            b"pay-1,commit,r x 0",
+            "not JSON: column 1: pay-1,commit,r x 0",
+        ),
         (
             b"{\"tx\":1,\"end\":\"com",
             "not JSON: column 15: a string with no end: \"com",
