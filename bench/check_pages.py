@@ -58,7 +58,7 @@ def rewritten():
 
 def topics():
     """The rules and replies that can be asked about."""
-    return re.findall(r'b"([\w-]+)"(?: => Some|\) \{\n)', text_of(TOPICS))
+    return [name.replace(" ", "-") for name in re.findall(r'b"([\w -]+)"(?: => Some|\) \{\n)', text_of(TOPICS))]
 
 
 def completed():

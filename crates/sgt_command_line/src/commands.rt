@@ -106,7 +106,7 @@ fn certify_line<'a>(alloc: Global) -> Command<'a> {
 
 fn explain_line<'a>(alloc: Global) -> Result<Command<'a>, AllocError> {
     let rule = Arg::new(alloc, "RULE").help(
-        "Says what F1 to F19, K1 to K4 or C1 is, a reply's E8, L1 or V9, or an anomaly as G1a",
+        "Says what F1 to F19, K1 to K4 or C1 is, a reply's E8, L1 or V9, an anomaly as G1a, or no-ranks",
     );
     let tx = Arg::new(alloc, "tx")
         .long("tx")

@@ -1,14 +1,14 @@
 -- One more word of a command line is read.
 use Rattle.std.proofs.Common.{◌≡◌, ◌⊎◌, ◌∙◌, ℕ, List, [], ◌∷◌, ◌++◌, Option, Some, None, true, false, inl, inr, refl, sym, ap, subst, codes, arith, drop, length, take, ◌≤◌}
 use Rattle.std.proofs.lemmas.Grind.{common_steps}
-use Rattle.std.specs.Prelude.{IfOk, Result, Ok, Err}
+use Rattle.std.specs.Prelude.{IfOk, OnOk, Result, Ok, Err}
 use Rattle.sgt_line.specs.Names.{command_text}
 use Rattle.sgt_line.specs.declared.name.CommandName.TheVariants as name
 use Rattle.sgt_line.specs.Kinds.{IsKind}
-use Rattle.sgt_line.specs.Parts.{HasRoom, Parts, bare, left, with_extra, with_file, with_rule}
+use Rattle.sgt_line.specs.Parts.{HasRoom, Parts, bare, left, with_extra, with_file}
 use Rattle.sgt_line.specs.Reads.{Behind, IsLineOf, IsRead, Reads}
 use Rattle.sgt_line.specs.Reads as reads
-use Rattle.sgt_line.specs.private.State.{Adds, IsReadTo, Waits, WaitsForOrder, WaitsForPlace}
+use Rattle.sgt_line.specs.private.State.{Adds, AddsRule, IsReadTo, Waits, WaitsForOrder, WaitsForPlace}
 use Rattle.sgt_line.specs.declared.kind.Kind.{Kind}
 use Rattle.sgt_line.specs.declared.kind.Kind.TheVariants.{Against, Dashes, File, Joined, Numbered, Place, Plain, Progress, Quiet, RuleName, Strict}
 use Rattle.sgt_line.specs.declared.name.CommandName.{CommandName}
@@ -22,6 +22,10 @@ letter (x ∷ xs) = x
 pub on_ok : {A E : Type 0} (r : Result A E) (P Q : A → Type 0) → ((x : A) → P x → Q x) → IfOk r P → IfOk r Q
 on_ok (Ok x) P Q so holds = so x holds
 on_ok (Err e) P Q so holds = tt
+
+pub held_on_ok : {A E : Type 0} (r : Result A E) (P Q : Type 0) → (P → Q) → OnOk r P → OnOk r Q
+held_on_ok (Ok x) P Q so holds = so holds
+held_on_ok (Err e) P Q so holds = tt
 
 -- all of a list
 pub taken_whole : {A : Type 0} (xs : List A) (n : ℕ) → length xs ≤ n → take n xs ≡ xs
@@ -96,13 +100,14 @@ module _ (command : CommandName) (first : Parts) (taken : List (List ℕ)) (p : 
             (reads.extra w reading (inl here) none.0)
       ]
 
-  pub ruled : (kind : Kind) (q : Parts) → kind ≡ RuleName → IsKind command w kind → Adds command p (with_rule p w) w q
+  pub ruled : (kind : Kind) (q : Parts) → kind ≡ RuleName → IsKind command w kind → AddsRule command p w q
       → Reads command first taken p
       → Reads command first (taken ++ (w ∷ [])) q
   ruled kind q e is added reading =
       let here : IsKind command w RuleName = subst (λ k. IsKind command w k) e is in
-      elim added [
-        | inl room ↦ subst (Reads command first (taken ++ (w ∷ []))) (sym room.1) (reads.rule w reading here room.0)
+      elim added.2 [
+        | inl room ↦ subst (Reads command first (taken ++ (w ∷ []))) (sym room.1)
+            (reads.rule w added.0 reading here added.1 room.0)
         | inr none ↦ subst (Reads command first (taken ++ (w ∷ []))) (sym none.1)
             (reads.extra w reading (inr here) none.0)
       ]

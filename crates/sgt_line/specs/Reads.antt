@@ -1,7 +1,7 @@
 -- How a command line is read, word by word.
 use Rattle.std.specs.Prelude.{◌≡◌, ◌≢◌, ◌⊎◌, ℕ, true, List, [], ◌∷◌, ◌++◌, Some, None, codes}
 use Rattle.sgt_line.specs.Kinds.{IsKind}
-use Rattle.sgt_line.specs.Names.{command_text}
+use Rattle.sgt_line.specs.Names.{IsNameOf, command_text}
 use Rattle.sgt_line.specs.Parts.{HasRoom, Parts, bare, left, with_extra, with_file, with_rule}
 use Rattle.sgt_line.specs.declared.kind.Kind.TheVariants.{Against, Chain, Dashes, File, Joined, Numbered, Place, Plain, Progress, Quiet, RuleName, Strict}
 use Rattle.sgt_line.specs.declared.name.CommandName.{CommandName}
@@ -25,9 +25,10 @@ pub data Reads (command : CommandName) (first : Parts) : List (List ℕ) → Par
   file : {ws : List (List ℕ)} {p : Parts} (w : List ℕ) → Reads command first ws p → IsKind command w File
       → HasRoom command p
       → Reads command first (ws ++ (w ∷ [])) (with_file p w)
-  rule : {ws : List (List ℕ)} {p : Parts} (w : List ℕ) → Reads command first ws p → IsKind command w RuleName
-      → HasRoom command p
-      → Reads command first (ws ++ (w ∷ [])) (with_rule p w)
+  -- a rule by its name, however the word spells it
+  rule : {ws : List (List ℕ)} {p : Parts} (w n : List ℕ) → Reads command first ws p → IsKind command w RuleName
+      → IsNameOf w n → HasRoom command p
+      → Reads command first (ws ++ (w ∷ [])) (with_rule p n)
   extra : {ws : List (List ℕ)} {p : Parts} (w : List ℕ) → Reads command first ws p
       → IsKind command w File ⊎ IsKind command w RuleName
       → (HasRoom command p → ⊥) → Reads command first (ws ++ (w ∷ [])) (with_extra p w)

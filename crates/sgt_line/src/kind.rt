@@ -1,12 +1,12 @@
 //! What a word is, behind a command.
 
-ghost use Rattle.std.specs.Prelude.{◌≡◌, ◌⊎◌, ◌↔◌, ◌++◌, ℕ, IfNone, IfSome, IsTrue, List, codes};
+ghost use Rattle.std.specs.Prelude.{◌≡◌, ◌↔◌, ◌++◌, ℕ, IfNone, IfSome, IsTrue, List};
 ghost use Rattle.sgt_line.specs.Kinds.{IsKind, IsNoted, IsOption, IsSwitch, TellsLines};
-ghost use Rattle.sgt_line.specs.Names.{IsCycleName, IsFaultName, IsKeptName, IsNumbered, IsTopicLetter, NamesRule};
 ghost use Rattle.sgt_line.specs.declared.kind.Kind.{Kind};
 ghost use Rattle.sgt_line.specs.declared.kind.Kind.TheVariants as kind;
 
 use crate::name::CommandName;
+use crate::rule::names_rule;
 
 /// What a word is, behind a command.
 #[derive(Clone, Copy, Debug, PartialEq, Eq)]
@@ -35,68 +35,6 @@ pub enum Kind {
     Progress,
     /// Behind it each word is a file.
     Dashes,
-}
-
-// Whether a rule's name begins so.
-fn is_topic_letter(letter: u8) -> bool
-    ensures { IsTrue result ↔ IsTopicLetter letter }
-{
-    matches!(letter, b'F' | b'K' | b'E' | b'L' | b'V' | b'P' | b'C')
-}
-
-// Whether the word is a letter and a number, as F10.
-fn is_numbered(word: &[u8]) -> bool
-    ensures { IsTrue result ↔ IsNumbered word.now }
-{
-    match word.split_first() {
-        Some((letter, digits)) if is_topic_letter(*letter) => {
-            !digits.is_empty() && digits.iter().all(|b| b.is_ascii_digit())
-        }
-        _ => false,
-    }
-}
-
-// Whether a cycle with steps of sessions or of time has this name.
-fn is_kept_name(word: &str) -> bool
-    ensures { IsTrue result ↔ IsKeptName word.now }
-{
-    let is_process = word == "G1c-process"
-        || word == "G-single-process"
-        || word == "G2-item-process";
-    is_process
-        || word == "G1c-realtime"
-        || word == "G-single-realtime"
-        || word == "G2-item-realtime"
-}
-
-// Whether a cycle of conflicts alone has this name.
-fn is_conflict_name(word: &str) -> bool
-    ensures { IsTrue result ↔ (((word.now ≡ codes "G0") ⊎ (word.now ≡ codes "G1c"))
-        ⊎ ((word.now ≡ codes "G-single") ⊎ (word.now ≡ codes "G2-item"))) }
-{
-    word == "G0" || word == "G1c" || word == "G-single" || word == "G2-item"
-}
-
-// Whether a history is refused by a cycle of this name.
-fn is_cycle_name(word: &str) -> bool
-    ensures { IsTrue result ↔ IsCycleName word.now }
-{
-    is_conflict_name(word) || is_kept_name(word)
-}
-
-// Whether a history is refused by a fault of this name.
-fn is_fault_name(word: &str) -> bool
-    ensures { IsTrue result ↔ IsFaultName word.now }
-{
-    let is_plain = word == "internal" || word == "duplicate" || word == "G1a";
-    is_plain || word == "unwritten" || word == "G1b" || word == "value"
-}
-
-// Whether the word is of the form of a rule's name.
-fn names_rule(word: &str) -> bool
-    ensures { IsTrue result ↔ NamesRule word.now }
-{
-    is_numbered(word.as_bytes()) || word == "B" || is_cycle_name(word) || is_fault_name(word)
 }
 
 fn begins(text: &[u8], front: &[u8]) -> bool

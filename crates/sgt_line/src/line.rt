@@ -2,13 +2,14 @@
 
 ghost use Rattle.std.specs.Prelude.{◌≡◌, ◌↔◌, ◌∷◌, ◌++◌, [], ℕ, List, IfOk, IsTrue, OnOk, codes, map, string_bytes};
 ghost use Rattle.sgt_line.specs.Kinds.{IsKind};
-ghost use Rattle.sgt_line.specs.Names.{command_text};
+ghost use Rattle.sgt_line.specs.Names.{NamesRule, command_text};
 ghost use Rattle.sgt_line.specs.Parts.{HasRoom, Parts, bare, left, parts_of, with_extra, with_file, with_rule};
 ghost use Rattle.sgt_line.specs.Reads.{IsLineOf, IsRead, Reads};
-ghost use Rattle.sgt_line.specs.private.State.{Adds, IsReadTo, WaitsForOrder, WaitsForPlace};
+ghost use Rattle.sgt_line.specs.private.State.{Adds, AddsRule, IsReadTo, WaitsForOrder, WaitsForPlace};
 
 use crate::kind::{Kind, kind_of};
 use crate::name::{CommandName, named, text_of};
+use crate::rule::rule_name;
 use crate::texts::{first_of, last_of, only_of};
 use std::alloc::{AllocError, Global};
 
@@ -108,21 +109,36 @@ impl Line {
         self.add_extra(alloc, word)
     }
 
-    // A rule's name, where there is room.
+    // A rule's name for the word, where there is room.
+    fn add_named(
+        &mut self,
+        alloc: Global,
+        command: CommandName,
+        word: &str,
+        name: &str,
+    ) -> Result<(), AllocError>
+        ensures { OnOk result (Adds command (parts_of self.old)
+            (with_rule (parts_of self.old) name.now) word.now (parts_of self.new)) }
+    {
+        if self.has_room(command) {
+            self.names_rule = true;
+            return self.leave(alloc, name);
+        }
+        self.add_extra(alloc, word)
+    }
+
+    // The name of the rule that the word spells, where there is room.
     fn add_rule(
         &mut self,
         alloc: Global,
         command: CommandName,
         word: &str,
     ) -> Result<(), AllocError>
-        ensures { OnOk result (Adds command (parts_of self.old)
-            (with_rule (parts_of self.old) word.now) word.now (parts_of self.new)) }
+        requires { NamesRule word.now }
+        ensures { OnOk result (AddsRule command (parts_of self.old) word.now (parts_of self.new)) }
     {
-        if self.has_room(command) {
-            self.names_rule = true;
-            return self.leave(alloc, word);
-        }
-        self.add_extra(alloc, word)
+        let name = rule_name(alloc, word)?;
+        self.add_named(alloc, command, word, name.as_str())
     }
 
     // The number of workers, as two words.

@@ -25,6 +25,8 @@ pub struct Wanted {
     pub output: Option<String>,
     /// Lines that the output must have.
     pub must: String,
+    /// What the error stream must be told, where the row says so.
+    pub errors: Option<String>,
     pub status: u8,
     /// The bundle that goes to a file.
     pub bundle: Option<String>,
@@ -120,6 +122,7 @@ fn wanted_of<R: Files + AllocGlobal>(rt: &R, name: &str, line: &Line) -> io::Res
     Ok(Wanted {
         output,
         must: text_or_none(rt, name, "must")?,
+        errors: text_of(rt, name, "stderr")?,
         status,
         bundle,
         cut: cut_of(rt, name)?,
@@ -128,7 +131,7 @@ fn wanted_of<R: Files + AllocGlobal>(rt: &R, name: &str, line: &Line) -> io::Res
 
 impl Row {
     /// The row in the folder of this name, with the files `args` (none: no words), `stdin`, `stdout`, `status` (none:
-    /// 0) and `must`, and those that `args` names: to be read, or as they must be written.
+    /// 0), `must` and `stderr`, and those that `args` names: to be read, or as they must be written.
     pub(crate) fn read<R: Files + AllocGlobal>(rt: &R, name: &str) -> io::Result<Row> {
         let given = given_of(rt, name)?;
         let wanted = wanted_of(rt, name, &given.line)?;

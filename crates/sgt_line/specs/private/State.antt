@@ -1,7 +1,8 @@
 -- How far a command line is read.
 use Rattle.std.specs.Prelude.{◌≡◌, ◌≢◌, ◌⊎◌, ℕ, List, [], ◌∷◌, ◌++◌, None}
 use Rattle.sgt_line.specs.Kinds.{IsKind}
-use Rattle.sgt_line.specs.Parts.{HasRoom, Parts, left, with_extra}
+use Rattle.sgt_line.specs.Names.{IsNameOf}
+use Rattle.sgt_line.specs.Parts.{HasRoom, Parts, left, with_extra, with_rule}
 use Rattle.sgt_line.specs.Reads.{Behind, Reads}
 use Rattle.sgt_line.specs.declared.kind.Kind.{Kind}
 use Rattle.sgt_line.specs.declared.kind.Kind.TheVariants.{Against, Dashes, Numbered, Place, Plain}
@@ -30,6 +31,11 @@ IsReadTo command first words kind parts = Reads command first words parts
 abbrev pub Adds : CommandName → (old added : Parts) → (word : List ℕ) → (new : Parts) → Type 0
 Adds command old added word new = (HasRoom command old × (new ≡ added))
     ⊎ ((HasRoom command old → ⊥) × (new ≡ with_extra old word))
+
+-- the same of the name of a rule that the word spells
+abbrev pub AddsRule : CommandName → (old : Parts) → (word : List ℕ) → (new : Parts) → Type 0
+AddsRule command old word new = (name : List ℕ) × IsNameOf word name
+    × Adds command old (with_rule old name) word new
 
 -- behind the option of a place its word is waited for, if there is no place yet; else it is left
 abbrev pub WaitsForPlace : (old : Parts) → (word : List ℕ) → (after : Kind) → (new : Parts) → Type 0
