@@ -1,8 +1,8 @@
 -- What a word is, behind a command.
-use Rattle.std.specs.Prelude.{◌≡◌, ◌⊎◌, ℕ, List, ◌++◌, codes, ⊤}
+use Rattle.std.specs.Prelude.{◌≡◌, ◌≢◌, ◌⊎◌, ℕ, List, ◌++◌, codes, ⊤}
 use Rattle.sgt_line.specs.Names.{NamesRule}
 use Rattle.sgt_line.specs.declared.kind.Kind.{Kind}
-use Rattle.sgt_line.specs.declared.kind.Kind.TheVariants.{Against, Chain, Dashes, File, Joined, Numbered, Place, Plain, Progress, Quiet, RuleName, Strict}
+use Rattle.sgt_line.specs.declared.kind.Kind.TheVariants.{Against, Chain, Dashes, File, Joined, Numbered, Place, Plain, Progress, Quiet, RuleName, Strict, Why}
 use Rattle.sgt_line.specs.declared.name.CommandName.{CommandName}
 use Rattle.sgt_line.specs.declared.name.CommandName.TheVariants.{Audit, Check, Draw, Explain, Replay, Run, Serial, Serve}
 
@@ -23,6 +23,7 @@ IsNoted command word Quiet = ((command ≡ Audit) ⊎ (command ≡ Check))
 IsNoted command word Strict = (command ≡ Replay) × (word ≡ codes "--strict")
 IsNoted command word Chain = (command ≡ Audit) × (word ≡ codes "--chain")
 IsNoted command word Progress = TellsLines command × (word ≡ codes "--progress")
+IsNoted command word Why = (command ≢ Serve) × (word ≡ codes "--why")
 IsNoted command word Dashes = word ≡ codes "--"
 IsNoted command word Place = (((command ≡ Replay) ⊎ (command ≡ Run)) × (word ≡ codes "--bundle"))
     ⊎ (((command ≡ Serve) × (word ≡ codes "--bundles")) ⊎ ((command ≡ Check) × (word ≡ codes "--svg")))
@@ -56,5 +57,6 @@ IsSwitch Quiet = ⊤
 IsSwitch Strict = ⊤
 IsSwitch Chain = ⊤
 IsSwitch Progress = ⊤
+IsSwitch Why = ⊤
 IsSwitch Dashes = ⊤
 IsSwitch kind = ⊥

@@ -17,6 +17,7 @@ pub record Parts : Type 0 where
   pub is_strict : Bool
   pub is_chain : Bool
   pub tells_lines : Bool
+  pub tells_why : Bool
 
 -- a line that has these words alone
 abbrev pub bare : List (List ℕ) → Parts
@@ -30,6 +31,7 @@ bare words = record {
   is_strict = false;
   is_chain = false;
   tells_lines = false;
+  tells_why = false;
 }
 
 -- one more word is left for the program
@@ -64,4 +66,5 @@ parts_of line = record {
   is_strict = line.is_strict;
   is_chain = line.is_chain;
   tells_lines = line.tells_lines;
+  tells_why = line.tells_why;
 }

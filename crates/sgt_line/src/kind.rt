@@ -33,6 +33,8 @@ pub enum Kind {
     Chain,
     /// Lines are told as they are read.
     Progress,
+    /// Behind a no it is told what to type to learn more.
+    Why,
     /// Behind it each word is a file.
     Dashes,
 }
@@ -89,6 +91,12 @@ fn is_progress(command: CommandName, word: &str) -> bool
     ensures { IsTrue result ↔ IsNoted command word.now kind.Progress }
 {
     tells_lines(command) && word == "--progress"
+}
+
+fn is_why(command: CommandName, word: &str) -> bool
+    ensures { IsTrue result ↔ IsNoted command word.now kind.Why }
+{
+    command != CommandName::Serve && word == "--why"
 }
 
 fn is_place(command: CommandName, word: &str) -> bool
@@ -156,6 +164,8 @@ fn switch_of(command: CommandName, word: &str) -> Option<Kind>
         Some(Kind::Chain)
     } else if is_progress(command, word) {
         Some(Kind::Progress)
+    } else if is_why(command, word) {
+        Some(Kind::Why)
     } else if word == "--" {
         Some(Kind::Dashes)
     } else {

@@ -35,6 +35,8 @@ pub struct Line {
     pub is_chain: bool,
     /// Whether standard error is told of each million lines that were read.
     pub tells_lines: bool,
+    /// Whether behind a no standard error is told what to type to learn more.
+    pub tells_why: bool,
 }
 
 // How the number of an audit's workers begins where it stands in one word.
@@ -55,6 +57,7 @@ impl Line {
             is_strict: false,
             is_chain: false,
             tells_lines: false,
+            tells_why: false,
         }
     }
 
@@ -198,6 +201,7 @@ impl Line {
             Kind::Strict => self.is_strict = true,
             Kind::Chain => self.is_chain = true,
             Kind::Progress => self.tells_lines = true,
+            Kind::Why => self.tells_why = true,
             Kind::Plain => self.leave(alloc, word)?,
             Kind::Dashes => return Ok(kind),
             Kind::Numbered => {

@@ -3,7 +3,7 @@ use Rattle.sgt_line.specs.Kinds.{IsKind}
 use Rattle.sgt_line.specs.Parts.{left, parts_of}
 use Rattle.sgt_line.specs.Reads.{Reads}
 use Rattle.sgt_line.specs.Reads as reads
-use Rattle.sgt_line.specs.declared.kind.Kind.TheVariants.{Joined, Plain, Progress, Quiet, Strict}
+use Rattle.sgt_line.specs.declared.kind.Kind.TheVariants.{Joined, Plain, Progress, Quiet, Strict, Why}
 use Rattle.sgt_line.proofs.Steps.{dashed, filed, numbered, on_ok, ruled, waits_order, waits_place}
 use Rattle.sgt_line.proofs.line.Line.add_whole.Goals as goal
 
@@ -58,6 +58,10 @@ pub returns-in-Progress : goal.returns-in-Progress
 returns-in-Progress c = λ first taken reading.
     reads.progress c.args.word.now reading
     (subst (λ k. IsKind c.args.command c.args.word.now k) c.in-Progress.is c.requires)
+
+pub returns-in-Why : goal.returns-in-Why
+returns-in-Why c = λ first taken reading.
+    reads.why c.args.word.now reading (subst (λ k. IsKind c.args.command c.args.word.now k) c.in-Why.is c.requires)
 
 pub returns-in_ok-leave-in-Plain : goal.returns-in_ok-leave-in-Plain
 returns-in_ok-leave-in-Plain c = λ first taken reading.
