@@ -3,6 +3,7 @@
 use crate::devices::{Held, Input, LastWords, Retrying, Steady};
 use crate::host::{Host, ended, open, refuse_file};
 use crate::unreadable::{Fronted, tell_unreadable};
+use crate::why::tell_why;
 use sgt_command_line::CheckWanted;
 use sgt_line::Line;
 use sgt_names::{FromRead, Sink, ToWrite};
@@ -57,6 +58,7 @@ fn judged<H, W: Sink>(
         )
     };
     tell_unreadable(host, &steady, steady.name(name), fronted.front());
+    tell_why(host, &steady, name, fronted.front(), status);
     let status = ended(host, &given, order, status);
     ended(host, &steady, name, status)
 }

@@ -2,6 +2,8 @@
 
 use crate::devices::{Held, LastWords, Retrying};
 use crate::host::{Host, ended, open};
+use crate::unreadable::Fronted;
+use crate::why::tell_why;
 use sgt_audit_chain::ChainAuditor;
 use sgt_line::Line;
 use sgt_names::{FromRead, Sink, ToWrite};
@@ -19,6 +21,7 @@ fn next<H, W: Sink>(
         Err(status) => return Some(status),
     };
     let mut errors = ToWrite::new(LastWords::new(host.rt.stderr(), host.hush));
+    let mut fronted = Fronted::new(writer);
     let status = {
         let mut reader = FromRead::new(&mut steady);
         audit_next(
@@ -26,10 +29,11 @@ fn next<H, W: Sink>(
             host.rt.alloc(),
             name,
             &mut reader,
-            writer,
+            &mut fronted,
             &mut errors,
         )?
     };
+    tell_why(host, &steady, name, fronted.front(), status);
     Some(ended(host, &steady, name, status))
 }
 

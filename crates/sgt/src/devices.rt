@@ -2,6 +2,7 @@
 
 ghost use Rattle.std.specs.Prelude.{None};
 
+use crate::front::Front;
 use crate::progress::Progress;
 use sgt_history_words::Tail;
 use sgt_names::{Failed, Sink};
@@ -68,15 +69,15 @@ impl Read for Input {
     }
 }
 
-/// A reader that begins a read again where a signal interrupted it, keeps why a read failed and which byte came
-/// first, and tells of what was read.
+/// A reader that begins a read again where a signal interrupted it, keeps why a read failed and which bytes came
+/// first and last, and tells of what was read.
 #[derive(Drop)]
 pub struct Steady<'a, R> {
     inner: R,
     progress: Option<Progress<'a>>,
     tail: Option<Tail>,
     hush: &'a Hush,
-    pub first: Option<u8>,
+    front: Front,
     pub why: Option<io::Error>,
 }
 
@@ -93,9 +94,14 @@ impl<'a, R: Read> Steady<'a, R> {
             progress,
             tail,
             hush,
-            first: None,
+            front: Front::new(),
             why: None,
         }
+    }
+
+    /// The first bytes that were read, and the last.
+    pub(crate) fn front(&self) -> &Front {
+        &self.front
     }
 
     /// The line of this number, if it was read last and is kept.
@@ -121,9 +127,7 @@ impl<R: Read> Read for &mut Steady<'_, R> {
                 Err(e) if e.kind() == io::ErrorKind::Interrupted => {}
                 Ok(n) => {
                     let bytes = buffer.get(..n).unwrap_or(&[]);
-                    if self.first.is_none() {
-                        self.first = bytes.first().copied();
-                    }
+                    self.front.pass(bytes);
                     if let Some(progress) = &mut self.progress {
                         progress.pass(bytes);
                     }

@@ -3,6 +3,8 @@
 use crate::devices::{Hush, Input, LastWords, Steady};
 use crate::progress::Progress;
 use crate::unreadable::{Fronted, Watched, tell_unreadable};
+use crate::why::tell_why;
+use sgt_line::CommandName;
 use sgt_names::{FromRead, Sink, ToWrite};
 use sgt_program::program;
 use std::fs::File;
@@ -12,8 +14,8 @@ use std::sync::Wait;
 use std::thread::Threads;
 
 /// The system: its files and streams, and its threads; what is awaited from a terminal, if something is read, and
-/// what words are of use where it can't be; whether lines are told as they are read, and whether last words are
-/// wanted.
+/// what words are of use where it can't be; whether lines are told as they are read, and behind a no what to type to
+/// learn more; and whether last words are wanted.
 #[derive(Drop)]
 pub struct Host<'a, H> {
     pub rt: &'a HostRuntime,
@@ -21,6 +23,8 @@ pub struct Host<'a, H> {
     pub awaits: Option<&'static str>,
     pub watched: Watched,
     pub tells_lines: bool,
+    pub tells_why: bool,
+    pub command: CommandName,
     pub hush: &'a Hush,
 }
 
@@ -115,5 +119,6 @@ pub(crate) fn over<H: Threads + Wait + Sync, W: Sink>(
         )
     };
     tell_unreadable(host, &steady, steady.name(name), fronted.front());
+    tell_why(host, &steady, name, fronted.front(), status);
     ended(host, &steady, name, status)
 }

@@ -5,12 +5,14 @@ mod against;
 mod chain;
 mod devices;
 mod folder;
+mod front;
 mod host;
 mod ordinary;
 mod progress;
 mod svg;
 mod talk;
 mod unreadable;
+mod why;
 
 use crate::against::judge_order;
 use crate::chain::audit_chain;
@@ -21,7 +23,7 @@ use crate::svg::check_drawn;
 use crate::talk::serve_events;
 use crate::unreadable::Watched;
 use sgt_command_line::{Choice, NoChoice, Way, awaited, choose, wanted_by, way_of};
-use sgt_line::Line;
+use sgt_line::{CommandName, Line, named};
 use sgt_names::{EngineFail, ToWrite};
 use sgt_program::{give_up, refuse_words};
 use std::alloc::AllocError;
@@ -55,6 +57,14 @@ fn tells_terminal(choice: &Result<Choice, NoChoice>) -> bool {
         Ok(Choice::Audit | Choice::AuditWith { .. } | Choice::Serial) => true,
         Ok(Choice::Replay | Choice::Check(_)) => true,
         _ => false,
+    }
+}
+
+// The command that the words name.
+fn command_of(line: &Line) -> CommandName {
+    match line.words.get(1) {
+        Some(word) => named(word.as_str()).unwrap_or(CommandName::Audit),
+        None => CommandName::Audit,
     }
 }
 
@@ -98,13 +108,15 @@ fn main(rt: HostRuntime) -> ExitCode {
         Err(status) => return ExitCode::from(status),
     };
     let choice = choose(rt.alloc(), line.words.as_slice());
-    let is_told = tells_terminal(&choice) && !line.is_quiet && rt.stderr().is_terminal();
+    let is_terminal = !line.is_quiet && rt.stderr().is_terminal();
     let host = Host {
         rt: &rt,
         threads: &rt,
         awaits: awaited(&line, &choice),
         watched: Watched::of(&choice),
-        tells_lines: line.tells_lines || is_told,
+        tells_lines: line.tells_lines || (is_terminal && tells_terminal(&choice)),
+        tells_why: line.tells_why || is_terminal,
+        command: command_of(&line),
         hush: &hush,
     };
     match run(&host, &line, &choice) {

@@ -2,6 +2,7 @@
 
 use crate::devices::{Held, Retrying};
 use crate::host::{Host, over, write_file};
+use crate::why::tell_refusal;
 use sgt_line::{Line, cut, shown, strict_status};
 use sgt_names::{EngineFail, MemSink, ToWrite, write_all};
 use std::sync::Wait;
@@ -63,7 +64,12 @@ pub(crate) fn run_held<H: Threads + Wait + Sync>(
         return Ok(failed);
     }
     if line.is_strict {
-        return Ok(strict_status(status, cut(held.bytes()).0));
+        let replies = cut(held.bytes()).0;
+        let strict = strict_status(status, replies);
+        if host.tells_why && strict != status {
+            tell_refusal(host, replies);
+        }
+        return Ok(strict);
     }
     Ok(status)
 }

@@ -36,29 +36,29 @@ const DRAW: &str =
 
 // The usage of each command, with an example. What of it is a file or about files is taken out of the words before.
 const AUDIT_USAGE: &str =
-    "sgt audit [-q] [--workers N] [--progress] [FILE]...\n       sgt audit --chain [-q] [--progress] FILE...\n  e.g. sgt audit bundle.txt";
+    "sgt audit [-q] [--workers N] [--why] [--progress] [FILE]...\n       sgt audit --chain [-q] [--why] [--progress] FILE...\n  e.g. sgt audit bundle.txt";
 
-const SERIAL_USAGE: &str = "sgt serial [--progress] [FILE]\n  e.g. sgt serial bundle.txt";
+const SERIAL_USAGE: &str = "sgt serial [--why] [--progress] [FILE]\n  e.g. sgt serial bundle.txt";
 
 const REPLAY_USAGE: &str =
-    "sgt replay [--strict] [--progress] [--bundle FILE] [FILE]\n  e.g. sgt replay --bundle bundle.txt events.txt";
+    "sgt replay [--strict] [--why] [--progress] [--bundle FILE] [FILE]\n  e.g. sgt replay --bundle bundle.txt events.txt";
 
 const SERVE_USAGE: &str = "sgt serve [--bundles DIR] [FILE]\n  e.g. sgt serve --bundles bundles";
 
 const CHECK_USAGE: &str =
-    "sgt check [--order] [--real-time] [--sessions] [--svg FILE] [-q] [--progress] [FILE]\n       sgt check --against ORDER [--real-time] [--sessions] [-q] [FILE]\n  e.g. sgt check history.jsonl";
+    "sgt check [--order] [--real-time] [--sessions] [--svg FILE] [-q] [--why] [--progress] [FILE]\n       sgt check --against ORDER [--real-time] [--sessions] [-q] [--why] [FILE]\n  e.g. sgt check history.jsonl";
 
-const CERTIFY_USAGE: &str = "sgt certify [FILE]\n  e.g. sgt certify logs.txt > bundle.txt";
+const CERTIFY_USAGE: &str = "sgt certify [--why] [FILE]\n  e.g. sgt certify logs.txt > bundle.txt";
 
 const EXPLAIN_USAGE: &str =
-    "sgt explain [--tx N] [FILE]\n       sgt explain RULE\n  e.g. sgt explain bundle.txt";
+    "sgt explain [--tx N] [--why] [FILE]\n       sgt explain RULE\n  e.g. sgt explain bundle.txt";
 
 const DRAW_USAGE: &str =
-    "sgt draw [--tx N] [--dot] [FILE]\n  e.g. sgt draw bundle.txt > bundle.svg";
+    "sgt draw [--tx N] [--dot] [--why] [FILE]\n  e.g. sgt draw bundle.txt > bundle.svg";
 
 /// What the help of each command ends with.
 pub const MORE: &str =
-    "Behind each command a FILE may stand; with none, or -, standard input is read. Where standard error is a terminal, audit, serial, replay and check tell it of each million lines read, as with --progress. sgt COMMAND --help lists all options of a command.
+    "Behind each command a FILE may stand; with none, or -, standard input is read. Where standard error is a terminal, audit, serial, replay and check tell it of each million lines read, as with --progress; and behind a no it is told what to type to learn more, as with --why. sgt COMMAND --help lists all options of a command.
 
 L is the first line with a fault and FN the fault: docs/FORMAT.md has the faults and the formats of a bundle, a replay and scripts.
 
@@ -192,6 +192,14 @@ fn progress<'a>(alloc: Global) -> Arg<'a> {
     )
 }
 
+fn why<'a>(alloc: Global) -> Arg<'a> {
+    flag(
+        alloc,
+        "why",
+        "Tells standard error behind a no what to type to learn more",
+    )
+}
+
 fn bundle<'a>(alloc: Global) -> Arg<'a> {
     Arg::new(alloc, "bundle")
         .long("bundle")
@@ -220,6 +228,7 @@ fn full_audit<'a>(alloc: Global) -> Result<Command<'a>, AllocError> {
         .arg(files)?
         .arg(quiet(alloc))?
         .arg(chain)?
+        .arg(why(alloc))?
         .arg(progress(alloc))
 }
 
@@ -232,6 +241,7 @@ fn full_replay<'a>(alloc: Global) -> Result<Command<'a>, AllocError> {
     replay_line(alloc)
         .arg(file(alloc))?
         .arg(strict)?
+        .arg(why(alloc))?
         .arg(progress(alloc))?
         .arg(bundle(alloc))
 }
@@ -245,11 +255,17 @@ fn full_serve<'a>(alloc: Global) -> Result<Command<'a>, AllocError> {
 }
 
 fn full_serial<'a>(alloc: Global) -> Result<Command<'a>, AllocError> {
-    serial_line(alloc).arg(file(alloc))?.arg(progress(alloc))
+    serial_line(alloc)
+        .arg(file(alloc))?
+        .arg(why(alloc))?
+        .arg(progress(alloc))
 }
 
 fn full_run<'a>(alloc: Global) -> Result<Command<'a>, AllocError> {
-    run_line(alloc)?.arg(file(alloc))?.arg(bundle(alloc))
+    run_line(alloc)?
+        .arg(file(alloc))?
+        .arg(why(alloc))?
+        .arg(bundle(alloc))
 }
 
 fn full_check<'a>(alloc: Global) -> Result<Command<'a>, AllocError> {
@@ -265,15 +281,20 @@ fn full_check<'a>(alloc: Global) -> Result<Command<'a>, AllocError> {
         .arg(against)?
         .arg(svg)?
         .arg(quiet(alloc))?
+        .arg(why(alloc))?
         .arg(progress(alloc))
 }
 
+fn full_certify<'a>(alloc: Global) -> Result<Command<'a>, AllocError> {
+    certify_line(alloc).arg(file(alloc))?.arg(why(alloc))
+}
+
 fn full_explain<'a>(alloc: Global) -> Result<Command<'a>, AllocError> {
-    explain_line(alloc)?.arg(file(alloc))
+    explain_line(alloc)?.arg(file(alloc))?.arg(why(alloc))
 }
 
 fn full_draw<'a>(alloc: Global) -> Result<Command<'a>, AllocError> {
-    draw_line(alloc)?.arg(file(alloc))
+    draw_line(alloc)?.arg(file(alloc))?.arg(why(alloc))
 }
 
 /// The words of a command with those that are taken out before, for its help.
@@ -283,7 +304,7 @@ pub fn listing_line<'a>(alloc: Global, name: CommandName) -> Result<Command<'a>,
         CommandName::Serial => full_serial(alloc),
         CommandName::Replay => full_replay(alloc),
         CommandName::Run => full_run(alloc),
-        CommandName::Certify => certify_line(alloc).arg(file(alloc)),
+        CommandName::Certify => full_certify(alloc),
         CommandName::Explain => full_explain(alloc),
         CommandName::Draw => full_draw(alloc),
         CommandName::Serve => full_serve(alloc),
