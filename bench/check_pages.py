@@ -165,7 +165,7 @@ def more_words():
         yield f"docs/sgt.1: there is no command {word}"
     for word in sorted({f"-{word}" for word in re.findall(r"Fl (-[\w-]+)", manual)} - set(options())):
         yield f"docs/sgt.1: there is no option {word}"
-    known = {*options(), *commands(), *rewritten(), *topics(), "-q"}
+    known = {*options(), *commands(), *rewritten(), *topics(), "-q", "-o"}
     for word in sorted(completed() - known):
         yield f"docs/sgt.bash: {word} is no word of a command line"
     for word in sorted(known - completed()):

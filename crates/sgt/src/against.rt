@@ -1,7 +1,7 @@
 //! An order in a file, judged by a history.
 
-use crate::devices::{Held, Input, LastWords, Retrying, Steady};
-use crate::host::{Host, ended, open, refuse_file};
+use crate::devices::{Held, Input, LastWords, Steady};
+use crate::host::{Host, ended, open, refuse_file, writer};
 use crate::unreadable::{Fronted, tell_unreadable};
 use crate::why::tell_why;
 use sgt_command_line::CheckWanted;
@@ -74,6 +74,6 @@ pub(crate) fn judge_order<H>(
     if line.is_quiet {
         return judged(host, wanted, order, name, &mut Held::new(host.rt.alloc()));
     }
-    let mut output = ToWrite::new(Retrying::new(host.rt.stdout(), host.hush));
+    let mut output = writer(host);
     judged(host, wanted, order, name, &mut output)
 }

@@ -1,7 +1,7 @@
 //! An audit of one system's bundles in a row.
 
-use crate::devices::{Held, LastWords, Retrying};
-use crate::host::{Host, ended, open};
+use crate::devices::{Held, LastWords};
+use crate::host::{Host, ended, open, writer};
 use crate::unreadable::Fronted;
 use crate::why::tell_why;
 use sgt_audit_chain::ChainAuditor;
@@ -55,6 +55,6 @@ pub(crate) fn audit_chain<H>(host: &Host<'_, H>, line: &Line) -> u8 {
     if line.is_quiet {
         return audit_files(host, files, &mut Held::new(host.rt.alloc()));
     }
-    let mut output = ToWrite::new(Retrying::new(host.rt.stdout(), host.hush));
+    let mut output = writer(host);
     audit_files(host, files, &mut output)
 }

@@ -35,6 +35,11 @@ impl Hush {
         self.is_set.set(false);
     }
 
+    /// Words would be one too many.
+    pub(crate) fn set(&self) {
+        self.is_set.set(true);
+    }
+
     /// The writer's reason is noted where it is that its reader went away.
     pub(crate) fn note(&self, why: &io::Error) {
         if why.kind() == io::ErrorKind::BrokenPipe {
@@ -139,7 +144,7 @@ impl<R: Read> Read for &mut Steady<'_, R> {
                 Err(e) => {
                     let kind = e.kind();
                     self.why = Some(e);
-                    self.hush.is_set.set(true);
+                    self.hush.set();
                     return Err(io::Error::from(kind));
                 }
             }

@@ -1,6 +1,7 @@
 //! The system, and what is read of it.
 
-use crate::devices::{Hush, Input, LastWords, Steady};
+use crate::devices::{Hush, Input, LastWords, Retrying, Steady};
+use crate::output::Output;
 use crate::progress::Progress;
 use crate::unreadable::{Fronted, Watched, tell_unreadable};
 use crate::why::tell_why;
@@ -15,7 +16,7 @@ use std::thread::Threads;
 
 /// The system: its files and streams, and its threads; what is awaited from a terminal, if something is read, and
 /// what words are of use where it can't be; whether lines are told as they are read, and behind a no what to type to
-/// learn more; and whether last words are wanted.
+/// learn more; whether last words are wanted; and the file that is written in place of standard output.
 #[derive(Drop)]
 pub struct Host<'a, H> {
     pub rt: &'a HostRuntime,
@@ -26,6 +27,13 @@ pub struct Host<'a, H> {
     pub tells_why: bool,
     pub command: CommandName,
     pub hush: &'a Hush,
+    pub output: Option<&'a String>,
+}
+
+/// The writer of the answer, which was given nothing.
+pub(crate) fn writer<'a, H>(host: &Host<'a, H>) -> ToWrite<Retrying<'a, Output<'a>>> {
+    let output = Output::new(host.rt, host.output, host.hush);
+    ToWrite::new(Retrying::new(output, host.hush))
 }
 
 /// Says why a file could not be read or written, if it isn't that its reader went away, and gives the status.

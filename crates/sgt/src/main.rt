@@ -8,6 +8,7 @@ mod folder;
 mod front;
 mod host;
 mod ordinary;
+mod output;
 mod progress;
 mod svg;
 mod talk;
@@ -16,8 +17,8 @@ mod why;
 
 use crate::against::judge_order;
 use crate::chain::audit_chain;
-use crate::devices::{Hush, LastWords, Retrying};
-use crate::host::{Host, over};
+use crate::devices::{Hush, LastWords};
+use crate::host::{Host, over, writer};
 use crate::ordinary::{audit_each, judge, run_held};
 use crate::svg::check_drawn;
 use crate::talk::serve_events;
@@ -95,7 +96,7 @@ fn run<H: Threads + Wait + Sync>(
         Way::Held => run_held(host, line, name),
         Way::Quiet => judge(host, line, name),
         Way::Plain => {
-            let mut output = ToWrite::new(Retrying::new(host.rt.stdout(), host.hush));
+            let mut output = writer(host);
             Ok(over(host, line.words.as_slice(), name, &mut output))
         }
     }
@@ -118,6 +119,7 @@ fn main(rt: HostRuntime) -> ExitCode {
         tells_why: line.tells_why || is_terminal,
         command: command_of(&line),
         hush: &hush,
+        output: line.output.as_ref(),
     };
     match run(&host, &line, &choice) {
         Ok(status) => ExitCode::from(status),

@@ -36,25 +36,27 @@ const DRAW: &str =
 
 // The usage of each command, with an example. What of it is a file or about files is taken out of the words before.
 const AUDIT_USAGE: &str =
-    "sgt audit [-q] [--workers N] [--why] [--progress] [FILE]...\n       sgt audit --chain [-q] [--why] [--progress] FILE...\n  e.g. sgt audit bundle.txt";
+    "sgt audit [-q] [--workers N] [--why] [--progress] [-o FILE] [FILE]...\n       sgt audit --chain [-q] [--why] [--progress] [-o FILE] FILE...\n  e.g. sgt audit bundle.txt";
 
-const SERIAL_USAGE: &str = "sgt serial [--why] [--progress] [FILE]\n  e.g. sgt serial bundle.txt";
+const SERIAL_USAGE: &str =
+    "sgt serial [--why] [--progress] [-o FILE] [FILE]\n  e.g. sgt serial bundle.txt";
 
 const REPLAY_USAGE: &str =
-    "sgt replay [--strict] [--why] [--progress] [--bundle FILE] [FILE]\n  e.g. sgt replay --bundle bundle.txt events.txt";
+    "sgt replay [--strict] [--why] [--progress] [--bundle FILE] [-o FILE] [FILE]\n  e.g. sgt replay --bundle bundle.txt events.txt";
 
 const SERVE_USAGE: &str = "sgt serve [--bundles DIR] [FILE]\n  e.g. sgt serve --bundles bundles";
 
 const CHECK_USAGE: &str =
-    "sgt check [--order] [--real-time] [--sessions] [--svg FILE] [-q] [--why] [--progress] [FILE]\n       sgt check --against ORDER [--real-time] [--sessions] [-q] [--why] [FILE]\n  e.g. sgt check history.jsonl";
+    "sgt check [--order] [--real-time] [--sessions] [--svg FILE] [-q] [--why] [--progress] [-o FILE] [FILE]\n       sgt check --against ORDER [--real-time] [--sessions] [-q] [--why] [-o FILE] [FILE]\n  e.g. sgt check history.jsonl";
 
-const CERTIFY_USAGE: &str = "sgt certify [--why] [FILE]\n  e.g. sgt certify logs.txt > bundle.txt";
+const CERTIFY_USAGE: &str =
+    "sgt certify [--why] [-o FILE] [FILE]\n  e.g. sgt certify -o bundle.txt logs.txt";
 
 const EXPLAIN_USAGE: &str =
-    "sgt explain [--tx N] [--why] [FILE]\n       sgt explain RULE\n  e.g. sgt explain bundle.txt";
+    "sgt explain [--tx N] [--why] [-o FILE] [FILE]\n       sgt explain RULE\n  e.g. sgt explain bundle.txt";
 
 const DRAW_USAGE: &str =
-    "sgt draw [--tx N] [--dot] [--why] [FILE]\n  e.g. sgt draw bundle.txt > bundle.svg";
+    "sgt draw [--tx N] [--dot] [--why] [-o FILE] [FILE]\n  e.g. sgt draw -o bundle.svg bundle.txt";
 
 /// What the help of each command ends with.
 pub const MORE: &str =
@@ -200,6 +202,14 @@ fn why<'a>(alloc: Global) -> Arg<'a> {
     )
 }
 
+fn output<'a>(alloc: Global) -> Arg<'a> {
+    Arg::new(alloc, "output")
+        .long("output")
+        .short('o')
+        .value_name("FILE")
+        .help("Writes the answer to this file in place of standard output")
+}
+
 fn bundle<'a>(alloc: Global) -> Arg<'a> {
     Arg::new(alloc, "bundle")
         .long("bundle")
@@ -229,7 +239,8 @@ fn full_audit<'a>(alloc: Global) -> Result<Command<'a>, AllocError> {
         .arg(quiet(alloc))?
         .arg(chain)?
         .arg(why(alloc))?
-        .arg(progress(alloc))
+        .arg(progress(alloc))?
+        .arg(output(alloc))
 }
 
 fn full_replay<'a>(alloc: Global) -> Result<Command<'a>, AllocError> {
@@ -243,7 +254,8 @@ fn full_replay<'a>(alloc: Global) -> Result<Command<'a>, AllocError> {
         .arg(strict)?
         .arg(why(alloc))?
         .arg(progress(alloc))?
-        .arg(bundle(alloc))
+        .arg(bundle(alloc))?
+        .arg(output(alloc))
 }
 
 fn full_serve<'a>(alloc: Global) -> Result<Command<'a>, AllocError> {
@@ -258,14 +270,16 @@ fn full_serial<'a>(alloc: Global) -> Result<Command<'a>, AllocError> {
     serial_line(alloc)
         .arg(file(alloc))?
         .arg(why(alloc))?
-        .arg(progress(alloc))
+        .arg(progress(alloc))?
+        .arg(output(alloc))
 }
 
 fn full_run<'a>(alloc: Global) -> Result<Command<'a>, AllocError> {
     run_line(alloc)?
         .arg(file(alloc))?
         .arg(why(alloc))?
-        .arg(bundle(alloc))
+        .arg(bundle(alloc))?
+        .arg(output(alloc))
 }
 
 fn full_check<'a>(alloc: Global) -> Result<Command<'a>, AllocError> {
@@ -282,19 +296,29 @@ fn full_check<'a>(alloc: Global) -> Result<Command<'a>, AllocError> {
         .arg(svg)?
         .arg(quiet(alloc))?
         .arg(why(alloc))?
-        .arg(progress(alloc))
+        .arg(progress(alloc))?
+        .arg(output(alloc))
 }
 
 fn full_certify<'a>(alloc: Global) -> Result<Command<'a>, AllocError> {
-    certify_line(alloc).arg(file(alloc))?.arg(why(alloc))
+    certify_line(alloc)
+        .arg(file(alloc))?
+        .arg(why(alloc))?
+        .arg(output(alloc))
 }
 
 fn full_explain<'a>(alloc: Global) -> Result<Command<'a>, AllocError> {
-    explain_line(alloc)?.arg(file(alloc))?.arg(why(alloc))
+    explain_line(alloc)?
+        .arg(file(alloc))?
+        .arg(why(alloc))?
+        .arg(output(alloc))
 }
 
 fn full_draw<'a>(alloc: Global) -> Result<Command<'a>, AllocError> {
-    draw_line(alloc)?.arg(file(alloc))?.arg(why(alloc))
+    draw_line(alloc)?
+        .arg(file(alloc))?
+        .arg(why(alloc))?
+        .arg(output(alloc))
 }
 
 /// The words of a command with those that are taken out before, for its help.
