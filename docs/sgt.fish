@@ -22,6 +22,7 @@ complete -c sgt -n __fish_use_subcommand -a help -d 'Say what there is, or what 
 __sgt audit -s q -l quiet -d 'Answer by the status alone'
 __sgt audit -l workers -x -a '(seq 16)' -d 'How many sections are judged at once'
 __sgt audit -l chain -d 'The files are the bundles of one system in a row'
+__sgt audit -l expect-committed -x -d 'How many transactions are to be committed'
 __sgt audit -l progress -d 'Tell standard error of each million lines read'
 __sgt audit -l why -d 'Tell standard error behind a no what to type to learn more'
 __sgt audit -s o -l output -r -d 'Write the answer to this file'

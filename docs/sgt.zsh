@@ -38,6 +38,7 @@ _sgt() {
     case $line[1] in
         audit) _arguments $help $why $output $progress $quiet \
             '(--chain)--workers=[how many sections are judged at once]:number:({1..16})' \
+            '--expect-committed=[how many transactions are to be committed]:number:' \
             '(--workers)--chain[the files are the bundles of one system in a row]' '*:bundle:_files' ;;
         serial) _arguments $help $why $output $progress '1:bundle:_files' ;;
         replay) _arguments $help $why $output $progress '--strict[status 1 where an event was refused]' \

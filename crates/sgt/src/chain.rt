@@ -1,6 +1,7 @@
 //! An audit of one system's bundles in a row.
 
 use crate::devices::{Held, LastWords};
+use crate::expected::expected_status;
 use crate::host::{Host, ended, open, writer};
 use crate::unreadable::Fronted;
 use crate::why::tell_why;
@@ -46,7 +47,9 @@ fn audit_files<H, W: Sink>(host: &Host<'_, H>, files: &[String], writer: &mut W)
         }
     }
     let mut errors = ToWrite::new(LastWords::new(host.rt.stderr(), host.hush));
-    end_chain(&auditor, host.rt.alloc(), writer, &mut errors)
+    let mut fronted = Fronted::new(writer);
+    let status = end_chain(&auditor, host.rt.alloc(), &mut fronted, &mut errors);
+    expected_status(host, fronted.front(), status)
 }
 
 /// Audits the files as a chain; quietly by the status alone.

@@ -1,6 +1,7 @@
 //! The system, and what is read of it.
 
 use crate::devices::{Hush, Input, LastWords, Retrying, Steady};
+use crate::expected::expected_status;
 use crate::output::Output;
 use crate::progress::Progress;
 use crate::unreadable::{Fronted, Watched, tell_unreadable};
@@ -16,7 +17,8 @@ use std::thread::Threads;
 
 /// The system: its files and streams, and its threads; what is awaited from a terminal, if something is read, and
 /// what words are of use where it can't be; whether lines are told as they are read, and behind a no what to type to
-/// learn more; whether last words are wanted; and the file that is written in place of standard output.
+/// learn more; whether last words are wanted; the file that is written in place of standard
+/// output; and how many transactions are to be committed.
 #[derive(Drop)]
 pub struct Host<'a, H> {
     pub rt: &'a HostRuntime,
@@ -28,6 +30,7 @@ pub struct Host<'a, H> {
     pub command: CommandName,
     pub hush: &'a Hush,
     pub output: Option<&'a String>,
+    pub expected: Option<u64>,
 }
 
 /// The writer of the answer, which was given nothing.
@@ -128,5 +131,6 @@ pub(crate) fn over<H: Threads + Wait + Sync, W: Sink>(
     };
     tell_unreadable(host, &steady, steady.name(name), fronted.front());
     tell_why(host, &steady, name, fronted.front(), status);
+    let status = expected_status(host, fronted.front(), status);
     ended(host, &steady, name, status)
 }

@@ -4,6 +4,7 @@
 mod against;
 mod chain;
 mod devices;
+mod expected;
 mod folder;
 mod front;
 mod host;
@@ -18,6 +19,7 @@ mod why;
 use crate::against::judge_order;
 use crate::chain::audit_chain;
 use crate::devices::{Hush, LastWords};
+use crate::expected::expected_of;
 use crate::host::{Host, over, writer};
 use crate::ordinary::{audit_each, judge, run_held};
 use crate::svg::check_drawn;
@@ -108,6 +110,10 @@ fn main(rt: HostRuntime) -> ExitCode {
         Ok(line) => line,
         Err(status) => return ExitCode::from(status),
     };
+    let expected = match expected_of(&rt, &line) {
+        Ok(expected) => expected,
+        Err(status) => return ExitCode::from(status),
+    };
     let choice = choose(rt.alloc(), line.words.as_slice());
     let is_terminal = !line.is_quiet && rt.stderr().is_terminal();
     let host = Host {
@@ -120,6 +126,7 @@ fn main(rt: HostRuntime) -> ExitCode {
         command: command_of(&line),
         hush: &hush,
         output: line.output.as_ref(),
+        expected,
     };
     match run(&host, &line, &choice) {
         Ok(status) => ExitCode::from(status),

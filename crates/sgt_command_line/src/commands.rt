@@ -36,7 +36,7 @@ const DRAW: &str =
 
 // The usage of each command, with an example. What of it is a file or about files is taken out of the words before.
 const AUDIT_USAGE: &str =
-    "sgt audit [-q] [--workers N] [--why] [--progress] [-o FILE] [FILE]...\n       sgt audit --chain [-q] [--why] [--progress] [-o FILE] FILE...\n  e.g. sgt audit bundle.txt";
+    "sgt audit [-q] [--workers N] [--expect-committed N] [--why] [--progress] [-o FILE] [FILE]...\n       sgt audit --chain [-q] [--expect-committed N] [--why] [--progress] [-o FILE] FILE...\n  e.g. sgt audit bundle.txt";
 
 const SERIAL_USAGE: &str =
     "sgt serial [--why] [--progress] [-o FILE] [FILE]\n  e.g. sgt serial bundle.txt";
@@ -234,10 +234,15 @@ fn full_audit<'a>(alloc: Global) -> Result<Command<'a>, AllocError> {
         "chain",
         "Takes the files for one system's bundles in a row: each begins where the one before ends",
     );
+    let expected = Arg::new(alloc, "expect-committed")
+        .long("expect-committed")
+        .value_name("N")
+        .help("Ends a yes of another number of committed transactions with status 1");
     audit_line(alloc)?
         .arg(files)?
         .arg(quiet(alloc))?
         .arg(chain)?
+        .arg(expected)?
         .arg(why(alloc))?
         .arg(progress(alloc))?
         .arg(output(alloc))
