@@ -114,7 +114,10 @@ fn cut_of<R: Files + AllocGlobal>(rt: &R, name: &str) -> io::Result<Vec<String>>
 
 fn wanted_of<R: Files + AllocGlobal>(rt: &R, name: &str, line: &Line) -> io::Result<Wanted> {
     let status = status_of(rt, name)?;
-    let output = text_of(rt, name, "stdout")?;
+    let output = match &line.output {
+        Some(file) => text_of(rt, name, file.as_str())?,
+        None => text_of(rt, name, "stdout")?,
+    };
     let bundle = match &line.place {
         Some(file) => text_of(rt, name, file.as_str())?,
         None => None,
