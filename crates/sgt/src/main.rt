@@ -34,7 +34,28 @@ use std::io::IsTerminal;
 use std::process::ExitCode;
 use std::sync::Wait;
 use std::thread::Threads;
-use std::{env, io};
+use std::{env, fs, io};
+
+// Whether a word stands in a command's place that is none, and names a file.
+fn names_file(rt: &HostRuntime, given: &[String]) -> bool {
+    match given.get(1) {
+        Some(word) => {
+            let is_command = named(word.as_str()).is_some() || word == "help";
+            let may_be_file = !is_command && !word.starts_with('-');
+            may_be_file && fs::exists(rt, word.as_str()).unwrap_or(false)
+        }
+        None => false,
+    }
+}
+
+// The command line of these words; a file in a command's place is audited.
+fn line_with(rt: &HostRuntime, given: Vec<String>) -> Result<Line, AllocError> {
+    let mut given = given;
+    if given.len() > 1 && names_file(rt, given.as_slice()) {
+        given.insert(1, String::from_str(rt.alloc(), "audit")?)?;
+    }
+    Line::of(rt.alloc(), given.as_slice())?.settled(rt.alloc())
+}
 
 // The command line, or the status where it can't be had.
 fn line_of(rt: &HostRuntime, hush: &Hush) -> Result<Line, u8> {
@@ -44,11 +65,7 @@ fn line_of(rt: &HostRuntime, hush: &Hush) -> Result<Line, u8> {
         Err(e) if e.kind() == io::ErrorKind::OutOfMemory => Err(AllocError),
         Err(_) => return Err(refuse_words(&mut errors)),
     };
-    let line = match given {
-        Ok(given) => Line::of(rt.alloc(), given.as_slice()),
-        Err(_) => Err(AllocError),
-    };
-    match line.and_then(|line| line.settled(rt.alloc())) {
+    match given.and_then(|given| line_with(rt, given)) {
         Ok(line) => Ok(line),
         Err(_) => Err(give_up(&mut errors, EngineFail::Memory)),
     }

@@ -2,7 +2,7 @@
 use Rattle.std.specs.Prelude.{◌≡◌, ◌≢◌, ◌⊎◌, ℕ, List, ◌++◌, codes, ⊤}
 use Rattle.sgt_line.specs.Names.{NamesRule}
 use Rattle.sgt_line.specs.declared.kind.Kind.{Kind}
-use Rattle.sgt_line.specs.declared.kind.Kind.TheVariants.{Against, Chain, Dashes, File, Joined, Numbered, Place, Plain, Progress, Quiet, RuleName, Strict, Why}
+use Rattle.sgt_line.specs.declared.kind.Kind.TheVariants.{Against, Chain, Dashes, Expected, File, Joined, JoinedPlace, Numbered, Output, Place, Plain, Progress, Quiet, RuleName, Strict, Why}
 use Rattle.sgt_line.specs.declared.name.CommandName.{CommandName}
 use Rattle.sgt_line.specs.declared.name.CommandName.TheVariants.{Audit, Check, Draw, Explain, Replay, Run, Serial, Serve}
 
@@ -14,6 +14,12 @@ IsDashed word = (rest : List ℕ) × (word ≡ codes "-" ++ rest)
 abbrev pub TellsLines : CommandName → Type 0
 TellsLines command = ((command ≡ Audit) ⊎ (command ≡ Check))
     ⊎ ((command ≡ Serial) ⊎ (command ≡ Replay))
+
+-- the word is the option of a place with the file or folder in itself
+abbrev pub JoinsPlace : CommandName → (word file : List ℕ) → Type 0
+JoinsPlace command word file = (((command ≡ Replay) ⊎ (command ≡ Run)) × (word ≡ codes "--bundle=" ++ file))
+    ⊎ (((command ≡ Serve) × (word ≡ codes "--bundles=" ++ file))
+    ⊎ ((command ≡ Check) × (word ≡ codes "--svg=" ++ file)))
 
 -- what the word is, but Plain: a switch of the command, `--`, an option of it with what stands behind
 -- it, a rule's name, or a file
@@ -28,11 +34,14 @@ IsNoted command word Dashes = word ≡ codes "--"
 IsNoted command word Place = (((command ≡ Replay) ⊎ (command ≡ Run)) × (word ≡ codes "--bundle"))
     ⊎ (((command ≡ Serve) × (word ≡ codes "--bundles")) ⊎ ((command ≡ Check) × (word ≡ codes "--svg")))
 IsNoted command word Against = (command ≡ Check) × (word ≡ codes "--against")
+IsNoted command word Output = (command ≢ Serve) × ((word ≡ codes "-o") ⊎ (word ≡ codes "--output"))
+IsNoted command word Expected = (command ≡ Audit) × (word ≡ codes "--expect-committed")
 IsNoted command word Numbered = (((command ≡ Audit) ⊎ (command ≡ Run)) × (word ≡ codes "--workers"))
     ⊎ (((command ≡ Run) × (word ≡ codes "--tries"))
     ⊎ (((command ≡ Explain) ⊎ (command ≡ Draw)) × (word ≡ codes "--tx")))
 IsNoted command word Joined = (command ≡ Audit)
     × ((number : List ℕ) × (word ≡ codes "--workers=" ++ number))
+IsNoted command word JoinedPlace = (file : List ℕ) × JoinsPlace command word file
 IsNoted command word RuleName = (command ≡ Explain) × NamesRule word
 IsNoted command word File = ((command ≡ Explain) × NamesRule word → ⊥)
     × ((word ≡ codes "-") ⊎ (IsDashed word → ⊥))
@@ -47,8 +56,11 @@ IsKind command word kind = IsNoted command word kind
 abbrev pub IsOption : Kind → Type 0
 IsOption Place = ⊤
 IsOption Against = ⊤
+IsOption Expected = ⊤
+IsOption Output = ⊤
 IsOption Numbered = ⊤
 IsOption Joined = ⊤
+IsOption JoinedPlace = ⊤
 IsOption kind = ⊥
 
 -- a switch, or `--`

@@ -12,6 +12,8 @@ pub record Parts : Type 0 where
   pub files : List (List ℕ)
   pub place : Option (List ℕ)
   pub against : Option (List ℕ)
+  pub expected : Option (List ℕ)
+  pub output : Option (List ℕ)
   pub names_rule : Bool
   pub is_quiet : Bool
   pub is_strict : Bool
@@ -26,6 +28,8 @@ bare words = record {
   files = [];
   place = None;
   against = None;
+  expected = None;
+  output = None;
   names_rule = false;
   is_quiet = false;
   is_strict = false;
@@ -61,6 +65,8 @@ parts_of line = record {
   files = map string_bytes line.files.items;
   place = option_map string_bytes line.place;
   against = option_map string_bytes line.against;
+  expected = option_map string_bytes line.expected;
+  output = option_map string_bytes line.output;
   names_rule = line.names_rule;
   is_quiet = line.is_quiet;
   is_strict = line.is_strict;

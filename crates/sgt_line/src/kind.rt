@@ -1,7 +1,7 @@
 //! What a word is, behind a command.
 
 ghost use Rattle.std.specs.Prelude.{◌≡◌, ◌↔◌, ◌++◌, ℕ, IfNone, IfSome, IsTrue, List};
-ghost use Rattle.sgt_line.specs.Kinds.{IsKind, IsNoted, IsOption, IsSwitch, TellsLines};
+ghost use Rattle.sgt_line.specs.Kinds.{IsKind, IsNoted, IsOption, IsSwitch, JoinsPlace, TellsLines};
 ghost use Rattle.sgt_line.specs.declared.kind.Kind.{Kind};
 ghost use Rattle.sgt_line.specs.declared.kind.Kind.TheVariants as kind;
 
@@ -17,6 +17,8 @@ pub enum Kind {
     Numbered,
     /// Such an option and its number in one word.
     Joined,
+    /// An option of a place, and the file or folder that is to be written, in one word.
+    JoinedPlace,
     /// It is left for the program, which says what the rule is.
     RuleName,
     /// A file to be read.
@@ -25,6 +27,10 @@ pub enum Kind {
     Place,
     /// Behind it stands the file of an order.
     Against,
+    /// Behind it stands how many transactions are to be committed.
+    Expected,
+    /// Behind it stands the file of an answer.
+    Output,
     /// The status alone is answered.
     Quiet,
     /// A refused event is a no.
@@ -116,6 +122,18 @@ fn is_against(command: CommandName, word: &str) -> bool
     command == CommandName::Check && word == "--against"
 }
 
+fn is_output(command: CommandName, word: &str) -> bool
+    ensures { IsTrue result ↔ IsNoted command word.now kind.Output }
+{
+    command != CommandName::Serve && (word == "-o" || word == "--output")
+}
+
+fn is_expected(command: CommandName, word: &str) -> bool
+    ensures { IsTrue result ↔ IsNoted command word.now kind.Expected }
+{
+    command == CommandName::Audit && word == "--expect-committed"
+}
+
 fn takes_number(command: CommandName, word: &str) -> bool
     ensures { IsTrue result ↔ IsNoted command word.now kind.Numbered }
 {
@@ -133,6 +151,25 @@ fn is_joined(command: CommandName, word: &str) -> bool
     command == CommandName::Audit && begins(word.as_bytes(), b"--workers=")
 }
 
+/// The file or folder in the word, where that is the option of a place.
+pub fn place_in(command: CommandName, word: &str) -> Option<&str>
+    ensures some { IfSome result (λ file. JoinsPlace command word.now file.now) }
+    ensures none { IfNone result ((file : List ℕ) → JoinsPlace command word.now file → ⊥) }
+{
+    match command {
+        CommandName::Replay | CommandName::Run => word.strip_prefix("--bundle="),
+        CommandName::Serve => word.strip_prefix("--bundles="),
+        CommandName::Check => word.strip_prefix("--svg="),
+        _ => None,
+    }
+}
+
+fn is_joined_place(command: CommandName, word: &str) -> bool
+    ensures { IsTrue result ↔ IsNoted command word.now kind.JoinedPlace }
+{
+    place_in(command, word).is_some()
+}
+
 // The kind of an option that takes a word behind it, or has it in itself.
 fn option_of(command: CommandName, word: &str) -> Option<Kind>
     ensures some { IfSome result (IsNoted command word.now) }
@@ -142,10 +179,16 @@ fn option_of(command: CommandName, word: &str) -> Option<Kind>
         Some(Kind::Place)
     } else if is_against(command, word) {
         Some(Kind::Against)
+    } else if is_expected(command, word) {
+        Some(Kind::Expected)
+    } else if is_output(command, word) {
+        Some(Kind::Output)
     } else if takes_number(command, word) {
         Some(Kind::Numbered)
     } else if is_joined(command, word) {
         Some(Kind::Joined)
+    } else if is_joined_place(command, word) {
+        Some(Kind::JoinedPlace)
     } else {
         None
     }

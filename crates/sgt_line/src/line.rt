@@ -1,13 +1,14 @@
 //! What the words of the command line say of files, and what is left for the program.
 
 ghost use Rattle.std.specs.Prelude.{◌≡◌, ◌↔◌, ◌∷◌, ◌++◌, [], ℕ, List, IfOk, IsTrue, OnOk, codes, map, string_bytes};
-ghost use Rattle.sgt_line.specs.Kinds.{IsKind};
+ghost use Rattle.sgt_line.specs.Kinds.{IsKind, IsNoted};
+ghost use Rattle.sgt_line.specs.declared.kind.Kind.TheVariants as kind;
 ghost use Rattle.sgt_line.specs.Names.{NamesRule, command_text};
 ghost use Rattle.sgt_line.specs.Parts.{HasRoom, Parts, bare, left, parts_of, with_extra, with_file, with_rule};
 ghost use Rattle.sgt_line.specs.Reads.{IsLineOf, IsRead, Reads};
-ghost use Rattle.sgt_line.specs.private.State.{Adds, AddsRule, IsReadTo, WaitsForOrder, WaitsForPlace};
+ghost use Rattle.sgt_line.specs.private.State.{Adds, AddsRule, IsReadTo, PutsPlace, WaitsForOrder, WaitsForOutput, WaitsForCount, WaitsForPlace};
 
-use crate::kind::{Kind, kind_of};
+use crate::kind::{Kind, kind_of, place_in};
 use crate::name::{CommandName, named, text_of};
 use crate::rule::rule_name;
 use crate::texts::{first_of, last_of, only_of};
@@ -25,6 +26,10 @@ pub struct Line {
     pub place: Option<String>,
     /// The file of the order that a history is held against.
     pub against: Option<String>,
+    /// How many transactions are to be committed.
+    pub expected: Option<String>,
+    /// The file that is written in place of standard output.
+    pub output: Option<String>,
     /// Whether a rule is named, for which nothing is read.
     pub names_rule: bool,
     /// Whether an audit or a check answers by its status alone.
@@ -52,6 +57,8 @@ impl Line {
             files: Vec::new(alloc),
             place: None,
             against: None,
+            expected: None,
+            output: None,
             names_rule: false,
             is_quiet: false,
             is_strict: false,
@@ -168,6 +175,25 @@ impl Line {
         Ok(Kind::Plain)
     }
 
+    // The place in the word, if there is none yet.
+    fn put_place(
+        &mut self,
+        alloc: Global,
+        command: CommandName,
+        word: &str,
+    ) -> Result<(), AllocError>
+        requires { IsNoted command word.now kind.JoinedPlace }
+        ensures { OnOk result (PutsPlace command (parts_of self.old) word.now (parts_of self.new)) }
+    {
+        if self.place.is_some() {
+            return self.leave(alloc, word);
+        }
+        if let Some(file) = place_in(command, word) {
+            self.place = Some(String::from_str(alloc, file)?);
+        }
+        Ok(())
+    }
+
     // The option of an order, if there is none yet; what now is waited for.
     fn add_against(&mut self, alloc: Global, word: &str) -> Result<Kind, AllocError>
         ensures { IfOk result (λ after. WaitsForOrder (parts_of self.old) word.now after
@@ -175,6 +201,30 @@ impl Line {
     {
         if self.against.is_none() {
             return Ok(Kind::Against);
+        }
+        self.leave(alloc, word)?;
+        Ok(Kind::Plain)
+    }
+
+    // The option of the file of an answer, if there is none yet; what now is waited for.
+    fn add_output(&mut self, alloc: Global, word: &str) -> Result<Kind, AllocError>
+        ensures { IfOk result (λ after. WaitsForOutput (parts_of self.old) word.now after
+            (parts_of self.new)) }
+    {
+        if self.output.is_none() {
+            return Ok(Kind::Output);
+        }
+        self.leave(alloc, word)?;
+        Ok(Kind::Plain)
+    }
+
+    // The option of a count, if there is none yet; what now is waited for.
+    fn add_expected(&mut self, alloc: Global, word: &str) -> Result<Kind, AllocError>
+        ensures { IfOk result (λ after. WaitsForCount (parts_of self.old) word.now after
+            (parts_of self.new)) }
+    {
+        if self.expected.is_none() {
+            return Ok(Kind::Expected);
         }
         self.leave(alloc, word)?;
         Ok(Kind::Plain)
@@ -197,6 +247,7 @@ impl Line {
             Kind::RuleName => self.add_rule(alloc, command, word)?,
             Kind::File => self.add_file(alloc, command, word)?,
             Kind::Joined => self.add_joined(alloc, word)?,
+            Kind::JoinedPlace => self.put_place(alloc, command, word)?,
             Kind::Quiet => self.is_quiet = true,
             Kind::Strict => self.is_strict = true,
             Kind::Chain => self.is_chain = true,
@@ -210,6 +261,8 @@ impl Line {
             }
             Kind::Place => return self.add_place(alloc, word),
             Kind::Against => return self.add_against(alloc, word),
+            Kind::Expected => return self.add_expected(alloc, word),
+            Kind::Output => return self.add_output(alloc, word),
         }
         Ok(Kind::Plain)
     }
@@ -234,6 +287,8 @@ impl Line {
             Kind::Numbered => self.leave(alloc, word)?,
             Kind::Place => self.place = Some(String::from_str(alloc, word)?),
             Kind::Against => self.against = Some(String::from_str(alloc, word)?),
+            Kind::Expected => self.expected = Some(String::from_str(alloc, word)?),
+            Kind::Output => self.output = Some(String::from_str(alloc, word)?),
             _ => return self.add_whole(alloc, command, kind_of(command, word), word),
         }
         Ok(Kind::Plain)
@@ -266,6 +321,8 @@ impl Line {
         match before {
             Kind::Place => self.leave_last(alloc, words),
             Kind::Against => self.leave_last(alloc, words),
+            Kind::Expected => self.leave_last(alloc, words),
+            Kind::Output => self.leave_last(alloc, words),
             _ => Ok(()),
         }
     }
