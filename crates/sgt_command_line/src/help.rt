@@ -83,19 +83,22 @@ fn refused(alloc: Global, error: &Error) -> Result<NoChoice, AllocError>
 
 // Whether one of the words asks for a transaction.
 fn has_tx(words: &[String]) -> bool {
-    words
-        .iter()
-        .any(|word| word == "--tx" || word.starts_with("--tx="))
+    for word in words {
+        if word.as_str() == "--tx" || word.starts_with("--tx=") {
+            return true;
+        }
+    }
+    false
 }
 
-// What is wrong with these words behind `explain` or `draw`.
-fn wrong_option(name: CommandName, options: &[String]) -> &'static str {
+// What is wrong with these words behind `explain`.
+fn wrong_explain(options: &[String]) -> &'static str {
     if has_tx(options) {
         return NO_TX;
     }
-    match (name, only_of(options)) {
-        (CommandName::Explain, Some(_)) => NO_RULE,
-        _ => NO_COMMAND,
+    match only_of(options) {
+        Some(_) => NO_RULE,
+        None => NO_COMMAND,
     }
 }
 
@@ -105,7 +108,8 @@ fn wrong_words(words: &[String]) -> &'static str {
         return NO_COMMAND;
     };
     match named(first) {
-        Some(name @ (CommandName::Explain | CommandName::Draw)) => wrong_option(name, options),
+        Some(CommandName::Explain) => wrong_explain(options),
+        Some(CommandName::Draw) if has_tx(options) => NO_TX,
         _ => NO_COMMAND,
     }
 }
