@@ -44,11 +44,14 @@ impl Front {
 
     /// These bytes passed.
     pub(crate) fn pass(&mut self, bytes: &[u8]) {
-        match bytes {
-            [] => return,
-            [only] => self.last = (self.last.1, *only),
-            [.., before, last] => self.last = (*before, *last),
-        }
+        let Some((last, before)) = bytes.split_last() else {
+            return;
+        };
+        let second = match before.last() {
+            Some(byte) => *byte,
+            None => self.last.1,
+        };
+        self.last = (second, *last);
         if self.length < ROOM {
             self.keep(bytes);
         }

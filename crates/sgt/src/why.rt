@@ -16,27 +16,28 @@ enum Look {
     BlankEnd,
 }
 
-// How line 1 of a bundle and the head of line 2 may stand, of a whole bundle and of one without a certificate.
-const WHOLE: [&[u8]; 2] = [b"sgt 1\n{", b"sgt 2\n{"];
+// Whether it begins as a whole bundle does.
+fn is_whole(text: &[u8]) -> bool {
+    text.starts_with(b"sgt 1\n{") || text.starts_with(b"sgt 2\n{")
+}
 
-const BARE: [&[u8]; 2] = [b"sgt 1\nsite ", b"sgt 2\nsite "];
-
-fn begins(text: &[u8], fronts: &[&[u8]]) -> bool {
-    fronts.iter().any(|front| text.starts_with(front))
+// Whether it begins as a bundle does that has no line 2.
+fn is_bare(text: &[u8]) -> bool {
+    text.starts_with(b"sgt 1\nsite ") || text.starts_with(b"sgt 2\nsite ")
 }
 
 // What the text looks like, of which these are the first bytes and the last two.
 fn look_of(command: CommandName, text: &[u8], last: (u8, u8)) -> Option<Look> {
     let is_certify = command == CommandName::Certify;
-    if begins(text, &[b"\x1f\x8b"]) {
+    if text.starts_with(&[0x1f, 0x8b]) {
         Some(Look::Compressed)
-    } else if begins(text, &[b"\xff\xfe", b"\xfe\xff"]) {
+    } else if text.starts_with(&[0xff, 0xfe]) || text.starts_with(&[0xfe, 0xff]) {
         Some(Look::Wide)
-    } else if begins(text, &[b"{", b"["]) {
+    } else if text.starts_with(b"{") || text.starts_with(b"[") {
         Some(Look::History)
-    } else if is_certify && begins(text, &WHOLE) {
+    } else if is_certify && is_whole(text) {
         Some(Look::Bundle)
-    } else if !is_certify && begins(text, &BARE) {
+    } else if !is_certify && is_bare(text) {
         Some(Look::Logs)
     } else if last == (b'\n', b'\n') {
         Some(Look::BlankEnd)
@@ -109,13 +110,18 @@ fn tell_reason<H>(host: &Host<'_, H>, name: &str, reason: &str) {
     };
 }
 
+// The name behind the mark of a refusal.
+fn name_behind(line: &[u8]) -> Option<&str> {
+    str::from_utf8(line.strip_prefix(b"! ")?).ok()
+}
+
 // Tells what to type to learn more of a run that was a no.
 fn tell_run<H>(host: &Host<'_, H>, answer: &[u8]) {
     let rt = host.rt;
-    let line = answer.split(|byte| *byte == b'\n').next().unwrap_or(&[]);
-    let fault = line
-        .strip_prefix(b"! ")
-        .and_then(|name| str::from_utf8(name).ok());
+    let fault = match answer.split(|byte| *byte == b'\n').next() {
+        Some(line) => name_behind(line),
+        None => None,
+    };
     let _ = match fault {
         Some(fault) => eprintln!(rt; "sgt: to learn more: sgt explain {fault}"),
         None => eprintln!(rt;
@@ -127,10 +133,11 @@ fn tell_run<H>(host: &Host<'_, H>, answer: &[u8]) {
 // Whether a text that looks so is the reason of this answer.
 fn is_cause(look: Look, command: CommandName, reason: Option<&str>) -> bool {
     match look {
-        Look::BlankEnd if command == CommandName::Certify => {
-            matches!(reason, Some("F2" | "F18" | "F19"))
+        Look::BlankEnd => {
+            let fault = reason.unwrap_or("");
+            let is_left = fault == "F2" || fault == "F18";
+            fault == "F19" || (is_left && command == CommandName::Certify)
         }
-        Look::BlankEnd => reason == Some("F19"),
         _ => true,
     }
 }
@@ -184,10 +191,13 @@ pub(crate) fn tell_why<H, R: Read>(
 
 /// The same of a strict replay of which these are the replies.
 pub(crate) fn tell_refusal<H>(host: &Host<'_, H>, replies: &[u8]) {
-    let mut lines = replies.split(|byte| *byte == b'\n');
-    let refusal = lines.find(|line| line.starts_with(b"! E"));
-    let name = refusal.and_then(|line| line.strip_prefix(b"! "));
-    if let Some(name) = name.and_then(|name| str::from_utf8(name).ok()) {
-        let _ = eprintln!(host.rt; "sgt: to learn more: sgt explain {name}");
+    for line in replies.split(|byte| *byte == b'\n') {
+        if !line.starts_with(b"! E") {
+            continue;
+        }
+        if let Some(name) = name_behind(line) {
+            let _ = eprintln!(host.rt; "sgt: to learn more: sgt explain {name}");
+        }
+        return;
     }
 }
