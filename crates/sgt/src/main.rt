@@ -40,7 +40,7 @@ use std::{env, fs, io};
 fn names_file(rt: &HostRuntime, given: &[String]) -> bool {
     match given.get(1) {
         Some(word) => {
-            let is_command = named(word.as_str()).is_some() || word == "help";
+            let is_command = named(word.as_str()).is_some() || word.as_str() == "help";
             let may_be_file = !is_command && !word.starts_with('-');
             may_be_file && fs::exists(rt, word.as_str()).unwrap_or(false)
         }

@@ -172,16 +172,6 @@ module _ (command : CommandName) (first : Parts) (taken : List (List ℕ)) (p : 
       (subst (Reads command first ((wait.before ++ (wait.option ∷ [])) ++ (w ∷ []))) (sym whole)
       (reads.expected wait.option w wait.reads wait.is_kind waiting.1))
 
-  pub sent : (before : Kind) (q : Parts) → before ≡ Output → q ≡ record p { output = Some w }
-      → IsReadTo command first taken before p
-      → Reads command first (taken ++ (w ∷ [])) q
-  sent before q e whole state =
-      let waiting : IsReadTo command first taken Output p = subst (λ k. IsReadTo command first taken k p) e state in
-      let wait : Waits command first taken Output p = waiting.0 in
-      subst (λ ws. Reads command first (ws ++ (w ∷ [])) q) (sym wait.cut)
-      (subst (Reads command first ((wait.before ++ (wait.option ∷ [])) ++ (w ∷ []))) (sym whole)
-      (reads.output wait.option w wait.reads wait.is_kind waiting.1))
-
   pub waits_place : (kind after : Kind) (q : Parts) → kind ≡ Place → IsKind command w kind → WaitsForPlace p w after q
       → Reads command first taken p
       → IsReadTo command first (taken ++ (w ∷ [])) after q

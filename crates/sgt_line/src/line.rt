@@ -188,10 +188,13 @@ impl Line {
         if self.place.is_some() {
             return self.leave(alloc, word);
         }
-        if let Some(file) = place_in(command, word) {
-            self.place = Some(String::from_str(alloc, file)?);
+        match place_in(command, word) {
+            Some(file) => {
+                self.place = Some(String::from_str(alloc, file)?);
+                Ok(())
+            }
+            None => Ok(()),
         }
-        Ok(())
     }
 
     // The option of an order, if there is none yet; what now is waited for.

@@ -3,8 +3,8 @@ use Rattle.sgt_line.specs.Names.{IsNameOf}
 use Rattle.sgt_line.proofs.Steps.{held_on_ok}
 use Rattle.sgt_line.proofs.line.Line.add_rule.Goals as goal
 
-pub returns-in_ok-name : goal.returns-in_ok-name
-returns-in_ok-name c =
+pub returns : goal.returns
+returns c =
     held_on_ok c.add_named.result _ _
     (λ added. (
       c.as_str.result.now,
