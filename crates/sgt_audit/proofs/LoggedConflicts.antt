@@ -1,5 +1,5 @@
 -- The steps of walks, against the logs that are whole.
-use Rattle.std.proofs.Common.{◌≡◌, ℕ, ◌-◌, ◌<◌, List, [], ◌∷◌, ◌++◌, length, Option, Some, None, true, false, sym, ap, ◌∙◌, subst, arith, inl, inr, IsTrue, All, Contains}
+use Rattle.std.proofs.Common.{◌≡◌, ℕ, Bool, ◌<◌, List, [], ◌∷◌, ◌++◌, length, Option, Some, None, true, false, sym, ap, ◌∙◌, subst, arith, inl, inr, IsTrue, All, Contains}
 use Rattle.std.specs.Prelude.{◌↔◌, slice_get}
 use Rattle.std.proofs.lemmas.Bool.{false≢true}
 use Rattle.std.proofs.lemmas.Option.{same_Some, none-some}
@@ -18,10 +18,9 @@ use Rattle.sgt_audit_decisions.specs.Steps.{AreStepsAt, AreStepsOf, edges_from, 
 use Rattle.sgt_audit_decisions.specs.declared.steps.Edge.{Edge}
 use Rattle.sgt_audit_decisions.proofs.Grouping.{cons-cases, cons-first, cons-rest, edge-found, edge-there, certificate-within}
 use Rattle.sgt_audit_cells.proofs.Doing.{get_cases}
-use Rattle.sgt_audit_cells.specs.Tracks.{TracksOpen}
-use Rattle.sgt_audit_cells.specs.declared.state.SiteState.{SiteState}
 use Rattle.sgt_audit.specs.declared.walks.Walks.{Walks}
-use Rattle.sgt_audit.specs.Kept.{IsMet, AreMet, MeansMet, TracksCurrent}
+use Rattle.sgt_audit.specs.Alone.{MeetsSteps}
+use Rattle.sgt_audit.specs.Kept.{IsMet, AreMet, MeansMet}
 use Rattle.sgt_audit.specs.Reading.{Begun}
 use Rattle.sgt_audit.specs.private.Following.{MayFollow, with_next}
 use Rattle.sgt_audit.proofs.Places.{same_whole}
@@ -67,40 +66,34 @@ none-met ds w steps met = record {
 -- ---- one more line
 
 -- the open log is whole with the end of its section
-module _ (ds : List Decision) (b : Begun) (s : SiteState) (old new : Walks) (here : List Edge) (are : (site : ℕ)
-    → s.section - 1 ≡ site → AreStepsAt ds site here) (same : new.steps ≡ old.steps) (is : MeansMet ds b.whole old)
+module _ (ds : List Decision) (b : Begun) (old new : Walks) (here : List Edge)
+    (are : AreStepsAt ds (length b.whole) here) (same : new.steps ≡ old.steps) (is : MeansMet ds b.whole old)
+    (met : Bool)
   where
-    section-at : (log : SiteLog) → TracksCurrent ds (length b.whole) (Some log) s → AreStepsAt ds (length b.whole) here
-    section-at log t = let n = t.0 in are (length b.whole) (omega arith)
-
     steps-same : AreStepsOf ds new.steps
     steps-same = subst (AreStepsOf ds) (sym same) is.steps
 
-    pub met-ended : (o : Option SiteLog) → MayFollow b o End → TracksCurrent ds (length b.whole) o s → new.met ≡ old.met
-        → ((log : SiteLog) → TracksOpen ds log.items log.entries s → All (IsMet log.entries) here)
-        → MeansMet ds (with_next b o End).whole new
-    met-ended None fits t met all = absurd fits
-    met-ended (Some log) fits t met all =
-        let at = section-at log t in
+    pub met-ended : (o : Option SiteLog) → MayFollow b o End → MeetsSteps here o End met → met ≡ true
+        → new.met ≡ old.met → MeansMet ds (with_next b o End).whole new
+    met-ended None fits meets all now = absurd fits
+    met-ended (Some log) fits meets all now =
         record {
           steps = steps-same;
           met = (
-            λ h. met-more ds b.whole log here at (is.met.0 (sym met ∙ h)) (all log t.1),
-            λ m. met ∙ is.met.1 (met-front ds b.whole log here at m),
+            λ h. met-more ds b.whole log here are (is.met.0 (sym now ∙ h)) (meets.0 all),
+            λ m. now ∙ is.met.1 (met-front ds b.whole log here are m),
           );
         }
 
-    pub met-missed : (o : Option SiteLog) → MayFollow b o End → TracksCurrent ds (length b.whole) o s → new.met ≡ false
-        → ((log : SiteLog) → TracksOpen ds log.items log.entries s → All (IsMet log.entries) here → ⊥)
-        → MeansMet ds (with_next b o End).whole new
-    met-missed None fits t met miss = absurd fits
-    met-missed (Some log) fits t met miss =
-        let at = section-at log t in
+    pub met-missed : (o : Option SiteLog) → MayFollow b o End → MeetsSteps here o End met → met ≡ false
+        → new.met ≡ false → MeansMet ds (with_next b o End).whole new
+    met-missed None fits meets miss now = absurd fits
+    met-missed (Some log) fits meets miss now =
         record {
           steps = steps-same;
           met = (
-            λ h. absurd (false≢true (sym met ∙ h)),
-            λ m. absurd (miss log t.1 (met-here ds b.whole log here at m)),
+            λ h. absurd (false≢true (sym now ∙ h)),
+            λ m. absurd (false≢true (sym miss ∙ meets.1 (met-here ds b.whole log here are m))),
           );
         }
 

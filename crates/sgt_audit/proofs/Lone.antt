@@ -2,9 +2,10 @@
 use Rattle.std.proofs.Common.{◌≡◌, ◌≢◌, Bool, true, List, [], ◌∷◌, ◌++◌, length, Option, Some, None, IsTrue, refl, sym, ap, ◌∙◌, subst, arith, All}
 use Rattle.std.specs.Prelude.{◌↔◌}
 use Rattle.sgt_names.specs.declared.entry.Holding.{Holding}
-use Rattle.sgt_notation.specs.Spelling.{line_text}
+use Rattle.sgt_notation.specs.Spelling.{IsLine, line_text}
 use Rattle.sgt_notation.specs.declared.SectionLine.{SectionLine}
 use Rattle.sgt_notation.specs.declared.SectionLine.TheVariants.{Site, Initial, Logged, Final, End}
+use Rattle.sgt_notation.proofs.OneSpelling.{line-one}
 use Rattle.sgt_bundle.specs.Certificate.{IsDecidedOnce}
 use Rattle.sgt_bundle.specs.Text.{Begins}
 use Rattle.sgt_bundle.specs.declared.bundle.SiteLog.{SiteLog}
@@ -14,7 +15,7 @@ use Rattle.sgt_audit_decisions.specs.declared.steps.Edge.{Edge}
 use Rattle.sgt_audit.specs.declared.alone.Alone.{Alone}
 use Rattle.sgt_audit.specs.declared.faults.Fault.{Fault}
 use Rattle.sgt_audit.specs.declared.faults.Fault.TheVariants as fault
-use Rattle.sgt_audit.specs.Alone.{MeetsSteps, StandsAlone}
+use Rattle.sgt_audit.specs.Alone.{FollowsAlone, MeetsSteps, StandsAlone}
 use Rattle.sgt_audit.specs.Faults.{IsLineIn, Keeps, Rule, Breaks, within, whole}
 use Rattle.sgt_audit.specs.Kept.{IsMet, IsPlace, Tracks}
 use Rattle.sgt_audit.specs.Reading.{Begun, IsBegun, IsOpenLog, lines_read}
@@ -74,6 +75,34 @@ pub last-meets : (edges : List Edge) (o : Option SiteLog) (met : Bool)
     → ((log : SiteLog) → o ≡ Some log → IsTrue met ↔ All (IsMet log.entries) edges) → MeetsSteps edges o End met
 last-meets edges (Some log) met h = h log refl
 last-meets edges None met h = tt
+
+-- what it is to have taken in a line that was read
+pub alone-follows : (c : Certificate) (edges : List Edge) (b : Begun) (line : SectionLine) (new : Alone) → IsLine line
+    → FollowsAlone c edges b (line_text line) new None
+    → IsLineIn new.second line × KeptBelow (Keeps c (lines_read b) line) 17
+    × StandsAlone c (with_next b b.current line) new × MeetsSteps edges b.current line new.met
+alone-follows c edges b line new is (read, is_in, same, kept, stands, meets) =
+    subst (λ l. IsLineIn new.second l × KeptBelow (Keeps c (lines_read b) l) 17
+    × StandsAlone c (with_next b b.current l) new × MeetsSteps edges b.current l new.met)
+    (line-one read line is_in.0 is (sym same)) (is_in, kept, stands, meets)
+
+-- behind a line that ends no section one is open, and no more are whole than before
+pub no-end : (b : Begun) (o : Option SiteLog) (line : SectionLine) → line ≢ End → (with_next b o line).current ≢ None
+no-end b None line other same = cc
+no-end b (Some log) End other same = other refl
+no-end b (Some log) (Site k) other same = cc
+no-end b (Some log) (Initial h) other same = cc
+no-end b (Some log) (Logged e) other same = cc
+no-end b (Some log) (Final h) other same = cc
+
+pub same-whole : (b : Begun) (o : Option SiteLog) (line : SectionLine) → line ≢ End
+    → (with_next b o line).whole ≡ b.whole
+same-whole b None line other = refl
+same-whole b (Some log) End other = absurd (other refl)
+same-whole b (Some log) (Site k) other = refl
+same-whole b (Some log) (Initial h) other = refl
+same-whole b (Some log) (Logged e) other = refl
+same-whole b (Some log) (Final h) other = refl
 
 -- ---- a line is not judged by the walks: its section might be the first of two
 

@@ -84,6 +84,15 @@ line-breaks second c b before line l f m open_yet is same breaks s stage =
     (subst (λ m. Breaks (Rule (within second c before) (whole m)) f) (sym same)
     (within-breaks second c before line is f (subst (λ ls. Breaks (Keeps c ls line) f) (sym m.lines) breaks)))
 
+-- the fault that the judge of the section finds is the text's
+pub alone-breaks : (second : Bool) (c : Certificate) (b : Begun) (before : List SectionLine) (l : List ℕ) (f : Fault)
+    → Means second c b before → (AreSections b.sites (lines_read b) → ⊥)
+    → Breaks (Rule (within second c (lines_read b)) (whole l)) f
+    → (s : Stage) → IsStageOf second c before s → Breaks (Rule s (whole l)) f
+alone-breaks second c b before l f m open_yet breaks s stage =
+    subst (λ t. Breaks (Rule t (whole l)) f) (sym (stage-within second c b before s m open_yet stage))
+    (subst (λ ls. Breaks (Rule (within second c ls) (whole l)) f) (sym m.lines) breaks)
+
 -- ---- the line is added
 
 module _ (second : Bool) (c : Certificate) (b new : Begun) (before : List SectionLine) (line : SectionLine)

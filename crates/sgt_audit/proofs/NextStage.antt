@@ -20,7 +20,8 @@ use Rattle.sgt_audit.specs.declared.kept.Kept.{Kept}
 use Rattle.sgt_audit.specs.declared.machine.Progress.TheVariants as at
 use Rattle.sgt_audit.specs.Faults.{fault_number, IsLineIn, Keeps, KeepsItself, Stage, start, headed, within, complete, lines_so_far, Piece, whole, last, Rule, Breaks, bytes_of}
 use Rattle.sgt_audit.specs.Reading.{Begun, IsBegun, lines_read}
-use Rattle.sgt_audit.specs.Kept.{Means, Holds, IsAt, IsStageOf}
+use Rattle.sgt_audit.specs.Held.{Holds, IsAt}
+use Rattle.sgt_audit.specs.Kept.{Means, IsStageOf}
 use Rattle.sgt_audit.specs.private.NextLine.{Follows}
 use Rattle.sgt_audit.specs.private.Ending.{IsComplete, limit_of}
 use Rattle.sgt_audit.proofs.LinePlaces.{no_cons}
@@ -70,33 +71,33 @@ stage-lines second c before s (inr done) = ap lines_so_far done.0
 
 -- one more line behind the lines of a stage
 pub line-follows : (k : Kept) (b : Begun) (before : List SectionLine) (line : SectionLine) (s : Stage)
-    → Holds k b (before ++ line ∷ []) → IsStageOf k.second k.certificate before s
+    → Holds k b (before ++ line ∷ []) → IsStageOf k.alone.second k.certificate before s
     → Follows s (line_text line) (at.Reading k) None
 line-follows k b before line s holds stage =
-    let t = stage-of k.second k.certificate b (before ++ line ∷ []) holds.means in (
+    let t = stage-of k.alone.second k.certificate b (before ++ line ∷ []) holds.means in (
       t.0,
       (b, before ++ line ∷ [], holds, t.1),
-      t.2 ∙ one-more k.second k.certificate before line (line_text line) refl
+      t.2 ∙ one-more k.alone.second k.certificate before line (line_text line) refl
           ∙ ap (λ (ls : List (List ℕ)). ls ++ line_text line ∷ [])
-          (sym (stage-lines k.second k.certificate before s stage)),
+          (sym (stage-lines k.alone.second k.certificate before s stage)),
     )
 
 -- the certificate's line
 pub headed-follows : (k : Kept) (l : List ℕ) (b : Begun) → l ≡ certificate_text k.certificate → Holds k b []
-    → Follows (headed k.second) l (at.Reading k) None
+    → Follows (headed k.alone.second) l (at.Reading k) None
 headed-follows k l b same holds =
-    let t = stage-of k.second k.certificate b [] holds.means in
-    (t.0, (b, [], holds, t.1), t.2 ∙ ap (λ x. format_line k.second ∷ x ∷ []) (sym same))
+    let t = stage-of k.alone.second k.certificate b [] holds.means in
+    (t.0, (b, [], holds, t.1), t.2 ∙ ap (λ x. format_line k.alone.second ∷ x ∷ []) (sym same))
 
 -- where what is kept stands
 pub at-open : (k : Kept) (s : Stage) → IsAt k s → (IsComplete s → ⊥)
-    → (before : List SectionLine) × (s ≡ within k.second k.certificate before)
+    → (before : List SectionLine) × (s ≡ within k.alone.second k.certificate before)
 at-open k s (b, before, holds, inl here) miss = (before, here.0)
 at-open k s (b, before, holds, inr done) miss = absurd (miss (subst IsComplete (sym done.0) tt))
 
 -- whether all sections were read, by the stage and by the sections
 pub complete-all : (k : Kept) (b : Begun) (before : List SectionLine) (s : Stage)
-    → Means k.second k.certificate b before → IsStageOf k.second k.certificate before s
+    → Means k.alone.second k.certificate b before → IsStageOf k.alone.second k.certificate before s
     → IsComplete s ↔ AreSections b.sites (lines_read b)
 complete-all k b before s m (inl here) = (
   λ c. absurd (subst IsComplete here.0 c),
@@ -237,14 +238,14 @@ line-trails l (complete second c before) done =
     record { broken = λ h. h; least = below-trailing second c before (whole l) }
 
 pub line-unread : (k : Kept) (l : List ℕ) (s : Stage) → IsAt k s → (IsComplete s → ⊥)
-    → SpellsNone (IsLineIn k.second) line_text l → Breaks (Rule s (whole l)) fault.Notation
+    → SpellsNone (IsLineIn k.alone.second) line_text l → Breaks (Rule s (whole l)) fault.Notation
 line-unread k l s here miss none =
     let open_yet = at-open k s here miss in
     subst (λ s. Breaks (Rule s (whole l)) fault.Notation) (sym open_yet.1)
     (record {
       broken = λ (line, is, same). none line is same;
       least =
-          below-notation k.second k.certificate open_yet.0 (whole l);
+          below-notation k.alone.second k.certificate open_yet.0 (whole l);
     })
 
 pub long-breaks : (k : Kept) (s : Stage) (p : Piece) → IsAt k s → (IsComplete s → ⊥)
@@ -252,7 +253,7 @@ pub long-breaks : (k : Kept) (s : Stage) (p : Piece) → IsAt k s → (IsComplet
 long-breaks k s p here miss long =
     let open_yet = at-open k s here miss in
     subst (λ s. limit_of s < length (bytes_of p) → Breaks (Rule s p) fault.Notation) (sym open_yet.1)
-    (notation-breaks k.second k.certificate open_yet.0 p) long
+    (notation-breaks k.alone.second k.certificate open_yet.0 p) long
 
 pub long-trails : (s : Stage) (p : Piece) → IsComplete s → limit_of s < length (bytes_of p)
     → Breaks (Rule s p) fault.Trailing
@@ -278,7 +279,7 @@ pub ends-within : (k : Kept) (s : Stage) (l : List ℕ) → IsAt k s → (IsComp
 ends-within k s l here miss short =
     let open_yet = at-open k s here miss in
     subst (λ s. length l ≤ limit_of s → Breaks (Rule s (last l)) fault.Truncated) (sym open_yet.1)
-    (truncated k.second k.certificate open_yet.0 l) short
+    (truncated k.alone.second k.certificate open_yet.0 l) short
 
 pub ends-behind : (s : Stage) (l : List ℕ) → IsComplete s → (l ≡ [] → ⊥) → Breaks (Rule s (last l)) fault.Trailing
 ends-behind start l done some = absurd done

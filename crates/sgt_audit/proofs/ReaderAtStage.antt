@@ -29,7 +29,7 @@ use Rattle.sgt_notation.proofs.Texts.{text-append, all-spent, text-one_line, fau
 
 -- what the machine has kept has no fault
 stage-faultless : (k : Kept) (b : Begun) (before : List SectionLine) (s : Stage)
-    → Means k.second k.certificate b before → IsStageOf k.second k.certificate before s → IsFaultless s
+    → Means k.alone.second k.certificate b before → IsStageOf k.alone.second k.certificate before s → IsFaultless s
 stage-faultless k b before s m (inl here) = subst IsFaultless (sym here.0) (m.kept, here.1)
 stage-faultless k b before s m (inr done) = subst IsFaultless (sym done.0) (m.kept, done.1)
 

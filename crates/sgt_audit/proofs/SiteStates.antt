@@ -33,9 +33,8 @@ use Rattle.sgt_bundle.specs.Certificate.{IsDecidedOnce}
 use Rattle.sgt_bundle.specs.Text.{Begins}
 use Rattle.sgt_bundle.specs.declared.certificate.Certificate.{Certificate}
 use Rattle.sgt_audit.specs.declared.faults.Fault.TheVariants as fault
-use Rattle.sgt_audit.specs.declared.tracked.Tracked.{Tracked}
 use Rattle.sgt_audit.specs.Faults.{Keeps}
-use Rattle.sgt_audit.specs.Kept.{IsPlace, Means, MeansMet, TracksCurrent, Tracks, IsTracked}
+use Rattle.sgt_audit.specs.Kept.{TracksCurrent, Tracks}
 use Rattle.sgt_audit.proofs.MayFollow.{begins-follow}
 use Rattle.sgt_audit.proofs.OpenLogs.{has_open}
 use Rattle.sgt_audit.specs.Reading.{Begun, IsBegun, HasRoomFor, lines_read}
@@ -253,25 +252,3 @@ admits c b (Some log) (Initial h) here kept = tt
 admits c b (Some log) (Final h) here kept = tt
 admits c b (Some log) End here kept = tt
 admits c b None line here kept = tt
-
-pub line-tracked : (second : Bool) (c : Certificate) (b : Begun) (old new : Tracked) (before : List SectionLine)
-    (line : SectionLine) → Means second c b before → KeptBelow (Keeps c (lines_read b) line) 17
-    → Begins b.sites (lines_read b ++ line ∷ [])
-    → ((a : Begun) → IsDecidedOnce c.decisions → IsBegun a → MayFollow a a.current line
-    → AdmitsLine c.decisions a.current line → IsTracked c.decisions a old
-    → IsTracked c.decisions (with_next a a.current line) new)
-    → IsTracked c.decisions b old → IsTracked c.decisions (with_next b b.current line) new
-line-tracked second c b old new before line m kept begins enters t =
-    enters b (m.kept.itself fault.DecidedTwice) m.begun (begins-follow b line begins)
-    (admits c b b.current line refl kept) t
-
-pub fresh-tracked : (sites : ℕ) (ds : List Decision) (b : Begun) (t : Tracked)
-    → b ≡ record { sites = sites; whole = []; current = None } → IsPlace b t.place → IsReadyFor ds 1 t.state
-    → MeansMet ds [] t.walks → IsTracked ds b t
-fresh-tracked sites ds b t is place ready met =
-    subst (λ a. IsPlace a t.place → IsTracked ds a t) (sym is) (λ place. record {
-      place = place;
-      open_site =
-          ready;
-      walks = met;
-    }) place

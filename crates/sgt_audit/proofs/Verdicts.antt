@@ -16,7 +16,8 @@ use Rattle.sgt_audit.specs.declared.kept.Kept.{Kept}
 use Rattle.sgt_audit.specs.declared.verdict.Verdict.{Verdict}
 use Rattle.sgt_audit.specs.declared.verdict.Verdict.TheVariants.{Yes, No}
 use Rattle.sgt_audit.specs.Faults.{Stage, complete, lines_so_far}
-use Rattle.sgt_audit.specs.Kept.{Holds, IsStageOf}
+use Rattle.sgt_audit.specs.Held.{Holds}
+use Rattle.sgt_audit.specs.Kept.{IsStageOf}
 use Rattle.sgt_audit.specs.Reading.{Begun}
 use Rattle.sgt_audit.specs.private.Ending.{IsComplete}
 use Rattle.sgt_audit.specs.private.Stops.{IsJudged, IsWhole}
@@ -37,21 +38,21 @@ IsBundleOf k bytes b = IfSome k.sections (λ s. s ≡ b) × Spells bytes (kept_b
 
 module _ (k : Kept) (b : Begun) (before : List SectionLine) (h : Holds k b before)
     (all : AreSections k.certificate.sites before) (bytes : List ℕ)
-    (text : bytes ≡ text_of_lines (lines_so_far (complete k.second k.certificate before))) where
-  same-bundle : bundle_of bytes k.second k.certificate before h.means.kept all text ≡ kept_bundle k b
+    (text : bytes ≡ text_of_lines (lines_so_far (complete k.alone.second k.certificate before))) where
+  same-bundle : bundle_of bytes k.alone.second k.certificate before h.means.kept all text ≡ kept_bundle k b
   same-bundle =
       ap (λ logs. record { certificate = k.certificate; sites = logs })
       (sym (sections-whole b all.0 (all.2 ∙ h.means.lines)).1)
 
   kept-spelled : Spells bytes (kept_bundle k b)
   kept-spelled =
-      subst (Spells bytes) same-bundle (spells-bundle bytes k.second k.certificate before h.means.kept all text)
+      subst (Spells bytes) same-bundle (spells-bundle bytes k.alone.second k.certificate before h.means.kept all text)
 
   kept-valid : IsValid (kept_bundle k b)
-  kept-valid = subst IsValid same-bundle (valid-bundle bytes k.second k.certificate before h.means.kept all text)
+  kept-valid = subst IsValid same-bundle (valid-bundle bytes k.alone.second k.certificate before h.means.kept all text)
 
 whole-stage : (k : Kept) (b : Begun) (before : List SectionLine) (s : Stage) (bytes : List ℕ) → Holds k b before
-    → IsStageOf k.second k.certificate before s → IsComplete s → bytes ≡ text_of_lines (lines_so_far s)
+    → IsStageOf k.alone.second k.certificate before s → IsComplete s → bytes ≡ text_of_lines (lines_so_far s)
     → IsBundleOf k bytes b
 whole-stage k b before s bytes h (inl here) done text = absurd (subst IsComplete here.0 done)
 whole-stage k b before s bytes h (inr all) done text =

@@ -1,6 +1,6 @@
 -- What is kept of a text: the lines read so far, which have no fault.
 -- (Of public clauses those alone use these words that say what an auditor was fed.)
-use Rattle.std.specs.Prelude.{◌≡◌, ◌↔◌, ◌⊎◌, ℕ, ◌+◌, ◌-◌, Bool, IsTrue, List, length, All, Option, Some, None, IfSome, slice_get}
+use Rattle.std.specs.Prelude.{◌≡◌, ◌↔◌, ◌⊎◌, ℕ, ◌+◌, ◌-◌, Bool, IsTrue, List, length, All, Option, Some, None, slice_get}
 use Rattle.sgt_names.specs.Log.{Conflicts, names}
 use Rattle.sgt_names.specs.declared.entry.Entry.{Entry}
 use Rattle.sgt_names.specs.declared.entry.Entry.TheVariants.{Write, Add, Want, WantAdd}
@@ -13,12 +13,10 @@ use Rattle.sgt_audit_decisions.specs.Steps.{AreStepsOf, edges_in}
 use Rattle.sgt_audit_decisions.specs.declared.steps.Edge.{Edge}
 use Rattle.sgt_audit_cells.specs.Tracks.{TracksOpen, IsReadyFor}
 use Rattle.sgt_audit_cells.specs.declared.state.SiteState.{SiteState}
-use Rattle.sgt_audit.specs.declared.kept.Kept.{Kept}
 use Rattle.sgt_audit.specs.declared.place.Last.{Last}
 use Rattle.sgt_audit.specs.declared.place.Last.TheVariants as last
 use Rattle.sgt_audit.specs.declared.place.OpenPlace.{OpenPlace}
 use Rattle.sgt_audit.specs.declared.place.Place.{Place}
-use Rattle.sgt_audit.specs.declared.tracked.Tracked.{Tracked}
 use Rattle.sgt_audit.specs.declared.walks.Walks.{Walks}
 use Rattle.sgt_audit.specs.Faults.{AllKept, Stage, within, complete}
 use Rattle.sgt_audit.specs.Reading.{Begun, IsBegun, lines_read}
@@ -86,22 +84,3 @@ AreMet edges whole =
 pub record MeansMet (decisions : List Decision) (whole : List SiteLog) (w : Walks) : Type 0 where
   pub steps : AreStepsOf decisions w.steps
   pub met : IsTrue w.met ↔ AreMet (edges_in decisions) whole
-
--- what is kept of the sections: the place behind them, and what is kept of the sites and of the
--- walks
-pub record IsTracked (decisions : List Decision) (b : Begun) (t : Tracked) : Type 0 where
-  pub place : IsPlace b t.place
-  pub open_site : Tracks decisions b t.state
-  pub walks : MeansMet decisions b.whole t.walks
-
--- all that is kept is what these lines say, none of which has a fault; and these sections, where
--- they are kept too
-pub record Holds (k : Kept) (b : Begun) (before : List SectionLine) : Type 0 where
-  pub means : Means k.second k.certificate b before
-  pub tracks : IsTracked k.certificate.decisions b k.tracked
-  pub sections : IfSome k.sections (λ s. s ≡ b)
-
--- what is kept means this stage of a text
-abbrev pub IsAt : Kept → Stage → Type 0
-IsAt k s = (b : Begun) × (before : List SectionLine) × Holds k b before
-    × IsStageOf k.second k.certificate before s

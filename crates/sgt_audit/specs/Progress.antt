@@ -4,7 +4,7 @@ use Rattle.std.specs.Prelude.{◌≡◌}
 use Rattle.sgt_audit.specs.declared.machine.Progress.{Progress}
 use Rattle.sgt_audit.specs.declared.machine.Progress.TheVariants as at
 use Rattle.sgt_audit.specs.Faults.{Stage, start, headed}
-use Rattle.sgt_audit.specs.Kept.{IsAt}
+use Rattle.sgt_audit.specs.Held.{IsAt}
 
 -- what is kept means this stage
 abbrev pub Stands : Progress → Stage → Type 0

@@ -10,7 +10,7 @@ ghost use Rattle.sgt_audit.specs.Reading.{Begun};
 use crate::faults::Fault;
 use crate::format::{is_allowed, read_line};
 use crate::judging::judge_inside;
-use crate::known::{Known, look_up};
+use crate::known::{Known, look_up, look_up_at_hand};
 use crate::place::Place;
 use crate::tracked::enter_line;
 use crate::walks::are_met;
@@ -141,7 +141,17 @@ impl Alone {
         }
     }
 
-    /// The next line, which is this entry.
+    /// Whether the entry of which this is known is taken in without room being made for what is kept of it. Nothing
+    /// need be known of it: it chooses between two ways that answer the same.
+    #[inline(always)]
+    fn is_plain(&self, known: &Known) -> bool {
+        match known.ruling.number {
+            Some(number) => self.place.current.is_some() && self.state.has_room(number),
+            None => false,
+        }
+    }
+
+    /// The next line, which is this entry: at once, if that can be.
     #[inline(always)]
     fn follow_entry(
         &mut self,
@@ -154,11 +164,17 @@ impl Alone {
             → IfOk result (FollowsAlone certificate.now edges.now b (line_text line) self.new) }
         ensures second { self.new.second ≡ self.old.second }
     {
-        self.follow(certificate, edges, &SectionLine::Logged(entry))
+        let line = SectionLine::Logged(entry);
+        match look_up_at_hand(certificate, &self.state, &entry) {
+            Some(known) if self.is_plain(&known) => {
+                self.follow_known(certificate, edges, &line, &Some(known))
+            }
+            _ => self.follow(certificate, edges, &line),
+        }
     }
 
     /// An entry of a kind that is less frequent, by way of memory that only this way touches.
-    #[inline(always)]
+    #[inline(never)]
     fn next_far_entry(
         &mut self,
         certificate: &Decided,
@@ -170,7 +186,11 @@ impl Alone {
             → IfOk result (FollowsAlone certificate.now edges.now b (line_text line) self.new) }
         ensures second { self.new.second ≡ self.old.second }
     {
-        self.next_other(certificate, edges, &SectionLine::Logged(*entry))
+        if is_allowed(self.second, &SectionLine::Logged(*entry)) {
+            self.follow_entry(certificate, edges, *entry)
+        } else {
+            Ok(Some(Fault::Notation))
+        }
     }
 
     /// A line of another kind, by way of memory that only this way touches.
@@ -220,25 +240,9 @@ impl Alone {
         ensures second { self.new.second ≡ self.old.second }
     {
         match read_line(self.second, line) {
-            Some(read) => self.follow_other(certificate, edges, &read),
+            Some(read) => self.follow(certificate, edges, &read),
             None => Ok(Some(Fault::Notation)),
         }
-    }
-
-    /// The next line, of a kind that is less frequent.
-    #[inline(never)]
-    fn follow_other(
-        &mut self,
-        certificate: &Decided,
-        edges: &[Edge],
-        line: &SectionLine,
-    ) -> Result<Option<Fault>, AllocError>
-        ensures follows { IsLineIn self.old.second line.now → (b : Begun)
-            → StandsAlone certificate.now b self.old
-            → IfOk result (FollowsAlone certificate.now edges.now b (line_text line.now) self.new) }
-        ensures second { self.new.second ≡ self.old.second }
-    {
-        self.follow(certificate, edges, line)
     }
 
     /// The least fault of a line that may stand next, but for the walks.
@@ -259,7 +263,7 @@ impl Alone {
     }
 
     /// The next line, which is one of the format.
-    #[inline(always)]
+    #[inline(never)]
     fn follow(
         &mut self,
         certificate: &Decided,
@@ -271,16 +275,34 @@ impl Alone {
             → IfOk result (FollowsAlone certificate.now edges.now b (line_text line.now) self.new) }
         ensures second { self.new.second ≡ self.old.second }
     {
+        let known = look_up(certificate, &self.state, line);
+        self.follow_known(certificate, edges, line, &known)
+    }
+
+    /// The same, where this is known of the line.
+    #[inline(always)]
+    fn follow_known(
+        &mut self,
+        certificate: &Decided,
+        edges: &[Edge],
+        line: &SectionLine,
+        known: &Option<Known>,
+    ) -> Result<Option<Fault>, AllocError>
+        ensures follows { IsKnownLine certificate.now.decisions self.old.state line.now known.now
+            → IsLineIn self.old.second line.now → (b : Begun)
+            → StandsAlone certificate.now b self.old
+            → IfOk result (FollowsAlone certificate.now edges.now b (line_text line.now) self.new) }
+        ensures second { self.new.second ≡ self.old.second }
+    {
         if !self.place.may_go_on(line) {
             return Ok(Some(Fault::Section));
         }
-        let known = look_up(certificate, &self.state, line);
-        if let Some(fault) = self.judge(line, &known) {
+        if let Some(fault) = self.judge(line, known) {
             return Ok(Some(fault));
         }
         self.met = meets_steps(certificate, &self.state, edges, line);
         self.place.enter(line)?;
-        enter_line(&mut self.state, line, &known)?;
+        enter_line(&mut self.state, line, known)?;
         Ok(None)
     }
 }

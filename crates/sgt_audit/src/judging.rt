@@ -1,20 +1,19 @@
 //! The least fault of a line, after lines with no fault.
 
-ghost use Rattle.std.specs.Prelude.{◌≡◌, ◌↔◌, ◌∷◌, ◌++◌, [], List, IsTrue, IfNone, IfOk, Contains, Some};
+ghost use Rattle.std.specs.Prelude.{◌≡◌, ◌↔◌, ◌∷◌, ◌++◌, [], List, IsTrue, IfOk, Contains, Some};
 ghost use Rattle.sgt_notation.specs.declared.SectionLine.{SectionLine};
 ghost use Rattle.sgt_notation.specs.declared.SectionLine.TheVariants.{Logged, Final, End};
 ghost use Rattle.sgt_names.specs.Log.{names, value_at};
 ghost use Rattle.sgt_bundle.specs.Certificate.{IsDecidedOnce, AreRanks, ranks};
 ghost use Rattle.sgt_bundle.specs.declared.certificate.Decision.{Decision};
 ghost use Rattle.sgt_audit_cells.specs.Tracks.{TracksOpen};
-ghost use Rattle.sgt_audit.specs.Kept.{IsOpenPlace, IsPlace, IsTracked};
+ghost use Rattle.sgt_audit.specs.Kept.{IsOpenPlace};
 ghost use Rattle.sgt_bundle.specs.Text.{Begins};
 ghost use Rattle.sgt_bundle.specs.declared.bundle.SiteLog.{SiteLog};
 ghost use Rattle.sgt_bundle.specs.declared.certificate.Certificate.{Certificate};
 ghost use Rattle.sgt_audit.specs.Faults.{Keeps};
 ghost use Rattle.sgt_audit.specs.private.Judging.{ContinuesLog, HasOpen, JudgedLine, AnswersItself};
 ghost use Rattle.sgt_audit.specs.private.Known.{IsKnownOf, IsKnownLine};
-ghost use Rattle.sgt_audit.specs.Reading.{Begun, IsBegun, lines_read};
 ghost use Rattle.sgt_audit.specs.private.Following.{Fits};
 
 use crate::entries::follows_last;
@@ -22,7 +21,7 @@ use crate::faults::Fault;
 use crate::known::Known;
 use crate::place::OpenPlace;
 use crate::tracked::{
-    Tracked, holds_value, is_active, is_first, is_in_order, is_in_rank, is_legal, is_listed,
+    holds_value, is_active, is_first, is_in_order, is_in_rank, is_legal, is_listed,
 };
 use sgt_audit_cells::SiteState;
 use sgt_audit_decisions::{Decided, are_cycles, are_ranks};
@@ -165,30 +164,6 @@ pub(crate) fn judge_inside(
         SectionLine::End => judge_end(state, place),
         SectionLine::Site(_) => None,
         SectionLine::Initial(_) => None,
-    }
-}
-
-/// The least fault of a line behind the sections that were read, of which this is known, but for the walks.
-#[inline(always)]
-pub(crate) fn judge_line(
-    tracked: &Tracked,
-    line: &SectionLine,
-    known: &Option<Known>,
-) -> Option<Fault>
-    ensures may_follow { (b : Begun) → IsBegun b → IsPlace b tracked.now.place
-        → IfNone result (Begins b.sites (lines_read b ++ line.now ∷ [])) }
-    ensures judged { (c : Certificate) (b : Begun) → c.sites ≡ b.sites → IsDecidedOnce c.decisions
-        → AreRanks (ranks c.decisions)
-        → IsBegun b → IsKnownLine c.decisions tracked.now.state line.now known.now
-        → IsTracked c.decisions b tracked.now
-        → JudgedLine (Keeps c (lines_read b) line.now) result }
-{
-    if !tracked.place.may_go_on(line) {
-        return Some(Fault::Section);
-    }
-    match &tracked.place.current {
-        Some(place) => judge_inside(&tracked.state, place, line, known),
-        None => None,
     }
 }
 

@@ -2,12 +2,13 @@
 
 ghost use Rattle.std.specs.Prelude.{◌≡◌, ◌≢◌, ◌<◌, ◌≤◌, ℕ, [], List, length, Bool, true, IsTrue, IfOk, IfErr, IsSome};
 
+use crate::alone::Alone;
 use crate::faults::{Fault, FirstFault};
 use crate::format::read_format;
 use crate::judging::judge_certificate;
 use crate::kept::Kept;
 use crate::sections::sections_of;
-use crate::tracked::Tracked;
+use crate::walks::Walks;
 use sgt_bundle::{CertFault, Certificate, from_line};
 use sgt_names::{EngineFail, MAX_LINE};
 use std::alloc::Global;
@@ -92,14 +93,14 @@ impl Machine {
         let sites = certificate.sites;
         match judge_certificate(alloc, certificate) {
             Ok(Ok(certificate)) => {
-                let Ok(tracked) = Tracked::new(alloc, sites, &certificate) else {
-                    return Err(EngineFail::Memory);
-                };
+                let mut alone = Alone::new(alloc, second, sites, &certificate)?;
+                alone.begin(0);
+                let walks = Walks::new(certificate.steps(alloc)?);
                 let sections = sections_of(alloc, keeps, sites);
                 Ok(Ok(Kept {
-                    second,
                     certificate,
-                    tracked,
+                    alone,
+                    walks,
                     sections,
                 }))
             }

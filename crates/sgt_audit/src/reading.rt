@@ -26,7 +26,7 @@ fn feed_front(kept: &mut Kept, held: &[u8]) -> Result<Option<(usize, Option<Faul
 {
     match front_line(held) {
         Some((line, n)) => {
-            let fault = kept.next_read(line)?;
+            let fault = kept.next_read(&line)?;
             Ok(Some((n, fault)))
         }
         None => Ok(None),

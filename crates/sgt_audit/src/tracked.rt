@@ -1,6 +1,6 @@
 //! The rules of a line, by what is kept of the open section.
 
-ghost use Rattle.std.specs.Prelude.{◌≡◌, ◌≢◌, ◌↔◌, ◌∷◌, ◌++◌, [], ℕ, List, IsTrue, IfOk, OnOk, None, All, AllPairs, Contains, Some};
+ghost use Rattle.std.specs.Prelude.{◌≡◌, ◌≢◌, ◌↔◌, ◌∷◌, ◌++◌, [], ℕ, List, IsTrue, OnOk, All, AllPairs, Contains, Some};
 ghost use Rattle.std.specs.Option.{ForSome};
 ghost use Rattle.sgt_names.specs.Name.{Name};
 ghost use Rattle.sgt_names.specs.Entry.{tx_of, item_of, IsEnd, Repeats};
@@ -11,8 +11,7 @@ ghost use Rattle.sgt_bundle.specs.Certificate.{IsDecidedOnce, AreRanks, ranks};
 ghost use Rattle.sgt_bundle.specs.Valid.{IsDecided, EndInOrder, RiseInRank};
 ghost use Rattle.sgt_bundle.specs.declared.certificate.Decision.{Decision};
 ghost use Rattle.sgt_audit_cells.specs.Tracks.{TracksOpen};
-ghost use Rattle.sgt_bundle.specs.Text.{IsCertificate};
-ghost use Rattle.sgt_audit.specs.Kept.{Tracks, IsTracked};
+ghost use Rattle.sgt_audit.specs.Kept.{Tracks};
 ghost use Rattle.sgt_audit.specs.Reading.{Begun, IsBegun};
 ghost use Rattle.sgt_audit.specs.private.Following.{MayFollow, with_next};
 ghost use Rattle.sgt_audit.specs.private.Judging.{IsLegalRead, AdmitsLine};
@@ -20,22 +19,10 @@ ghost use Rattle.sgt_audit.specs.private.Known.{IsKnownOf, IsKnownLine};
 ghost use Rattle.sgt_audit_cells.specs.declared.state.SiteState.{SiteState};
 
 use crate::known::Known;
-use crate::place::Place;
-use crate::walks::Walks;
 use sgt_audit_cells::{SiteState, item_in};
-use sgt_audit_decisions::Decided;
 use sgt_names::{Entry, Holding};
 use sgt_notation::SectionLine;
-use std::alloc::{AllocError, Global};
-
-/// What is kept of the lines of the sections, by which a line is judged: where the next one stands, and what is kept
-/// of the open site and of the walks.
-#[derive(Drop)]
-pub struct Tracked {
-    pub place: Place,
-    pub state: SiteState,
-    pub walks: Walks,
-}
+use std::alloc::AllocError;
 
 /// Whether the entry's item is listed. An end has none.
 #[inline(always)]
@@ -185,48 +172,5 @@ pub fn enter_line(
         },
         SectionLine::Final(_) => Ok(()),
         SectionLine::End => Ok(()),
-    }
-}
-
-impl Tracked {
-    /// Before the first section, of so many sites.
-    pub(crate) fn new(
-        alloc: Global,
-        sites: u8,
-        certificate: &Decided,
-    ) -> Result<Tracked, AllocError>
-        ensures { IfOk result (λ t. (b : Begun) → IsCertificate certificate.now
-            → b ≡ record { sites = sites; whole = []; current = None }
-            → IsTracked certificate.now.decisions b t) }
-    {
-        let place = Place::new(alloc, sites);
-        let state = SiteState::new(alloc, certificate.decisions().len())?;
-        let walks = Walks::new(certificate.steps(alloc)?);
-        Ok(Tracked {
-            place,
-            state,
-            walks,
-        })
-    }
-
-    /// One more line, of which this is known, and which has no fault but perhaps one of a walk.
-    #[inline(always)]
-    pub(crate) fn enter(
-        &mut self,
-        certificate: &Decided,
-        line: &SectionLine,
-        known: &Option<Known>,
-    ) -> Result<(), AllocError>
-        ensures { OnOk result
-            (IsKnownLine certificate.now.decisions self.old.state line.now known.now
-            → (b : Begun) → IsDecidedOnce certificate.now.decisions → IsBegun b
-            → MayFollow b b.current line.now
-            → AdmitsLine certificate.now.decisions b.current line.now
-            → IsTracked certificate.now.decisions b self.old
-            → IsTracked certificate.now.decisions (with_next b b.current line.now) self.new) }
-    {
-        self.walks.pass(certificate, &self.state, line);
-        self.place.enter(line)?;
-        enter_line(&mut self.state, line, known)
     }
 }

@@ -3,6 +3,7 @@
 ghost use Rattle.std.specs.Prelude.{◌≡◌, ◌↔◌, ℕ, [], List, length, IsTrue, All, Contains};
 ghost use Rattle.sgt_names.specs.declared.entry.Entry.{Entry};
 ghost use Rattle.sgt_names.specs.declared.entry.Holding.{Holding};
+ghost use Rattle.sgt_notation.specs.declared.SectionLine.TheVariants.{End};
 ghost use Rattle.sgt_bundle.specs.Text.{IsCertificate};
 ghost use Rattle.sgt_bundle.specs.Valid.{AreLogged};
 ghost use Rattle.sgt_bundle.specs.declared.bundle.SiteLog.{SiteLog};
@@ -10,15 +11,16 @@ ghost use Rattle.sgt_bundle.specs.declared.certificate.Certificate.{Certificate}
 ghost use Rattle.sgt_bundle.specs.declared.certificate.Decision.{Decision};
 ghost use Rattle.sgt_bundle.specs.declared.certificate.Decision.TheVariants.{Refuse};
 ghost use Rattle.sgt_bundle.specs.declared.certificate.Step.{Step};
-ghost use Rattle.sgt_audit_decisions.specs.Steps.{AreStepsOf};
+ghost use Rattle.sgt_audit_decisions.specs.Steps.{AreStepsAt, AreStepsOf};
+ghost use Rattle.sgt_audit_decisions.specs.declared.steps.Edge.{Edge};
 ghost use Rattle.sgt_audit_cells.specs.Tracks.{TracksOpen};
-ghost use Rattle.sgt_audit.specs.Kept.{IsMet, MeansMet, Tracks};
+ghost use Rattle.sgt_audit.specs.Alone.{MeetsSteps};
+ghost use Rattle.sgt_audit.specs.Kept.{IsMet, MeansMet};
 ghost use Rattle.sgt_audit.specs.Reading.{Begun};
 ghost use Rattle.sgt_audit.specs.private.Following.{MayFollow, with_next};
 
 use sgt_audit_cells::SiteState;
 use sgt_audit_decisions::{Decided, Edge, Steps};
-use sgt_notation::SectionLine;
 
 /// The steps of all walks, and whether each at a site whose log is whole is a conflict there.
 #[derive(Drop)]
@@ -67,19 +69,15 @@ impl Walks {
         Walks { steps, met: true }
     }
 
-    /// One more line. The end of a section makes its log whole.
-    #[inline(always)]
-    pub(crate) fn pass(&mut self, certificate: &Decided, state: &SiteState, line: &SectionLine)
-        ensures { (b : Begun) → MayFollow b b.current line.now
-            → Tracks certificate.now.decisions b state.now
-            → MeansMet certificate.now.decisions b.whole self.old
-            → MeansMet certificate.now.decisions (with_next b b.current line.now).whole self.new }
+    /// The log of one more site is whole, and it is known whether the steps at the site are conflicts there.
+    pub(crate) fn pass(&mut self, met: bool)
+        ensures { (decisions : List Decision) (b : Begun) (edges : List Edge) → MayFollow b b.current End
+            → AreStepsAt decisions (length b.whole) edges
+            → MeetsSteps edges b.current End met
+            → MeansMet decisions b.whole self.old
+            → MeansMet decisions (with_next b b.current End).whole self.new }
     {
-        let SectionLine::End = line else {
-            return;
-        };
-        let edges = self.steps.at(state.section.saturating_sub(1));
-        if !are_met(certificate, state, edges) {
+        if !met {
             self.met = false;
         }
     }

@@ -7,7 +7,7 @@ use Rattle.sgt_audit.specs.declared.machine.Machine.{Machine}
 use Rattle.sgt_audit.specs.declared.machine.Progress.{Progress}
 use Rattle.sgt_audit.specs.declared.machine.Progress.TheVariants as at
 use Rattle.sgt_audit.specs.Faults.{Stage, headed, complete, last, Rule, Breaks}
-use Rattle.sgt_audit.specs.Kept.{IsAt}
+use Rattle.sgt_audit.specs.Held.{IsAt}
 
 -- all sections were read
 abbrev pub IsComplete : Stage → Type 0

@@ -9,7 +9,7 @@ use Rattle.sgt_audit.specs.declared.machine.Progress.{Progress}
 use Rattle.sgt_audit.specs.declared.machine.Progress.TheVariants.{Reading}
 use Rattle.sgt_audit.specs.declared.faults.FirstFault as found
 use Rattle.sgt_audit.specs.Faults.{Stage, FirstFault, lines_so_far, reach}
-use Rattle.sgt_audit.specs.Kept.{IsAt}
+use Rattle.sgt_audit.specs.Held.{IsAt}
 use Rattle.sgt_audit.specs.private.Ending.{IsComplete, limit_of}
 use Rattle.sgt_audit.specs.private.NextLine.{Follows}
 use Rattle.sgt_audit.specs.Progress.{Stands}

@@ -1,38 +1,4 @@
-use Rattle.std.proofs.Common.{Some, refl, ap}
-use Rattle.sgt_audit.specs.Reading.{lines_read}
-use Rattle.sgt_audit.specs.declared.alone.Alone.{Alone}
-use Rattle.sgt_audit.proofs.Lone.{next-stands}
-use Rattle.sgt_audit.proofs.NextLine.{within-breaks}
 use Rattle.sgt_audit.proofs.alone.Alone.follow.Goals as goal
 
-pub returns-in-Some-clause-follows : goal.returns-in-Some-clause-follows
-returns-in-Some-clause-follows c is b s =
-    let cert = c.args.certificate.now in
-    let begins = (c.may_go_on.ensures b s.begun s.place).0 c.if-not-may_go_on.false in
-    let known = c.look_up-known.ensures in (
-      within-breaks c.args.self.now.second cert (lines_read b) c.args.line.now is c.in-Some.fault
-          (c.in-Some.ensures.judged cert b s known begins),
-      λ same. c.in-Some.ensures.not_walks cert b s known begins (ap Some same),
-    )
-
 pub returns-clause-follows : goal.returns-clause-follows
-returns-clause-follows c is b s =
-    let cert = c.args.certificate.now in
-    let old = c.args.self.now in
-    let new : Alone = record {
-      second = old.second;
-      place = c.enter.new.self;
-      state = c.enter_line.new.state;
-      met =
-          c.meets_steps-self.result;
-    } in
-    let begins = (c.may_go_on.ensures b s.begun s.place).0 c.if-not-may_go_on.false in
-    let kept = c.in_default.ensures.judged cert b s c.look_up-known.ensures begins in (
-      c.args.line.now,
-      is,
-      refl,
-      kept,
-      next-stands cert b c.args.line.now old new s begins kept c.in_ok-enter.ensures
-          (c.in_ok-enter_line.ensures cert.decisions c.look_up-known.ensures),
-      c.meets_steps-self.ensures b s.open_site,
-    )
+returns-clause-follows c = c.follow_known.ensures.follows c.look_up-known.ensures

@@ -1,4 +1,0 @@
-use Rattle.sgt_audit.proofs.kept.Kept.follow_initial.Goals as goal
-
-pub returns-clause-follows : goal.returns-clause-follows
-returns-clause-follows c = c.follow_known.ensures.follows tt
