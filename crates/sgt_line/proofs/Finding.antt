@@ -19,10 +19,10 @@ nothing_mapped f None b e is_false = refl
 -- where the one does not hold, either holds exactly where the other does
 pub the_other : (a b : Bool) (S T : Type 0) → a ≡ false → (IsTrue a → S) × (S → IsTrue a)
     → (IsTrue b → T) × (T → IsTrue b) → (IsTrue b → S ⊎ T) × (S ⊎ T → IsTrue b)
-the_other a b S T no one other = (
+the_other a b S T fails one other = (
   λ yes. inr (other.0 yes),
   λ has. elim has [
-    | inl s ↦ absurd (true≢false (sym (one.1 s) ∙ no))
+    | inl s ↦ absurd (true≢false (sym (one.1 s) ∙ fails))
     | inr t ↦ other.1 t
   ],
 )
