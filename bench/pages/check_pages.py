@@ -39,7 +39,7 @@ def commands():
 def options():
     """The options that the code knows, by their long names."""
     words = text_of(f"{WORDS}/commands.rt")
-    named = re.findall(r'\.long\("(\w+)"\)', words) + re.findall(r'= flag\(\s*alloc,\s*"([\w-]+)"', words)
+    named = re.findall(r'\.long\("([\w-]+)"\)', words) + re.findall(r'= flag\(\s*alloc,\s*"([\w-]+)"', words)
     named += re.findall(r'number_option\(\s*alloc,\s*"(\w+)"', text_of(f"{WORDS}/options.rt"))
     lines = text_of(f"{LINE}/kind.rt").splitlines()
     of_others = {line for line in lines if (names := set(re.findall(r"CommandName::(\w+)", line))) and names <= missing()}
@@ -58,7 +58,7 @@ def rewritten():
 
 def topics():
     """The rules and replies that can be asked about."""
-    return re.findall(r'b"([\w-]+)"(?: => Some|\) \{\n)', text_of(TOPICS))
+    return [name.replace(" ", "-") for name in re.findall(r'b"([\w -]+)"(?: => Some|\) \{\n)', text_of(TOPICS))]
 
 
 def completed():
@@ -165,7 +165,7 @@ def more_words():
         yield f"docs/sgt.1: there is no command {word}"
     for word in sorted({f"-{word}" for word in re.findall(r"Fl (-[\w-]+)", manual)} - set(options())):
         yield f"docs/sgt.1: there is no option {word}"
-    known = {*options(), *commands(), *rewritten(), *topics(), "-q"}
+    known = {*options(), *commands(), *rewritten(), *topics(), "-q", "-o"}
     for word in sorted(completed() - known):
         yield f"docs/sgt.bash: {word} is no word of a command line"
     for word in sorted(known - completed()):

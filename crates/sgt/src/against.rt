@@ -1,8 +1,9 @@
 //! An order in a file, judged by a history.
 
-use crate::devices::{Held, Input, LastWords, Retrying, Steady};
-use crate::host::{Host, ended, open, refuse_file};
+use crate::devices::{Held, Input, LastWords, Steady};
+use crate::host::{Host, ended, open, refuse_file, writer};
 use crate::unreadable::{Fronted, tell_unreadable};
+use crate::why::tell_why;
 use sgt_command_line::CheckWanted;
 use sgt_line::Line;
 use sgt_names::{FromRead, Sink, ToWrite};
@@ -57,6 +58,7 @@ fn judged<H, W: Sink>(
         )
     };
     tell_unreadable(host, &steady, steady.name(name), fronted.front());
+    tell_why(host, &steady, name, fronted.front(), status);
     let status = ended(host, &given, order, status);
     ended(host, &steady, name, status)
 }
@@ -72,6 +74,6 @@ pub(crate) fn judge_order<H>(
     if line.is_quiet {
         return judged(host, wanted, order, name, &mut Held::new(host.rt.alloc()));
     }
-    let mut output = ToWrite::new(Retrying::new(host.rt.stdout(), host.hush));
+    let mut output = writer(host);
     judged(host, wanted, order, name, &mut output)
 }

@@ -1,7 +1,10 @@
 //! An audit of one system's bundles in a row.
 
-use crate::devices::{Held, LastWords, Retrying};
-use crate::host::{Host, ended, open};
+use crate::devices::{Held, LastWords};
+use crate::expected::expected_status;
+use crate::host::{Host, ended, open, writer};
+use crate::unreadable::Fronted;
+use crate::why::tell_why;
 use sgt_audit_chain::ChainAuditor;
 use sgt_line::Line;
 use sgt_names::{FromRead, Sink, ToWrite};
@@ -19,6 +22,7 @@ fn next<H, W: Sink>(
         Err(status) => return Some(status),
     };
     let mut errors = ToWrite::new(LastWords::new(host.rt.stderr(), host.hush));
+    let mut fronted = Fronted::new(writer);
     let status = {
         let mut reader = FromRead::new(&mut steady);
         audit_next(
@@ -26,10 +30,11 @@ fn next<H, W: Sink>(
             host.rt.alloc(),
             name,
             &mut reader,
-            writer,
+            &mut fronted,
             &mut errors,
         )?
     };
+    tell_why(host, &steady, name, fronted.front(), status);
     Some(ended(host, &steady, name, status))
 }
 
@@ -42,7 +47,9 @@ fn audit_files<H, W: Sink>(host: &Host<'_, H>, files: &[String], writer: &mut W)
         }
     }
     let mut errors = ToWrite::new(LastWords::new(host.rt.stderr(), host.hush));
-    end_chain(&auditor, host.rt.alloc(), writer, &mut errors)
+    let mut fronted = Fronted::new(writer);
+    let status = end_chain(&auditor, host.rt.alloc(), &mut fronted, &mut errors);
+    expected_status(host, fronted.front(), status)
 }
 
 /// Audits the files as a chain; quietly by the status alone.
@@ -51,6 +58,6 @@ pub(crate) fn audit_chain<H>(host: &Host<'_, H>, line: &Line) -> u8 {
     if line.is_quiet {
         return audit_files(host, files, &mut Held::new(host.rt.alloc()));
     }
-    let mut output = ToWrite::new(Retrying::new(host.rt.stdout(), host.hush));
+    let mut output = writer(host);
     audit_files(host, files, &mut output)
 }

@@ -2,6 +2,7 @@
 
 ghost use Rattle.std.specs.Prelude.{None};
 
+use crate::front::Front;
 use crate::progress::Progress;
 use sgt_history_words::Tail;
 use sgt_names::{Failed, Sink};
@@ -32,6 +33,11 @@ impl Hush {
     /// Words are wanted again.
     pub(crate) fn lift(&self) {
         self.is_set.set(false);
+    }
+
+    /// Words would be one too many.
+    pub(crate) fn set(&self) {
+        self.is_set.set(true);
     }
 
     /// The writer's reason is noted where it is that its reader went away.
@@ -68,15 +74,15 @@ impl Read for Input {
     }
 }
 
-/// A reader that begins a read again where a signal interrupted it, keeps why a read failed and which byte came
-/// first, and tells of what was read.
+/// A reader that begins a read again where a signal interrupted it, keeps why a read failed and which bytes came
+/// first and last, and tells of what was read.
 #[derive(Drop)]
 pub struct Steady<'a, R> {
     inner: R,
     progress: Option<Progress<'a>>,
     tail: Option<Tail>,
     hush: &'a Hush,
-    pub first: Option<u8>,
+    front: Front,
     pub why: Option<io::Error>,
 }
 
@@ -93,9 +99,14 @@ impl<'a, R: Read> Steady<'a, R> {
             progress,
             tail,
             hush,
-            first: None,
+            front: Front::new(),
             why: None,
         }
+    }
+
+    /// The first bytes that were read, and the last.
+    pub(crate) fn front(&self) -> &Front {
+        &self.front
     }
 
     /// The line of this number, if it was read last and is kept.
@@ -121,9 +132,7 @@ impl<R: Read> Read for &mut Steady<'_, R> {
                 Err(e) if e.kind() == io::ErrorKind::Interrupted => {}
                 Ok(n) => {
                     let bytes = buffer.get(..n).unwrap_or(&[]);
-                    if self.first.is_none() {
-                        self.first = bytes.first().copied();
-                    }
+                    self.front.pass(bytes);
                     if let Some(progress) = &mut self.progress {
                         progress.pass(bytes);
                     }
@@ -135,7 +144,7 @@ impl<R: Read> Read for &mut Steady<'_, R> {
                 Err(e) => {
                     let kind = e.kind();
                     self.why = Some(e);
-                    self.hush.is_set.set(true);
+                    self.hush.set();
                     return Err(io::Error::from(kind));
                 }
             }

@@ -1,8 +1,12 @@
 //! The system, and what is read of it.
 
-use crate::devices::{Hush, Input, LastWords, Steady};
+use crate::devices::{Hush, Input, LastWords, Retrying, Steady};
+use crate::expected::expected_status;
+use crate::output::Output;
 use crate::progress::Progress;
 use crate::unreadable::{Fronted, Watched, tell_unreadable};
+use crate::why::tell_why;
+use sgt_line::CommandName;
 use sgt_names::{FromRead, Sink, ToWrite};
 use sgt_program::program;
 use std::fs::File;
@@ -12,8 +16,9 @@ use std::sync::Wait;
 use std::thread::Threads;
 
 /// The system: its files and streams, and its threads; what is awaited from a terminal, if something is read, and
-/// what words are of use where it can't be; whether lines are told as they are read, and whether last words are
-/// wanted.
+/// what words are of use where it can't be; whether lines are told as they are read, and behind a no what to type to
+/// learn more; whether last words are wanted; the file that is written in place of standard
+/// output; and how many transactions are to be committed.
 #[derive(Drop)]
 pub struct Host<'a, H> {
     pub rt: &'a HostRuntime,
@@ -21,7 +26,17 @@ pub struct Host<'a, H> {
     pub awaits: Option<&'static str>,
     pub watched: Watched,
     pub tells_lines: bool,
+    pub tells_why: bool,
+    pub command: CommandName,
     pub hush: &'a Hush,
+    pub output: Option<&'a String>,
+    pub expected: Option<u64>,
+}
+
+/// The writer of the answer, which was given nothing.
+pub(crate) fn writer<'a, H>(host: &Host<'a, H>) -> ToWrite<Retrying<'a, Output<'a>>> {
+    let output = Output::new(host.rt, host.output, host.hush);
+    ToWrite::new(Retrying::new(output, host.hush))
 }
 
 /// Says why a file could not be read or written, if it isn't that its reader went away, and gives the status.
@@ -115,5 +130,7 @@ pub(crate) fn over<H: Threads + Wait + Sync, W: Sink>(
         )
     };
     tell_unreadable(host, &steady, steady.name(name), fronted.front());
+    tell_why(host, &steady, name, fronted.front(), status);
+    let status = expected_status(host, fronted.front(), status);
     ended(host, &steady, name, status)
 }

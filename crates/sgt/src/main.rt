@@ -4,24 +4,29 @@
 mod against;
 mod chain;
 mod devices;
+mod expected;
 mod folder;
+mod front;
 mod host;
 mod ordinary;
+mod output;
 mod progress;
 mod svg;
 mod talk;
 mod unreadable;
+mod why;
 
 use crate::against::judge_order;
 use crate::chain::audit_chain;
-use crate::devices::{Hush, LastWords, Retrying};
-use crate::host::{Host, over};
+use crate::devices::{Hush, LastWords};
+use crate::expected::expected_of;
+use crate::host::{Host, over, writer};
 use crate::ordinary::{audit_each, judge, run_held};
 use crate::svg::check_drawn;
 use crate::talk::serve_events;
 use crate::unreadable::Watched;
 use sgt_command_line::{Choice, NoChoice, Way, awaited, choose, wanted_by, way_of};
-use sgt_line::Line;
+use sgt_line::{CommandName, Line, named};
 use sgt_names::{EngineFail, ToWrite};
 use sgt_program::{give_up, refuse_words};
 use std::alloc::AllocError;
@@ -29,7 +34,28 @@ use std::io::IsTerminal;
 use std::process::ExitCode;
 use std::sync::Wait;
 use std::thread::Threads;
-use std::{env, io};
+use std::{env, fs, io};
+
+// Whether a word stands in a command's place that is none, and names a file.
+fn names_file(rt: &HostRuntime, given: &[String]) -> bool {
+    match given.get(1) {
+        Some(word) => {
+            let is_command = named(word.as_str()).is_some() || word.as_str() == "help";
+            let may_be_file = !is_command && !word.starts_with('-');
+            may_be_file && fs::exists(rt, word.as_str()).unwrap_or(false)
+        }
+        None => false,
+    }
+}
+
+// The command line of these words; a file in a command's place is audited.
+fn line_with(rt: &HostRuntime, given: Vec<String>) -> Result<Line, AllocError> {
+    let mut given = given;
+    if given.len() > 1 && names_file(rt, given.as_slice()) {
+        given.insert(1, String::from_str(rt.alloc(), "audit")?)?;
+    }
+    Line::of(rt.alloc(), given.as_slice())?.settled(rt.alloc())
+}
 
 // The command line, or the status where it can't be had.
 fn line_of(rt: &HostRuntime, hush: &Hush) -> Result<Line, u8> {
@@ -39,11 +65,7 @@ fn line_of(rt: &HostRuntime, hush: &Hush) -> Result<Line, u8> {
         Err(e) if e.kind() == io::ErrorKind::OutOfMemory => Err(AllocError),
         Err(_) => return Err(refuse_words(&mut errors)),
     };
-    let line = match given {
-        Ok(given) => Line::of(rt.alloc(), given.as_slice()),
-        Err(_) => Err(AllocError),
-    };
-    match line.and_then(|line| line.settled(rt.alloc())) {
+    match given.and_then(|given| line_with(rt, given)) {
         Ok(line) => Ok(line),
         Err(_) => Err(give_up(&mut errors, EngineFail::Memory)),
     }
@@ -55,6 +77,14 @@ fn tells_terminal(choice: &Result<Choice, NoChoice>) -> bool {
         Ok(Choice::Audit | Choice::AuditWith { .. } | Choice::Serial) => true,
         Ok(Choice::Replay | Choice::Check(_)) => true,
         _ => false,
+    }
+}
+
+// The command that the words name.
+fn command_of(line: &Line) -> CommandName {
+    match line.words.get(1) {
+        Some(word) => named(word.as_str()).unwrap_or(CommandName::Audit),
+        None => CommandName::Audit,
     }
 }
 
@@ -85,7 +115,7 @@ fn run<H: Threads + Wait + Sync>(
         Way::Held => run_held(host, line, name),
         Way::Quiet => judge(host, line, name),
         Way::Plain => {
-            let mut output = ToWrite::new(Retrying::new(host.rt.stdout(), host.hush));
+            let mut output = writer(host);
             Ok(over(host, line.words.as_slice(), name, &mut output))
         }
     }
@@ -97,15 +127,23 @@ fn main(rt: HostRuntime) -> ExitCode {
         Ok(line) => line,
         Err(status) => return ExitCode::from(status),
     };
+    let expected = match expected_of(&rt, &line) {
+        Ok(expected) => expected,
+        Err(status) => return ExitCode::from(status),
+    };
     let choice = choose(rt.alloc(), line.words.as_slice());
-    let is_told = tells_terminal(&choice) && !line.is_quiet && rt.stderr().is_terminal();
+    let is_terminal = !line.is_quiet && rt.stderr().is_terminal();
     let host = Host {
         rt: &rt,
         threads: &rt,
         awaits: awaited(&line, &choice),
         watched: Watched::of(&choice),
-        tells_lines: line.tells_lines || is_told,
+        tells_lines: line.tells_lines || (is_terminal && tells_terminal(&choice)),
+        tells_why: line.tells_why || is_terminal,
+        command: command_of(&line),
         hush: &hush,
+        output: line.output.as_ref(),
+        expected,
     };
     match run(&host, &line, &choice) {
         Ok(status) => ExitCode::from(status),

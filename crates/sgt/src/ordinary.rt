@@ -1,9 +1,10 @@
 //! Several files, a bundle that goes to a file, a strict replay, and a status alone.
 
-use crate::devices::{Held, Retrying};
-use crate::host::{Host, over, write_file};
+use crate::devices::Held;
+use crate::host::{Host, over, write_file, writer};
+use crate::why::tell_refusal;
 use sgt_line::{Line, cut, shown, strict_status};
-use sgt_names::{EngineFail, MemSink, ToWrite, write_all};
+use sgt_names::{EngineFail, MemSink, write_all};
 use std::sync::Wait;
 use std::thread::Threads;
 
@@ -17,7 +18,7 @@ pub(crate) fn audit_each<H: Threads + Wait + Sync>(
 ) -> Result<u8, EngineFail> {
     let rt = host.rt;
     let mut status = 0;
-    let mut output = ToWrite::new(Retrying::new(rt.stdout(), host.hush));
+    let mut output = writer(host);
     for name in &line.files {
         let mut verdict = MemSink::new(rt.alloc(), LINE)?;
         let found = over(host, line.words.as_slice(), name.as_str(), &mut verdict);
@@ -37,7 +38,7 @@ pub(crate) fn audit_each<H: Threads + Wait + Sync>(
 // The bundle goes to its file, and what is in front of it to standard output.
 fn deliver<H>(host: &Host<'_, H>, line: &Line, text: &[u8]) -> Result<Option<u8>, EngineFail> {
     let rt = host.rt;
-    let mut output = ToWrite::new(Retrying::new(rt.stdout(), host.hush));
+    let mut output = writer(host);
     let (front, bundle) = shown(line, text);
     if write_all(&mut output, front).is_err() {
         return Err(EngineFail::WriteFault);
@@ -63,7 +64,12 @@ pub(crate) fn run_held<H: Threads + Wait + Sync>(
         return Ok(failed);
     }
     if line.is_strict {
-        return Ok(strict_status(status, cut(held.bytes()).0));
+        let replies = cut(held.bytes()).0;
+        let strict = strict_status(status, replies);
+        if host.tells_why && strict != status {
+            tell_refusal(host, replies);
+        }
+        return Ok(strict);
     }
     Ok(status)
 }

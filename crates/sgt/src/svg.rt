@@ -1,10 +1,10 @@
 //! A check whose cycle is drawn.
 
-use crate::devices::{Held, Retrying};
-use crate::host::{Host, over, write_file};
+use crate::devices::Held;
+use crate::host::{Host, over, write_file, writer};
 use sgt_history_picture::picture_of;
 use sgt_line::Line;
-use sgt_names::{EngineFail, Failed, Sink, ToWrite};
+use sgt_names::{EngineFail, Failed, Sink};
 use std::alloc::Global;
 use std::sync::Wait;
 use std::thread::Threads;
@@ -83,6 +83,6 @@ pub(crate) fn check_drawn<H: Threads + Wait + Sync>(
     if line.is_quiet {
         return drawn(host, line, names, &mut Held::new(host.rt.alloc()));
     }
-    let mut output = ToWrite::new(Retrying::new(host.rt.stdout(), host.hush));
+    let mut output = writer(host);
     drawn(host, line, names, &mut output)
 }

@@ -1,15 +1,13 @@
 //! Words on a text that can't be read: what is wrong with a history's line, or that a text is of the other kind.
 
 use crate::devices::{LastWords, Steady};
+use crate::front::Front;
 use crate::host::Host;
 use sgt_command_line::{Choice, NoChoice};
 use sgt_history_words::{Asked, Tail, answered, unreadable};
 use sgt_names::{Failed, Sink, ToWrite, write_all};
 use std::alloc::Global;
 use std::io::Read;
-
-// How much is remembered of what was written: an answer on a line that can't be read is shorter.
-const FRONT: usize = 64;
 
 /// What a command reads, as far as words on it are of use.
 #[derive(Clone, Copy)]
@@ -49,8 +47,7 @@ impl Watched {
 #[derive(Drop)]
 pub struct Fronted<'a, W> {
     inner: &'a mut W,
-    front: [u8; FRONT],
-    length: usize,
+    front: Front,
 }
 
 impl<'a, W: Sink> Fronted<'a, W> {
@@ -58,28 +55,14 @@ impl<'a, W: Sink> Fronted<'a, W> {
     pub(crate) fn new(inner: &'a mut W) -> Fronted<'a, W> {
         Fronted {
             inner,
-            front: [0; FRONT],
-            length: 0,
+            front: Front::new(),
         }
     }
 
     /// The first bytes that it took.
     pub(crate) fn front(&self) -> &[u8] {
-        self.front.get(..self.length).unwrap_or(&[])
+        self.front.bytes()
     }
-}
-
-// Puts the bytes behind these, as far as there is room; gives how many there are then.
-fn remember(front: &mut [u8], length: usize, bytes: &[u8]) -> usize {
-    let mut length = length;
-    for byte in bytes {
-        if length >= front.len() {
-            return length;
-        }
-        front[length] = *byte;
-        length += 1;
-    }
-    length
 }
 
 impl<W: Sink> Sink for Fronted<'_, W> {
@@ -91,10 +74,7 @@ impl<W: Sink> Sink for Fronted<'_, W> {
 
     fn write(&mut self, bytes: &[u8]) -> Result<usize, Failed> {
         let taken = self.inner.write(bytes)?;
-        if self.length < FRONT {
-            let new = bytes.get(..taken).unwrap_or(&[]);
-            self.length = remember(&mut self.front, self.length, new);
-        }
+        self.front.pass(bytes.get(..taken).unwrap_or(&[]));
         Ok(taken)
     }
 }
@@ -122,7 +102,10 @@ pub(crate) fn tell_unreadable<H, R: Read>(
 ) {
     match host.watched {
         Watched::History(asked) => tell_line(host, steady, asked, front),
-        Watched::Bundle if steady.first == Some(b'{') && front.starts_with(b"no line 1 F1") => {
+        Watched::Bundle
+            if steady.front().bytes().starts_with(b"{")
+                && front.starts_with(b"no line 1 F1")
+                && !host.tells_why => {
             let _ = eprintln!(host.rt; "sgt: {name} looks like a history, which sgt check judges");
         }
         _ => {}

@@ -36,29 +36,31 @@ const DRAW: &str =
 
 // The usage of each command, with an example. What of it is a file or about files is taken out of the words before.
 const AUDIT_USAGE: &str =
-    "sgt audit [-q] [--workers N] [--progress] [FILE]...\n       sgt audit --chain [-q] [--progress] FILE...\n  e.g. sgt audit bundle.txt";
+    "sgt audit [-q] [--workers N] [--expect-committed N] [--why] [--progress] [-o FILE] [FILE]...\n       sgt audit --chain [-q] [--expect-committed N] [--why] [--progress] [-o FILE] FILE...\n  e.g. sgt audit bundle.txt";
 
-const SERIAL_USAGE: &str = "sgt serial [--progress] [FILE]\n  e.g. sgt serial bundle.txt";
+const SERIAL_USAGE: &str =
+    "sgt serial [--why] [--progress] [-o FILE] [FILE]\n  e.g. sgt serial bundle.txt";
 
 const REPLAY_USAGE: &str =
-    "sgt replay [--strict] [--progress] [--bundle FILE] [FILE]\n  e.g. sgt replay --bundle bundle.txt events.txt";
+    "sgt replay [--strict] [--why] [--progress] [--bundle FILE] [-o FILE] [FILE]\n  e.g. sgt replay --bundle bundle.txt events.txt";
 
 const SERVE_USAGE: &str = "sgt serve [--bundles DIR] [FILE]\n  e.g. sgt serve --bundles bundles";
 
 const CHECK_USAGE: &str =
-    "sgt check [--order] [--real-time] [--sessions] [--svg FILE] [-q] [--progress] [FILE]\n       sgt check --against ORDER [--real-time] [--sessions] [-q] [FILE]\n  e.g. sgt check history.jsonl";
+    "sgt check [--order] [--real-time] [--sessions] [--svg FILE] [-q] [--why] [--progress] [-o FILE] [FILE]\n       sgt check --against ORDER [--real-time] [--sessions] [-q] [--why] [-o FILE] [FILE]\n  e.g. sgt check history.jsonl";
 
-const CERTIFY_USAGE: &str = "sgt certify [FILE]\n  e.g. sgt certify logs.txt > bundle.txt";
+const CERTIFY_USAGE: &str =
+    "sgt certify [--why] [-o FILE] [FILE]\n  e.g. sgt certify -o bundle.txt logs.txt";
 
 const EXPLAIN_USAGE: &str =
-    "sgt explain [--tx N] [FILE]\n       sgt explain RULE\n  e.g. sgt explain bundle.txt";
+    "sgt explain [--tx N] [--why] [-o FILE] [FILE]\n       sgt explain RULE\n  e.g. sgt explain bundle.txt";
 
 const DRAW_USAGE: &str =
-    "sgt draw [--tx N] [--dot] [FILE]\n  e.g. sgt draw bundle.txt > bundle.svg";
+    "sgt draw [--tx N] [--dot] [--why] [-o FILE] [FILE]\n  e.g. sgt draw -o bundle.svg bundle.txt";
 
 /// What the help of each command ends with.
 pub const MORE: &str =
-    "Behind each command a FILE may stand; with none, or -, standard input is read. Where standard error is a terminal, audit, serial, replay and check tell it of each million lines read, as with --progress. sgt COMMAND --help lists all options of a command.
+    "Behind each command a FILE may stand; with none, or -, standard input is read. Where standard error is a terminal, audit, serial, replay and check tell it of each million lines read, as with --progress; and behind a no it is told what to type to learn more, as with --why. sgt COMMAND --help lists all options of a command.
 
 L is the first line with a fault and FN the fault: docs/FORMAT.md has the faults and the formats of a bundle, a replay and scripts.
 
@@ -106,7 +108,7 @@ fn certify_line<'a>(alloc: Global) -> Command<'a> {
 
 fn explain_line<'a>(alloc: Global) -> Result<Command<'a>, AllocError> {
     let rule = Arg::new(alloc, "RULE").help(
-        "Says what F1 to F19, K1 to K4 or C1 is, a reply's E8, L1 or V9, or an anomaly as G1a",
+        "Says what F1 to F19, K1 to K4 or C1 is, a reply's E8, L1 or V9, an anomaly as G1a, or no-ranks",
     );
     let tx = Arg::new(alloc, "tx")
         .long("tx")
@@ -192,6 +194,22 @@ fn progress<'a>(alloc: Global) -> Arg<'a> {
     )
 }
 
+fn why<'a>(alloc: Global) -> Arg<'a> {
+    flag(
+        alloc,
+        "why",
+        "Tells standard error behind a no what to type to learn more",
+    )
+}
+
+fn output<'a>(alloc: Global) -> Arg<'a> {
+    Arg::new(alloc, "output")
+        .long("output")
+        .short('o')
+        .value_name("FILE")
+        .help("Writes the answer to this file in place of standard output")
+}
+
 fn bundle<'a>(alloc: Global) -> Arg<'a> {
     Arg::new(alloc, "bundle")
         .long("bundle")
@@ -216,11 +234,18 @@ fn full_audit<'a>(alloc: Global) -> Result<Command<'a>, AllocError> {
         "chain",
         "Takes the files for one system's bundles in a row: each begins where the one before ends",
     );
+    let expected = Arg::new(alloc, "expect-committed")
+        .long("expect-committed")
+        .value_name("N")
+        .help("Ends a yes of another number of committed transactions with status 1");
     audit_line(alloc)?
         .arg(files)?
         .arg(quiet(alloc))?
         .arg(chain)?
-        .arg(progress(alloc))
+        .arg(expected)?
+        .arg(why(alloc))?
+        .arg(progress(alloc))?
+        .arg(output(alloc))
 }
 
 fn full_replay<'a>(alloc: Global) -> Result<Command<'a>, AllocError> {
@@ -232,8 +257,10 @@ fn full_replay<'a>(alloc: Global) -> Result<Command<'a>, AllocError> {
     replay_line(alloc)
         .arg(file(alloc))?
         .arg(strict)?
+        .arg(why(alloc))?
         .arg(progress(alloc))?
-        .arg(bundle(alloc))
+        .arg(bundle(alloc))?
+        .arg(output(alloc))
 }
 
 fn full_serve<'a>(alloc: Global) -> Result<Command<'a>, AllocError> {
@@ -245,11 +272,19 @@ fn full_serve<'a>(alloc: Global) -> Result<Command<'a>, AllocError> {
 }
 
 fn full_serial<'a>(alloc: Global) -> Result<Command<'a>, AllocError> {
-    serial_line(alloc).arg(file(alloc))?.arg(progress(alloc))
+    serial_line(alloc)
+        .arg(file(alloc))?
+        .arg(why(alloc))?
+        .arg(progress(alloc))?
+        .arg(output(alloc))
 }
 
 fn full_run<'a>(alloc: Global) -> Result<Command<'a>, AllocError> {
-    run_line(alloc)?.arg(file(alloc))?.arg(bundle(alloc))
+    run_line(alloc)?
+        .arg(file(alloc))?
+        .arg(why(alloc))?
+        .arg(bundle(alloc))?
+        .arg(output(alloc))
 }
 
 fn full_check<'a>(alloc: Global) -> Result<Command<'a>, AllocError> {
@@ -265,15 +300,30 @@ fn full_check<'a>(alloc: Global) -> Result<Command<'a>, AllocError> {
         .arg(against)?
         .arg(svg)?
         .arg(quiet(alloc))?
-        .arg(progress(alloc))
+        .arg(why(alloc))?
+        .arg(progress(alloc))?
+        .arg(output(alloc))
+}
+
+fn full_certify<'a>(alloc: Global) -> Result<Command<'a>, AllocError> {
+    certify_line(alloc)
+        .arg(file(alloc))?
+        .arg(why(alloc))?
+        .arg(output(alloc))
 }
 
 fn full_explain<'a>(alloc: Global) -> Result<Command<'a>, AllocError> {
-    explain_line(alloc)?.arg(file(alloc))
+    explain_line(alloc)?
+        .arg(file(alloc))?
+        .arg(why(alloc))?
+        .arg(output(alloc))
 }
 
 fn full_draw<'a>(alloc: Global) -> Result<Command<'a>, AllocError> {
-    draw_line(alloc)?.arg(file(alloc))
+    draw_line(alloc)?
+        .arg(file(alloc))?
+        .arg(why(alloc))?
+        .arg(output(alloc))
 }
 
 /// The words of a command with those that are taken out before, for its help.
@@ -283,7 +333,7 @@ pub fn listing_line<'a>(alloc: Global, name: CommandName) -> Result<Command<'a>,
         CommandName::Serial => full_serial(alloc),
         CommandName::Replay => full_replay(alloc),
         CommandName::Run => full_run(alloc),
-        CommandName::Certify => certify_line(alloc).arg(file(alloc)),
+        CommandName::Certify => full_certify(alloc),
         CommandName::Explain => full_explain(alloc),
         CommandName::Draw => full_draw(alloc),
         CommandName::Serve => full_serve(alloc),

@@ -8,8 +8,16 @@ use crate::commands::{command, listing_line};
 use crate::options::lacks_memory;
 use clap::error::ErrorKind;
 use clap::{Command, Error};
-use sgt_line::{behind_first, first_of, named};
+use sgt_line::{CommandName, behind_first, first_of, named, only_of};
 use std::alloc::{AllocError, Global};
+
+// What is wrong with words of which clap has nothing to say.
+const NO_COMMAND: &str = "the words are no command";
+
+const NO_TX: &str = "transactions are numbered from 1 to 4294967295";
+
+const NO_RULE: &str =
+    "rules are F1 to F19, K1 to K4, E1 to E12, L1 to L3, C1, V1 to V10, P1 to P3, no-order, no-ranks, no-walk, and the names of anomalies, as G1a";
 
 // The text, or this where there is none.
 fn some_text(alloc: Global, text: String) -> Result<String, AllocError>
@@ -73,6 +81,39 @@ fn refused(alloc: Global, error: &Error) -> Result<NoChoice, AllocError>
     Ok(NoChoice::Usage(text))
 }
 
+// Whether one of the words asks for a transaction.
+fn has_tx(words: &[String]) -> bool {
+    for word in words {
+        if word.as_str() == "--tx" || word.starts_with("--tx=") {
+            return true;
+        }
+    }
+    false
+}
+
+// What is wrong with these words behind `explain`.
+fn wrong_explain(options: &[String]) -> &'static str {
+    if has_tx(options) {
+        return NO_TX;
+    }
+    match only_of(options) {
+        Some(_) => NO_RULE,
+        None => NO_COMMAND,
+    }
+}
+
+// What is wrong with these words behind the program's name, of which clap has nothing to say.
+fn wrong_words(words: &[String]) -> &'static str {
+    let Some((first, options)) = first_of(words) else {
+        return NO_COMMAND;
+    };
+    match named(first) {
+        Some(CommandName::Explain) => wrong_explain(options),
+        Some(CommandName::Draw) if has_tx(options) => NO_TX,
+        _ => NO_COMMAND,
+    }
+}
+
 // The usage text for words of which none asks for help. What clap would take here, as `audit --`, is no command.
 fn usage(alloc: Global, words: &[String]) -> Result<NoChoice, AllocError>
     ensures text { IfOk result HasText }
@@ -83,8 +124,9 @@ fn usage(alloc: Global, words: &[String]) -> Result<NoChoice, AllocError>
             return refused(alloc, &error);
         }
     }
-    let mut line = line_of(alloc, behind_first(words))?;
-    let error = line.error(ErrorKind::UnknownArgument, "the words are no command")?;
+    let behind = behind_first(words);
+    let mut line = line_of(alloc, behind)?;
+    let error = line.error(ErrorKind::UnknownArgument, wrong_words(behind))?;
     refused(alloc, &error)
 }
 

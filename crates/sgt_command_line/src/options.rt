@@ -18,7 +18,7 @@ const RUN: &str =
     "Runs scripts by threads, and writes a line for each, audit's line on the run's own bundle, then `---` and the bundle";
 
 const USAGE: &str =
-    "sgt run [--workers N] [--tries N] [--bundle FILE] [FILE]\n  e.g. sgt run --workers 4 scripts.txt";
+    "sgt run [--workers N] [--tries N] [--why] [--bundle FILE] [-o FILE] [FILE]\n  e.g. sgt run --workers 4 scripts.txt";
 
 /// An option with a number from 1 to `most`.
 pub fn number_option<'a>(

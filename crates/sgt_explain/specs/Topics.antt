@@ -68,6 +68,9 @@ reply_name reply.VersionsChanged = codes "V10"
 reply_name reply.PoolMemory = codes "P1"
 reply_name reply.ScriptLeft = codes "P2"
 reply_name reply.ScriptRepeated = codes "P3"
+reply_name reply.NoOrder = codes "no order"
+reply_name reply.NoRanks = codes "no ranks"
+reply_name reply.NoWalk = codes "no walk"
 
 abbrev pub anomaly_name : Anomaly → List ℕ
 anomaly_name anomaly.Internal = codes "internal"

@@ -1,4 +1,4 @@
-//! What the replies of a replay and of a run say, and what to do about them.
+//! What the replies of a replay and of a run say, and why logs have no certificate; and what to do about them.
 
 ghost use Rattle.sgt_explain.specs.Topics.{reply_name, IsRuleOf};
 
@@ -103,6 +103,24 @@ const SCRIPT_LEFT: &str = "P2 ScriptLeft\n\
 const SCRIPT_REPEATED: &str = "P3 ScriptRepeated\n\
     A script was run twice. It is never written: that the pool of workers takes no script twice is proved.\n";
 
+const NO_ORDER: &str = "no order of the ends (sgt certify)\n\
+    Two sites or more log the ends of transactions in orders that contradict one another, as after a two-phase commit,\n\
+    also where nothing is in conflict. Each line behind it, `A before B site S lines P Q`, says that at site S the end of A\n\
+    stands before that of B; the lines go round. Log the ends of all sites in one order: docs/EXPORT.md.\n\
+    Of `sgt check --against`: the order that is given doesn't explain the history. The line behind is the first of the order\n\
+    that names no committed transaction, or names one again, or the first operation or step that breaks it.\n";
+
+const NO_RANKS: &str = "no ranks for these commits (sgt certify)\n\
+    Committed transactions have conflicts that close a cycle, so no serial order keeps them. Each line behind it,\n\
+    `A KIND B site S item X lines P Q`, says that A has to come before B: by wr B read what A wrote, by rw B overwrote what\n\
+    A read, by ww B overwrote what A wrote. The lines go round to the first A.\n\
+    The run wasn't conflict-serializable: keep the logs. With blind writes the values may still fit a serial order.\n";
+
+const NO_WALK: &str = "no walk for a refused transaction (sgt certify)\n\
+    A refused transaction lies on no cycle with committed ones, however the others are decided. Each line behind it,\n\
+    `END site S line L`, is the next end of a site where nothing more can be decided.\n\
+    Log as withdrawn (`a`) what was aborted for other reasons: a deadlock, a timeout, mere suspicion.\n";
+
 /// What the reply says.
 pub fn reply_rule(reply: Reply) -> &'static str
     ensures { IsRuleOf (reply_name reply) result.now }
@@ -137,5 +155,8 @@ pub fn reply_rule(reply: Reply) -> &'static str
         Reply::PoolMemory => POOL_MEMORY,
         Reply::ScriptLeft => SCRIPT_LEFT,
         Reply::ScriptRepeated => SCRIPT_REPEATED,
+        Reply::NoOrder => NO_ORDER,
+        Reply::NoRanks => NO_RANKS,
+        Reply::NoWalk => NO_WALK,
     }
 }

@@ -10,7 +10,7 @@ ghost use Rattle.sgt_explain.specs.Topics.{HasNeither, HasSessions, HasTimes, an
 use sgt_audit::Fault;
 use sgt_bundle::CertFault;
 
-/// What a replay tells of an event, and a replay or a run of its input or of itself.
+/// What a replay tells of an event, and a replay or a run of its input or of itself; why logs have no certificate.
 #[derive(Clone, Copy, Debug, PartialEq, Eq)]
 pub enum Reply {
     /// E1 to E12: why an event is refused.
@@ -46,6 +46,10 @@ pub enum Reply {
     PoolMemory,
     ScriptLeft,
     ScriptRepeated,
+    /// Why logs have no certificate; NoOrder also of an order that is given for a history.
+    NoOrder,
+    NoRanks,
+    NoWalk,
 }
 
 /// What a history of a database can have, by the names of the field.
@@ -164,6 +168,9 @@ fn reply_of(word: &[u8]) -> Option<Reply>
         b"P1" => Some(Reply::PoolMemory),
         b"P2" => Some(Reply::ScriptLeft),
         b"P3" => Some(Reply::ScriptRepeated),
+        b"no order" => Some(Reply::NoOrder),
+        b"no ranks" => Some(Reply::NoRanks),
+        b"no walk" => Some(Reply::NoWalk),
         _ => None,
     }
 }
@@ -263,8 +270,8 @@ impl Topic {
     ghost use Rattle.sgt_explain.specs.Topics.{topic_name};
 
     /// The topic of this name: `F1` to `F19`, `K1` to `K4`; `E1` to `E12`, `L1` to `L3`, `V1` to `V10`, `P1` to `P3`,
-    /// `C1`;
-    /// `internal` to `G2-item`, and those of cycles with `-process` or `-realtime`. Names are compared byte by byte. None where no topic has the name.
+    /// `C1`; `no order`, `no ranks`, `no walk`; `internal` to `G2-item`, and those of cycles with `-process` or
+    /// `-realtime`. Names are compared byte by byte. None where no topic has the name.
     pub fn find(word: &str) -> Option<Topic>
         ensures some { IfSome result (λ topic. word.now ≡ topic_name topic) }
         ensures none { IfNone result ((topic : Named) → word.now ≢ topic_name topic) }

@@ -1,6 +1,6 @@
 -- Words that stand on a line.
 use Rattle.std.specs.Prelude.{IfNone}
-use Rattle.sgt_line.specs.Clashes.{Clashes, HasWord, IsBesideOrder, WritesOverInput}
+use Rattle.sgt_line.specs.Clashes.{Clashes, HasWord, IsAmong, IsBesideOrder, WritesOverInput}
 use Rattle.sgt_line.specs.Parts.{Parts}
 use Rattle.std.proofs.lemmas.Option.{same_Some}
 use Rattle.std.proofs.Common.{◌≡◌, ◌<◌, ◌∙◌, ℕ, zero, suc, Option, Some, None, List, [], ◌∷◌, Any, get_or, ap, length, refl, sym, subst, arith, inl, inr}
@@ -42,13 +42,12 @@ pub nothing_clashes : (p : Parts) → (WritesOverInput p → ⊥) → ((text : L
 nothing_clashes p over beside text (inl order) = beside text order
 nothing_clashes p over beside text (inr (writes, is)) = over writes
 
--- the file that is written is among these words, which are those that are read
-pub over_input : (p : Parts) (word : List ℕ) (words : List (List ℕ)) (S : Type 0) → p.place ≡ Some word
-    → words ≡ p.files
-    → (S → HasWord word words) × (HasWord word words → S) → (S → WritesOverInput p) × (WritesOverInput p → S)
-over_input p word words S at same both = (
-  λ yes. (word, at, subst (HasWord word) same (both.0 yes)),
+-- the file is among these words
+pub among_words : (file : Option (List ℕ)) (word : List ℕ) (words : List (List ℕ)) (S : Type 0) → file ≡ Some word
+    → (S → HasWord word words) × (HasWord word words → S) → (S → IsAmong file words) × (IsAmong file words → S)
+among_words file word words S at both = (
+  λ yes. (word, at, both.0 yes),
   λ told.
       let one = same_Some told.0 word (sym told.1 ∙ at) in
-      both.1 (subst (λ w. HasWord w words) one (subst (HasWord told.0) (sym same) told.2)),
+      both.1 (subst (λ w. HasWord w words) one told.2),
 )

@@ -1,16 +1,16 @@
 -- One more word of a command line is read.
 use Rattle.std.proofs.Common.{◌≡◌, ◌⊎◌, ◌∙◌, ℕ, List, [], ◌∷◌, ◌++◌, Option, Some, None, true, false, inl, inr, refl, sym, ap, subst, codes, arith, drop, length, take, ◌≤◌}
 use Rattle.std.proofs.lemmas.Grind.{common_steps}
-use Rattle.std.specs.Prelude.{IfOk, Result, Ok, Err}
+use Rattle.std.specs.Prelude.{IfOk, OnOk, Result, Ok, Err}
 use Rattle.sgt_line.specs.Names.{command_text}
 use Rattle.sgt_line.specs.declared.name.CommandName.TheVariants as name
 use Rattle.sgt_line.specs.Kinds.{IsKind}
-use Rattle.sgt_line.specs.Parts.{HasRoom, Parts, bare, left, with_extra, with_file, with_rule}
+use Rattle.sgt_line.specs.Parts.{HasRoom, Parts, bare, left, with_extra, with_file}
 use Rattle.sgt_line.specs.Reads.{Behind, IsLineOf, IsRead, Reads}
 use Rattle.sgt_line.specs.Reads as reads
-use Rattle.sgt_line.specs.private.State.{Adds, IsReadTo, Waits, WaitsForOrder, WaitsForPlace}
+use Rattle.sgt_line.specs.private.State.{Adds, AddsRule, IsReadTo, PutsPlace, Waits, WaitsForOrder, WaitsForOutput, WaitsForCount, WaitsForPlace}
 use Rattle.sgt_line.specs.declared.kind.Kind.{Kind}
-use Rattle.sgt_line.specs.declared.kind.Kind.TheVariants.{Against, Dashes, File, Joined, Numbered, Place, Plain, Progress, Quiet, RuleName, Strict}
+use Rattle.sgt_line.specs.declared.kind.Kind.TheVariants.{Against, Dashes, Expected, File, Joined, JoinedPlace, Numbered, Output, Place, Plain, Progress, Quiet, RuleName, Strict}
 use Rattle.sgt_line.specs.declared.name.CommandName.{CommandName}
 
 -- the first letter
@@ -22,6 +22,10 @@ letter (x ∷ xs) = x
 pub on_ok : {A E : Type 0} (r : Result A E) (P Q : A → Type 0) → ((x : A) → P x → Q x) → IfOk r P → IfOk r Q
 on_ok (Ok x) P Q so holds = so x holds
 on_ok (Err e) P Q so holds = tt
+
+pub held_on_ok : {A E : Type 0} (r : Result A E) (P Q : Type 0) → (P → Q) → OnOk r P → OnOk r Q
+held_on_ok (Ok x) P Q so holds = so holds
+held_on_ok (Err e) P Q so holds = tt
 
 -- all of a list
 pub taken_whole : {A : Type 0} (xs : List A) (n : ℕ) → length xs ≤ n → take n xs ≡ xs
@@ -96,13 +100,14 @@ module _ (command : CommandName) (first : Parts) (taken : List (List ℕ)) (p : 
             (reads.extra w reading (inl here) none.0)
       ]
 
-  pub ruled : (kind : Kind) (q : Parts) → kind ≡ RuleName → IsKind command w kind → Adds command p (with_rule p w) w q
+  pub ruled : (kind : Kind) (q : Parts) → kind ≡ RuleName → IsKind command w kind → AddsRule command p w q
       → Reads command first taken p
       → Reads command first (taken ++ (w ∷ [])) q
   ruled kind q e is added reading =
       let here : IsKind command w RuleName = subst (λ k. IsKind command w k) e is in
-      elim added [
-        | inl room ↦ subst (Reads command first (taken ++ (w ∷ []))) (sym room.1) (reads.rule w reading here room.0)
+      elim added.2 [
+        | inl room ↦ subst (Reads command first (taken ++ (w ∷ []))) (sym room.1)
+            (reads.rule w added.0 reading here added.1 room.0)
         | inr none ↦ subst (Reads command first (taken ++ (w ∷ []))) (sym none.1)
             (reads.extra w reading (inr here) none.0)
       ]
@@ -147,6 +152,26 @@ module _ (command : CommandName) (first : Parts) (taken : List (List ℕ)) (p : 
       (subst (Reads command first ((wait.before ++ (wait.option ∷ [])) ++ (w ∷ []))) (sym whole)
       (reads.against wait.option w wait.reads wait.is_kind waiting.1))
 
+  pub sent : (before : Kind) (q : Parts) → before ≡ Output → q ≡ record p { output = Some w }
+      → IsReadTo command first taken before p
+      → Reads command first (taken ++ (w ∷ [])) q
+  sent before q e whole state =
+      let waiting : IsReadTo command first taken Output p = subst (λ k. IsReadTo command first taken k p) e state in
+      let wait : Waits command first taken Output p = waiting.0 in
+      subst (λ ws. Reads command first (ws ++ (w ∷ [])) q) (sym wait.cut)
+      (subst (Reads command first ((wait.before ++ (wait.option ∷ [])) ++ (w ∷ []))) (sym whole)
+      (reads.output wait.option w wait.reads wait.is_kind waiting.1))
+
+  pub counted_on : (before : Kind) (q : Parts) → before ≡ Expected → q ≡ record p { expected = Some w }
+      → IsReadTo command first taken before p
+      → Reads command first (taken ++ (w ∷ [])) q
+  counted_on before q e whole state =
+      let waiting : IsReadTo command first taken Expected p = subst (λ k. IsReadTo command first taken k p) e state in
+      let wait : Waits command first taken Expected p = waiting.0 in
+      subst (λ ws. Reads command first (ws ++ (w ∷ [])) q) (sym wait.cut)
+      (subst (Reads command first ((wait.before ++ (wait.option ∷ [])) ++ (w ∷ []))) (sym whole)
+      (reads.expected wait.option w wait.reads wait.is_kind waiting.1))
+
   pub waits_place : (kind after : Kind) (q : Parts) → kind ≡ Place → IsKind command w kind → WaitsForPlace p w after q
       → Reads command first taken p
       → IsReadTo command first (taken ++ (w ∷ [])) after q
@@ -158,7 +183,19 @@ module _ (command : CommandName) (first : Parts) (taken : List (List ℕ)) (p : 
             (record { before = taken; option = w; cut = refl; is_kind = here; reads = reading }, waiting.1))
         | inr more ↦ subst (λ k. IsReadTo command first (taken ++ (w ∷ [])) k q) (sym more.0)
             (subst (Reads command first (taken ++ (w ∷ []))) (sym more.2)
-            (reads.plain w reading (inr (inl (here, more.1)))))
+            (reads.plain w reading (inr (inl (inl here, more.1)))))
+      ]
+
+  pub put_joined : (kind : Kind) (q : Parts) → kind ≡ JoinedPlace → IsKind command w kind → PutsPlace command p w q
+      → Reads command first taken p
+      → Reads command first (taken ++ (w ∷ [])) q
+  put_joined kind q e is puts reading =
+      let here : IsKind command w JoinedPlace = subst (λ k. IsKind command w k) e is in
+      elim puts [
+        | inl new ↦ subst (Reads command first (taken ++ (w ∷ []))) (sym new.3)
+            (reads.joined_place w new.0 reading here new.1 new.2)
+        | inr more ↦ subst (Reads command first (taken ++ (w ∷ []))) (sym more.1)
+            (reads.plain w reading (inr (inl (inr here, more.0))))
       ]
 
   pub waits_order : (kind after : Kind) (q : Parts) → kind ≡ Against → IsKind command w kind
@@ -172,5 +209,33 @@ module _ (command : CommandName) (first : Parts) (taken : List (List ℕ)) (p : 
             (record { before = taken; option = w; cut = refl; is_kind = here; reads = reading }, waiting.1))
         | inr more ↦ subst (λ k. IsReadTo command first (taken ++ (w ∷ [])) k q) (sym more.0)
             (subst (Reads command first (taken ++ (w ∷ []))) (sym more.2)
-            (reads.plain w reading (inr (inr (here, more.1)))))
+            (reads.plain w reading (inr (inr (inl (here, more.1))))))
+      ]
+
+  pub waits_output : (kind after : Kind) (q : Parts) → kind ≡ Output → IsKind command w kind
+      → WaitsForOutput p w after q → Reads command first taken p
+      → IsReadTo command first (taken ++ (w ∷ [])) after q
+  waits_output kind after q e is waits reading =
+      let here : IsKind command w Output = subst (λ k. IsKind command w k) e is in
+      elim waits [
+        | inl waiting ↦ subst (λ k. IsReadTo command first (taken ++ (w ∷ [])) k q) (sym waiting.0)
+            (subst (IsReadTo command first (taken ++ (w ∷ [])) Output) (sym waiting.2)
+            (record { before = taken; option = w; cut = refl; is_kind = here; reads = reading }, waiting.1))
+        | inr more ↦ subst (λ k. IsReadTo command first (taken ++ (w ∷ [])) k q) (sym more.0)
+            (subst (Reads command first (taken ++ (w ∷ []))) (sym more.2)
+            (reads.plain w reading (inr (inr (inr (inl (here, more.1)))))))
+      ]
+
+  pub waits_count : (kind after : Kind) (q : Parts) → kind ≡ Expected → IsKind command w kind
+      → WaitsForCount p w after q → Reads command first taken p
+      → IsReadTo command first (taken ++ (w ∷ [])) after q
+  waits_count kind after q e is waits reading =
+      let here : IsKind command w Expected = subst (λ k. IsKind command w k) e is in
+      elim waits [
+        | inl waiting ↦ subst (λ k. IsReadTo command first (taken ++ (w ∷ [])) k q) (sym waiting.0)
+            (subst (IsReadTo command first (taken ++ (w ∷ [])) Expected) (sym waiting.2)
+            (record { before = taken; option = w; cut = refl; is_kind = here; reads = reading }, waiting.1))
+        | inr more ↦ subst (λ k. IsReadTo command first (taken ++ (w ∷ [])) k q) (sym more.0)
+            (subst (Reads command first (taken ++ (w ∷ []))) (sym more.2)
+            (reads.plain w reading (inr (inr (inr (inr (here, more.1)))))))
       ]

@@ -1,5 +1,5 @@
 -- Options that don't go with an order that is given, and files that would be written over what is read.
-use Rattle.std.specs.Prelude.{◌≡◌, ◌≢◌, ◌⊎◌, ℕ, Any, List, ◌∷◌, None, Some, codes, drop}
+use Rattle.std.specs.Prelude.{◌≡◌, ◌≢◌, ◌⊎◌, ℕ, Any, List, ◌∷◌, Option, None, Some, codes, drop}
 use Rattle.sgt_line.specs.Names.{command_text}
 use Rattle.sgt_line.specs.Parts.{Parts, left}
 use Rattle.sgt_line.specs.declared.name.CommandName.TheVariants.{Check}
@@ -21,9 +21,13 @@ IsBeside p text = ((p.place ≢ None) × (text ≡ codes "--svg (with --against)
 abbrev pub IsBesideOrder : Parts → (text : List ℕ) → Type 0
 IsBesideOrder p text = (IsCheck p × (p.against ≢ None)) × IsBeside p text
 
+-- this file, if there is one, is among those
+abbrev pub IsAmong : Option (List ℕ) → List (List ℕ) → Type 0
+IsAmong file files = (name : List ℕ) × (file ≡ Some name) × HasWord name files
+
 -- what is written would take the place of a file that is read
 abbrev pub WritesOverInput : Parts → Type 0
-WritesOverInput p = (place : List ℕ) × (p.place ≡ Some place) × HasWord place p.files
+WritesOverInput p = IsAmong p.place p.files ⊎ IsAmong p.output p.files
 
 abbrev pub Clashes : Parts → (text : List ℕ) → Type 0
 Clashes p text = IsBesideOrder p text

@@ -12,11 +12,14 @@ pub record Parts : Type 0 where
   pub files : List (List ℕ)
   pub place : Option (List ℕ)
   pub against : Option (List ℕ)
+  pub expected : Option (List ℕ)
+  pub output : Option (List ℕ)
   pub names_rule : Bool
   pub is_quiet : Bool
   pub is_strict : Bool
   pub is_chain : Bool
   pub tells_lines : Bool
+  pub tells_why : Bool
 
 -- a line that has these words alone
 abbrev pub bare : List (List ℕ) → Parts
@@ -25,11 +28,14 @@ bare words = record {
   files = [];
   place = None;
   against = None;
+  expected = None;
+  output = None;
   names_rule = false;
   is_quiet = false;
   is_strict = false;
   is_chain = false;
   tells_lines = false;
+  tells_why = false;
 }
 
 -- one more word is left for the program
@@ -59,9 +65,12 @@ parts_of line = record {
   files = map string_bytes line.files.items;
   place = option_map string_bytes line.place;
   against = option_map string_bytes line.against;
+  expected = option_map string_bytes line.expected;
+  output = option_map string_bytes line.output;
   names_rule = line.names_rule;
   is_quiet = line.is_quiet;
   is_strict = line.is_strict;
   is_chain = line.is_chain;
   tells_lines = line.tells_lines;
+  tells_why = line.tells_why;
 }

@@ -1,15 +1,18 @@
 -- How a command line is read, word by word.
 use Rattle.std.specs.Prelude.{◌≡◌, ◌≢◌, ◌⊎◌, ℕ, true, List, [], ◌∷◌, ◌++◌, Some, None, codes}
-use Rattle.sgt_line.specs.Kinds.{IsKind}
-use Rattle.sgt_line.specs.Names.{command_text}
+use Rattle.sgt_line.specs.Kinds.{IsKind, JoinsPlace}
+use Rattle.sgt_line.specs.Names.{IsNameOf, command_text}
 use Rattle.sgt_line.specs.Parts.{HasRoom, Parts, bare, left, with_extra, with_file, with_rule}
-use Rattle.sgt_line.specs.declared.kind.Kind.TheVariants.{Against, Chain, Dashes, File, Joined, Numbered, Place, Plain, Progress, Quiet, RuleName, Strict}
+use Rattle.sgt_line.specs.declared.kind.Kind.TheVariants.{Against, Chain, Dashes, Expected, File, Joined, JoinedPlace, Numbered, Output, Place, Plain, Progress, Quiet, RuleName, Strict, Why}
 use Rattle.sgt_line.specs.declared.name.CommandName.{CommandName}
 
 -- what takes a place of which there is one: the place that is there stays, and the word is a plain one
 abbrev pub IsLeft : CommandName → Parts → List ℕ → Type 0
 IsLeft command p word = IsKind command word Plain
-    ⊎ ((IsKind command word Place × (p.place ≢ None)) ⊎ (IsKind command word Against × (p.against ≢ None)))
+    ⊎ (((IsKind command word Place ⊎ IsKind command word JoinedPlace) × (p.place ≢ None))
+    ⊎ ((IsKind command word Against × (p.against ≢ None))
+    ⊎ ((IsKind command word Output × (p.output ≢ None))
+    ⊎ (IsKind command word Expected × (p.expected ≢ None)))))
 
 -- these words, behind those that the first parts are of, are read as these parts
 pub data Reads (command : CommandName) (first : Parts) : List (List ℕ) → Parts → Type 0 where
@@ -25,9 +28,10 @@ pub data Reads (command : CommandName) (first : Parts) : List (List ℕ) → Par
   file : {ws : List (List ℕ)} {p : Parts} (w : List ℕ) → Reads command first ws p → IsKind command w File
       → HasRoom command p
       → Reads command first (ws ++ (w ∷ [])) (with_file p w)
-  rule : {ws : List (List ℕ)} {p : Parts} (w : List ℕ) → Reads command first ws p → IsKind command w RuleName
-      → HasRoom command p
-      → Reads command first (ws ++ (w ∷ [])) (with_rule p w)
+  -- a rule by its name, however the word spells it
+  rule : {ws : List (List ℕ)} {p : Parts} (w n : List ℕ) → Reads command first ws p → IsKind command w RuleName
+      → IsNameOf w n → HasRoom command p
+      → Reads command first (ws ++ (w ∷ [])) (with_rule p n)
   extra : {ws : List (List ℕ)} {p : Parts} (w : List ℕ) → Reads command first ws p
       → IsKind command w File ⊎ IsKind command w RuleName
       → (HasRoom command p → ⊥) → Reads command first (ws ++ (w ∷ [])) (with_extra p w)
@@ -35,10 +39,22 @@ pub data Reads (command : CommandName) (first : Parts) : List (List ℕ) → Par
   place : {ws : List (List ℕ)} {p : Parts} (o f : List ℕ) → Reads command first ws p → IsKind command o Place
       → p.place ≡ None
       → Reads command first ((ws ++ (o ∷ [])) ++ (f ∷ [])) (record p { place = Some f })
+  -- `--bundle=FILE` too
+  joined_place : {ws : List (List ℕ)} {p : Parts} (w f : List ℕ) → Reads command first ws p
+      → IsKind command w JoinedPlace → JoinsPlace command w f → p.place ≡ None
+      → Reads command first (ws ++ (w ∷ [])) (record p { place = Some f })
   -- `--against ORDER` likewise
   against : {ws : List (List ℕ)} {p : Parts} (o f : List ℕ) → Reads command first ws p → IsKind command o Against
       → p.against ≡ None
       → Reads command first ((ws ++ (o ∷ [])) ++ (f ∷ [])) (record p { against = Some f })
+  -- `-o FILE` likewise
+  output : {ws : List (List ℕ)} {p : Parts} (o f : List ℕ) → Reads command first ws p → IsKind command o Output
+      → p.output ≡ None
+      → Reads command first ((ws ++ (o ∷ [])) ++ (f ∷ [])) (record p { output = Some f })
+  -- `--expect-committed N` likewise
+  expected : {ws : List (List ℕ)} {p : Parts} (o f : List ℕ) → Reads command first ws p → IsKind command o Expected
+      → p.expected ≡ None
+      → Reads command first ((ws ++ (o ∷ [])) ++ (f ∷ [])) (record p { expected = Some f })
   quiet : {ws : List (List ℕ)} {p : Parts} (w : List ℕ) → Reads command first ws p → IsKind command w Quiet
       → Reads command first (ws ++ (w ∷ [])) (record p { is_quiet = true })
   strict : {ws : List (List ℕ)} {p : Parts} (w : List ℕ) → Reads command first ws p → IsKind command w Strict
@@ -47,6 +63,8 @@ pub data Reads (command : CommandName) (first : Parts) : List (List ℕ) → Par
       → Reads command first (ws ++ (w ∷ [])) (record p { is_chain = true })
   progress : {ws : List (List ℕ)} {p : Parts} (w : List ℕ) → Reads command first ws p → IsKind command w Progress
       → Reads command first (ws ++ (w ∷ [])) (record p { tells_lines = true })
+  why : {ws : List (List ℕ)} {p : Parts} (w : List ℕ) → Reads command first ws p → IsKind command w Why
+      → Reads command first (ws ++ (w ∷ [])) (record p { tells_why = true })
 
 -- the same with `--`, behind which each word is a file
 pub data Behind (command : CommandName) (first : Parts) : List (List ℕ) → Parts → Type 0 where
@@ -63,7 +81,8 @@ pub record IsCut (command : CommandName) (first : Parts) (words : List (List ℕ
   pub option : List ℕ
   pub without : Parts
   pub cut : words ≡ before ++ (option ∷ [])
-  pub kind : IsKind command option Numbered ⊎ (IsKind command option Place ⊎ IsKind command option Against)
+  pub kind : IsKind command option Numbered ⊎ (IsKind command option Place ⊎ (IsKind command option Against
+      ⊎ (IsKind command option Output ⊎ IsKind command option Expected)))
   pub reads : Reads command first before without
   pub is : parts ≡ left without option
 

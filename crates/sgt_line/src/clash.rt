@@ -1,7 +1,8 @@
 //! Options that don't go with an order that is given, and a file that would be written over what is read.
 
 ghost use Rattle.std.specs.Prelude.{◌≡◌, ◌↔◌, ℕ, IfNone, IfOk, IfSome, IsTrue, List, map, string_bytes};
-ghost use Rattle.sgt_line.specs.Clashes.{Clashes, HasWord, IsBeside, IsBesideOrder, IsCheck, Settles, WritesOverInput};
+ghost use Rattle.std.specs.Option.{option_map};
+ghost use Rattle.sgt_line.specs.Clashes.{Clashes, HasWord, IsAmong, IsBeside, IsBesideOrder, IsCheck, Settles, WritesOverInput};
 ghost use Rattle.sgt_line.specs.Parts.{parts_of};
 
 use crate::line::Line;
@@ -62,14 +63,22 @@ fn beside_given(line: &Line) -> Option<&'static str>
     None
 }
 
-// Whether the file that is to be written is one of those that are read.
+// Whether the file, if there is one, is among those.
+fn is_among(file: &Option<String>, files: &[String]) -> bool
+    ensures { IsTrue result ↔ IsAmong (option_map string_bytes file.now) (map string_bytes files.now) }
+{
+    match file {
+        Some(name) => has_word(files, name),
+        None => false,
+    }
+}
+
+// Whether a file that is to be written is one of those that are read.
 fn writes_over_input(line: &Line) -> bool
     ensures { IsTrue result ↔ WritesOverInput (parts_of line.now) }
 {
-    match &line.place {
-        Some(place) => has_word(line.files.as_slice(), place),
-        None => false,
-    }
+    let files = line.files.as_slice();
+    is_among(&line.place, files) || is_among(&line.output, files)
 }
 
 // What clashes on the line.

@@ -1,12 +1,12 @@
 //! What a word is, behind a command.
 
-ghost use Rattle.std.specs.Prelude.{◌≡◌, ◌⊎◌, ◌↔◌, ◌++◌, ℕ, IfNone, IfSome, IsTrue, List, codes};
-ghost use Rattle.sgt_line.specs.Kinds.{IsKind, IsNoted, IsOption, IsSwitch, TellsLines};
-ghost use Rattle.sgt_line.specs.Names.{IsCycleName, IsFaultName, IsKeptName, IsNumbered, IsTopicLetter, NamesRule};
+ghost use Rattle.std.specs.Prelude.{◌≡◌, ◌↔◌, ◌++◌, ℕ, IfNone, IfSome, IsTrue, List};
+ghost use Rattle.sgt_line.specs.Kinds.{IsKind, IsNoted, IsOption, IsSwitch, JoinsPlace, TellsLines};
 ghost use Rattle.sgt_line.specs.declared.kind.Kind.{Kind};
 ghost use Rattle.sgt_line.specs.declared.kind.Kind.TheVariants as kind;
 
 use crate::name::CommandName;
+use crate::rule::names_rule;
 
 /// What a word is, behind a command.
 #[derive(Clone, Copy, Debug, PartialEq, Eq)]
@@ -17,6 +17,8 @@ pub enum Kind {
     Numbered,
     /// Such an option and its number in one word.
     Joined,
+    /// An option of a place, and the file or folder that is to be written, in one word.
+    JoinedPlace,
     /// It is left for the program, which says what the rule is.
     RuleName,
     /// A file to be read.
@@ -25,6 +27,10 @@ pub enum Kind {
     Place,
     /// Behind it stands the file of an order.
     Against,
+    /// Behind it stands how many transactions are to be committed.
+    Expected,
+    /// Behind it stands the file of an answer.
+    Output,
     /// The status alone is answered.
     Quiet,
     /// A refused event is a no.
@@ -33,70 +39,10 @@ pub enum Kind {
     Chain,
     /// Lines are told as they are read.
     Progress,
+    /// Behind a no it is told what to type to learn more.
+    Why,
     /// Behind it each word is a file.
     Dashes,
-}
-
-// Whether a rule's name begins so.
-fn is_topic_letter(letter: u8) -> bool
-    ensures { IsTrue result ↔ IsTopicLetter letter }
-{
-    matches!(letter, b'F' | b'K' | b'E' | b'L' | b'V' | b'P' | b'C')
-}
-
-// Whether the word is a letter and a number, as F10.
-fn is_numbered(word: &[u8]) -> bool
-    ensures { IsTrue result ↔ IsNumbered word.now }
-{
-    match word.split_first() {
-        Some((letter, digits)) if is_topic_letter(*letter) => {
-            !digits.is_empty() && digits.iter().all(|b| b.is_ascii_digit())
-        }
-        _ => false,
-    }
-}
-
-// Whether a cycle with steps of sessions or of time has this name.
-fn is_kept_name(word: &str) -> bool
-    ensures { IsTrue result ↔ IsKeptName word.now }
-{
-    let is_process = word == "G1c-process"
-        || word == "G-single-process"
-        || word == "G2-item-process";
-    is_process
-        || word == "G1c-realtime"
-        || word == "G-single-realtime"
-        || word == "G2-item-realtime"
-}
-
-// Whether a cycle of conflicts alone has this name.
-fn is_conflict_name(word: &str) -> bool
-    ensures { IsTrue result ↔ (((word.now ≡ codes "G0") ⊎ (word.now ≡ codes "G1c"))
-        ⊎ ((word.now ≡ codes "G-single") ⊎ (word.now ≡ codes "G2-item"))) }
-{
-    word == "G0" || word == "G1c" || word == "G-single" || word == "G2-item"
-}
-
-// Whether a history is refused by a cycle of this name.
-fn is_cycle_name(word: &str) -> bool
-    ensures { IsTrue result ↔ IsCycleName word.now }
-{
-    is_conflict_name(word) || is_kept_name(word)
-}
-
-// Whether a history is refused by a fault of this name.
-fn is_fault_name(word: &str) -> bool
-    ensures { IsTrue result ↔ IsFaultName word.now }
-{
-    let is_plain = word == "internal" || word == "duplicate" || word == "G1a";
-    is_plain || word == "unwritten" || word == "G1b" || word == "value"
-}
-
-// Whether the word is of the form of a rule's name.
-fn names_rule(word: &str) -> bool
-    ensures { IsTrue result ↔ NamesRule word.now }
-{
-    is_numbered(word.as_bytes()) || word == "B" || is_cycle_name(word) || is_fault_name(word)
 }
 
 fn begins(text: &[u8], front: &[u8]) -> bool
@@ -153,6 +99,12 @@ fn is_progress(command: CommandName, word: &str) -> bool
     tells_lines(command) && word == "--progress"
 }
 
+fn is_why(command: CommandName, word: &str) -> bool
+    ensures { IsTrue result ↔ IsNoted command word.now kind.Why }
+{
+    command != CommandName::Serve && word == "--why"
+}
+
 fn is_place(command: CommandName, word: &str) -> bool
     ensures { IsTrue result ↔ IsNoted command word.now kind.Place }
 {
@@ -168,6 +120,18 @@ fn is_against(command: CommandName, word: &str) -> bool
     ensures { IsTrue result ↔ IsNoted command word.now kind.Against }
 {
     command == CommandName::Check && word == "--against"
+}
+
+fn is_output(command: CommandName, word: &str) -> bool
+    ensures { IsTrue result ↔ IsNoted command word.now kind.Output }
+{
+    command != CommandName::Serve && (word == "-o" || word == "--output")
+}
+
+fn is_expected(command: CommandName, word: &str) -> bool
+    ensures { IsTrue result ↔ IsNoted command word.now kind.Expected }
+{
+    command == CommandName::Audit && word == "--expect-committed"
 }
 
 fn takes_number(command: CommandName, word: &str) -> bool
@@ -187,6 +151,25 @@ fn is_joined(command: CommandName, word: &str) -> bool
     command == CommandName::Audit && begins(word.as_bytes(), b"--workers=")
 }
 
+/// The file or folder in the word, where that is the option of a place.
+pub fn place_in(command: CommandName, word: &str) -> Option<&str>
+    ensures some { IfSome result (λ file. JoinsPlace command word.now file.now) }
+    ensures none { IfNone result ((file : List ℕ) → JoinsPlace command word.now file → ⊥) }
+{
+    match command {
+        CommandName::Replay | CommandName::Run => word.strip_prefix("--bundle="),
+        CommandName::Serve => word.strip_prefix("--bundles="),
+        CommandName::Check => word.strip_prefix("--svg="),
+        _ => None,
+    }
+}
+
+fn is_joined_place(command: CommandName, word: &str) -> bool
+    ensures { IsTrue result ↔ IsNoted command word.now kind.JoinedPlace }
+{
+    place_in(command, word).is_some()
+}
+
 // The kind of an option that takes a word behind it, or has it in itself.
 fn option_of(command: CommandName, word: &str) -> Option<Kind>
     ensures some { IfSome result (IsNoted command word.now) }
@@ -196,10 +179,16 @@ fn option_of(command: CommandName, word: &str) -> Option<Kind>
         Some(Kind::Place)
     } else if is_against(command, word) {
         Some(Kind::Against)
+    } else if is_expected(command, word) {
+        Some(Kind::Expected)
+    } else if is_output(command, word) {
+        Some(Kind::Output)
     } else if takes_number(command, word) {
         Some(Kind::Numbered)
     } else if is_joined(command, word) {
         Some(Kind::Joined)
+    } else if is_joined_place(command, word) {
+        Some(Kind::JoinedPlace)
     } else {
         None
     }
@@ -218,6 +207,8 @@ fn switch_of(command: CommandName, word: &str) -> Option<Kind>
         Some(Kind::Chain)
     } else if is_progress(command, word) {
         Some(Kind::Progress)
+    } else if is_why(command, word) {
+        Some(Kind::Why)
     } else if word == "--" {
         Some(Kind::Dashes)
     } else {

@@ -6,6 +6,7 @@ mod clash;
 mod kind;
 mod line;
 mod name;
+mod rule;
 mod texts;
 mod written;
 

@@ -1,14 +1,16 @@
 //! What the words of the command line say of files, and what is left for the program.
 
 ghost use Rattle.std.specs.Prelude.{◌≡◌, ◌↔◌, ◌∷◌, ◌++◌, [], ℕ, List, IfOk, IsTrue, OnOk, codes, map, string_bytes};
-ghost use Rattle.sgt_line.specs.Kinds.{IsKind};
-ghost use Rattle.sgt_line.specs.Names.{command_text};
+ghost use Rattle.sgt_line.specs.Kinds.{IsKind, IsNoted};
+ghost use Rattle.sgt_line.specs.declared.kind.Kind.TheVariants as kind;
+ghost use Rattle.sgt_line.specs.Names.{NamesRule, command_text};
 ghost use Rattle.sgt_line.specs.Parts.{HasRoom, Parts, bare, left, parts_of, with_extra, with_file, with_rule};
 ghost use Rattle.sgt_line.specs.Reads.{IsLineOf, IsRead, Reads};
-ghost use Rattle.sgt_line.specs.private.State.{Adds, IsReadTo, WaitsForOrder, WaitsForPlace};
+ghost use Rattle.sgt_line.specs.private.State.{Adds, AddsRule, IsReadTo, PutsPlace, WaitsForOrder, WaitsForOutput, WaitsForCount, WaitsForPlace};
 
-use crate::kind::{Kind, kind_of};
+use crate::kind::{Kind, kind_of, place_in};
 use crate::name::{CommandName, named, text_of};
+use crate::rule::rule_name;
 use crate::texts::{first_of, last_of, only_of};
 use std::alloc::{AllocError, Global};
 
@@ -24,6 +26,10 @@ pub struct Line {
     pub place: Option<String>,
     /// The file of the order that a history is held against.
     pub against: Option<String>,
+    /// How many transactions are to be committed.
+    pub expected: Option<String>,
+    /// The file that is written in place of standard output.
+    pub output: Option<String>,
     /// Whether a rule is named, for which nothing is read.
     pub names_rule: bool,
     /// Whether an audit or a check answers by its status alone.
@@ -34,6 +40,8 @@ pub struct Line {
     pub is_chain: bool,
     /// Whether standard error is told of each million lines that were read.
     pub tells_lines: bool,
+    /// Whether behind a no standard error is told what to type to learn more.
+    pub tells_why: bool,
 }
 
 // How the number of an audit's workers begins where it stands in one word.
@@ -49,11 +57,14 @@ impl Line {
             files: Vec::new(alloc),
             place: None,
             against: None,
+            expected: None,
+            output: None,
             names_rule: false,
             is_quiet: false,
             is_strict: false,
             is_chain: false,
             tells_lines: false,
+            tells_why: false,
         }
     }
 
@@ -108,21 +119,36 @@ impl Line {
         self.add_extra(alloc, word)
     }
 
-    // A rule's name, where there is room.
+    // A rule's name for the word, where there is room.
+    fn add_named(
+        &mut self,
+        alloc: Global,
+        command: CommandName,
+        word: &str,
+        name: &str,
+    ) -> Result<(), AllocError>
+        ensures { OnOk result (Adds command (parts_of self.old)
+            (with_rule (parts_of self.old) name.now) word.now (parts_of self.new)) }
+    {
+        if self.has_room(command) {
+            self.names_rule = true;
+            return self.leave(alloc, name);
+        }
+        self.add_extra(alloc, word)
+    }
+
+    // The name of the rule that the word spells, where there is room.
     fn add_rule(
         &mut self,
         alloc: Global,
         command: CommandName,
         word: &str,
     ) -> Result<(), AllocError>
-        ensures { OnOk result (Adds command (parts_of self.old)
-            (with_rule (parts_of self.old) word.now) word.now (parts_of self.new)) }
+        requires { NamesRule word.now }
+        ensures { OnOk result (AddsRule command (parts_of self.old) word.now (parts_of self.new)) }
     {
-        if self.has_room(command) {
-            self.names_rule = true;
-            return self.leave(alloc, word);
-        }
-        self.add_extra(alloc, word)
+        let name = rule_name(alloc, word)?;
+        self.add_named(alloc, command, word, name.as_str())
     }
 
     // The number of workers, as two words.
@@ -149,6 +175,28 @@ impl Line {
         Ok(Kind::Plain)
     }
 
+    // The place in the word, if there is none yet.
+    fn put_place(
+        &mut self,
+        alloc: Global,
+        command: CommandName,
+        word: &str,
+    ) -> Result<(), AllocError>
+        requires { IsNoted command word.now kind.JoinedPlace }
+        ensures { OnOk result (PutsPlace command (parts_of self.old) word.now (parts_of self.new)) }
+    {
+        if self.place.is_some() {
+            return self.leave(alloc, word);
+        }
+        match place_in(command, word) {
+            Some(file) => {
+                self.place = Some(String::from_str(alloc, file)?);
+                Ok(())
+            }
+            None => Ok(()),
+        }
+    }
+
     // The option of an order, if there is none yet; what now is waited for.
     fn add_against(&mut self, alloc: Global, word: &str) -> Result<Kind, AllocError>
         ensures { IfOk result (λ after. WaitsForOrder (parts_of self.old) word.now after
@@ -156,6 +204,30 @@ impl Line {
     {
         if self.against.is_none() {
             return Ok(Kind::Against);
+        }
+        self.leave(alloc, word)?;
+        Ok(Kind::Plain)
+    }
+
+    // The option of the file of an answer, if there is none yet; what now is waited for.
+    fn add_output(&mut self, alloc: Global, word: &str) -> Result<Kind, AllocError>
+        ensures { IfOk result (λ after. WaitsForOutput (parts_of self.old) word.now after
+            (parts_of self.new)) }
+    {
+        if self.output.is_none() {
+            return Ok(Kind::Output);
+        }
+        self.leave(alloc, word)?;
+        Ok(Kind::Plain)
+    }
+
+    // The option of a count, if there is none yet; what now is waited for.
+    fn add_expected(&mut self, alloc: Global, word: &str) -> Result<Kind, AllocError>
+        ensures { IfOk result (λ after. WaitsForCount (parts_of self.old) word.now after
+            (parts_of self.new)) }
+    {
+        if self.expected.is_none() {
+            return Ok(Kind::Expected);
         }
         self.leave(alloc, word)?;
         Ok(Kind::Plain)
@@ -178,10 +250,12 @@ impl Line {
             Kind::RuleName => self.add_rule(alloc, command, word)?,
             Kind::File => self.add_file(alloc, command, word)?,
             Kind::Joined => self.add_joined(alloc, word)?,
+            Kind::JoinedPlace => self.put_place(alloc, command, word)?,
             Kind::Quiet => self.is_quiet = true,
             Kind::Strict => self.is_strict = true,
             Kind::Chain => self.is_chain = true,
             Kind::Progress => self.tells_lines = true,
+            Kind::Why => self.tells_why = true,
             Kind::Plain => self.leave(alloc, word)?,
             Kind::Dashes => return Ok(kind),
             Kind::Numbered => {
@@ -190,6 +264,8 @@ impl Line {
             }
             Kind::Place => return self.add_place(alloc, word),
             Kind::Against => return self.add_against(alloc, word),
+            Kind::Expected => return self.add_expected(alloc, word),
+            Kind::Output => return self.add_output(alloc, word),
         }
         Ok(Kind::Plain)
     }
@@ -214,6 +290,8 @@ impl Line {
             Kind::Numbered => self.leave(alloc, word)?,
             Kind::Place => self.place = Some(String::from_str(alloc, word)?),
             Kind::Against => self.against = Some(String::from_str(alloc, word)?),
+            Kind::Expected => self.expected = Some(String::from_str(alloc, word)?),
+            Kind::Output => self.output = Some(String::from_str(alloc, word)?),
             _ => return self.add_whole(alloc, command, kind_of(command, word), word),
         }
         Ok(Kind::Plain)
@@ -246,6 +324,8 @@ impl Line {
         match before {
             Kind::Place => self.leave_last(alloc, words),
             Kind::Against => self.leave_last(alloc, words),
+            Kind::Expected => self.leave_last(alloc, words),
+            Kind::Output => self.leave_last(alloc, words),
             _ => Ok(()),
         }
     }

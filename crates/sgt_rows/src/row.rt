@@ -25,6 +25,8 @@ pub struct Wanted {
     pub output: Option<String>,
     /// Lines that the output must have.
     pub must: String,
+    /// What the error stream must be told, where the row says so.
+    pub errors: Option<String>,
     pub status: u8,
     /// The bundle that goes to a file.
     pub bundle: Option<String>,
@@ -112,7 +114,10 @@ fn cut_of<R: Files + AllocGlobal>(rt: &R, name: &str) -> io::Result<Vec<String>>
 
 fn wanted_of<R: Files + AllocGlobal>(rt: &R, name: &str, line: &Line) -> io::Result<Wanted> {
     let status = status_of(rt, name)?;
-    let output = text_of(rt, name, "stdout")?;
+    let output = match &line.output {
+        Some(file) => text_of(rt, name, file.as_str())?,
+        None => text_of(rt, name, "stdout")?,
+    };
     let bundle = match &line.place {
         Some(file) => text_of(rt, name, file.as_str())?,
         None => None,
@@ -120,6 +125,7 @@ fn wanted_of<R: Files + AllocGlobal>(rt: &R, name: &str, line: &Line) -> io::Res
     Ok(Wanted {
         output,
         must: text_or_none(rt, name, "must")?,
+        errors: text_of(rt, name, "stderr")?,
         status,
         bundle,
         cut: cut_of(rt, name)?,
@@ -128,7 +134,7 @@ fn wanted_of<R: Files + AllocGlobal>(rt: &R, name: &str, line: &Line) -> io::Res
 
 impl Row {
     /// The row in the folder of this name, with the files `args` (none: no words), `stdin`, `stdout`, `status` (none:
-    /// 0) and `must`, and those that `args` names: to be read, or as they must be written.
+    /// 0), `must` and `stderr`, and those that `args` names: to be read, or as they must be written.
     pub(crate) fn read<R: Files + AllocGlobal>(rt: &R, name: &str) -> io::Result<Row> {
         let given = given_of(rt, name)?;
         let wanted = wanted_of(rt, name, &given.line)?;

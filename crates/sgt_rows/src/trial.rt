@@ -106,8 +106,17 @@ fn has_cut(answer: &Answer, row: &Row) -> bool {
     told.len() == wanted.len() && pairs.all(|(text, wanted)| text.as_slice() == wanted.as_bytes())
 }
 
-/// Whether the program, which reads so many bytes at once, answers as the row says. The error stream is told
-/// something exactly where the words are no command.
+/// Whether the error stream was told what the row says; where the row says nothing of it, something exactly where the
+/// words are no command.
+fn has_errors(answer: &Answer, row: &Row) -> bool {
+    let told = answer.errors.bytes();
+    match &row.wanted.errors {
+        Some(wanted) => told == wanted.as_bytes(),
+        None => told.is_empty() != (answer.status == 2 && answer.output.bytes().is_empty()),
+    }
+}
+
+/// Whether the program, which reads so many bytes at once, answers as the row says.
 fn answers<H: Threads + Wait + Sync>(
     rt: &H,
     alloc: Global,
@@ -123,10 +132,7 @@ fn answers<H: Threads + Wait + Sync>(
     let Ok(output) = str::from_utf8(answer.output.bytes()) else {
         return Ok(false);
     };
-    let is_usage = answer.status == 2 && output.is_empty();
-    if answer.errors.bytes().is_empty() == is_usage
-        || !has_lines(output, row.wanted.must.as_str())
-    {
+    if !has_errors(&answer, row) || !has_lines(output, row.wanted.must.as_str()) {
         return Ok(false);
     }
     Ok(is_answer(alloc, row, output, answer.status)? && has_a_valid_bundle(rt, alloc, output)?)

@@ -1,11 +1,7 @@
-use Rattle.std.proofs.Common.{Some, ◌∙◌, ap, map, string_bytes, sym}
-use Rattle.std.specs.Option.{option_map}
-use Rattle.sgt_line.specs.Parts.{parts_of}
-use Rattle.sgt_line.proofs.Clashing.{over_input}
+use Rattle.sgt_line.proofs.Finding.{the_other}
 use Rattle.sgt_line.proofs.clash.writes_over_input.Goals as goal
 
-pub returns-in-Some : goal.returns-in-Some
-returns-in-Some c =
-    let at = ap (option_map string_bytes) c.in-Some.is ∙ ap Some (sym c.deref.ensures) in
-    over_input (parts_of c.args.line.now) c.deref.result.now (map string_bytes c.as_slice.result.now) _ at
-    (ap (map string_bytes) c.as_slice.ensures.value) c.has_word.ensures
+pub returns-else-is_among : goal.returns-else-is_among
+returns-else-is_among c =
+    the_other _ _ _ _ c.if-is_among.false (rw c.as_slice-files.ensures.value at c.is_among.ensures)
+    (rw c.as_slice-files.ensures.value at c.is_among-else-is_among.ensures)

@@ -1,4 +1,4 @@
-use Rattle.std.proofs.Common.{codes, length, take, List, ℕ, length-take, refl, arith}
+use Rattle.std.proofs.Common.{codes, length, ℕ, length-take, refl, arith}
 use Rattle.sgt_line.proofs.Lines.{cut_there}
 use Rattle.sgt_line.proofs.written.cut.Goals as goal
 

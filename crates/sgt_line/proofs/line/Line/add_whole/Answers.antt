@@ -3,8 +3,8 @@ use Rattle.sgt_line.specs.Kinds.{IsKind}
 use Rattle.sgt_line.specs.Parts.{left, parts_of}
 use Rattle.sgt_line.specs.Reads.{Reads}
 use Rattle.sgt_line.specs.Reads as reads
-use Rattle.sgt_line.specs.declared.kind.Kind.TheVariants.{Joined, Plain, Progress, Quiet, Strict}
-use Rattle.sgt_line.proofs.Steps.{dashed, filed, numbered, on_ok, ruled, waits_order, waits_place}
+use Rattle.sgt_line.specs.declared.kind.Kind.TheVariants.{Joined, Plain, Progress, Quiet, Strict, Why}
+use Rattle.sgt_line.proofs.Steps.{dashed, filed, numbered, on_ok, put_joined, ruled, waits_count, waits_order, waits_output, waits_place}
 use Rattle.sgt_line.proofs.line.Line.add_whole.Goals as goal
 
 pub returns-in-Dashes : goal.returns-in-Dashes
@@ -25,6 +25,16 @@ returns-in-Against c = on_ok c.add_against.result _ _
     (λ after waits first taken. waits_order c.args.command first taken _ _ c.args.kind after _ c.in-Against.is
     c.requires waits) c.add_against.ensures
 
+pub returns-in-Output : goal.returns-in-Output
+returns-in-Output c = on_ok c.add_output.result _ _
+    (λ after waits first taken. waits_output c.args.command first taken _ _ c.args.kind after _ c.in-Output.is
+    c.requires waits) c.add_output.ensures
+
+pub returns-in-Expected : goal.returns-in-Expected
+returns-in-Expected c = on_ok c.add_expected.result _ _
+    (λ after waits first taken. waits_count c.args.command first taken _ _ c.args.kind after _ c.in-Expected.is
+    c.requires waits) c.add_expected.ensures
+
 pub returns-in_ok-add_rule-in-RuleName : goal.returns-in_ok-add_rule-in-RuleName
 returns-in_ok-add_rule-in-RuleName c = λ first taken.
     ruled c.args.command first taken _ _ c.args.kind _ c.in-RuleName.is c.requires c.in_ok-add_rule-in-RuleName.ensures
@@ -40,6 +50,11 @@ returns-in_ok-add_joined-in-Joined c = λ first taken reading.
     subst (Reads c.args.command first (taken ++ (c.args.word.now ∷ [])))
     (sym (c.in_ok-add_joined-in-Joined.ensures here.1.0 here.1.1))
     (reads.joined c.args.word.now here.1.0 reading here here.1.1)
+
+pub returns-in_ok-put_place-in-JoinedPlace : goal.returns-in_ok-put_place-in-JoinedPlace
+returns-in_ok-put_place-in-JoinedPlace c = λ first taken.
+    put_joined c.args.command first taken _ _ c.args.kind _ c.in-JoinedPlace.is c.requires
+    c.in_ok-put_place-in-JoinedPlace.ensures
 
 pub returns-in-Quiet : goal.returns-in-Quiet
 returns-in-Quiet c = λ first taken reading.
@@ -58,6 +73,10 @@ pub returns-in-Progress : goal.returns-in-Progress
 returns-in-Progress c = λ first taken reading.
     reads.progress c.args.word.now reading
     (subst (λ k. IsKind c.args.command c.args.word.now k) c.in-Progress.is c.requires)
+
+pub returns-in-Why : goal.returns-in-Why
+returns-in-Why c = λ first taken reading.
+    reads.why c.args.word.now reading (subst (λ k. IsKind c.args.command c.args.word.now k) c.in-Why.is c.requires)
 
 pub returns-in_ok-leave-in-Plain : goal.returns-in_ok-leave-in-Plain
 returns-in_ok-leave-in-Plain c = λ first taken reading.

@@ -1,6 +1,6 @@
 use Rattle.std.proofs.Common.{ℕ, List, Some, ap}
 use Rattle.sgt_line.specs.Parts.{parts_of}
-use Rattle.sgt_line.proofs.Steps.{counted, filed_behind, ordered, put}
+use Rattle.sgt_line.proofs.Steps.{counted, counted_on, filed_behind, ordered, sent, put}
 use Rattle.sgt_line.proofs.line.Line.take.Goals as goal
 
 pub returns-in-Dashes : goal.returns-in-Dashes
@@ -22,3 +22,13 @@ pub returns-in_ok-from_str-in-Against : goal.returns-in_ok-from_str-in-Against
 returns-in_ok-from_str-in-Against c = λ first taken.
     ordered c.args.command first taken (parts_of c.args.self.now) c.args.word.now c.args.before _ c.in-Against.is
     (ap (λ (t : List ℕ). record (parts_of c.args.self.now) { against = Some t }) c.in_ok-from_str-in-Against.ensures.ok)
+
+pub returns-in_ok-from_str-in-Output : goal.returns-in_ok-from_str-in-Output
+returns-in_ok-from_str-in-Output c = λ first taken.
+    sent c.args.command first taken (parts_of c.args.self.now) c.args.word.now c.args.before _ c.in-Output.is
+    (ap (λ (t : List ℕ). record (parts_of c.args.self.now) { output = Some t }) c.in_ok-from_str-in-Output.ensures.ok)
+
+pub returns-in_ok-from_str-in-Expected : goal.returns-in_ok-from_str-in-Expected
+returns-in_ok-from_str-in-Expected c = λ first taken.
+    counted_on c.args.command first taken (parts_of c.args.self.now) c.args.word.now c.args.before _ c.in-Expected.is
+    (ap (λ (t : List ℕ). record (parts_of c.args.self.now) { expected = Some t }) c.in_ok-from_str-in-Expected.ensures.ok)

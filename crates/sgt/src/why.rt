@@ -1,0 +1,203 @@
+//! What to type to learn more, told behind a no.
+
+use crate::devices::Steady;
+use crate::host::Host;
+use sgt_line::CommandName;
+use std::io::Read;
+
+// What a text looks like that is not what the command reads.
+#[derive(Clone, Copy)]
+enum Look {
+    Compressed,
+    Wide,
+    History,
+    Bundle,
+    Logs,
+    BlankEnd,
+}
+
+// Whether it begins as a whole bundle does.
+fn is_whole(text: &[u8]) -> bool {
+    text.starts_with(b"sgt 1\n{") || text.starts_with(b"sgt 2\n{")
+}
+
+// Whether it begins as a bundle does that has no line 2.
+fn is_bare(text: &[u8]) -> bool {
+    text.starts_with(b"sgt 1\nsite ") || text.starts_with(b"sgt 2\nsite ")
+}
+
+// What the text looks like, of which these are the first bytes and the last two.
+fn look_of(command: CommandName, text: &[u8], last: (u8, u8)) -> Option<Look> {
+    let is_certify = command == CommandName::Certify;
+    if text.starts_with(&[0x1f, 0x8b]) {
+        Some(Look::Compressed)
+    } else if text.starts_with(&[0xff, 0xfe]) || text.starts_with(&[0xfe, 0xff]) {
+        Some(Look::Wide)
+    } else if text.starts_with(b"{") || text.starts_with(b"[") {
+        Some(Look::History)
+    } else if is_certify && is_whole(text) {
+        Some(Look::Bundle)
+    } else if !is_certify && is_bare(text) {
+        Some(Look::Logs)
+    } else if last == (b'\n', b'\n') {
+        Some(Look::BlankEnd)
+    } else {
+        None
+    }
+}
+
+// The word of a command that reads a bundle or logs.
+fn word_of(command: CommandName) -> &'static str {
+    match command {
+        CommandName::Certify => "certify",
+        CommandName::Explain => "explain",
+        CommandName::Serial => "serial",
+        CommandName::Draw => "draw",
+        _ => "audit",
+    }
+}
+
+// Tells what the text under this name looks like, and what to type.
+fn tell_look<H>(host: &Host<'_, H>, name: &str, look: Look) {
+    let rt = host.rt;
+    let command = word_of(host.command);
+    let (title, file, gap) = if name == "-" {
+        ("standard input", "", "")
+    } else {
+        (name, name, " ")
+    };
+    let _ = match look {
+        Look::Compressed => {
+            eprintln!(rt; "sgt: {title} is compressed: gunzip -c{gap}{file} | sgt {command}")
+        }
+        Look::Wide => eprintln!(rt;
+            "sgt: {title} is UTF-16: iconv -f UTF-16 -t UTF-8{gap}{file} | sgt {command}"
+        ),
+        Look::History => eprintln!(rt; "sgt: {title} looks like a history: sgt check{gap}{file}"),
+        Look::Bundle => eprintln!(rt; "sgt: {title} has a certificate: sgt audit{gap}{file}"),
+        Look::Logs => eprintln!(rt; "sgt: {title} has no certificate: sgt certify{gap}{file}"),
+        Look::BlankEnd => eprintln!(rt;
+            "sgt: {title} ends with a blank line: sed '$d'{gap}{file} | sgt {command}"
+        ),
+    };
+}
+
+// The last word of the first line, where that is a no and stands here whole.
+fn reason_of(answer: &[u8]) -> Option<&str> {
+    if !answer.starts_with(b"no ") {
+        return None;
+    }
+    let end = answer.iter().position(|byte| *byte == b'\n')?;
+    let line = str::from_utf8(answer.get(..end)?).ok()?;
+    line.rsplit(' ').next()
+}
+
+// Tells what to type to learn more of a no for this reason.
+fn tell_reason<H>(host: &Host<'_, H>, name: &str, reason: &str) {
+    let rt = host.rt;
+    let is_bundle = match host.command {
+        CommandName::Audit | CommandName::Serial | CommandName::Draw => true,
+        _ => false,
+    };
+    let _ = match reason {
+        "order" | "ranks" | "walk" => {
+            eprintln!(rt; "sgt: to learn more: sgt explain no-{reason}")
+        }
+        _ if is_bundle && name != "-" && reason != "C1" => eprintln!(rt;
+            "sgt: to learn more: sgt explain {name}"
+        ),
+        _ => eprintln!(rt; "sgt: to learn more: sgt explain {reason}"),
+    };
+}
+
+// The name behind the mark of a refusal.
+fn name_behind(line: &[u8]) -> Option<&str> {
+    str::from_utf8(line.strip_prefix(b"! ")?).ok()
+}
+
+// Tells what to type to learn more of a run that was a no.
+fn tell_run<H>(host: &Host<'_, H>, answer: &[u8]) {
+    let rt = host.rt;
+    let fault = match answer.split(|byte| *byte == b'\n').next() {
+        Some(line) => name_behind(line),
+        None => None,
+    };
+    let _ = match fault {
+        Some(fault) => eprintln!(rt; "sgt: to learn more: sgt explain {fault}"),
+        None => eprintln!(rt;
+            "sgt: to learn more: sgt run --bundle FILE, and then sgt explain FILE"
+        ),
+    };
+}
+
+// Whether a text that looks so is the reason of this answer.
+fn is_cause(look: Look, command: CommandName, reason: Option<&str>) -> bool {
+    match look {
+        Look::BlankEnd => {
+            let fault = reason.unwrap_or("");
+            let is_left = fault == "F2" || fault == "F18";
+            fault == "F19" || (is_left && command == CommandName::Certify)
+        }
+        _ => true,
+    }
+}
+
+// Tells what the text looks like, if that is why the answer is a no.
+fn tells_look<H, R: Read>(
+    host: &Host<'_, H>,
+    steady: &Steady<'_, R>,
+    name: &str,
+    answer: &[u8],
+) -> bool {
+    match host.command {
+        CommandName::Replay | CommandName::Run | CommandName::Check => return false,
+        _ => {}
+    }
+    let text = steady.front();
+    match look_of(host.command, text.bytes(), text.last()) {
+        Some(look) if is_cause(look, host.command, reason_of(answer)) => {
+            tell_look(host, name, look);
+            true
+        }
+        _ => false,
+    }
+}
+
+/// Tells standard error what to type to learn more of what was read under this name, where it is asked for and the
+/// answer, of which this is the front, is a no.
+pub(crate) fn tell_why<H, R: Read>(
+    host: &Host<'_, H>,
+    steady: &Steady<'_, R>,
+    name: &str,
+    answer: &[u8],
+    status: u8,
+) {
+    if !host.tells_why || status != 1 || tells_look(host, steady, name, answer) {
+        return;
+    }
+    match host.command {
+        CommandName::Explain | CommandName::Serve => {}
+        CommandName::Replay => {
+            let _ = eprintln!(host.rt; "sgt: to learn more: sgt explain E8");
+        }
+        CommandName::Run => tell_run(host, answer),
+        _ => {
+            if let Some(reason) = reason_of(answer) {
+                tell_reason(host, name, reason);
+            }
+        }
+    }
+}
+
+/// The same of a strict replay of which these are the replies.
+pub(crate) fn tell_refusal<H>(host: &Host<'_, H>, replies: &[u8]) {
+    for line in replies.split(|byte| *byte == b'\n') {
+        if !line.starts_with(b"! E") {
+            continue;
+        }
+        if let Some(name) = name_behind(line) {
+            let _ = eprintln!(host.rt; "sgt: to learn more: sgt explain {name}");
+        }
+        return;
+    }
+}
