@@ -5,17 +5,18 @@ use std::test::Fail;
 
 /// Two transactions, one below the other, an arrow down and one back to the first.
 const WRITE_SKEW: &str = "\
-<svg xmlns=\"http://www.w3.org/2000/svg\" width=\"800\" height=\"196\" viewBox=\"0 0 800 196\" font-family=\"monospace\" font-size=\"11\">\n\
-<defs><marker id=\"to\" viewBox=\"0 0 10 10\" refX=\"9\" refY=\"5\" markerUnits=\"userSpaceOnUse\" markerWidth=\"11\" markerHeight=\"11\" orient=\"auto\"><path d=\"M0 0L10 5L0 10z\"/></marker></defs>\n\
+<svg xmlns=\"http://www.w3.org/2000/svg\" width=\"640\" height=\"216\" viewBox=\"0 0 640 216\" font-family=\"monospace\" font-size=\"11\">\n\
 <rect width=\"100%\" height=\"100%\" fill=\"#ffffff\"/>\n\
 <text x=\"20\" y=\"22\">G2-item: each stands before the next in every order</text>\n\
-<text x=\"20\" y=\"42\">ww: write, next write; wr: write, read; rw: read, next write; po: one session; rt: done before the other begins</text>\n\
-<rect rx=\"5\" fill=\"#e8f0f8\" stroke=\"#333333\" height=\"26\" x=\"60\" width=\"60\" y=\"64\"/><text x=\"70\" y=\"81\">&quot;a&quot;</text>\n\
-<path stroke-width=\"2.5\" marker-end=\"url(#to)\" d=\"M90 90v38\" fill=\"none\" stroke=\"#d55e00\" stroke-dasharray=\"8 4\"><title>&quot;a&quot; rw &quot;b&quot; &quot;y&quot; 0 1 lines 1 2</title></path>\n\
-<text x=\"104\" y=\"112\">rw &quot;y&quot; 0 1 lines 1 2</text>\n\
-<rect rx=\"5\" fill=\"#e8f0f8\" stroke=\"#333333\" height=\"26\" x=\"60\" width=\"60\" y=\"130\"/><text x=\"70\" y=\"147\">&quot;b&quot;</text>\n\
-<path stroke-width=\"2.5\" marker-end=\"url(#to)\" d=\"M60 143H24V77H58\" fill=\"none\" stroke=\"#d55e00\" stroke-dasharray=\"8 4\"><title>&quot;b&quot; rw &quot;a&quot; &quot;x&quot; 0 1 lines 2 1</title></path>\n\
-<text x=\"24\" y=\"176\">rw &quot;x&quot; 0 1 lines 2 1</text></svg>\n";
+<path stroke-width=\"2.5\" d=\"M20 42h25\" fill=\"none\" stroke=\"#007a5a\" stroke-dasharray=\"2 3\"/><path fill=\"#007a5a\" d=\"M45 37v10l9 -5z\"/><text x=\"62\" y=\"46\">ww: write, next write</text>\n\
+<path stroke-width=\"2.5\" d=\"M236 42h25\" fill=\"none\" stroke=\"#0072b2\"/><path fill=\"#0072b2\" d=\"M261 37v10l9 -5z\"/><text x=\"278\" y=\"46\">wr: write, read</text>\n\
+<path stroke-width=\"2.5\" d=\"M420 42h25\" fill=\"none\" stroke=\"#d55e00\" stroke-dasharray=\"8 4\"/><path fill=\"#d55e00\" d=\"M445 37v10l9 -5z\"/><text x=\"462\" y=\"46\">rw: read, next write</text>\n\
+<path stroke-width=\"2.5\" d=\"M20 62h25\" fill=\"none\" stroke=\"#7b3294\" stroke-dasharray=\"10 3 2 3\"/><path fill=\"#7b3294\" d=\"M45 57v10l9 -5z\"/><text x=\"62\" y=\"66\">po: one session</text>\n\
+<path stroke-width=\"2.5\" d=\"M236 62h25\" fill=\"none\" stroke=\"#555555\" stroke-dasharray=\"5 2\"/><path fill=\"#555555\" d=\"M261 57v10l9 -5z\"/><text x=\"278\" y=\"66\">rt: done before the other begins</text>\n\
+<g><title>&quot;a&quot;</title><rect rx=\"5\" fill=\"#e8f0f8\" stroke=\"#333333\" height=\"26\" x=\"60\" width=\"60\" y=\"84\"/><text x=\"70\" y=\"101\">&quot;a&quot;</text></g>\n\
+<g><title>&quot;a&quot; rw &quot;b&quot; &quot;y&quot; 0 1 lines 1 2</title><path stroke-width=\"2.5\" d=\"M90 110v31\" fill=\"none\" stroke=\"#d55e00\" stroke-dasharray=\"8 4\"/><path fill=\"#d55e00\" d=\"M85 141h10l-5 9z\"/><text x=\"104\" y=\"133\">rw &quot;y&quot; 0 1 lines 1 2</text></g>\n\
+<g><title>&quot;b&quot;</title><rect rx=\"5\" fill=\"#e8f0f8\" stroke=\"#333333\" height=\"26\" x=\"60\" width=\"60\" y=\"150\"/><text x=\"70\" y=\"167\">&quot;b&quot;</text></g>\n\
+<g><title>&quot;b&quot; rw &quot;a&quot; &quot;x&quot; 0 1 lines 2 1</title><path stroke-width=\"2.5\" d=\"M90 176v18H24V97H51\" fill=\"none\" stroke=\"#d55e00\" stroke-dasharray=\"8 4\"/><path fill=\"#d55e00\" d=\"M51 92v10l9 -5z\"/><text x=\"104\" y=\"198\">rw &quot;x&quot; 0 1 lines 2 1</text></g></svg>\n";
 
 #[test]
 fn draws_a_lost_update(rt: HostRuntime) -> Result<(), Fail> {

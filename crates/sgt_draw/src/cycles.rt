@@ -1,16 +1,17 @@
-//! The cycle of a refused transaction.
+//! The cycle of a refused transaction, in rows from left to right.
 
 use crate::canvas::{Canvas, Part};
-use crate::marks::{Fate, Point, put_label, put_node, put_text, stroke_of};
+use crate::increments::Increments;
+use crate::marks::{
+    Fate, Point, TIP, Tip, conflict_width, put_node, put_step_label, put_text, put_tip, stroke_of,
+};
+use crate::row::{MOST_WIDTH, quotient};
 use sgt_bundle::Step;
 use sgt_names::Tx;
 use std::alloc::AllocError;
 
-/// How high a cycle is.
-pub const HIGH: u64 = 112;
-
-/// The same where nothing is named.
-pub const LOW: u64 = 40;
+/// Where the way back runs, on the left of the rows.
+const EDGE: u64 = 12;
 
 /// A refused transaction with the walk that leads from it back to it.
 #[derive(Clone, Copy)]
@@ -18,171 +19,307 @@ pub struct Cycle<'a> {
     pub tx: Tx,
     pub walk: &'a [Step],
     pub is_named: bool,
+    pub increments: &'a Increments,
+}
+
+/// A step from a transaction that stands here.
+#[derive(Clone, Copy)]
+struct Leg<'a> {
+    at: Point,
+    from: Tx,
+    step: &'a Step,
+}
+
+/// Where an arrow comes back: the end of its line, and its tip.
+#[derive(Clone, Copy)]
+struct Back {
+    line: Point,
+    end: Point,
+    tip: Tip,
 }
 
 impl Cycle<'_> {
-    /// How far two transactions of the cycle are apart: labels fit between.
-    fn pitch(&self) -> u64 {
-        if !self.is_named {
-            return 26;
-        }
+    /// How wide the longest label is.
+    fn longest(&self) -> u64 {
         let mut longest = 0u64;
         for step in self.walk {
-            longest = longest.max(step.label.item.as_bytes().len() as u64);
+            let site = u64::from(step.label.site.number());
+            longest = longest.max(conflict_width(site, &step.label.item));
         }
-        longest.saturating_mul(7).saturating_add(140)
+        longest
     }
 
-    /// Where the first transaction stands.
-    fn left(&self) -> u64 {
-        if self.is_named { 66 } else { 30 }
+    /// How far two transactions of a row are apart: labels fit between.
+    fn pitch(&self) -> u64 {
+        if self.is_named {
+            self.longest().saturating_add(100)
+        } else {
+            26
+        }
     }
 
-    fn x_of(&self, place: u64) -> u64 {
-        self.left()
-            .saturating_add(place.saturating_mul(self.pitch()))
-    }
-
-    /// How wide it is, with the room on both sides.
-    pub(crate) fn width(&self) -> u64 {
-        let count = self.walk.len() as u64;
-        self.x_of(count.saturating_sub(1))
-            .saturating_add(self.left())
+    /// How far two rows are apart.
+    fn row_height(&self) -> u64 {
+        if self.is_named { 80 } else { 34 }
     }
 
     /// Half of a transaction's width, and of its height.
     fn half(&self) -> (u64, u64) {
-        if self.is_named { (38, 12) } else { (4, 4) }
+        if self.is_named { (38, 12) } else { (3, 3) }
     }
 
-    /// What is shown of the step from this transaction when it is pointed at.
-    fn put_title(&self, canvas: &mut Canvas, from: Tx, step: &Step) -> Result<(), AllocError> {
+    /// Where the first transaction stands.
+    fn left(&self) -> u64 {
+        let (half, _) = self.half();
+        half.saturating_add(28)
+    }
+
+    /// How many transactions stand in a row at most.
+    fn columns(&self) -> u64 {
+        let room = MOST_WIDTH.saturating_sub(self.left().saturating_mul(2));
+        quotient(room, self.pitch()).saturating_add(1)
+    }
+
+    /// How many rows there are.
+    fn rows(&self) -> u64 {
+        let count = self.walk.len() as u64;
+        quotient(count.saturating_sub(1), self.columns()).saturating_add(1)
+    }
+
+    /// Where the transaction at this place stands, below the first row.
+    fn point_of(&self, place: u64, y: u64) -> Point {
+        let columns = self.columns();
+        let row = quotient(place, columns);
+        let column = place.saturating_sub(row.saturating_mul(columns));
+        Point {
+            x: self
+                .left()
+                .saturating_add(column.saturating_mul(self.pitch())),
+            y: y.saturating_add(row.saturating_mul(self.row_height())),
+        }
+    }
+
+    /// How wide it is, with the room on both sides.
+    pub(crate) fn width(&self) -> u64 {
+        let count = (self.walk.len() as u64).min(self.columns());
+        self.point_of(count.saturating_sub(1), 0)
+            .x
+            .saturating_add(self.left())
+    }
+
+    /// How high it is.
+    pub(crate) fn height(&self) -> u64 {
+        let below = self
+            .rows()
+            .saturating_sub(1)
+            .saturating_mul(self.row_height());
+        below.saturating_add(if self.is_named { 112 } else { 44 })
+    }
+
+    /// What is shown of a step when its arrow or its label is pointed at.
+    fn put_title(&self, canvas: &mut Canvas, leg: &Leg) -> Result<(), AllocError> {
         canvas.put(&[
-            Part::Markup("<title>"),
-            Part::Number(u64::from(from.number())),
+            Part::Markup("<g><title>"),
+            Part::Number(u64::from(leg.from.number())),
             Part::Markup(" to "),
-            Part::Number(u64::from(step.to.number())),
+            Part::Number(u64::from(leg.step.to.number())),
             Part::Markup(": "),
         ])?;
-        let label = &step.label;
-        put_label(
-            canvas,
-            label.kind,
-            u64::from(label.site.number()),
-            &label.item,
-        )?;
-        canvas.put(&[Part::Markup("</title></path>\n")])
+        let is_increment = self.increments.has_step(leg.from, leg.step);
+        put_step_label(canvas, leg.step, is_increment)?;
+        canvas.put(&[Part::Markup("</title>")])
     }
 
-    /// The label of a step, with its middle at this point.
-    fn put_name(&self, canvas: &mut Canvas, at: Point, step: &Step) -> Result<(), AllocError> {
-        if !self.is_named {
-            return Ok(());
+    /// The label of a step, with its middle at this point, or as far on the right that it isn't cut.
+    fn put_name(&self, canvas: &mut Canvas, at: Point, leg: &Leg) -> Result<(), AllocError> {
+        if self.is_named {
+            let middle = at.x.max((self.longest() / 2).saturating_add(EDGE).saturating_add(8));
+            canvas.put(&[
+                Part::Markup("<text text-anchor=\"middle\" x=\""),
+                Part::Number(middle),
+                Part::Markup("\" y=\""),
+                Part::Number(at.y),
+                Part::Markup("\">"),
+            ])?;
+            let is_increment = self.increments.has_step(leg.from, leg.step);
+            put_step_label(canvas, leg.step, is_increment)?;
+            canvas.put(&[Part::Markup("</text>")])?;
         }
-        let label = &step.label;
-        canvas.put(&[
-            Part::Markup("<text text-anchor=\"middle\" x=\""),
-            Part::Number(at.x),
-            Part::Markup("\" y=\""),
-            Part::Number(at.y),
-            Part::Markup("\">"),
-        ])?;
-        put_label(
-            canvas,
-            label.kind,
-            u64::from(label.site.number()),
-            &label.item,
-        )?;
-        canvas.put(&[Part::Markup("</text>\n")])
+        canvas.put(&[Part::Markup("</g>\n")])
     }
 
     /// A step to the next transaction, on the right.
-    fn put_step(
-        &self,
-        canvas: &mut Canvas,
-        at: Point,
-        from: Tx,
-        step: &Step,
-    ) -> Result<(), AllocError> {
+    fn put_step(&self, canvas: &mut Canvas, leg: &Leg, next: Point) -> Result<(), AllocError> {
         let (half, _) = self.half();
-        let next = at.x.saturating_add(self.pitch());
-        canvas.put(&[
-            Part::Markup("<path stroke-width=\"2.5\" marker-end=\"url(#to)\" d=\"M"),
-            Part::Number(at.x.saturating_add(half)),
-            Part::Markup(" "),
-            Part::Number(at.y),
-            Part::Markup("L"),
-            Part::Number(next.saturating_sub(half)),
-            Part::Markup(" "),
-            Part::Number(at.y),
-            Part::Markup("\""),
-            Part::Markup(stroke_of(step.label.kind)),
-            Part::Markup(">"),
-        ])?;
-        self.put_title(canvas, from, step)?;
-        let middle = Point {
-            x: at.x.saturating_add(next) / 2,
-            y: at.y.saturating_sub(9),
+        let kind = leg.step.label.kind;
+        let end = Point {
+            x: next.x.saturating_sub(half),
+            y: next.y,
         };
-        self.put_name(canvas, middle, step)
+        self.put_title(canvas, leg)?;
+        canvas.put(&[
+            Part::Markup("<path stroke-width=\"2.5\" d=\"M"),
+            Part::Number(leg.at.x.saturating_add(half)),
+            Part::Markup(" "),
+            Part::Number(end.y),
+            Part::Markup("H"),
+            Part::Number(end.x.saturating_sub(TIP)),
+            Part::Markup("\""),
+            Part::Markup(stroke_of(kind)),
+            Part::Markup("/>\n"),
+        ])?;
+        put_tip(canvas, end, Tip::Right, kind)?;
+        let middle = Point {
+            x: leg.at.x.saturating_add(next.x) / 2,
+            y: end.y.saturating_sub(9),
+        };
+        self.put_name(canvas, middle, leg)
     }
 
-    /// The last step, from the right back to the refused transaction.
-    fn put_last(
-        &self,
-        canvas: &mut Canvas,
-        at: Point,
-        from: Tx,
-        step: &Step,
-    ) -> Result<(), AllocError> {
+    /// How far below a transaction a way back to the left runs.
+    fn depth(&self) -> u64 {
+        if self.is_named { 24 } else { 10 }
+    }
+
+    /// A step from the end of a row down to the first transaction of the next one.
+    fn put_turn(&self, canvas: &mut Canvas, leg: &Leg, next: Point) -> Result<(), AllocError> {
         let (_, half) = self.half();
-        let left = self.left();
-        let top = at.y.saturating_add(half);
-        let low = top.saturating_add(if self.is_named { 24 } else { 10 });
+        let kind = leg.step.label.kind;
+        let top = leg.at.y.saturating_add(half);
+        let low = top.saturating_add(self.depth());
+        let end = Point {
+            x: next.x,
+            y: next.y.saturating_sub(half),
+        };
+        self.put_title(canvas, leg)?;
         canvas.put(&[
-            Part::Markup("<path stroke-width=\"2.5\" marker-end=\"url(#to)\" d=\"M"),
-            Part::Number(at.x),
+            Part::Markup("<path stroke-width=\"2.5\" d=\"M"),
+            Part::Number(leg.at.x),
             Part::Markup(" "),
             Part::Number(top),
             Part::Markup("V"),
             Part::Number(low),
             Part::Markup("H"),
-            Part::Number(left),
+            Part::Number(end.x),
             Part::Markup("V"),
-            Part::Number(top),
+            Part::Number(end.y.saturating_sub(TIP)),
             Part::Markup("\""),
-            Part::Markup(stroke_of(step.label.kind)),
-            Part::Markup(">"),
+            Part::Markup(stroke_of(kind)),
+            Part::Markup("/>\n"),
         ])?;
-        self.put_title(canvas, from, step)?;
+        put_tip(canvas, end, Tip::Down, kind)?;
         let middle = Point {
-            x: at.x.saturating_add(left) / 2,
-            y: low.saturating_add(15),
+            x: leg.at.x.saturating_add(next.x) / 2,
+            y: low.saturating_add(14),
         };
-        self.put_name(canvas, middle, step)
+        self.put_name(canvas, middle, leg)
+    }
+
+    /// Where the last step comes back to the refused transaction: from below in its row, else from the left.
+    fn back_from(&self, at: Point, first: Point) -> Back {
+        let (half, half_height) = self.half();
+        if at.y == first.y && at.x > first.x {
+            let end = Point {
+                x: first.x,
+                y: first.y.saturating_add(half_height),
+            };
+            let line = Point {
+                x: end.x,
+                y: end.y.saturating_add(TIP),
+            };
+            return Back {
+                line,
+                end,
+                tip: Tip::Up,
+            };
+        }
+        let end = Point {
+            x: first.x.saturating_sub(half),
+            y: first.y,
+        };
+        let line = Point {
+            x: end.x.saturating_sub(TIP),
+            y: end.y,
+        };
+        Back {
+            line,
+            end,
+            tip: Tip::Right,
+        }
+    }
+
+    /// The last step, from below its transaction back to the refused one.
+    fn put_last(&self, canvas: &mut Canvas, leg: &Leg, first: Point) -> Result<(), AllocError> {
+        let (_, half_height) = self.half();
+        let kind = leg.step.label.kind;
+        let top = leg.at.y.saturating_add(half_height);
+        let low = top.saturating_add(self.depth());
+        let back = self.back_from(leg.at, first);
+        let turn = match back.tip {
+            Tip::Up => back.end.x,
+            _ => EDGE,
+        };
+        self.put_title(canvas, leg)?;
+        canvas.put(&[
+            Part::Markup("<path stroke-width=\"2.5\" d=\"M"),
+            Part::Number(leg.at.x),
+            Part::Markup(" "),
+            Part::Number(top),
+            Part::Markup("V"),
+            Part::Number(low),
+            Part::Markup("H"),
+            Part::Number(turn),
+            Part::Markup("V"),
+            Part::Number(back.line.y),
+            Part::Markup("H"),
+            Part::Number(back.line.x),
+            Part::Markup("\""),
+            Part::Markup(stroke_of(kind)),
+            Part::Markup("/>\n"),
+        ])?;
+        put_tip(canvas, back.end, back.tip, kind)?;
+        let middle = Point {
+            x: leg.at.x.saturating_add(turn) / 2,
+            y: low.saturating_add(14),
+        };
+        self.put_name(canvas, middle, leg)
     }
 
     /// Draws the cycle below this height.
     pub(crate) fn put(&self, canvas: &mut Canvas, top: u64) -> Result<(), AllocError> {
+        let (half, _) = self.half();
         let y = top.saturating_add(if self.is_named { 46 } else { 12 });
-        let mut at = Point { x: self.left(), y };
+        let first = self.point_of(0, y);
         if self.is_named {
             let above = Point {
-                x: at.x,
+                x: first.x,
                 y: y.saturating_sub(20),
             };
             put_text(canvas, above, &[Part::Markup("refused")])?;
         }
-        put_node(canvas, at, self.tx, Fate::Refused, self.is_named)?;
+        put_node(canvas, first, self.tx, Fate::Refused, half)?;
+        let mut leg_at = first;
         let mut from = self.tx;
+        let mut place = 0u64;
         for step in self.walk {
+            let leg = Leg {
+                at: leg_at,
+                from,
+                step,
+            };
+            place = place.saturating_add(1);
+            let next = self.point_of(place, y);
             if step.to == self.tx {
-                self.put_last(canvas, at, from, step)?;
+                self.put_last(canvas, &leg, first)?;
             } else {
-                self.put_step(canvas, at, from, step)?;
-                at.x = at.x.saturating_add(self.pitch());
-                put_node(canvas, at, step.to, Fate::Committed, self.is_named)?;
+                if next.y == leg_at.y {
+                    self.put_step(canvas, &leg, next)?;
+                } else {
+                    self.put_turn(canvas, &leg, next)?;
+                }
+                put_node(canvas, next, step.to, Fate::Committed, half)?;
             }
+            leg_at = next;
             from = step.to;
         }
         Ok(())

@@ -1,12 +1,24 @@
 //! The picture as Graphviz text.
 
 use crate::canvas::{Canvas, Part};
+use crate::cycles::Cycle;
 use crate::edges::Edge;
-use crate::marks::put_label;
+use crate::increments::Increments;
+use crate::marks::{put_edge_label, put_step_label};
 use crate::scene::Scene;
+use crate::ways::{Ways, key_at, key_of};
 use sgt_bundle::{Decision, Step};
 use sgt_names::{Kind, Tx};
-use std::alloc::AllocError;
+use std::alloc::{AllocError, Global};
+
+/// What is drawn of a bundle.
+#[derive(Drop)]
+pub struct Graph<'a> {
+    pub scene: &'a Scene,
+    pub decisions: &'a [Decision],
+    pub edges: &'a [Edge],
+    pub increments: &'a Increments,
+}
 
 fn style_of(kind: Kind) -> &'static str {
     match kind {
@@ -34,7 +46,24 @@ fn put_ends(canvas: &mut Canvas, from: Tx, to: Tx) -> Result<(), AllocError> {
     ])
 }
 
-fn put_edge(canvas: &mut Canvas, scene: &Scene, edge: &Edge) -> Result<(), AllocError> {
+/// The end of an edge: its kind's look, and a thick line where it is in a cycle.
+fn put_style(canvas: &mut Canvas, kind: Kind, is_in_cycle: bool) -> Result<(), AllocError> {
+    canvas.put(&[
+        Part::Markup(style_of(kind)),
+        Part::Markup(if is_in_cycle {
+            ", penwidth=3];\n"
+        } else {
+            "];\n"
+        }),
+    ])
+}
+
+fn put_edge(
+    canvas: &mut Canvas,
+    scene: &Scene,
+    edge: &Edge,
+    is_in_cycle: bool,
+) -> Result<(), AllocError> {
     let committed = scene.committed.as_slice();
     let (Some(from), Some(to)) = (
         committed.get(edge.from as usize),
@@ -43,113 +72,139 @@ fn put_edge(canvas: &mut Canvas, scene: &Scene, edge: &Edge) -> Result<(), Alloc
         return Ok(());
     };
     put_ends(canvas, from.tx, to.tx)?;
-    put_label(canvas, edge.kind, edge.site, &edge.item)?;
-    if edge.is_increment {
-        canvas.put(&[Part::Markup("+")])?;
-    }
-    if edge.more > 0 {
-        canvas.put(&[
-            Part::Markup(" and "),
-            Part::Number(edge.more),
-            Part::Markup(" more"),
-        ])?;
-    }
-    canvas.put(&[Part::Markup(style_of(edge.kind)), Part::Markup("];\n")])
+    put_edge_label(canvas, edge)?;
+    put_style(canvas, edge.kind, is_in_cycle)
 }
 
-/// The steps of a walk from this transaction.
-fn put_walk(canvas: &mut Canvas, tx: Tx, walk: &[Step]) -> Result<(), AllocError> {
-    let mut from = tx;
-    for step in walk {
-        let label = &step.label;
-        put_ends(canvas, from, step.to)?;
-        put_label(
-            canvas,
-            label.kind,
-            u64::from(label.site.number()),
-            &label.item,
-        )?;
-        canvas.put(&[
-            Part::Markup(style_of(label.kind)),
-            Part::Markup(", penwidth=3];\n"),
-        ])?;
-        from = step.to;
-    }
-    Ok(())
+/// A step of a cycle from this transaction.
+fn put_step(
+    canvas: &mut Canvas,
+    from: Tx,
+    step: &Step,
+    is_increment: bool,
+) -> Result<(), AllocError> {
+    put_ends(canvas, from, step.to)?;
+    put_step_label(canvas, step, is_increment)?;
+    put_style(canvas, step.label.kind, true)
 }
 
-/// A refused transaction with its cycle.
-fn put_refused(canvas: &mut Canvas, decision: &Decision) -> Result<(), AllocError> {
-    let Some(walk) = decision.walk() else {
-        return Ok(());
-    };
+fn put_refused_node(canvas: &mut Canvas, tx: Tx) -> Result<(), AllocError> {
     put_node(
         canvas,
-        decision.tx(),
+        tx,
         " [style=filled, fillcolor=\"#ffd9d0\", color=\"#a00000\"];\n",
-    )?;
-    put_walk(canvas, decision.tx(), walk)
+    )
 }
 
 fn put_head(canvas: &mut Canvas) -> Result<(), AllocError> {
     canvas.put(&[Part::Markup("  rankdir=LR;\n  node [shape=box];\n")])
 }
 
-/// The refused transactions with their cycles, and the withdrawn ones.
-fn put_others(
-    canvas: &mut Canvas,
-    scene: &Scene,
-    decisions: &[Decision],
-) -> Result<(), AllocError> {
-    for number in scene.refusals.as_slice() {
-        if let Some(decision) = decisions.get(*number as usize) {
-            put_refused(canvas, decision)?;
+/// The edges that are written: none twice.
+#[derive(Drop)]
+struct Written {
+    edges: Ways,
+    walks: Ways,
+}
+
+impl Graph<'_> {
+    /// The committed transactions with their conflicts. Those that are steps of cycles, too, have thick lines.
+    fn put_committed(&self, canvas: &mut Canvas, written: &Written) -> Result<(), AllocError> {
+        for one in self.scene.committed.as_slice() {
+            put_node(canvas, one.tx, ";\n")?;
         }
+        for edge in self.edges {
+            let is_in_cycle = match key_at(self.scene, edge) {
+                Some(key) => written.walks.first(&key).is_some(),
+                None => false,
+            };
+            put_edge(canvas, self.scene, edge, is_in_cycle)?;
+        }
+        Ok(())
     }
-    for tx in scene.withdrawn.as_slice() {
-        put_node(
-            canvas,
-            *tx,
-            " [style=filled, fillcolor=\"#dddddd\", color=\"#888888\"];\n",
-        )?;
+
+    /// A refused transaction with the steps of its cycle that are not written yet.
+    fn put_refused(
+        &self,
+        canvas: &mut Canvas,
+        number: u32,
+        written: &Written,
+    ) -> Result<(), AllocError> {
+        let Some(decision) = self.decisions.get(number as usize) else {
+            return Ok(());
+        };
+        put_refused_node(canvas, decision.tx())?;
+        let mut from = decision.tx();
+        for step in decision.walk().unwrap_or(&[]) {
+            let key = key_of(from, step);
+            if written.edges.first(&key).is_none() && written.walks.first(&key) == Some(number) {
+                let is_increment = self.increments.has_step(from, step);
+                put_step(canvas, from, step, is_increment)?;
+            }
+            from = step.to;
+        }
+        Ok(())
+    }
+
+    /// All that is drawn.
+    pub(crate) fn put(&self, alloc: Global, canvas: &mut Canvas) -> Result<(), AllocError> {
+        put_head(canvas)?;
+        if self.scene.leaves_out() {
+            canvas.put(&[Part::Markup(
+                "  label=\"The first 200 ranks, and the first 200 refused and withdrawn ones.\";\n",
+            )])?;
+        }
+        let written = Written {
+            edges: Ways::of_edges(alloc, self.scene, self.edges)?,
+            walks: Ways::of_walks(alloc, self.scene, self.decisions)?,
+        };
+        self.put_committed(canvas, &written)?;
+        for number in self.scene.refusals.as_slice() {
+            self.put_refused(canvas, *number, &written)?;
+        }
+        for tx in self.scene.withdrawn.as_slice() {
+            put_node(
+                canvas,
+                *tx,
+                " [style=filled, fillcolor=\"#dddddd\", color=\"#888888\"];\n",
+            )?;
+        }
+        Ok(())
+    }
+
+    /// A committed transaction with its neighbours.
+    pub(crate) fn put_around(&self, canvas: &mut Canvas, tx: Tx) -> Result<(), AllocError> {
+        put_head(canvas)?;
+        for one in self.scene.committed.as_slice() {
+            let style = if one.tx == tx {
+                " [style=filled, fillcolor=\"#fff2cc\"];\n"
+            } else {
+                ";\n"
+            };
+            put_node(canvas, one.tx, style)?;
+        }
+        for edge in self.edges {
+            put_edge(canvas, self.scene, edge, false)?;
+        }
+        Ok(())
+    }
+}
+
+/// The cycle of one refused transaction alone.
+pub(crate) fn put_cycle(canvas: &mut Canvas, cycle: &Cycle) -> Result<(), AllocError> {
+    put_head(canvas)?;
+    put_refused_node(canvas, cycle.tx)?;
+    let mut from = cycle.tx;
+    for step in cycle.walk {
+        let is_increment = cycle.increments.has_step(from, step);
+        put_step(canvas, from, step, is_increment)?;
+        from = step.to;
     }
     Ok(())
 }
 
-/// All that is drawn.
-pub(crate) fn put_graph(
-    canvas: &mut Canvas,
-    scene: &Scene,
-    decisions: &[Decision],
-    edges: &[Edge],
-) -> Result<(), AllocError> {
+/// A transaction alone that was neither refused nor committed.
+pub(crate) fn put_neither(canvas: &mut Canvas, tx: Tx) -> Result<(), AllocError> {
     put_head(canvas)?;
-    if scene.leaves_out() {
-        canvas.put(&[Part::Markup(
-            "  label=\"The first 200 ranks, and the first 200 refused and withdrawn ones.\";\n",
-        )])?;
-    }
-    for one in scene.committed.as_slice() {
-        put_node(canvas, one.tx, ";\n")?;
-    }
-    for edge in edges {
-        put_edge(canvas, scene, edge)?;
-    }
-    put_others(canvas, scene, decisions)
-}
-
-/// The cycle of one refused transaction alone. Nothing but the transaction where it was not refused.
-pub(crate) fn put_alone(
-    canvas: &mut Canvas,
-    decisions: &[Decision],
-    tx: Tx,
-) -> Result<(), AllocError> {
-    put_head(canvas)?;
-    put_node(canvas, tx, ";\n")?;
-    for decision in decisions {
-        if decision.tx() == tx {
-            put_refused(canvas, decision)?;
-        }
-    }
-    Ok(())
+    put_node(canvas, tx, ";\n")
 }

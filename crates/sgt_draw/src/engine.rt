@@ -5,65 +5,11 @@ ghost use Rattle.sgt_notation.specs.Lines.{ReadFaultIsDue};
 ghost use Rattle.sgt_audit.specs.Faults.{BeginsNoneBehind, ReadsNoFurther};
 ghost use Rattle.sgt_audit.specs.Verdict.{IsAudited, HandsOutValid};
 ghost use Rattle.sgt_draw.specs.Drawn.{IsDrawn, WroteDrawn, WroteDrawnFront};
-ghost use Rattle.sgt_draw.specs.Picture.{IsPicture};
 
-use crate::canvas::Canvas;
-use crate::dot;
-use crate::edges::edges_in;
-use crate::lanes::laid_in;
-use crate::scene::Scene;
-use crate::svg::{Picture, put_alone};
+use crate::task::{Wanted, picture};
 use sgt_audit::{Audited, Verdict, audit_bundle};
-use sgt_bundle::Bundle;
-use sgt_names::{EngineFail, Outcome, Sink, Source, Tx, write_all};
+use sgt_names::{EngineFail, Outcome, Sink, Source, write_all};
 use std::alloc::{AllocError, Global};
-
-/// What is to be drawn of a bundle, and how.
-#[derive(Clone, Copy, Debug, PartialEq, Eq)]
-pub struct Wanted {
-    /// The cycle of this refused transaction alone, in place of all.
-    pub tx: Option<Tx>,
-    /// Whether Graphviz text is written in place of SVG.
-    pub is_dot: bool,
-}
-
-/// All of a bundle.
-fn put_all(
-    alloc: Global,
-    canvas: &mut Canvas,
-    is_dot: bool,
-    bundle: &Bundle,
-) -> Result<(), AllocError> {
-    let decisions = bundle.certificate().decisions();
-    let scene = Scene::of(alloc, decisions)?;
-    let mut edges = edges_in(alloc, &scene, bundle.sites())?;
-    if is_dot {
-        return dot::put_graph(canvas, &scene, decisions, edges.as_slice());
-    }
-    let is_named = scene.is_small();
-    let laid = laid_in(alloc, &mut edges, is_named)?;
-    let picture = Picture {
-        scene: &scene,
-        decisions,
-        laid: laid.as_slice(),
-        is_named,
-    };
-    picture.put(canvas)
-}
-
-/// The picture of a bundle.
-fn picture(alloc: Global, wanted: Wanted, bundle: &Bundle) -> Result<Vec<u8>, AllocError>
-    ensures { IfOk result (λ text. IsPicture text.items) }
-{
-    let mut canvas = Canvas::new(alloc, wanted.is_dot)?;
-    let decisions = bundle.certificate().decisions();
-    match wanted.tx {
-        Some(tx) if wanted.is_dot => dot::put_alone(&mut canvas, decisions, tx)?,
-        Some(tx) => put_alone(&mut canvas, decisions, tx)?,
-        None => put_all(alloc, &mut canvas, wanted.is_dot, bundle)?,
-    }
-    canvas.into_text()
-}
 
 /// An outcome, and what is to be written.
 #[derive(Drop)]

@@ -1,15 +1,21 @@
 //! Valid bundles drawn: the committed transactions by rank with their conflicts, and the cycles of refused ones.
 #![tactic(auto)]
 
+mod around;
 mod canvas;
 mod cycles;
 mod dot;
 mod edges;
 mod engine;
+mod increments;
 mod lanes;
 mod marks;
+mod row;
 mod scene;
 mod svg;
+mod task;
+mod ways;
 
 pub use canvas::{Canvas, Part};
-pub use engine::{Wanted, draw};
+pub use engine::draw;
+pub use task::Wanted;

@@ -4,6 +4,9 @@ ghost use Rattle.std.specs.Prelude.{◌≡◌, ◌++◌, OnOk};
 ghost use Rattle.sgt_draw.specs.Parts.{kind_text, label_text};
 
 use crate::canvas::{Canvas, Part};
+use crate::edges::Edge;
+use crate::row::LETTER;
+use sgt_bundle::Step;
 use sgt_names::{Item, Kind, Tx};
 use std::alloc::AllocError;
 
@@ -14,6 +17,63 @@ pub(crate) fn stroke_of(kind: Kind) -> &'static str {
         Kind::Rw => " fill=\"none\" stroke=\"#d55e00\" stroke-dasharray=\"8 4\"",
         Kind::Ww => " fill=\"none\" stroke=\"#007a5a\" stroke-dasharray=\"2 3\"",
     }
+}
+
+/// The markup of the same colour for the tip of an arrow.
+fn fill_of_tip(kind: Kind) -> &'static str {
+    match kind {
+        Kind::Wr => "<path fill=\"#0072b2\" d=\"M",
+        Kind::Rw => "<path fill=\"#d55e00\" d=\"M",
+        Kind::Ww => "<path fill=\"#007a5a\" d=\"M",
+    }
+}
+
+/// Where the tip of an arrow shows to.
+#[derive(Clone, Copy, PartialEq, Eq)]
+pub enum Tip {
+    Right,
+    Up,
+    Down,
+    /// Down, and smaller.
+    Small,
+}
+
+/// How long a tip is.
+pub const TIP: u64 = 9;
+
+/// The tip of an arrow, with its point here. It is drawn as any other shape is: not all that shows SVG has markers.
+pub(crate) fn put_tip(
+    canvas: &mut Canvas,
+    at: Point,
+    tip: Tip,
+    kind: Kind,
+) -> Result<(), AllocError> {
+    let (x, y) = (at.x, at.y);
+    let (left, top, shape) = match tip {
+        Tip::Right => (
+            x.saturating_sub(TIP),
+            y.saturating_sub(5),
+            "v10l9 -5z\"/>\n",
+        ),
+        Tip::Up => (
+            x.saturating_sub(5),
+            y.saturating_add(TIP),
+            "h10l-5 -9z\"/>\n",
+        ),
+        Tip::Down => (
+            x.saturating_sub(5),
+            y.saturating_sub(TIP),
+            "h10l-5 9z\"/>\n",
+        ),
+        Tip::Small => (x.saturating_sub(3), y.saturating_sub(7), "h6l-3 7z\"/>\n"),
+    };
+    canvas.put(&[
+        Part::Markup(fill_of_tip(kind)),
+        Part::Number(left),
+        Part::Markup(" "),
+        Part::Number(top),
+        Part::Markup(shape),
+    ])
 }
 
 /// The name of a kind of conflict.
@@ -40,27 +100,110 @@ pub fn put_label(canvas: &mut Canvas, kind: Kind, site: u64, item: &Item) -> Res
     ])
 }
 
+/// A plus, where an increment is in the conflict.
+fn put_plus(canvas: &mut Canvas, is_increment: bool) -> Result<(), AllocError> {
+    if is_increment {
+        canvas.put(&[Part::Markup("+")])?;
+    }
+    Ok(())
+}
+
+/// The label of a step: `rw 0.x`, and a plus for an increment.
+pub(crate) fn put_step_label(
+    canvas: &mut Canvas,
+    step: &Step,
+    is_increment: bool,
+) -> Result<(), AllocError> {
+    let label = &step.label;
+    let site = u64::from(label.site.number());
+    put_label(canvas, label.kind, site, &label.item)?;
+    put_plus(canvas, is_increment)
+}
+
+/// The label of an edge: `wr 0.x`, a plus for an increment, and how many more there are.
+pub(crate) fn put_edge_label(canvas: &mut Canvas, edge: &Edge) -> Result<(), AllocError> {
+    put_label(canvas, edge.kind, edge.site, &edge.item)?;
+    put_plus(canvas, edge.is_increment)?;
+    if edge.more > 0 {
+        canvas.put(&[
+            Part::Markup(" and "),
+            Part::Number(edge.more),
+            Part::Markup(" more"),
+        ])?;
+    }
+    Ok(())
+}
+
+/// How many digits a number has.
+fn digits_of(number: u64) -> u64 {
+    let mut count = 1u64;
+    let mut rest = number / 10;
+    for _ in 0..20u8 {
+        if rest == 0 {
+            return count;
+        }
+        count = count.saturating_add(1);
+        rest /= 10;
+    }
+    count
+}
+
+/// The number that the first two digits of a number are.
+fn first_two_of(number: u64) -> u64 {
+    let mut front = number;
+    for _ in 0..20u8 {
+        if front < 100 {
+            return front;
+        }
+        front /= 10;
+    }
+    front
+}
+
+/// How wide a conflict's kind, site and item are, and a plus.
+pub(crate) fn conflict_width(site: u64, item: &Item) -> u64 {
+    let letters = (item.as_bytes().len() as u64).saturating_add(5);
+    letters
+        .saturating_add(digits_of(site))
+        .saturating_mul(LETTER)
+}
+
+/// How wide the label of an edge is.
+pub(crate) fn label_width(edge: &Edge) -> u64 {
+    let more = if edge.more > 0 {
+        digits_of(edge.more)
+            .saturating_add(10)
+            .saturating_mul(LETTER)
+    } else {
+        0
+    };
+    conflict_width(edge.site, &edge.item).saturating_add(more)
+}
+
 /// What became of a transaction.
 #[derive(Clone, Copy, PartialEq, Eq)]
 pub enum Fate {
     Committed,
+    /// Committed, and asked for.
+    Asked,
     Refused,
     Withdrawn,
 }
 
 fn fill_of(fate: Fate) -> &'static str {
     match fate {
-        Fate::Committed => " fill=\"#e8f0f8\" stroke=\"#333333\"",
-        Fate::Refused => " fill=\"#ffd9d0\" stroke=\"#a00000\" stroke-width=\"2\"",
-        Fate::Withdrawn => " fill=\"#dddddd\" stroke=\"#888888\" stroke-dasharray=\"3 2\"",
+        Fate::Committed => " fill=\"#e8f0f8\" stroke=\"#333333\"/>",
+        Fate::Asked => " fill=\"#fff2cc\" stroke=\"#333333\" stroke-width=\"2\"/>",
+        Fate::Refused => " fill=\"#ffd9d0\" stroke=\"#a00000\" stroke-width=\"2\"/>",
+        Fate::Withdrawn => " fill=\"#dddddd\" stroke=\"#888888\" stroke-dasharray=\"3 2\"/>",
     }
 }
 
 fn fate_name(fate: Fate) -> &'static str {
     match fate {
-        Fate::Committed => ", committed",
-        Fate::Refused => ", refused",
-        Fate::Withdrawn => ", withdrawn",
+        Fate::Committed | Fate::Asked => ", committed</title>",
+        Fate::Refused => ", refused</title>",
+        Fate::Withdrawn => ", withdrawn</title>",
     }
 }
 
@@ -97,45 +240,68 @@ pub(crate) fn put_left(canvas: &mut Canvas, at: Point, parts: &[Part]) -> Result
     canvas.put(&[Part::Markup("</text>\n")])
 }
 
-/// A transaction as a box with its number, or as a dot.
+/// A number with its middle at this point. Where it has more digits than there is room for, the first two stand
+/// there, an ellipsis, and the last two.
+pub(crate) fn put_number(
+    canvas: &mut Canvas,
+    at: Point,
+    number: u64,
+    room: u64,
+) -> Result<(), AllocError> {
+    if digits_of(number) <= room.max(4) {
+        return put_text(canvas, at, &[Part::Number(number)]);
+    }
+    put_text(
+        canvas,
+        at,
+        &[
+            Part::Number(first_two_of(number)),
+            Part::Markup("&#8230;"),
+            Part::Number(number / 10 % 10),
+            Part::Number(number % 10),
+        ],
+    )
+}
+
+/// A transaction as a box of this half width with its number; as a dot where that is no wider than one.
 pub(crate) fn put_node(
     canvas: &mut Canvas,
     at: Point,
     tx: Tx,
     fate: Fate,
-    is_named: bool,
+    half: u64,
 ) -> Result<(), AllocError> {
-    let number = Part::Number(u64::from(tx.number()));
-    if is_named {
-        canvas.put(&[
-            Part::Markup("<g><rect width=\"76\" height=\"24\" rx=\"5\" x=\""),
-            Part::Number(at.x.saturating_sub(38)),
-            Part::Markup("\" y=\""),
-            Part::Number(at.y.saturating_sub(12)),
-        ])?;
-    } else {
-        canvas.put(&[
-            Part::Markup("<g><circle r=\"4\" cx=\""),
+    let number = u64::from(tx.number());
+    canvas.put(&[
+        Part::Markup("<g><title>transaction "),
+        Part::Number(number),
+        Part::Markup(fate_name(fate)),
+    ])?;
+    if half <= 4 {
+        return canvas.put(&[
+            Part::Markup("<circle r=\"3\" cx=\""),
             Part::Number(at.x),
             Part::Markup("\" cy=\""),
             Part::Number(at.y),
-        ])?;
+            Part::Markup("\""),
+            Part::Markup(fill_of(fate)),
+            Part::Markup("</g>\n"),
+        ]);
     }
     canvas.put(&[
+        Part::Markup("<rect height=\"24\" rx=\"5\" width=\""),
+        Part::Number(half.saturating_mul(2)),
+        Part::Markup("\" x=\""),
+        Part::Number(at.x.saturating_sub(half)),
+        Part::Markup("\" y=\""),
+        Part::Number(at.y.saturating_sub(12)),
         Part::Markup("\""),
         Part::Markup(fill_of(fate)),
-        Part::Markup("><title>transaction "),
-        number,
-        Part::Markup(fate_name(fate)),
-        Part::Markup("</title>"),
-        Part::Markup(if is_named { "</rect>" } else { "</circle>" }),
     ])?;
-    if is_named {
-        let middle = Point {
-            x: at.x,
-            y: at.y.saturating_add(4),
-        };
-        put_text(canvas, middle, &[number])?;
-    }
+    let middle = Point {
+        x: at.x,
+        y: at.y.saturating_add(4),
+    };
+    put_number(canvas, middle, number, half.saturating_mul(2) / LETTER)?;
     canvas.put(&[Part::Markup("</g>\n")])
 }

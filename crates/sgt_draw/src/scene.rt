@@ -5,7 +5,7 @@ use sgt_names::Tx;
 use std::alloc::{AllocError, Global};
 
 /// So many transactions of each fate are drawn at most.
-const MOST_DRAWN: u32 = 200;
+pub const MOST_DRAWN: u32 = 200;
 
 /// A transaction with a number: its rank, its place in the row, or the number of its decision.
 #[derive(Clone, Copy)]
@@ -52,23 +52,23 @@ impl Scene {
     }
 
     /// One more decision, of this number.
-    fn add(&mut self, number: u32, decision: &Decision) -> Result<(), AllocError> {
+    fn add(&mut self, number: u32, decision: &Decision, most: u32) -> Result<(), AllocError> {
         let tx = decision.tx();
         match decision {
             Decision::Commit { rank, .. } => {
                 self.counts.committed = self.counts.committed.saturating_add(1);
-                if *rank < MOST_DRAWN {
+                if *rank < most {
                     self.committed.push(Numbered { tx, number: *rank })?;
                 }
             }
             Decision::Refuse { .. } => {
-                if self.counts.refused < MOST_DRAWN {
+                if self.counts.refused < most {
                     self.refusals.push(number)?;
                 }
                 self.counts.refused = self.counts.refused.saturating_add(1);
             }
             Decision::Withdraw { .. } => {
-                if self.counts.withdrawn < MOST_DRAWN {
+                if self.counts.withdrawn < most {
                     self.withdrawn.push(tx)?;
                 }
                 self.counts.withdrawn = self.counts.withdrawn.saturating_add(1);
@@ -77,24 +77,47 @@ impl Scene {
         Ok(())
     }
 
-    /// What is drawn of these decisions.
-    pub(crate) fn of(alloc: Global, decisions: &[Decision]) -> Result<Scene, AllocError> {
-        let mut scene = Scene::new(alloc);
-        let mut number = 0u32;
-        for decision in decisions {
-            scene.add(number, decision)?;
-            number = number.saturating_add(1);
-        }
-        scene.committed.sort_by_key(|one| one.number)?;
+    /// Puts the committed ones by rank, and notes their places.
+    fn settle(&mut self) -> Result<(), AllocError> {
+        self.committed.sort_by_key(|one| one.number)?;
         let mut place = 0u32;
-        for one in scene.committed.as_slice() {
-            scene.places.push(Numbered {
+        for one in self.committed.as_slice() {
+            self.places.push(Numbered {
                 tx: one.tx,
                 number: place,
             })?;
             place = place.saturating_add(1);
         }
-        scene.places.sort_by_key(|one| one.tx.number())?;
+        self.places.sort_by_key(|one| one.tx.number())?;
+        Ok(())
+    }
+
+    /// What these decisions are of, with the first ranks and the first transactions of other fates, so many of each.
+    pub(crate) fn of(
+        alloc: Global,
+        decisions: &[Decision],
+        most: u32,
+    ) -> Result<Scene, AllocError> {
+        let mut scene = Scene::new(alloc);
+        let mut number = 0u32;
+        for decision in decisions {
+            scene.add(number, decision, most)?;
+            number = number.saturating_add(1);
+        }
+        scene.settle()?;
+        Ok(scene)
+    }
+
+    /// The transactions at these places alone.
+    pub(crate) fn only(&self, alloc: Global, places: &[u32]) -> Result<Scene, AllocError> {
+        let mut scene = Scene::new(alloc);
+        for place in places {
+            if let Some(one) = self.committed.get(*place as usize) {
+                scene.committed.push(*one)?;
+                scene.counts.committed = scene.counts.committed.saturating_add(1);
+            }
+        }
+        scene.settle()?;
         Ok(scene)
     }
 

@@ -4,7 +4,7 @@ use Rattle.std.proofs.lemmas.List.{map_push, take_all}
 use Rattle.std.proofs.lemmas.Option.{slice_get-get_or}
 use Rattle.sgt_names.proofs.Lists.{take_next}
 use Rattle.sgt_history_picture.specs.Drawn.{AreDrawn, IsHeaded}
-use Rattle.sgt_history_picture.specs.Label.{box_text, headline_text, title_text, words_text}
+use Rattle.sgt_history_picture.specs.Label.{box_text, headline_text, name_text, title_text, words_text}
 use Rattle.sgt_history_picture.specs.Private.{ArePut, Grows, IsPut, IsQuiet}
 use Rattle.sgt_history_picture.specs.Told.{Step, step_of}
 use Rattle.sgt_history_picture.specs.declared.told.Told.{Told}
@@ -22,38 +22,49 @@ grows-on old between new (a, is, quiet) (b, is', quiet') = (
 )
 
 -- a step, piece by piece
-pub put : (s : Step) (old framed named arrowed titled gapped new : List ℕ) → Grows old framed
-    → named ≡ framed ++ box_text s.from → Grows named arrowed
-    → titled ≡ arrowed ++ title_text s → Grows titled gapped → new ≡ gapped ++ words_text s → IsPut s old new
-put s old framed named arrowed titled gapped new (front, is0, q0) is1 (arrow, is2, q2) is3 (gap, is4, q4) is5 = record {
+pub put : (s : Step) (old begun named framed boxed linked titled arrowed new : List ℕ) → Grows old begun
+    → named ≡ begun ++ name_text s.from → Grows named framed → boxed ≡ framed ++ box_text s.from → Grows boxed linked
+    → titled ≡ linked ++ title_text s → Grows titled arrowed → new ≡ arrowed ++ words_text s → IsPut s old new
+put s old begun named framed boxed linked titled arrowed new (front, is0, q0) is1 (frame, is2, q2) is3 (link, is4, q4) is5 (arrow, is6, q6) is7 = record {
   front = front;
+  frame = frame;
+  link = link;
   arrow = arrow;
-  gap = gap;
-  is = is5 ∙ ap (λ (t : List ℕ). t ++ words_text s) (is4
-      ∙ ap (λ (t : List ℕ). t ++ gap) (is3 ∙ ap (λ (t : List ℕ). t ++ title_text s)
-      (is2 ∙ ap (λ (t : List ℕ). t ++ arrow) (is1 ∙ ap (λ (t : List ℕ). t ++ box_text s.from) is0))))
-      ∙ regroup old front (box_text s.from) arrow (title_text s) gap (words_text s);
+  is = is7 ∙ ap (λ (t : List ℕ). t ++ words_text s) (is6
+      ∙ ap (λ (t : List ℕ). t ++ arrow) (is5 ∙ ap (λ (t : List ℕ). t ++ title_text s) (is4
+      ∙ ap (λ (t : List ℕ). t ++ link) (is3 ∙ ap (λ (t : List ℕ). t ++ box_text s.from)
+      (is2 ∙ ap (λ (t : List ℕ). t ++ frame) (is1 ∙ ap (λ (t : List ℕ). t ++ name_text s.from) is0))))))
+      ∙ regroup old front (name_text s.from) frame (box_text s.from) link (title_text s) arrow (words_text s);
   quiet_front = q0;
-  quiet_arrow = q2;
-  quiet_gap = q4;
+  quiet_frame = q2;
+  quiet_link = q4;
+  quiet_arrow = q6;
 }
   where
-    regroup : (a b c d e f g : List ℕ)
-        → (((((a ++ b) ++ c) ++ d) ++ e) ++ f) ++ g ≡ a ++ (b ++ (c ++ (d ++ (e ++ (f ++ g)))))
-    regroup a b c d e f g = simp append_assoc
+    regroup : (a b c d e f g h i : List ℕ)
+        → (((((((a ++ b) ++ c) ++ d) ++ e) ++ f) ++ g) ++ h) ++ i
+        ≡ a ++ (b ++ (c ++ (d ++ (e ++ (f ++ (g ++ (h ++ i)))))))
+    regroup a b c d e f g h i = simp append_assoc
+
+-- what stands behind the first piece of a step
+piece_of : (s : Step) (frame link arrow : List ℕ) → List ℕ
+piece_of s frame link arrow =
+    name_text s.from ++ (frame ++ (box_text s.from ++ (link ++ (title_text s ++ (arrow ++ words_text s)))))
 
 -- what is quiet may stand in front of a step
 put-front : (s : Step) (old between new : List ℕ) → Grows old between → IsPut s between new → IsPut s old new
 put-front s old between new (rest, is, quiet) p =
-    let piece = box_text s.from ++ (p.arrow ++ (title_text s ++ (p.gap ++ words_text s))) in record {
+    let piece = piece_of s p.frame p.link p.arrow in record {
       front = rest ++ p.front;
+      frame = p.frame;
+      link = p.link;
       arrow = p.arrow;
-      gap = p.gap;
       is = p.is ∙ ap (λ (t : List ℕ). t ++ (p.front ++ piece)) is ∙ append_assoc old rest (p.front ++ piece)
           ∙ ap (λ (t : List ℕ). old ++ t) (sym (append_assoc rest p.front piece));
       quiet_front = quiet-append rest p.front quiet p.quiet_front;
+      quiet_frame = p.quiet_frame;
+      quiet_link = p.quiet_link;
       quiet_arrow = p.quiet_arrow;
-      quiet_gap = p.quiet_gap;
     }
 
 pub none-put : (text : List ℕ) → ArePut [] text text
@@ -103,24 +114,27 @@ drawn-behind : (steps : List Step) (old new : List ℕ) → ArePut steps old new
 drawn-behind [] old new (rest, is, quiet) = (rest, is, no-title rest quiet)
 drawn-behind (s ∷ steps) old new (between, p, more) =
     let h = drawn-behind steps between new more in (
-      (p.front ++ (box_text s.from ++ (p.arrow ++ (title_text s ++ (p.gap ++ words_text s))))) ++ h.0,
+      (p.front ++ piece_of s p.frame p.link p.arrow) ++ h.0,
       h.1 ∙ ap (λ (t : List ℕ). t ++ h.0) p.is ∙ append_assoc old _ h.0,
       (
         p.front,
+        p.frame,
+        p.link,
         p.arrow,
-        p.gap,
         h.0,
-        regroup p.front (box_text s.from) p.arrow (title_text s) p.gap (words_text s) h.0,
+        regroup p.front (name_text s.from) p.frame (box_text s.from) p.link (title_text s) p.arrow (words_text s) h.0,
         no-title p.front p.quiet_front,
+        no-title p.frame p.quiet_frame,
+        no-title p.link p.quiet_link,
         no-title p.arrow p.quiet_arrow,
-        no-title p.gap p.quiet_gap,
         h.2,
       ),
     )
   where
-    regroup : (a b c d e f g : List ℕ)
-        → (a ++ (b ++ (c ++ (d ++ (e ++ f))))) ++ g ≡ a ++ (b ++ (c ++ (d ++ (e ++ (f ++ g)))))
-    regroup a b c d e f g = simp append_assoc
+    regroup : (a b c d e f g h i : List ℕ)
+        → (a ++ (b ++ (c ++ (d ++ (e ++ (f ++ (g ++ h))))))) ++ i
+        ≡ a ++ (b ++ (c ++ (d ++ (e ++ (f ++ (g ++ (h ++ i)))))))
+    regroup a b c d e f g h i = simp append_assoc
 
 pub drawn : (steps : List Step) (text : List ℕ) → ArePut steps [] text → AreDrawn text steps
 drawn steps text are = let h = drawn-behind steps [] text are in subst (λ (t : List ℕ). AreDrawn t steps) (sym h.1) h.2

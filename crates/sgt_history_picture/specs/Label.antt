@@ -1,6 +1,7 @@
 -- How a step of a cycle is written in a picture. What isn't markup is escaped.
 use Rattle.std.specs.Prelude.{ℕ, List, ◌++◌, codes}
 use Rattle.sgt_draw.specs.Escaped.{escaped}
+use Rattle.sgt_history_picture.specs.Short.{shown}
 use Rattle.sgt_history_picture.specs.Told.{Step, kind_text}
 
 -- its line
@@ -11,14 +12,18 @@ label_text s = escaped s.from ++ (codes " " ++ (kind_text s.kind ++ (codes " " +
 abbrev pub headline_text : List ℕ → List ℕ
 headline_text name = codes ">" ++ (escaped name ++ codes ": each stands before the next in every order</text>\n")
 
--- the name in the box of its first transaction
-abbrev pub box_text : List ℕ → List ℕ
-box_text name = codes ">" ++ (escaped name ++ codes "</text>")
+-- the title of the box of its first transaction: the whole name
+abbrev pub name_text : List ℕ → List ℕ
+name_text name = codes "<title>" ++ (escaped name ++ codes "</title>")
 
--- the title of its arrow
+-- the name in that box: all of it up to 36 bytes
+abbrev pub box_text : List ℕ → List ℕ
+box_text name = codes ">" ++ (shown 18 18 name ++ codes "</text></g>")
+
+-- the title of its arrow: the whole line
 abbrev pub title_text : Step → List ℕ
 title_text s = codes "<title>" ++ (label_text s ++ codes "</title>")
 
--- the words beside its arrow: the kind, and what shows it
+-- the words beside its arrow: the kind, and what shows it, all of it up to 104 bytes
 abbrev pub words_text : Step → List ℕ
-words_text s = codes ">" ++ (kind_text s.kind ++ (codes " " ++ (escaped s.about ++ codes "</text>")))
+words_text s = codes ">" ++ (kind_text s.kind ++ (codes " " ++ (shown 40 64 s.about ++ codes "</text></g>")))

@@ -1,5 +1,6 @@
 pub mod Drawn
 pub mod Label
 pub mod Private
+pub mod Short
 pub mod Told
 pub mod Words

@@ -1,6 +1,6 @@
 -- A picture as far as it is made.
 use Rattle.std.specs.Prelude.{◌≡◌, ◌==◌, ℕ, List, [], ◌∷◌, ◌++◌, if◌then◌else◌}
-use Rattle.sgt_history_picture.specs.Label.{box_text, title_text, words_text}
+use Rattle.sgt_history_picture.specs.Label.{box_text, name_text, title_text, words_text}
 use Rattle.sgt_history_picture.specs.Told.{Step}
 
 -- how much of `<ti` a text ends with, or that it stands somewhere in it
@@ -31,12 +31,15 @@ Grows old new = (rest : List ℕ) × (new ≡ old ++ rest) × IsQuiet rest
 -- the step stands there
 pub record IsPut (s : Step) (old new : List ℕ) : Type 0 where
   pub front : List ℕ
+  pub frame : List ℕ
+  pub link : List ℕ
   pub arrow : List ℕ
-  pub gap : List ℕ
-  pub is : new ≡ old ++ (front ++ (box_text s.from ++ (arrow ++ (title_text s ++ (gap ++ words_text s)))))
+  pub is : new ≡ old ++ (front ++ (name_text s.from ++ (frame ++ (box_text s.from ++ (link ++ (title_text s ++ (arrow
+      ++ words_text s)))))))
   pub quiet_front : IsQuiet front
+  pub quiet_frame : IsQuiet frame
+  pub quiet_link : IsQuiet link
   pub quiet_arrow : IsQuiet arrow
-  pub quiet_gap : IsQuiet gap
 
 -- these steps stand there, and what is quiet behind them
 abbrev pub ArePut : List Step → (old new : List ℕ) → Type 0

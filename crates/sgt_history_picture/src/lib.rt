@@ -4,6 +4,7 @@
 mod cycle;
 mod picture;
 mod places;
+mod short;
 mod told;
 mod word;
 

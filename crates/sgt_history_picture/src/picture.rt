@@ -4,26 +4,48 @@
 ghost use Rattle.std.specs.Prelude.{◌≡◌, ◌++◌, List, ℕ, IfNone, IfOk, IfSome, OnOk, map};
 ghost use Rattle.sgt_draw.specs.Picture.{IsPicture};
 ghost use Rattle.sgt_history_picture.specs.Drawn.{AreDrawn, IsHeaded, IsPictureOf};
-ghost use Rattle.sgt_history_picture.specs.Label.{box_text, headline_text, title_text, words_text};
+ghost use Rattle.sgt_history_picture.specs.Label.{box_text, headline_text, name_text, title_text, words_text};
 ghost use Rattle.sgt_history_picture.specs.Private.{ArePut, Grows, IsPut, IsQuiet};
 ghost use Rattle.sgt_history_picture.specs.Told.{IsCycleTold, Step, kind_text, step_of};
 
 use crate::cycle::{Cycle, cycle_in};
-use crate::places::{HIGH, box_width, height, top_of, width};
+use crate::places::{HIGH, WORDS, box_width, height, top_of, width};
+use crate::short::put_shown;
 use crate::told::{Kind, Told};
 use sgt_draw::{Canvas, Part};
 use std::alloc::{AllocError, Global};
 
-/// What a kind looks like; the first three as `sgt draw` has them.
-fn stroke_of(kind: Kind) -> &'static str
+/// What ends the line of an arrow and begins its tip. The first three kinds look as `sgt draw` has them.
+fn tip_of(kind: Kind) -> &'static str
     ensures { IsQuiet result.now }
 {
     match kind {
-        Kind::WriteRead => "\" fill=\"none\" stroke=\"#0072b2\">",
-        Kind::ReadWrite => "\" fill=\"none\" stroke=\"#d55e00\" stroke-dasharray=\"8 4\">",
-        Kind::WriteWrite => "\" fill=\"none\" stroke=\"#007a5a\" stroke-dasharray=\"2 3\">",
-        Kind::Session => "\" fill=\"none\" stroke=\"#7b3294\" stroke-dasharray=\"10 3 2 3\">",
-        Kind::Moment => "\" fill=\"none\" stroke=\"#555555\" stroke-dasharray=\"5 2\">",
+        Kind::WriteRead => "\" fill=\"none\" stroke=\"#0072b2\"/><path fill=\"#0072b2\" d=\"M",
+        Kind::ReadWrite => {
+            "\" fill=\"none\" stroke=\"#d55e00\" stroke-dasharray=\"8 4\"/><path fill=\"#d55e00\" d=\"M"
+        }
+        Kind::WriteWrite => {
+            "\" fill=\"none\" stroke=\"#007a5a\" stroke-dasharray=\"2 3\"/><path fill=\"#007a5a\" d=\"M"
+        }
+        Kind::Session => {
+            "\" fill=\"none\" stroke=\"#7b3294\" stroke-dasharray=\"10 3 2 3\"/><path fill=\"#7b3294\" d=\"M"
+        }
+        Kind::Moment => {
+            "\" fill=\"none\" stroke=\"#555555\" stroke-dasharray=\"5 2\"/><path fill=\"#555555\" d=\"M"
+        }
+    }
+}
+
+/// What a kind means.
+fn meaning_of(kind: Kind) -> &'static str
+    ensures { IsQuiet result.now }
+{
+    match kind {
+        Kind::WriteWrite => "\">ww: write, next write</text>\n",
+        Kind::WriteRead => "\">wr: write, read</text>\n",
+        Kind::ReadWrite => "\">rw: read, next write</text>\n",
+        Kind::Session => "\">po: one session</text>\n",
+        Kind::Moment => "\">rt: done before the other begins</text>",
     }
 }
 
@@ -55,12 +77,6 @@ fn put_head(canvas: &mut Canvas, size: (u64, u64)) -> Result<(), AllocError>
         Part::Markup(" "),
         Part::Number(height),
         Part::Markup("\" font-family=\"monospace\" font-size=\"11\">\n"),
-        Part::Markup(
-            "<defs><marker id=\"to\" viewBox=\"0 0 10 10\" refX=\"9\" refY=\"5\" markerUnits=\"userSpaceOnUse\" ",
-        ),
-        Part::Markup(
-            "markerWidth=\"11\" markerHeight=\"11\" orient=\"auto\"><path d=\"M0 0L10 5L0 10z\"/></marker></defs>\n",
-        ),
         Part::Markup("<rect width=\"100%\" height=\"100%\" fill=\"#ffffff\"/>\n"),
         Part::Markup("<text x=\"20\" y=\"22\""),
     ])
@@ -77,26 +93,66 @@ fn put_headline(canvas: &mut Canvas, name: &[u8]) -> Result<(), AllocError>
     ])
 }
 
-/// What the kinds are.
-fn put_kinds(canvas: &mut Canvas) -> Result<(), AllocError>
+/// An arrow of a kind, and what that means.
+fn put_sample(canvas: &mut Canvas, at: (u64, u64), kind: Kind) -> Result<(), AllocError>
     ensures { OnOk result (Grows canvas.old canvas.new) }
 {
+    let (x, y) = at;
     canvas.put(&[
-        Part::Markup("<text x=\"20\" y=\"42\">ww: write, next write; wr: write, read; "),
-        Part::Markup(
-            "rw: read, next write; po: one session; rt: done before the other begins</text>",
-        ),
+        Part::Markup("<path stroke-width=\"2.5\" d=\"M"),
+        Part::Number(x),
+        Part::Markup(" "),
+        Part::Number(y),
+        Part::Markup("h25"),
+        Part::Markup(tip_of(kind)),
+        Part::Number(x.saturating_add(25)),
+        Part::Markup(" "),
+        Part::Number(y.saturating_sub(5)),
+        Part::Markup("v10l9 -5z\"/><text x=\""),
+        Part::Number(x.saturating_add(42)),
+        Part::Markup("\" y=\""),
+        Part::Number(y.saturating_add(4)),
+        Part::Markup(meaning_of(kind)),
     ])
 }
 
-/// The box of a transaction, as far as its id.
-fn put_box(canvas: &mut Canvas, at: (u64, u64)) -> Result<(), AllocError>
+/// What the kinds look like, and mean.
+fn put_kinds(canvas: &mut Canvas) -> Result<(), AllocError>
+    ensures { OnOk result (Grows canvas.old canvas.new) }
+{
+    put_sample(canvas, (20, 42), Kind::WriteWrite)?;
+    put_sample(canvas, (236, 42), Kind::WriteRead)?;
+    put_sample(canvas, (420, 42), Kind::ReadWrite)?;
+    put_sample(canvas, (20, 62), Kind::Session)?;
+    put_sample(canvas, (236, 62), Kind::Moment)
+}
+
+/// Where a box or an arrow begins.
+fn put_begin(canvas: &mut Canvas) -> Result<(), AllocError>
+    ensures { OnOk result (Grows canvas.old canvas.new) }
+{
+    canvas.put(&[Part::Markup("\n<g>")])
+}
+
+/// The whole name of a transaction. It is shown where its box is pointed at.
+fn put_name(canvas: &mut Canvas, name: &[u8]) -> Result<(), AllocError>
+    ensures { OnOk result (canvas.new ≡ canvas.old ++ name_text name.now) }
+{
+    canvas.put(&[
+        Part::Markup("<title>"),
+        Part::Name(name),
+        Part::Markup("</title>"),
+    ])
+}
+
+/// The box of a transaction, as far as its name.
+fn put_frame(canvas: &mut Canvas, at: (u64, u64)) -> Result<(), AllocError>
     ensures { OnOk result (Grows canvas.old canvas.new) }
 {
     let (top, boxes) = at;
     canvas.put(&[
         Part::Markup(
-            "\n<rect rx=\"5\" fill=\"#e8f0f8\" stroke=\"#333333\" height=\"26\" x=\"60\" width=\"",
+            "<rect rx=\"5\" fill=\"#e8f0f8\" stroke=\"#333333\" height=\"26\" x=\"60\" width=\"",
         ),
         Part::Number(boxes),
         Part::Markup("\" y=\""),
@@ -107,51 +163,16 @@ fn put_box(canvas: &mut Canvas, at: (u64, u64)) -> Result<(), AllocError>
     ])
 }
 
-/// The id in a box.
-fn put_id(canvas: &mut Canvas, id: &[u8]) -> Result<(), AllocError>
-    ensures { OnOk result (canvas.new ≡ canvas.old ++ box_text id.now) }
+/// The name in a box.
+fn put_box(canvas: &mut Canvas, name: &[u8]) -> Result<(), AllocError>
+    ensures { OnOk result (canvas.new ≡ canvas.old ++ box_text name.now) }
 {
-    canvas.put(&[Part::Markup(">"), Part::Name(id), Part::Markup("</text>")])
+    canvas.put(&[Part::Markup(">")])?;
+    put_shown(canvas, name, 18, 18)?;
+    canvas.put(&[Part::Markup("</text></g>")])
 }
 
-/// The path of a step down to the next box, as far as its title.
-fn put_down(canvas: &mut Canvas, top: u64, kind: Kind) -> Result<(), AllocError>
-    ensures { OnOk result (Grows canvas.old canvas.new) }
-{
-    canvas.put(&[
-        Part::Markup("\n<path stroke-width=\"2.5\" marker-end=\"url(#to)\" d=\"M90 "),
-        Part::Number(top.saturating_add(HIGH)),
-        Part::Markup("v38"),
-        Part::Markup(stroke_of(kind)),
-    ])
-}
-
-/// The path of the last step, back to the first box.
-fn put_back(canvas: &mut Canvas, top: u64, kind: Kind) -> Result<(), AllocError>
-    ensures { OnOk result (Grows canvas.old canvas.new) }
-{
-    canvas.put(&[
-        Part::Markup("\n<path stroke-width=\"2.5\" marker-end=\"url(#to)\" d=\"M60 "),
-        Part::Number(top.saturating_add(HIGH / 2)),
-        Part::Markup("H24V"),
-        Part::Number(top_of(0).saturating_add(HIGH / 2)),
-        Part::Markup("H58"),
-        Part::Markup(stroke_of(kind)),
-    ])
-}
-
-/// The path of a step.
-fn put_path(canvas: &mut Canvas, top: u64, kind: Kind, is_last: bool) -> Result<(), AllocError>
-    ensures { OnOk result (Grows canvas.old canvas.new) }
-{
-    if is_last {
-        put_back(canvas, top, kind)
-    } else {
-        put_down(canvas, top, kind)
-    }
-}
-
-/// The step, as its line tells it. It is shown where the arrow is pointed at.
+/// The step, as its line tells it. It is shown where the arrow or its words are pointed at.
 fn put_title(canvas: &mut Canvas, step: &Told<'_>) -> Result<(), AllocError>
     ensures { OnOk result (canvas.new ≡ canvas.old ++ title_text (step_of step.now)) }
 {
@@ -168,17 +189,55 @@ fn put_title(canvas: &mut Canvas, step: &Told<'_>) -> Result<(), AllocError>
     ])
 }
 
-/// Where the words are beside an arrow, or below the last box.
-fn put_place(canvas: &mut Canvas, top: u64, is_last: bool) -> Result<(), AllocError>
+/// The arrow of a step down to the next box, and where its words are.
+fn put_down(canvas: &mut Canvas, top: u64, kind: Kind) -> Result<(), AllocError>
     ensures { OnOk result (Grows canvas.old canvas.new) }
 {
     canvas.put(&[
-        Part::Markup("</path>\n<text x=\""),
-        Part::Number(if is_last { 24 } else { 104 }),
+        Part::Markup("<path stroke-width=\"2.5\" d=\"M90 "),
+        Part::Number(top.saturating_add(HIGH)),
+        Part::Markup("v31"),
+        Part::Markup(tip_of(kind)),
+        Part::Markup("85 "),
+        Part::Number(top.saturating_add(HIGH + 31)),
+        Part::Markup("h10l-5 9z\"/><text x=\""),
+        Part::Number(WORDS),
         Part::Markup("\" y=\""),
-        Part::Number(top.saturating_add(if is_last { 46 } else { 48 })),
+        Part::Number(top.saturating_add(HIGH + 23)),
         Part::Markup("\""),
     ])
+}
+
+/// The arrow of the last step, from below its box back to the first box, and where its words are.
+fn put_back(canvas: &mut Canvas, top: u64, kind: Kind) -> Result<(), AllocError>
+    ensures { OnOk result (Grows canvas.old canvas.new) }
+{
+    canvas.put(&[
+        Part::Markup("<path stroke-width=\"2.5\" d=\"M90 "),
+        Part::Number(top.saturating_add(HIGH)),
+        Part::Markup("v18H24V"),
+        Part::Number(top_of(0).saturating_add(HIGH / 2)),
+        Part::Markup("H51"),
+        Part::Markup(tip_of(kind)),
+        Part::Markup("51 "),
+        Part::Number(top_of(0).saturating_add(HIGH / 2 - 5)),
+        Part::Markup("v10l9 -5z\"/><text x=\""),
+        Part::Number(WORDS),
+        Part::Markup("\" y=\""),
+        Part::Number(top.saturating_add(HIGH + 22)),
+        Part::Markup("\""),
+    ])
+}
+
+/// The arrow of a step.
+fn put_arrow(canvas: &mut Canvas, top: u64, kind: Kind, is_last: bool) -> Result<(), AllocError>
+    ensures { OnOk result (Grows canvas.old canvas.new) }
+{
+    if is_last {
+        put_back(canvas, top, kind)
+    } else {
+        put_down(canvas, top, kind)
+    }
 }
 
 /// The kind of a step, and what shows it.
@@ -189,9 +248,9 @@ fn put_words(canvas: &mut Canvas, step: &Told<'_>) -> Result<(), AllocError>
         Part::Markup(">"),
         Part::Markup(kind_word(step.kind)),
         Part::Markup(" "),
-        Part::Name(step.about),
-        Part::Markup("</text>"),
-    ])
+    ])?;
+    put_shown(canvas, step.about, 40, 64)?;
+    canvas.put(&[Part::Markup("</text></g>")])
 }
 
 /// A step: the box of its first transaction, and its arrow.
@@ -203,11 +262,13 @@ fn put_step(
 ) -> Result<(), AllocError>
     ensures { OnOk result (IsPut (step_of step.now) canvas.old canvas.new) }
 {
-    put_box(canvas, at)?;
-    put_id(canvas, step.from)?;
-    put_path(canvas, at.0, step.kind, is_last)?;
+    put_begin(canvas)?;
+    put_name(canvas, step.from)?;
+    put_frame(canvas, at)?;
+    put_box(canvas, step.from)?;
+    put_begin(canvas)?;
     put_title(canvas, step)?;
-    put_place(canvas, at.0, is_last)?;
+    put_arrow(canvas, at.0, step.kind, is_last)?;
     put_words(canvas, step)
 }
 
@@ -236,7 +297,7 @@ fn picture(alloc: Global, cycle: &Cycle<'_>) -> Result<Vec<u8>, AllocError>
     let mut canvas = Canvas::new(alloc, false)?;
     let steps = cycle.steps.as_slice();
     let boxes = box_width(steps);
-    put_head(&mut canvas, (width(steps, boxes), height(steps)))?;
+    put_head(&mut canvas, (width(cycle, boxes), height(steps)))?;
     put_headline(&mut canvas, cycle.name)?;
     put_kinds(&mut canvas)?;
     put_steps(&mut canvas, steps, boxes)?;

@@ -1,5 +1,7 @@
 //! Where the transactions of a cycle stand: one below the other.
 
+use crate::cycle::Cycle;
+use crate::short::shown_len;
 use crate::told::Told;
 
 /// How far two transactions are apart.
@@ -9,35 +11,39 @@ const PITCH: u64 = 66;
 pub(crate) const HIGH: u64 = 26;
 
 /// Where the words beside an arrow begin. The way back runs on the left.
-const LEFT: u64 = 104;
+pub(crate) const WORDS: u64 = 104;
 
-/// Below the headlines.
-const TOP: u64 = 64;
+/// Below the headline and the legend.
+const TOP: u64 = 84;
 
-/// The headlines fit.
-const LEAST_WIDTH: u64 = 800;
+/// The legend fits.
+const LEAST_WIDTH: u64 = 640;
+
+/// What stands behind the name in the headline, in letters.
+const BEHIND_NAME: usize = 43;
 
 /// How wide a text is, with room on both sides.
-fn wide(bytes: usize) -> u64 {
-    (bytes as u64).saturating_mul(7).saturating_add(20)
+fn wide(letters: usize) -> u64 {
+    (letters as u64).saturating_mul(7).saturating_add(20)
 }
 
-/// How wide the boxes are: the longest id fits.
+/// How wide the boxes are: the longest name that is drawn fits.
 pub(crate) fn box_width(steps: &[Told<'_>]) -> u64 {
     let mut most = 60u64;
     for step in steps {
-        most = most.max(wide(step.from.len()));
+        most = most.max(wide(shown_len(step.from, 36)));
     }
     most
 }
 
-/// How wide the picture is: the boxes fit, and the longest of the texts beside the steps.
-pub(crate) fn width(steps: &[Told<'_>], boxes: u64) -> u64 {
+/// How wide the picture is: the headline fits, the boxes, and the longest of the texts beside the steps.
+pub(crate) fn width(cycle: &Cycle<'_>, boxes: u64) -> u64 {
     let mut most = boxes;
-    for step in steps {
-        most = most.max(wide(step.about.len()).saturating_add(21));
+    for step in cycle.steps.as_slice() {
+        most = most.max(wide(shown_len(step.about, 104)).saturating_add(21));
     }
-    most.saturating_add(LEFT).max(LEAST_WIDTH)
+    let headline = wide(cycle.name.len().saturating_add(BEHIND_NAME));
+    most.saturating_add(WORDS).max(LEAST_WIDTH).max(headline)
 }
 
 /// How high the picture is.

@@ -5,5 +5,6 @@ use Rattle.sgt_history_picture.proofs.picture.put_step.Goals as goal
 
 pub returns : goal.returns
 returns c = on_ok_weaker c.put_words.result (λ words.
-    put (step_of c.args.step.now) _ _ _ _ _ _ _ c.in_ok-put_box.ensures c.in_ok-put_id.ensures
-    c.in_ok-put_path.ensures c.in_ok-put_title.ensures c.in_ok-put_place.ensures words) c.put_words.ensures
+    put (step_of c.args.step.now) _ _ _ _ _ _ _ _ _ c.in_ok-put_begin.ensures c.in_ok-put_name.ensures
+    c.in_ok-put_frame.ensures c.in_ok-put_box.ensures c.in_ok-put_begin-2.ensures c.in_ok-put_title.ensures
+    c.in_ok-put_arrow.ensures words) c.put_words.ensures
