@@ -73,7 +73,11 @@ fn edges_within(
 }
 
 /// A committed transaction with its neighbours. None of another one.
-pub(crate) fn around(alloc: Global, bundle: &Bundle, tx: Tx) -> Result<Option<Around>, AllocError> {
+pub(crate) fn neighbours_of(
+    alloc: Global,
+    bundle: &Bundle,
+    tx: Tx,
+) -> Result<Option<Around>, AllocError> {
     let whole = Scene::of(alloc, bundle.certificate().decisions(), u32::MAX)?;
     let Some(place) = whole.place_of(tx) else {
         return Ok(None);

@@ -3,7 +3,7 @@
 ghost use Rattle.std.specs.Prelude.{IfOk};
 ghost use Rattle.sgt_draw.specs.Picture.{IsPicture};
 
-use crate::around::{Around, around};
+use crate::around::{Around, neighbours_of};
 use crate::canvas::Canvas;
 use crate::cycles::Cycle;
 use crate::dot;
@@ -133,7 +133,7 @@ impl Task<'_> {
         if let Some(walk) = walk_of(self.decisions(), tx) {
             return self.put_cycle(canvas, tx, walk);
         }
-        match around(self.alloc, self.bundle, tx)? {
+        match neighbours_of(self.alloc, self.bundle, tx)? {
             Some(mut found) => self.put_around(canvas, tx, &mut found),
             None if self.is_dot => dot::put_neither(canvas, tx),
             None => svg::put_neither(canvas, tx),
