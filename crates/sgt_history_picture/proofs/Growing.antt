@@ -47,7 +47,7 @@ put s old begun named framed boxed linked titled arrowed new (front, is0, q0) is
     regroup a b c d e f g h i = simp append_assoc
 
 -- what stands behind the first piece of a step
-piece_of : (s : Step) (frame link arrow : List ℕ) → List ℕ
+abbrev piece_of : (s : Step) (frame link arrow : List ℕ) → List ℕ
 piece_of s frame link arrow =
     name_text s.from ++ (frame ++ (box_text s.from ++ (link ++ (title_text s ++ (arrow ++ words_text s)))))
 
@@ -158,3 +158,21 @@ headed steps name old titled told drawn_to text foot is (kinds, is', quiet) are 
   where
     regroup : (a b c d e : List ℕ) → (((a ++ b) ++ c) ++ d) ++ e ≡ a ++ (b ++ (c ++ (d ++ e)))
     regroup a b c d e = simp append_assoc
+
+-- ---- a text of three pieces
+
+pub joined : (old x y new a b c : List ℕ) → x ≡ old ++ a → y ≡ x ++ b → new ≡ y ++ c → new ≡ old ++ (a ++ (b ++ c))
+joined old x y new a b c is0 is1 is2 =
+    is2 ∙ ap (λ (t : List ℕ). t ++ c) (is1 ∙ ap (λ (t : List ℕ). t ++ b) is0) ∙ regroup old a b c
+  where
+    regroup : (a b c d : List ℕ) → ((a ++ b) ++ c) ++ d ≡ a ++ (b ++ (c ++ d))
+    regroup a b c d = simp append_assoc
+
+-- the first of them with a kind in it
+pub joined-kind : (old x y new word kind b c : List ℕ) → word ≡ kind
+    → x ≡ old ++ (codes ">" ++ (word ++ codes " ")) → y ≡ x ++ b → new ≡ y ++ c
+    → new ≡ old ++ (codes ">" ++ (kind ++ (codes " " ++ (b ++ c))))
+joined-kind old x y new word kind b c same is0 is1 is2 =
+    joined old x y new (codes ">" ++ (word ++ codes " ")) b c is0 is1 is2
+    ∙ ap (λ (t : List ℕ). old ++ (codes ">" ++ t)) (append_assoc word (codes " ") (b ++ c)
+    ∙ ap (λ (t : List ℕ). t ++ (codes " " ++ (b ++ c))) same)

@@ -1,6 +1,6 @@
+pub mod Characters
 pub mod Cycles
 pub mod Growing
 pub mod Quiet
-pub mod Short
 pub mod Steps
 pub mod Words

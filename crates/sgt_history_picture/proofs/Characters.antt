@@ -1,5 +1,5 @@
 -- Where characters begin.
-use Rattle.std.proofs.Common.{◌≡◌, ◌<◌, ◌-◌, ◌∙◌, ℕ, zero, suc, true, false, List, get_or, refl, sym, ap, arith}
+use Rattle.std.proofs.Common.{◌≡◌, ◌<◌, ◌-◌, ℕ, zero, suc, true, false, List, get_or, refl, arith}
 use Rattle.sgt_history_picture.specs.Short.{goes_on, start_of}
 
 -- a byte that goes on with a character is of the one that the byte before it is of
