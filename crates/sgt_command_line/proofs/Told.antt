@@ -55,7 +55,7 @@ tx_joined words w rest o e is all tx (text, says, inr joined) =
 abbrev third : List (List ℕ) → ℕ
 third words = get_or (get_or words 0 []) 2 0
 
-letter_of : (topic : Topic) → (rest : List ℕ) → topic_name topic ≡ codes "--tx=" ++ rest → ⊥
+pub letter_of : (topic : Topic) → (rest : List ℕ) → topic_name topic ≡ codes "--tx=" ++ rest → ⊥
 letter_of (Bundle fault.Format) rest e = absurd (omega (arith, ap (λ (l : List ℕ). get_or l 0 0) e))
 letter_of (Bundle f) rest e = absurd (omega (arith, ap (λ (l : List ℕ). get_or l 0 0) e))
 letter_of (Line cert_fault.NotJson) rest e = absurd (omega (arith, ap (λ (l : List ℕ). get_or l 0 0) e))

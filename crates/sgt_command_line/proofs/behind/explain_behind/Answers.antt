@@ -1,6 +1,7 @@
 use Rattle.std.proofs.Common.{◌≡◌, [], map, rules, string_bytes}
 use Rattle.sgt_command_line.specs.Words.{TellsTx}
 use Rattle.sgt_command_line.proofs.Told.{filled, mapped_some, no_explained, none_told}
+use Rattle.sgt_command_line.proofs.Topics.{rule_alone}
 use Rattle.sgt_command_line.proofs.behind.explain_behind.Goals as goal
 
 pub returns-in_err-tx_told-in-None-clause-all : goal.returns-in_err-tx_told-in-None-clause-all
@@ -10,3 +11,7 @@ returns-in_err-tx_told-in-None-clause-all c = λ choice is says.
     (filled c.args.options.now c.is_empty.result c.is_empty.ensures c.if-is_empty.false)) c.in-None.ensures.none
     (none_told c.tx_told.result (TellsTx (map string_bytes c.args.options.now)) c.in_err-tx_told-in-None.was
     c.tx_told.ensures.all) choice is says)
+
+pub returns-in-Some-clause-all : goal.returns-in-Some-clause-all
+returns-in-Some-clause-all c = λ choice is says.
+    rule_alone (map string_bytes c.args.options.now) c.in-Some.topic c.in-Some.ensures.some choice is says
