@@ -41,7 +41,7 @@ topics =
     Found anomaly.RealTimeFlow ∷ Found anomaly.RealTimeSingle ∷ Found anomaly.RealTimeItem ∷ []
 
 -- the first of these topics that has the number
-found_in : List Topic → ℕ → Option Topic
+abbrev found_in : List Topic → ℕ → Option Topic
 found_in [] n = None
 found_in (t ∷ ts) n = if nat_eq (number_of (topic_name t)) n then Some t else found_in ts n
 
