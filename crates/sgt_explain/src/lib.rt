@@ -16,4 +16,5 @@ mod topics;
 mod yeses;
 
 pub use engine::{explain, explain_topic, explain_transaction};
+pub use reading::read_all;
 pub use topics::{Anomaly, Reply, Topic};

@@ -1,0 +1,41 @@
+-- First lines: of an answer of a no, and of logs.
+use Rattle.std.proofs.Common.{◌≡◌, ◌++◌, ◌∷◌, ℕ, List, [], codes, decimal, inl, inr, refl, subst}
+use Rattle.sgt_notation.specs.Spelling.{HasNoLf}
+use Rattle.sgt_names.specs.declared.outcome.Outcome.TheVariants.{No}
+use Rattle.sgt_certify.specs.Answer.{fault_text, refusal_text, IsAnswer}
+use Rattle.sgt_explain_lines.proofs.Numbering.{line-cut}
+use Rattle.sgt_certify.specs.declared.refuting.Refusal.{Refusal}
+use Rattle.sgt_certify.specs.declared.refuting.Refusal.TheVariants.{Order, Ranks, Walk}
+use Rattle.sgt_explain_logs.specs.Explained.{AreLogs, BeginsSite}
+
+behind : (xs ys : List ℕ) → HasNoLf (xs ++ ys) → HasNoLf ys
+behind [] ys h = h
+behind (x ∷ xs) ys h = behind xs ys h.1
+
+of-refusal : (r : Refusal) (lines : List ℕ) → HasNoLf (refusal_text r ++ lines) → ⊥
+of-refusal Order lines h = (behind (codes "no order") (10 ∷ lines) h).0 refl
+of-refusal Ranks lines h = (behind (codes "no ranks") (10 ∷ lines) h).0 refl
+of-refusal Walk lines h = (behind (codes "no walk") (10 ∷ lines) h).0 refl
+
+of-fault : (line number : ℕ) → HasNoLf (fault_text line number) → ⊥
+of-fault line number h =
+    let behind-line = behind (decimal line) (codes " F" ++ (decimal number ++ codes "\n"))
+    (behind (codes "no line ") _ h) in
+    (behind (decimal number) (codes "\n") (behind (codes " F") _ behind-line)).0 refl
+
+-- an answer of a no has an LF
+pub no_has_lf : (bytes text : List ℕ) → IsAnswer bytes No text → HasNoLf text → ⊥
+no_has_lf bytes text (inl refused) h =
+    of-refusal refused.refusal refused.lines (subst HasNoLf refused.told h)
+no_has_lf bytes text (inr faulty) h =
+    of-fault faulty.line _ (subst HasNoLf faulty.told h)
+
+-- bytes without an LF are no logs
+pub no_logs : (bytes : List ℕ) → HasNoLf bytes → AreLogs bytes → ⊥
+no_logs bytes h (first, more, plain, is, site) = (behind first (10 ∷ more) (subst HasNoLf is h)).0 refl
+
+-- what stands behind the first line is one text
+pub logs_only : (bytes first more : List ℕ) → HasNoLf first → bytes ≡ first ++ 10 ∷ more → AreLogs bytes
+    → BeginsSite more
+logs_only bytes first more plain is (line, rest, other, cut, site) =
+    subst BeginsSite (line-cut line first rest more bytes other plain cut is).1 site

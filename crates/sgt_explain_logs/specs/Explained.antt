@@ -1,0 +1,48 @@
+-- What an explanation of logs writes.
+use Rattle.std.specs.Prelude.{◌≡◌, ◌⊎◌, ℕ, List, [], ◌∷◌, ◌++◌, codes, Option, IfSome}
+use Rattle.std.specs.Io.KnownBytes.{Appends}
+use Rattle.sgt_names.specs.Device.{AppendsOrForgets, WritesFront}
+use Rattle.sgt_names.specs.declared.outcome.Outcome.{Outcome}
+use Rattle.sgt_names.specs.declared.outcome.Outcome.TheVariants.{Yes, No, Unreadable}
+use Rattle.sgt_notation.specs.Spelling.{HasNoLf}
+use Rattle.sgt_certify.specs.Answer.{IsAnswer}
+
+-- the text begins the section of site 0
+abbrev pub BeginsSite : List ℕ → Type 0
+BeginsSite text = (rest : List ℕ) × (text ≡ codes "site 0\n" ++ rest)
+
+-- so does what stands behind the first line of the bytes
+abbrev pub AreLogs : List ℕ → Type 0
+AreLogs bytes = (first : List ℕ) × (behind : List ℕ) × HasNoLf first × (bytes ≡ first ++ 10 ∷ behind)
+    × BeginsSite behind
+
+-- the line is the first of the text, without its LF
+abbrev pub IsFirstLine : (text line : List ℕ) → Type 0
+IsFirstLine text line = (rest : List ℕ) × HasNoLf line × (text ≡ line ++ 10 ∷ rest)
+
+-- how the explanation of an answer of `certify` begins: of a yes with these words, of a no with the
+-- answer's first line
+abbrev pub IsHead : Outcome → (answer head : List ℕ) → Type 0
+IsHead Yes answer head = head ≡ codes "a certificate exists: "
+IsHead No answer head = (line : List ℕ) × IsFirstLine answer line × (head ≡ line ++ 10 ∷ [])
+IsHead Unreadable answer head = ⊥
+
+abbrev pub Begins : Outcome → (answer text : List ℕ) → Type 0
+Begins outcome answer text = (head : List ℕ) × (more : List ℕ) × IsHead outcome answer head
+    × (text ≡ head ++ more)
+
+-- the text that bytes are explained by: it begins as the answer of `certify` to them says, whose
+-- outcome it has
+abbrev pub IsExplained : Option (List ℕ) → Outcome → List ℕ → Type 0
+IsExplained told outcome text = (answer : List ℕ) × IfSome told (λ bytes. IsAnswer bytes outcome answer)
+    × Begins outcome answer text
+
+-- that text was written
+abbrev pub WroteExplained : (told : Option (List ℕ)) → Outcome → (old new : Option (List ℕ)) → Type 0
+WroteExplained told outcome old new = (text : List ℕ) × IsExplained told outcome text
+    × Appends old new text
+
+-- nothing was written, or a front of that text, and less than the whole
+abbrev pub WroteExplainedFront : (told old new : Option (List ℕ)) → Type 0
+WroteExplainedFront told old new = AppendsOrForgets old new []
+    ⊎ ((outcome : Outcome) × (text : List ℕ) × IsExplained told outcome text × WritesFront old new text)

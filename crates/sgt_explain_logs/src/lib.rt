@@ -1,0 +1,18 @@
+//! Logs without a certificate, explained: what `certify` answers of them, and why.
+#![tactic(auto)]
+
+mod anomaly;
+mod answer;
+mod cycles;
+mod engine;
+mod faults;
+mod logs;
+mod order;
+mod steps;
+mod telling;
+mod walk;
+mod yes;
+
+pub use answer::{Answer, are_logs, certified};
+pub use cycles::cycle_in;
+pub use engine::{explain_logs, explain_logs_transaction};
