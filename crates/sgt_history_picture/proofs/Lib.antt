@@ -1,4 +1,3 @@
-pub mod Characters
 pub mod Cycles
 pub mod Growing
 pub mod Quiet
