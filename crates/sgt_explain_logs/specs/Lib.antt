@@ -1,1 +1,2 @@
+pub mod Either
 pub mod Explained

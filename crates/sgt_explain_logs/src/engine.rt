@@ -111,7 +111,7 @@ fn answer<R: Source>(alloc: Global, reader: &mut R, asked: Option<Tx>) -> Result
 }
 
 /// Explains all that the reader gives, of which one transaction may be asked for.
-fn explain_asked<R: Source, W: Sink>(
+pub(crate) fn explain_asked<R: Source, W: Sink>(
     alloc: Global,
     asked: Option<Tx>,
     reader: &mut R,

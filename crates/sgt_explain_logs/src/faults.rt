@@ -8,7 +8,7 @@ use sgt_explain_lines::{
     push_logged, push_notation, push_numbered, push_read, push_section, push_truncated, push_twice,
     section_line_at, text_at, value_against,
 };
-use sgt_names::{Entry, Tx};
+use sgt_names::{Entry, Item, Tx, Value};
 use sgt_notation::{SectionLine, read_entry};
 use std::alloc::{AllocError, Global};
 use std::fmt::Write;
@@ -92,6 +92,25 @@ fn push_behind(out: &mut String, bytes: &[u8], line: u64) -> Result<(), AllocErr
     )
 }
 
+/// The transaction, the item and the value of a read.
+fn read_of(entry: &Entry) -> Option<(Tx, Item, Value)> {
+    match entry {
+        Entry::Read { tx, item, value } => Some((*tx, *item, *value)),
+        _ => None,
+    }
+}
+
+/// The read's value against that of its item in the section.
+fn push_read_in(out: &mut String, section: &Section, entry: &Entry) -> Result<(), AllocError> {
+    let Some((tx, item, value)) = read_of(entry) else {
+        return Ok(());
+    };
+    match value_against(section, &item, value) {
+        Some(shown) => push_read(out, tx, &shown),
+        None => Ok(()),
+    }
+}
+
 /// F10: a read of another value than the item has.
 fn push_misread(
     alloc: Global,
@@ -100,14 +119,8 @@ fn push_misread(
     line: u64,
 ) -> Result<(), AllocError> {
     let section = section_of(alloc, bytes, line)?;
-    let Some(logged) = entry_in(bytes, line) else {
-        return Ok(());
-    };
-    let Entry::Read { tx, item, value } = logged.entry else {
-        return Ok(());
-    };
-    match value_against(&section, &item, value) {
-        Some(shown) => push_read(out, tx, &shown),
+    match entry_in(bytes, line) {
+        Some(logged) => push_read_in(out, &section, &logged.entry),
         None => Ok(()),
     }
 }

@@ -4,6 +4,7 @@
 mod anomaly;
 mod answer;
 mod cycles;
+mod either;
 mod engine;
 mod faults;
 mod logs;
@@ -15,4 +16,5 @@ mod yes;
 
 pub use answer::{Answer, are_logs, certified};
 pub use cycles::cycle_in;
+pub use either::explain_either;
 pub use engine::{explain_logs, explain_logs_transaction};

@@ -170,7 +170,16 @@ fn mets_of(alloc: Global, bytes: &[u8], ends: &[Ends]) -> Result<Vec<Met>, Alloc
     let deeds = deeds_of(alloc, bytes, sorted.as_slice())?;
     let mut mets = Vec::new(alloc);
     for two in ends {
-        mets.push(met_of(deeds.as_slice(), two))?;
+        let Met {
+            along,
+            against,
+            are_committed,
+        } = met_of(deeds.as_slice(), two);
+        mets.push(Met {
+            along,
+            against,
+            are_committed,
+        })?;
     }
     Ok(mets)
 }

@@ -24,10 +24,10 @@ struct Next {
 fn nexts_of(alloc: Global, bytes: &[u8], left: &[Left]) -> Result<Vec<Next>, AllocError> {
     let mut nexts = Vec::new(alloc);
     for end in left {
-        if let Some(logged) = entry_in(bytes, end.line) {
+        if let Some(Logged { line, entry }) = entry_in(bytes, end.line) {
             nexts.push(Next {
                 site: end.site,
-                logged,
+                logged: Logged { line, entry },
             })?;
         }
     }

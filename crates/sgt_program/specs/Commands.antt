@@ -15,7 +15,7 @@ use Rattle.sgt_check.specs.declared.options.Options.{Options}
 use Rattle.sgt_check_kept.specs.Answer as keeping
 use Rattle.sgt_check_order.specs.Answer as against
 use Rattle.sgt_draw.specs.Drawn as draw
-use Rattle.sgt_explain.specs.Explained as explain
+use Rattle.sgt_explain_logs.specs.Either as explain
 use Rattle.sgt_explain.specs.Topics.{IsRuleOf, topic_name}
 use Rattle.sgt_explain.specs.declared.topics.Topic.{Topic}
 use Rattle.sgt_core.specs.Replay as replay
@@ -131,13 +131,13 @@ AnswersOrder wanted status order told written written' =
     ByStatus (λ outcome. against.WroteAnswer wanted order told outcome written written')
     (against.WroteAnswerFront wanted order told written written') status
 
--- the explanation: the line of the verdict, a yes at 0 and a no at 1, and what it means, with what
--- this transaction did, or no transaction
+-- the explanation: of logs without a certificate what `certify` answers, of all else the line of the verdict, a yes
+-- at 0 and a no at 1, and what it means, with what this transaction did, or no transaction
 abbrev pub AnswersExplain : Option ℕ → (status : ℕ) (told written written' : Option (List ℕ))
     → Type 0
 AnswersExplain asked status told written written' =
-    ByStatus (λ outcome. explain.WroteExplainedOf asked told outcome written written')
-    (explain.WroteExplainedFront told written written') status
+    ByStatus (λ outcome. explain.WroteExplanation asked told outcome written written')
+    (explain.WroteExplanationFront told written written') status
 
 -- the picture of a valid bundle at 0, and at 1 the line of a no
 abbrev pub AnswersDraw : (status : ℕ) (told written written' : Option (List ℕ)) → Type 0

@@ -17,7 +17,8 @@ use sgt_check_kept::check_kept;
 use sgt_command_line::{CheckWanted, Choice};
 use sgt_core::replay;
 use sgt_draw::{Wanted, draw};
-use sgt_explain::{explain, explain_topic, explain_transaction};
+use sgt_explain::explain_topic;
+use sgt_explain_logs::explain_either;
 use sgt_history_text::Wanted as KeptWanted;
 use sgt_names::{EngineFail, Outcome, Sink, Source, write_all};
 use sgt_serial::serial;
@@ -138,8 +139,8 @@ pub fn run_choice<H: Threads + Wait + Sync, R: Source, W: Sink>(
         Choice::Replay => replay(alloc, reader, writer),
         Choice::Certify => certify(alloc, reader, writer),
         Choice::Check(wanted) => check_by(alloc, wanted, reader, writer),
-        Choice::Explain => explain(alloc, reader, writer),
-        Choice::Transaction(tx) => explain_transaction(alloc, tx, reader, writer),
+        Choice::Explain => explain_either(alloc, None, reader, writer),
+        Choice::Transaction(tx) => explain_either(alloc, Some(tx), reader, writer),
         Choice::Rule(topic) => explain_topic(topic, writer),
         Choice::Draw => {
             let wanted = Wanted {

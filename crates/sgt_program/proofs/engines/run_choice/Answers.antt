@@ -3,7 +3,7 @@ use Rattle.std.specs.Prelude.{⊤, IfOk, OnErr}
 use Rattle.sgt_audit.specs.declared.verdict.Verdict.{Verdict}
 use Rattle.sgt_certify.specs.Answer as certify
 use Rattle.sgt_draw.specs.Drawn as draw
-use Rattle.sgt_explain.specs.Explained as explain
+use Rattle.sgt_explain_logs.specs.Either as explain
 use Rattle.sgt_core.specs.Replay as replay
 use Rattle.sgt_service.specs.Report as run
 use Rattle.sgt_program.proofs.Answered.{audit-fails, rule-answers, serial-answers, status-answers, verdict-answers}
@@ -60,20 +60,21 @@ pub returns-in-Explain-clause-answers : goal.returns-in-Explain-clause-answers
 returns-in-Explain-clause-answers g c =
     let told = g.R.Source.tells c.args.reader.now in
     let old = g.W.Sink.holds c.args.writer.now in
-    let new = g.W.Sink.holds c.explain.new.writer in
-    rw c.in-Explain.is (status-answers (λ outcome. explain.WroteExplainedOf None told outcome old new)
-    (explain.WroteExplainedFront told old new)
-    c.explain.result c.explain.ensures.asked c.explain.ensures.front)
+    let new = g.W.Sink.holds c.explain_either.new.writer in
+    rw c.in-Explain.is (status-answers (λ outcome. explain.WroteExplanation None told outcome old new)
+    (explain.WroteExplanationFront told old new)
+    c.explain_either.result c.explain_either.ensures.answer c.explain_either.ensures.front)
 
 pub returns-in-Transaction-clause-answers : goal.returns-in-Transaction-clause-answers
 returns-in-Transaction-clause-answers g c =
     let told = g.R.Source.tells c.args.reader.now in
     let old = g.W.Sink.holds c.args.writer.now in
-    let new = g.W.Sink.holds c.explain_transaction.new.writer in
+    let new = g.W.Sink.holds c.explain_either-in-Transaction.new.writer in
     rw c.in-Transaction.is
-    (status-answers (λ outcome. explain.WroteExplainedOf (Some c.in-Transaction.tx) told outcome old new)
-    (explain.WroteExplainedFront told old new)
-    c.explain_transaction.result c.explain_transaction.ensures.asked c.explain_transaction.ensures.front)
+    (status-answers (λ outcome. explain.WroteExplanation (Some c.in-Transaction.tx) told outcome old new)
+    (explain.WroteExplanationFront told old new)
+    c.explain_either-in-Transaction.result c.explain_either-in-Transaction.ensures.answer
+    c.explain_either-in-Transaction.ensures.front)
 
 pub returns-in-Rule-clause-answers : goal.returns-in-Rule-clause-answers
 returns-in-Rule-clause-answers g c =
@@ -146,16 +147,16 @@ returns-in-Run-clause-ends g c =
 
 pub returns-in-Explain-clause-ends : goal.returns-in-Explain-clause-ends
 returns-in-Explain-clause-ends g c =
-    let said = c.explain.ensures in
+    let said = c.explain_either.ensures in
     let is : command_of c.args.choice ≡ command.Explain = ap command_of c.in-Explain.is in
-    leaves c.explain.result _ _ _ _ _ _ (kept _ _ _ _ _ _ is) (λ other. inl (said.quiet_reader other))
+    leaves c.explain_either.result _ _ _ _ _ _ (kept _ _ _ _ _ _ is) (λ other. inl (said.quiet_reader other))
     said.quiet_writer said.read_fault said.write_fault said.unwritten said.untouched
 
 pub returns-in-Transaction-clause-ends : goal.returns-in-Transaction-clause-ends
 returns-in-Transaction-clause-ends g c =
-    let said = c.explain_transaction.ensures in
+    let said = c.explain_either-in-Transaction.ensures in
     let is : command_of c.args.choice ≡ command.Explain = ap command_of c.in-Transaction.is in
-    leaves c.explain_transaction.result _ _ _ _ _ _ (kept _ _ _ _ _ _ is) (λ other. inl (said.quiet_reader other))
+    leaves c.explain_either-in-Transaction.result _ _ _ _ _ _ (kept _ _ _ _ _ _ is) (λ other. inl (said.quiet_reader other))
     said.quiet_writer said.read_fault said.write_fault said.unwritten said.untouched
 
 pub returns-in-Err-clause-ends : goal.returns-in-Err-clause-ends

@@ -1,0 +1,75 @@
+//! The explanation of what is a bundle, or logs without a certificate.
+
+ghost use Rattle.std.specs.Prelude.{◌≡◌, ◌≢◌, ◌⊎◌, ◌<◌, ◌≤◌, Some, Err, length, IfOk, OnErr, IfSome, IsErrOf};
+ghost use Rattle.sgt_names.specs.Limits.{most_reads};
+ghost use Rattle.sgt_explain_logs.specs.Either.{WroteExplanation, WroteExplanationFront};
+
+use crate::answer::are_logs;
+use crate::engine::explain_asked;
+use sgt_explain::{explain, explain_transaction, read_all};
+use sgt_names::{Asks, Bytes, EngineFail, Outcome, Sink, Source, Tx};
+use std::alloc::Global;
+
+/// Explains bytes that are held, of which one transaction may be asked for.
+fn explain_held<W: Sink>(
+    alloc: Global,
+    asked: Option<Tx>,
+    bytes: &[u8],
+    writer: &mut W,
+) -> Result<Outcome, EngineFail>
+    ensures answer { IfOk result
+        (λ outcome. WroteExplanation asked (Some bytes.now) outcome (W.holds writer.old)
+        (W.holds writer.new)) }
+    ensures front { OnErr result
+        (WroteExplanationFront (Some bytes.now) (W.holds writer.old) (W.holds writer.new)) }
+    ensures unwritten { IsErrOf result EngineFail.ReadFault → writer.new ≡ writer.old }
+    ensures untouched { IsErrOf result EngineFail.Memory → writer.new ≡ writer.old }
+    ensures read_fault { IsErrOf result EngineFail.ReadFault → most_reads ≤ length bytes.now }
+    ensures write_fault { IsErrOf result EngineFail.WriteFault
+        → W.failures writer.old < W.failures writer.new }
+    ensures quiet_writer { result ≢ Err EngineFail.WriteFault
+        → W.failures writer.new ≡ W.failures writer.old }
+{
+    let mut reader = Bytes {
+        rest: bytes,
+        asks: Asks::none(),
+        last: 0,
+    };
+    if are_logs(bytes) {
+        return explain_asked(alloc, asked, &mut reader, writer);
+    }
+    match asked {
+        None => explain(alloc, &mut reader, writer),
+        Some(tx) => explain_transaction(alloc, tx, &mut reader, writer),
+    }
+}
+
+/// Explains what the reader gives: logs without a certificate, whose line 2 begins the section of site 0, by what
+/// `certify` answers of them (`explain_logs`), and all else by the auditor's verdict (`explain` of sgt_explain). One
+/// transaction may be asked for besides. The input is read whole and kept in memory, twice.
+pub fn explain_either<R: Source, W: Sink>(
+    alloc: Global,
+    asked: Option<Tx>,
+    reader: &mut R,
+    writer: &mut W,
+) -> Result<Outcome, EngineFail>
+    ensures answer { IfOk result
+        (λ outcome. WroteExplanation asked (R.tells reader.old) outcome (W.holds writer.old)
+        (W.holds writer.new)) }
+    ensures front { OnErr result
+        (WroteExplanationFront (R.tells reader.old) (W.holds writer.old) (W.holds writer.new)) }
+    ensures unwritten { IsErrOf result EngineFail.ReadFault → writer.new ≡ writer.old }
+    ensures untouched { IsErrOf result EngineFail.Memory → writer.new ≡ writer.old }
+    ensures read_fault { IsErrOf result EngineFail.ReadFault →
+        ((R.failures reader.old < R.failures reader.new)
+        ⊎ IfSome (R.tells reader.old) (λ bytes. most_reads ≤ length bytes)) }
+    ensures write_fault { IsErrOf result EngineFail.WriteFault
+        → W.failures writer.old < W.failures writer.new }
+    ensures quiet_reader { result ≢ Err EngineFail.ReadFault
+        → R.failures reader.new ≡ R.failures reader.old }
+    ensures quiet_writer { result ≢ Err EngineFail.WriteFault
+        → W.failures writer.new ≡ W.failures writer.old }
+{
+    let bytes = read_all(alloc, reader)?;
+    explain_held(alloc, asked, bytes.as_slice(), writer)
+}
