@@ -29,6 +29,7 @@ fn is_bare(text: &[u8]) -> bool {
 // What the text looks like, of which these are the first bytes and the last two.
 fn look_of(command: CommandName, text: &[u8], last: (u8, u8)) -> Option<Look> {
     let is_certify = command == CommandName::Certify;
+    let takes_logs = is_certify || command == CommandName::Explain;
     if text.starts_with(&[0x1f, 0x8b]) {
         Some(Look::Compressed)
     } else if text.starts_with(&[0xff, 0xfe]) || text.starts_with(&[0xfe, 0xff]) {
@@ -37,7 +38,7 @@ fn look_of(command: CommandName, text: &[u8], last: (u8, u8)) -> Option<Look> {
         Some(Look::History)
     } else if is_certify && is_whole(text) {
         Some(Look::Bundle)
-    } else if !is_certify && is_bare(text) {
+    } else if !takes_logs && is_bare(text) {
         Some(Look::Logs)
     } else if last == (b'\n', b'\n') {
         Some(Look::BlankEnd)
@@ -95,17 +96,18 @@ fn reason_of(answer: &[u8]) -> Option<&str> {
 // Tells what to type to learn more of a no for this reason.
 fn tell_reason<H>(host: &Host<'_, H>, name: &str, reason: &str) {
     let rt = host.rt;
-    let is_bundle = match host.command {
-        CommandName::Audit | CommandName::Serial | CommandName::Draw => true,
+    let is_explained = match host.command {
+        CommandName::Audit | CommandName::Serial | CommandName::Draw => reason != "C1",
+        CommandName::Certify => true,
         _ => false,
     };
     let _ = match reason {
+        _ if is_explained && name != "-" => {
+            eprintln!(rt; "sgt: to learn more: sgt explain {name}")
+        }
         "order" | "ranks" | "walk" => {
             eprintln!(rt; "sgt: to learn more: sgt explain no-{reason}")
         }
-        _ if is_bundle && name != "-" && reason != "C1" => eprintln!(rt;
-            "sgt: to learn more: sgt explain {name}"
-        ),
         _ => eprintln!(rt; "sgt: to learn more: sgt explain {reason}"),
     };
 }
