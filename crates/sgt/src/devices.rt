@@ -13,7 +13,7 @@ use std::io;
 use std::io::{Read, Stdin, Write};
 
 // How often a read or a write that a signal interrupts is begun: so often that it never gives up.
-const TRIES: u64 = u64::MAX;
+pub(crate) const TRIES: u64 = u64::MAX;
 
 /// Whether the program's own words on how it ended would be one too many: the system has a reason why a read failed,
 /// which is told alone, or the reader of what is written went away, and nobody is told.

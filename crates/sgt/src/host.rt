@@ -1,6 +1,6 @@
 //! The system, and what is read of it.
 
-use crate::devices::{Hush, Input, LastWords, Retrying, Steady};
+use crate::devices::{Hush, Input, LastWords, Steady};
 use crate::expected::expected_status;
 use crate::output::Output;
 use crate::progress::Progress;
@@ -34,9 +34,8 @@ pub struct Host<'a, H> {
 }
 
 /// The writer of the answer, which was given nothing.
-pub(crate) fn writer<'a, H>(host: &Host<'a, H>) -> ToWrite<Retrying<'a, Output<'a>>> {
-    let output = Output::new(host.rt, host.output, host.hush);
-    ToWrite::new(Retrying::new(output, host.hush))
+pub(crate) fn writer<'a, H>(host: &Host<'a, H>) -> ToWrite<Output<'a>> {
+    ToWrite::new(Output::new(host.rt, host.output, host.hush))
 }
 
 /// Says why a file could not be read or written, if it isn't that its reader went away, and gives the status.

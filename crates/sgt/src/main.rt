@@ -133,6 +133,7 @@ fn main(rt: HostRuntime) -> ExitCode {
     };
     let choice = choose(rt.alloc(), line.words.as_slice());
     let is_terminal = !line.is_quiet && rt.stderr().is_terminal();
+    let output = line.output.as_ref();
     let host = Host {
         rt: &rt,
         threads: &rt,
@@ -142,7 +143,7 @@ fn main(rt: HostRuntime) -> ExitCode {
         tells_why: line.tells_why || is_terminal,
         command: command_of(&line),
         hush: &hush,
-        output: line.output.as_ref(),
+        output,
         expected,
     };
     match run(&host, &line, &choice) {

@@ -1,81 +1,84 @@
 //! Where an answer goes.
 
-use crate::devices::Hush;
+use crate::devices::{Hush, TRIES};
 use crate::host::refuse_file;
 use std::fs::File;
 use std::io;
 use std::io::{Stdout, Write};
 
-/// A file that is made with its first byte, so that it stays as it is where there is no answer.
+/// Standard output, or a file in its place, which is made with its first byte, so that it stays as it is where there
+/// is no answer. A write is begun again where a signal interrupted it; why a file can't be written is told at once.
 #[derive(Drop)]
-pub struct NamedFile<'a> {
+pub struct Output<'a> {
     rt: &'a HostRuntime,
-    name: &'a str,
     hush: &'a Hush,
+    name: Option<&'a String>,
+    standard: Stdout,
     file: Option<File>,
 }
 
-impl<'a> NamedFile<'a> {
-    // The file of this name, which isn't made yet.
-    fn new(rt: &'a HostRuntime, name: &'a str, hush: &'a Hush) -> NamedFile<'a> {
-        NamedFile {
+impl<'a> Output<'a> {
+    /// The file of this name; with none, standard output.
+    pub(crate) fn new(rt: &'a HostRuntime, name: Option<&'a String>, hush: &'a Hush) -> Output<'a> {
+        Output {
             rt,
-            name,
             hush,
+            name,
+            standard: rt.stdout(),
             file: None,
         }
     }
 
-    // Writes to the file, which is made where it isn't there.
-    fn put(&mut self, bytes: &[u8]) -> io::Result<usize> {
+    // Writes to the file of this name, which is made where it isn't there.
+    fn put(&mut self, name: &str, bytes: &[u8]) -> io::Result<usize> {
         if self.file.is_none() {
-            self.file = Some(File::create(self.rt, self.name)?);
+            self.file = Some(File::create(self.rt, name)?);
         }
         match &mut self.file {
             Some(file) => file.write(bytes),
             None => Err(io::Error::from(io::ErrorKind::Other)),
         }
     }
-}
 
-/// Standard output, or a file in its place.
-#[derive(Drop)]
-pub enum Output<'a> {
-    Standard(Stdout),
-    Named(NamedFile<'a>),
-}
+    // Writes once.
+    fn try_once(&mut self, bytes: &[u8]) -> io::Result<usize> {
+        match self.name {
+            Some(name) => self.put(name.as_str(), bytes),
+            None => self.standard.write(bytes),
+        }
+    }
 
-impl<'a> Output<'a> {
-    /// The file of this name; with none, standard output.
-    pub(crate) fn new(rt: &'a HostRuntime, name: Option<&'a String>, hush: &'a Hush) -> Output<'a> {
-        match name {
-            Some(name) => Output::Named(NamedFile::new(rt, name.as_str(), hush)),
-            None => Output::Standard(rt.stdout()),
+    // Tells or notes why a write failed.
+    fn refuse(&self, why: &io::Error) {
+        match self.name {
+            Some(name) => {
+                refuse_file(self.rt, name.as_str(), why);
+                self.hush.set();
+            }
+            None => self.hush.note(why),
         }
     }
 }
 
 impl Write for Output<'_> {
     fn write(&mut self, bytes: &[u8]) -> io::Result<usize> {
-        let named = match self {
-            Output::Standard(output) => return output.write(bytes),
-            Output::Named(named) => named,
-        };
-        match named.put(bytes) {
-            Err(why) if why.kind() != io::ErrorKind::Interrupted => {
-                let kind = why.kind();
-                refuse_file(named.rt, named.name, &why);
-                named.hush.set();
-                Err(io::Error::from(kind))
+        for _ in 0..TRIES {
+            match self.try_once(bytes) {
+                Err(e) if e.kind() == io::ErrorKind::Interrupted => {}
+                Err(e) => {
+                    self.refuse(&e);
+                    return Err(e);
+                }
+                written => return written,
             }
-            put => put,
         }
+        Err(io::Error::from(io::ErrorKind::Interrupted))
     }
 
     fn flush(&mut self) -> io::Result<()> {
-        match self {
-            Output::Standard(output) => output.flush(),
-            Output::Named(_) => Ok(()),
+        match self.name {
+            Some(_) => Ok(()),
+            None => self.standard.flush(),
         }
     }
 }
