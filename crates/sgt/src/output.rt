@@ -1,5 +1,7 @@
 //! Where an answer goes.
 
+ghost use Rattle.std.specs.Prelude.{◌≤◌, IfOk, length};
+
 use crate::devices::{Hush, TRIES};
 use crate::host::refuse_file;
 use std::fs::File;
@@ -30,7 +32,9 @@ impl<'a> Output<'a> {
     }
 
     // Writes to the file of this name, which is made where it isn't there.
-    fn put(&mut self, name: &str, bytes: &[u8]) -> io::Result<usize> {
+    fn put(&mut self, name: &str, bytes: &[u8]) -> io::Result<usize>
+        ensures { IfOk result (λ n. n ≤ length bytes.now) }
+    {
         if self.file.is_none() {
             self.file = Some(File::create(self.rt, name)?);
         }
@@ -41,7 +45,9 @@ impl<'a> Output<'a> {
     }
 
     // Writes once.
-    fn try_once(&mut self, bytes: &[u8]) -> io::Result<usize> {
+    fn try_once(&mut self, bytes: &[u8]) -> io::Result<usize>
+        ensures { IfOk result (λ n. n ≤ length bytes.now) }
+    {
         match self.name {
             Some(name) => self.put(name.as_str(), bytes),
             None => self.standard.write(bytes),
