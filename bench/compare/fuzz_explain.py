@@ -5,7 +5,7 @@ usage: fuzz_explain.py PROGRAM [ROUNDS [SEED]]
 
 PROGRAM is `sgt`, or a program that explains its standard input. Each round breaks an input of the rows of sgt_rows that begin with explain at one or two
 places. The first line has to be the verdict of plain_audit.py; of a no, the second begins with the fault's name, there are at
-most ten lines, and each line that is shown with a number is that line of the input."""
+most ten lines, and each line that is shown with a number is that line of the input. Of logs without a certificate: see certify/fuzz_logs.py."""
 import os
 import random
 import re
@@ -77,6 +77,8 @@ def complaint(data, text):
     lines = text.split("\n")
     if not text.endswith("\n"):
         return "no LF at the end"
+    if data.split(b"\n")[1:2] == [b"site 0"]:
+        return None if re.match("no |a certificate exists: ", text) else "neither of what logs are told"
     first, rest = lines[0] + "\n", lines[1:-1]
     if first.strip() != plain_audit.verdict(data).strip():
         return f"another verdict: {plain_audit.verdict(data)!r}"
