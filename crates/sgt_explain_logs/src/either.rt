@@ -5,7 +5,7 @@ ghost use Rattle.sgt_names.specs.Limits.{most_reads};
 ghost use Rattle.sgt_explain_logs.specs.Either.{WroteExplanation, WroteExplanationFront};
 
 use crate::answer::are_logs;
-use crate::engine::explain_asked;
+use crate::engine::explain_logs;
 use sgt_explain::{explain, explain_transaction, read_all};
 use sgt_names::{Asks, Bytes, EngineFail, Outcome, Sink, Source, Tx};
 use std::alloc::Global;
@@ -36,7 +36,7 @@ fn explain_held<W: Sink>(
         last: 0,
     };
     if are_logs(bytes) {
-        return explain_asked(alloc, asked, &mut reader, writer);
+        return explain_logs(alloc, asked, &mut reader, writer);
     }
     match asked {
         None => explain(alloc, &mut reader, writer),

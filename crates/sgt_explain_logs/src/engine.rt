@@ -110,8 +110,18 @@ fn answer<R: Source>(alloc: Global, reader: &mut R, asked: Option<Tx>) -> Result
     })
 }
 
-/// Explains all that the reader gives, of which one transaction may be asked for.
-pub(crate) fn explain_asked<R: Source, W: Sink>(
+/// Explains the logs that the reader gives, a bundle's text without its line 2: what `certify` answers of them, and
+/// why. Of a yes the counts, and what to type next. Of `no line L FN` the rule, the line, and what would have to stand
+/// there. Of `no ranks` each step of the cycle, and the anomaly's name. Of `no order` the ends that stand against one
+/// another, and what of their transactions is in conflict. Of `no walk` the refused transactions that are next, with
+/// what they did. Where a transaction is asked for, also what it did: its entries at each site with their lines, and whom
+/// it is in conflict with, in which direction; of logs with a fault in the lines before that. The input is read whole
+/// and kept in memory.
+///
+/// ReadFault where the reader failed, or too many reads were needed (`MOST_READS` of sgt_names), and Memory where a
+/// growth was refused: nothing was written. WriteFault where the writer failed: a front of the explanation may have
+/// been written.
+pub fn explain_logs<R: Source, W: Sink>(
     alloc: Global,
     asked: Option<Tx>,
     reader: &mut R,
@@ -141,70 +151,4 @@ pub(crate) fn explain_asked<R: Source, W: Sink>(
         Ok(()) => Ok(answer.outcome),
         Err(_) => Err(EngineFail::WriteFault),
     }
-}
-
-/// Explains the logs that the reader gives, a bundle's text without its line 2: what `certify` answers of them, and
-/// why. Of a yes the counts, and what to type next. Of `no line L FN` the rule, the line, and what would have to stand
-/// there. Of `no ranks` each step of the cycle, and the anomaly's name. Of `no order` the ends that stand against one
-/// another, and what of their transactions is in conflict. Of `no walk` the refused transactions that are next, with
-/// what they did. The input is read whole and kept in memory.
-///
-/// ReadFault where the reader failed, or too many reads were needed (`MOST_READS` of sgt_names), and Memory where a
-/// growth was refused: nothing was written. WriteFault where the writer failed: a front of the explanation may have
-/// been written.
-pub fn explain_logs<R: Source, W: Sink>(
-    alloc: Global,
-    reader: &mut R,
-    writer: &mut W,
-) -> Result<Outcome, EngineFail>
-    ensures answer { IfOk result
-        (λ outcome. WroteExplained (R.tells reader.old) outcome (W.holds writer.old)
-        (W.holds writer.new)) }
-    ensures exact { IfOk result (λ outcome. IfSome (R.tells reader.old)
-        (λ bytes. outcome ≡ Outcome.Yes ↔ HasCertificate bytes)) }
-    ensures front { OnErr result
-        (WroteExplainedFront (R.tells reader.old) (W.holds writer.old) (W.holds writer.new)) }
-    ensures unwritten { IsErrOf result EngineFail.ReadFault → writer.new ≡ writer.old }
-    ensures untouched { IsErrOf result EngineFail.Memory → writer.new ≡ writer.old }
-    ensures read_fault { IsErrOf result EngineFail.ReadFault →
-        ((R.failures reader.old < R.failures reader.new)
-        ⊎ IfSome (R.tells reader.old) (λ bytes. most_reads ≤ length bytes)) }
-    ensures write_fault { IsErrOf result EngineFail.WriteFault
-        → W.failures writer.old < W.failures writer.new }
-    ensures quiet_reader { result ≢ Err EngineFail.ReadFault
-        → R.failures reader.new ≡ R.failures reader.old }
-    ensures quiet_writer { result ≢ Err EngineFail.WriteFault
-        → W.failures writer.new ≡ W.failures writer.old }
-{
-    explain_asked(alloc, None, reader, writer)
-}
-
-/// The same, and behind it what the transaction did: its entries at each site with their lines, and whom it is in
-/// conflict with, in which direction. Of logs with a fault in the lines before that.
-pub fn explain_logs_transaction<R: Source, W: Sink>(
-    alloc: Global,
-    tx: Tx,
-    reader: &mut R,
-    writer: &mut W,
-) -> Result<Outcome, EngineFail>
-    ensures answer { IfOk result
-        (λ outcome. WroteExplained (R.tells reader.old) outcome (W.holds writer.old)
-        (W.holds writer.new)) }
-    ensures exact { IfOk result (λ outcome. IfSome (R.tells reader.old)
-        (λ bytes. outcome ≡ Outcome.Yes ↔ HasCertificate bytes)) }
-    ensures front { OnErr result
-        (WroteExplainedFront (R.tells reader.old) (W.holds writer.old) (W.holds writer.new)) }
-    ensures unwritten { IsErrOf result EngineFail.ReadFault → writer.new ≡ writer.old }
-    ensures untouched { IsErrOf result EngineFail.Memory → writer.new ≡ writer.old }
-    ensures read_fault { IsErrOf result EngineFail.ReadFault →
-        ((R.failures reader.old < R.failures reader.new)
-        ⊎ IfSome (R.tells reader.old) (λ bytes. most_reads ≤ length bytes)) }
-    ensures write_fault { IsErrOf result EngineFail.WriteFault
-        → W.failures writer.old < W.failures writer.new }
-    ensures quiet_reader { result ≢ Err EngineFail.ReadFault
-        → R.failures reader.new ≡ R.failures reader.old }
-    ensures quiet_writer { result ≢ Err EngineFail.WriteFault
-        → W.failures writer.new ≡ W.failures writer.old }
-{
-    explain_asked(alloc, Some(tx), reader, writer)
 }

@@ -17,4 +17,4 @@ mod yes;
 pub use answer::{Answer, are_logs, certified};
 pub use cycles::cycle_in;
 pub use either::explain_either;
-pub use engine::{explain_logs, explain_logs_transaction};
+pub use engine::explain_logs;

@@ -3,12 +3,12 @@ use Rattle.sgt_explain_logs.proofs.Explanations.{bundle-front, bundle-wrote, log
 use Rattle.sgt_explain_logs.proofs.either.explain_held.Goals as goal
 
 pub returns-then-are_logs-clause-answer : goal.returns-then-are_logs-clause-answer
-returns-then-are_logs-clause-answer g c = logs-wrote c.args.asked c.args.bytes.now _ _ c.explain_asked.result
-    (c.are_logs.ensures.0 c.if-are_logs.true) c.explain_asked.ensures.answer
+returns-then-are_logs-clause-answer g c = logs-wrote c.args.asked c.args.bytes.now _ _ c.explain_logs.result
+    (c.are_logs.ensures.0 c.if-are_logs.true) c.explain_logs.ensures.answer
 
 pub returns-then-are_logs-clause-front : goal.returns-then-are_logs-clause-front
 returns-then-are_logs-clause-front g c =
-    logs-front c.args.asked c.args.bytes.now _ _ c.explain_asked.result c.explain_asked.ensures.front
+    logs-front c.args.asked c.args.bytes.now _ _ c.explain_logs.result c.explain_logs.ensures.front
 
 pub returns-in-None-clause-answer : goal.returns-in-None-clause-answer
 returns-in-None-clause-answer g c =
