@@ -15,6 +15,9 @@ MEANS = {"F10": "the item doesn't have this value there", "F16": "ITEM doesn't h
 OF_AUDITS = ("F3", "F4", "F5", "F6", "F11", "F14", "F17")
 MOST_SHOWN = 12
 
+# A line behind the first of an answer of `sgt certify`.
+STEP = re.compile(r"\d+ (?:rw|wr|ww) \d+ site .*|\d+ before \d+ site .*|[cna]\d+ site \d+ line \d+|\d+|tx \d+")
+
 # What `sgt explain` writes, with holes: of a transaction, an item, a site, a value, a line, an entry, or of any words.
 SENTENCES = """
   <t> <*> <i> before <t> <*> it: site <s>, lines <l> and <l>
@@ -58,6 +61,18 @@ step <*> leads to <t>, which isn't committed before: decision <*> withdraws <t>
 step <*> leads to <t>, which has no decision
 two of its steps lead to <t>
 its last step leads to <t>, and not back to it
+  <t> <*> before <t> <*>: site <s>, lines <l> and <l>
+transactions <t> and <t> were committed, and their conflicts close a cycle, so no serial order agrees with them:
+transactions <t>, <t> and <t> were committed, and their conflicts close a cycle, so no serial order agrees with them:
+the sites log the ends of transactions <t> and <t> in orders that contradict one another:
+the sites log the ends of transactions <t>, <t> and <t> in orders that contradict one another:
+lost update (<*>): <t> read <i> (line <l>) before <t> <*> it (line <l>), and then <*> (line <l>)
+write skew (<*>): <t> read <i>, <t> read <i>, and each changed what the other had read
+read skew (<*>): <t> read <i> before <t> changed it, and <i> after: it saw half of what <t> did
+transaction <t> was refused, and lies on no cycle with transactions that were committed before it:
+  <e>: site <s>, line <l><*>
+End: transaction <t> is <*> by line <l>, and <*> by line <l>
+transaction <t>:
 transaction <t> wrote it
 transaction <t> added to it, which gave <v>
 transaction <t> has rank <*>
@@ -142,9 +157,9 @@ def told_by(names, all_forms, said):
     return said
 
 
-def explained(names, said):
-    """An answer of `sgt explain` or `sgt audit`, which counts the lines of a bundle."""
-    names.shift, all_forms = 1, list(forms())
+def explained(names, said, shift):
+    """An answer of `sgt explain` or `sgt audit`, which counts the lines of a bundle, or of logs."""
+    names.shift, all_forms = shift, list(forms())
     for line in said:
         shown = re.fullmatch(rf"( *)(\d+) \| ({ENTRY})(?:( {{3,}})(.*))?", line)
         refused = re.fullmatch(r"no line (\d+) (F\d+)", line)
@@ -154,7 +169,7 @@ def explained(names, said):
         elif refused:
             yield f"no: {refused[2]} at line {at_line(names, refused[1])}"
         else:
-            yield told_by(names, all_forms, line)
+            yield ROUND.get(line) or told_by(names, all_forms, line)
 
 
 def certified(names, said):
@@ -210,11 +225,12 @@ def trace(path):
     if said[0] in ("sgt 1", "sgt 2"):
         raise ValueError("a bundle, and no answer: `sgt certify` found a certificate")
     found = re.fullmatch(r"no line \d+ (F\d+)", said[0])
-    if said[0] in ROUND or found and len(said) == 1 and found[1] not in OF_AUDITS:
+    is_of_logs = said[0] in ROUND or found and found[1] not in OF_AUDITS
+    if is_of_logs and all(STEP.fullmatch(line) for line in said[1:]):
         for line in certified(names, said):
             print(line)
         for line in shown_lines(names):
             print(line)
     else:
-        for line in explained(names, said):
+        for line in explained(names, said, 0 if is_of_logs else 1):
             print(line)
