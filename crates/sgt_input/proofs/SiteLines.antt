@@ -1,5 +1,5 @@
 -- The sites that an input begins with.
-use Rattle.std.proofs.Common.{◌≡◌, ◌≢◌, ◌==◌, ℕ, true, false, ◌+◌, ◌*◌, ◌≤◌, List, [], ◌∷◌, ◌++◌, length, map, refl, sym, ap, ap₂, ◌∙◌, arith, lit<, lit≤}
+use Rattle.std.proofs.Common.{◌≡◌, ◌≢◌, ◌==◌, ℕ, true, false, ◌+◌, ◌*◌, ◌≤◌, List, [], ◌∷◌, ◌++◌, length, map, sym, ap, ap₂, ◌∙◌, arith, lit<, lit≤}
 use Rattle.std.specs.Prelude.{codes, decimal}
 use Rattle.std.specs.List.{AllByRecursion, join_with_byte, range_with_len}
 use Rattle.std.proofs.lemmas.Bool.{eqb-false, eqb-true}
@@ -15,7 +15,7 @@ use Rattle.sgt_notation.specs.declared.event.SiteLine.{SiteLine}
 use Rattle.sgt_notation.proofs.OneSite.{site-no_lf, site-one}
 use Rattle.sgt_notation.proofs.Short.{value-short}
 use Rattle.sgt_input.proofs.Unreadable.{IsPlain}
-use Rattle.sgt_names.proofs.Elements.{empty-length, map-push}
+use Rattle.sgt_names.proofs.Elements.{empty-length}
 use Rattle.sgt_names.proofs.Stored.{name-length}
 
 -- ---- their numbers
