@@ -71,10 +71,6 @@ site-plain l is = (recursion_from_All (λ c. c ≢ 10) (site_text l) (site-no_lf
 
 -- ---- lists
 
-pub not-nil : {A : Type 0} (xs : List A) (x : A) → xs ++ x ∷ [] ≡ [] → ⊥
-not-nil [] x e = absurd cc
-not-nil (y ∷ xs) x e = absurd cc
-
 pub empty_when : {A : Type 0} (xs : List A) (n : ℕ) → length xs ≡ n → true ≡ (n == 0) → xs ≡ []
 empty_when xs n size e = empty-length xs (size ∙ eqb-true n 0 (sym e))
 
