@@ -19,7 +19,7 @@ use Rattle.sgt_certifier.specs.declared.call.CertifierFault.TheVariants as fault
 use Rattle.sgt_certifier.specs.Certifier.{State, Install, opening}
 use Rattle.sgt_certifier.specs.History.{Request, begin, decide, finish, withdraw, close, expect, installed, install_in, installs_in, IsActive, IsAllowed, IsNoted, IsRefused, Fails, Serves, Replays, fault_place, tx_under}
 use Rattle.sgt_certifier.specs.declared.install.Prepared.{Prepared}
-use Rattle.sgt_certifier.specs.Kept.{Declines, IsKept, IsTold, Kept, state_with}
+use Rattle.sgt_certifier.specs.Kept.{Adds, Declines, IsKept, IsTold, KeepsRoom, Kept, state_with}
 use Rattle.sgt_certifier.specs.Judged.{Ends, Notes, note_at}
 use Rattle.sgt_certifier.proofs.Extending.{runs_on}
 use Rattle.sgt_certifier.proofs.Installs.{none_noted}
@@ -318,3 +318,44 @@ kept_again j j2 calls calls2 room room2 same same_calls more kept =
       noted = kept.noted;
       spare = λ t open_t. let was = kept.spare t open_t in omega (arith, was, more);
     }))
+
+-- ---- how a certifier's view goes on
+
+-- it stays as it was
+pub same_view : (judge judge2 : State) (calls calls2 : List Call) (expected : List Prepared) (v : Kept) → judge2 ≡ judge
+    → calls2 ≡ calls → view_by judge calls expected ≡ v → view_by judge2 calls2 expected ≡ v
+same_view judge judge2 calls calls2 expected v same also view =
+    ap (λ (j : State). view_by j calls2 expected) same
+    ∙ (ap (λ (cs : List Call). view_by judge cs expected) also ∙ view)
+
+-- a request is declined, whose fault the judge told
+pub declines_with : {A : Type 0} (r : Result A CertifierFault) (f : CertifierFault) (judge : State) (calls : List Call)
+    (expected : List Prepared) (old new : Kept) (request : Request)
+    → view_by judge calls expected ≡ old → IsErrAnd r (λ e. e ≡ f) → IsTold (state_with judge calls) request f
+    → new ≡ old → IfErr r (λ e. Declines old request e new)
+declines_with r f judge calls expected old new request view is told same =
+    declines r f old new request is (subst (λ (v : Kept). IsTold v.state request f) view told) same
+
+pub declines_plain : {A : Type 0} (r : Result A CertifierFault) (f : CertifierFault) (judge : State) (calls : List Call)
+    (expected : List Prepared) (old new : Kept) (request : Request)
+    → view_by judge calls expected ≡ old → IsPlain request → IsErrAnd r (λ e. e ≡ f) → IsTold judge request f
+    → new ≡ old → IfErr r (λ e. Declines old request e new)
+declines_plain r f judge calls expected old new request view plain is told same =
+    declines_with r f judge calls expected old new request view is
+    (told_with judge (installs_in calls) request f plain told) same
+
+-- a plain call is added
+pub adds_plain : (judge new : State) (calls longer : List Call) (expected : List Prepared) (old : Kept) (c : Call)
+    → view_by judge calls expected ≡ old → IsPlainCall c → Serves judge c new → longer ≡ calls ++ c ∷ []
+    → KeepsRoom expected c expected → Adds old c (view_by new longer expected)
+adds_plain judge new calls longer expected old c view plain serves is room =
+    subst (λ (v : Kept). Adds v c (view_by new longer expected)) view
+    (record { serves = plain_serves judge new calls longer c plain serves is; history = is; expected = room })
+
+-- and what is kept is kept on, where it leaves no step open
+pub plain_kept : (judge new : State) (calls longer : List Call) (c : Call) (room room2 : ℕ) → IsPlainCall c
+    → IsKept judge calls room → Serves judge c new → longer ≡ calls ++ c ∷ [] → new.step ≡ None
+    → IsKept new longer room2
+plain_kept judge new calls longer c room room2 plain kept serves is idle =
+    idle_kept new longer room2 (replays_on (state_with judge calls) (state_with new longer) calls longer c kept.replays
+    (plain_serves judge new calls longer c plain serves is) is) idle

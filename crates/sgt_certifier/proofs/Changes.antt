@@ -2,7 +2,7 @@
 use Rattle.std.proofs.Common.{◌≡◌, ◌≢◌, ◌≤◌, ℕ, zero, suc, ◌+◌, Bool, true, false, List, [], ◌∷◌, ◌++◌, length, map, take, Any, Contains, ◌⊎◌, Some, refl, sym, ◌∙◌, ap, ap₂, subst, arith, inl, inr}
 use Rattle.std.specs.Prelude.{slice_get, filter, is_some, ◌==◌, ◌&&◌}
 use Rattle.std.proofs.lemmas.Bool.{cases_Bool, eqb-true, and_parts}
-use Rattle.std.proofs.lemmas.List.{append-nil, map-append, take_all}
+use Rattle.std.proofs.lemmas.List.{map-append, take_all}
 use Rattle.std.proofs.lemmas.List.Elements.{filter-append}
 use Rattle.std.proofs.lemmas.Option.{same_Some, slice_get_within}
 use Rattle.sgt_names.specs.Name.{Name}
@@ -13,7 +13,6 @@ use Rattle.sgt_names.proofs.Parts.{touched-next}
 use Rattle.sgt_order.proofs.Lists.{filter_hit, filter_miss}
 use Rattle.sgt_certifier.specs.declared.install.Prepared.{Prepared}
 use Rattle.sgt_certifier.specs.Kept.{changed_at, IsExpected}
-use Rattle.sgt_edges.proofs.Touching.{few-all}
 
 abbrev pub is_changed : ℕ → Touch → Bool
 is_changed site t = (t.site == site) && is_some t.change

@@ -1,5 +1,5 @@
 -- The counts of one site: what is found in them, and what a change of them leaves.
-use Rattle.std.proofs.Common.{◌≡◌, ◌≢◌, ℕ, zero, suc, ◌<◌, ◌+◌, ◌++◌, true, false, List, [], ◌∷◌, set, length, Some, None, IsSome, Result, Ok, Err, OnOk, OnErr, refl, sym, ◌∙◌, ap, subst, arith, inl, inr}
+use Rattle.std.proofs.Common.{◌≡◌, ◌≢◌, ℕ, zero, suc, ◌+◌, ◌++◌, true, List, [], ◌∷◌, set, Some, None, IsSome, Result, Ok, Err, OnOk, OnErr, refl, sym, ◌∙◌, ap, subst, arith, inl, inr}
 use Rattle.std.specs.Prelude.{slice_get}
 use Rattle.std.specs.List.{insert}
 use Rattle.std.specs.Str.{bytes_eq}
@@ -17,7 +17,7 @@ use Rattle.sgt_names.proofs.Places.{AllPairs_at, AllPairs-tail}
 use Rattle.sgt_names.proofs.Ranged.{rising-insert, rising-set}
 use Rattle.sgt_certifier.specs.Row.{AreRising, count_in, found_in, or_zero}
 use Rattle.sgt_certifier.specs.declared.row.ItemCount.{ItemCount}
-use Rattle.sgt_names.proofs.Elements.{bytes_eq-other, get-set_here, get_set_elsewhere}
+use Rattle.sgt_names.proofs.Elements.{bytes_eq-other, get-set_here}
 
 -- a count of the item at a place is where the item is
 pub at_place : (cs : List ItemCount) (x : Name) (n : ℕ) → (c : ItemCount) × (slice_get cs n ≡ Some c) × (c.item ≡ x)

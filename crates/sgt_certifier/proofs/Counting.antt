@@ -1,12 +1,12 @@
 -- The table of counts: what a change of it does to each count.
-use Rattle.std.proofs.Common.{◌≡◌, ◌≢◌, ℕ, suc, true, false, List, [], ◌∷◌, ◌++◌, Option, Some, None, IsSome, Result, Ok, Err, OnErr, refl, sym, ◌∙◌, ap, subst, arith, cond, inl, inr, ◌⊎◌, All, AllPairs, take, Contains, OnOk, IfErr, is_err, ap₂, set, zero}
+use Rattle.std.proofs.Common.{◌≡◌, ◌≢◌, ℕ, suc, true, false, List, [], ◌∷◌, ◌++◌, Option, Some, None, IsSome, Result, Ok, Err, OnErr, refl, sym, ◌∙◌, ap, subst, arith, cond, inl, inr, ◌⊎◌, All, AllPairs, take, Contains, OnOk, ap₂, set, zero}
 use Rattle.std.specs.Prelude.{slice_get, map, ◌==◌, ◌≤◌, ◌<◌, length}
 use Rattle.std.proofs.lemmas.Option.{same_Some, slice_get_within}
 use Rattle.std.specs.List.{list_any, remove, AllByRecursion}
 use Rattle.std.specs.Str.{bytes_eq}
 use Rattle.std.proofs.lemmas.Slice.Eq.{bytes_eq-Decides}
 use Rattle.std.specs.Ordering.{nat_cmp, ordering_reverse}
-use Rattle.std.specs.Cmp.Lexicographic.{slice_cmp, nat_list_cmp_total}
+use Rattle.std.specs.Cmp.Lexicographic.{slice_cmp}
 use Rattle.std.specs.declared.cmp.Ordering.{Ordering}
 use Rattle.std.specs.declared.cmp.Ordering.TheVariants.{Less, Equal, Greater}
 use Rattle.std.proofs.lemmas.Bool.{cases_Bool, eqb-true, eqb-false, true≢false}
@@ -18,11 +18,8 @@ use Rattle.std.proofs.lemmas.List.Sums.{sum_by-cons}
 use Rattle.sgt_certifier.specs.Certifier.{Install}
 use Rattle.sgt_certifier.proofs.Members.{cons_here}
 use Rattle.sgt_certifier.proofs.Installs.{any_member, counted_hit, counted_miss, counted_other}
-use Rattle.sgt_certifier.specs.History.{changes_item, counted, install_in, installs_in, IsAllowed, Request}
-use Rattle.sgt_certifier.specs.Kept.{changed_at, Declines, IsExpected, Kept}
-use Rattle.std.specs.Result.{IsErrAnd}
-use Rattle.sgt_certifier.specs.declared.call.CertifierFault.{CertifierFault}
-use Rattle.sgt_certifier.specs.declared.call.CertifierFault.TheVariants as fault
+use Rattle.sgt_certifier.specs.History.{changes_item, counted, install_in, installs_in}
+use Rattle.sgt_certifier.specs.Kept.{changed_at, IsExpected}
 use Rattle.sgt_certifier.specs.declared.call.Call.{Call}
 use Rattle.sgt_certifier.specs.declared.call.Call.TheVariants as call
 use Rattle.sgt_names.specs.declared.draft.Touch.{Touch}

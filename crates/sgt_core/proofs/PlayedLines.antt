@@ -13,22 +13,22 @@ use Rattle.sgt_core_machine.specs.Machine.{Parts, StandsFor}
 use Rattle.sgt_input.specs.Stopping.{IsTaken}
 use Rattle.sgt_input.specs.Taking.{TakesFront, TakesLine}
 use Rattle.sgt_input.proofs.Keeping.{took-line}
+use Rattle.sgt_input.proofs.SitedLines.{nothing-kept, whole-input}
 use Rattle.sgt_core.specs.declared.input.Input.{Input}
 use Rattle.sgt_core.specs.Input.{Begins, IsBegun, IsInput, Spells, input_lines}
 use Rattle.sgt_core.specs.Replay.{IsAnswer, IsRunText}
 use Rattle.sgt_core.specs.private.Playing.{AnswersEvent, HasPlayed, IsCoreAtEnd, IsOpening, IsPlayed, PlaysOn}
 use Rattle.sgt_core.specs.private.Running.{WritesReplies}
 use Rattle.sgt_core.specs.private.Taking.{HaveLines}
-use Rattle.sgt_core.proofs.OneInput.{took-event, took-none}
+use Rattle.sgt_core.proofs.OneInput.{events-kind, took-event, took-none}
 use Rattle.sgt_core.proofs.Running.{replies-none, replies-then}
-use Rattle.sgt_core.proofs.Unreadable.{nothing-kept, whole-input}
 
 -- nothing was played yet
 pub none-played : (sites : List SiteLine) (core : Option Parts) (text : List ℕ) → sites ≡ [] → core ≡ None → text ≡ []
     → HasPlayed sites core text []
 none-played sites None text none idle empty = (
   record { sites = sites; events = [] },
-  nothing-kept sites [] none refl,
+  nothing-kept events-kind (record { sites = sites; events = [] }) none refl,
   (refl, refl, empty),
 )
 none-played sites (Some core) text none idle empty = absurd cc
@@ -167,7 +167,7 @@ pub taken-input : (sites : List SiteLine) (core : Option Parts) (text : List ℕ
     → (input : Input) × IsInput input × IsPlayed input sites core text × IfSome told (λ bytes. Spells bytes input)
 taken-input sites core text told taken =
     let (input, have, played) = taken.taken in
-    let whole = whole-input input taken.lines told have.0 have.1 taken.some taken.text in
+    let whole = whole-input events-kind input taken.lines told have.0 have.1 taken.some taken.text in
     (input, whole.0, played, whole.1)
 
 pub run-answers : (told : Option (List ℕ)) (o : Outcome) (text : List ℕ) (input : Input)

@@ -11,7 +11,7 @@ use Rattle.sgt_notation.specs.Spelling.{line_text, text_of_lines, HasNoLf, IsLin
 use Rattle.sgt_notation.specs.declared.SectionLine.{SectionLine}
 use Rattle.sgt_notation.specs.declared.SectionLine.TheVariants.{Site, Initial, Logged, Final, End}
 use Rattle.sgt_notation.proofs.OneSpelling.{line-one}
-use Rattle.sgt_bundle.specs.Text.{certificate_text, format_line}
+use Rattle.sgt_bundle.specs.Text.{certificate_text, format_line, IsCertificate}
 use Rattle.sgt_bundle.specs.declared.certificate.Certificate.{Certificate}
 use Rattle.sgt_bundle.proofs.OneLine.{certificate-one_line}
 use Rattle.sgt_bundle.proofs.OneText.{format-one_line}
@@ -154,226 +154,106 @@ module _ (bytes rest l : List ℕ) (n : ℕ) (second : Bool) (c : Certificate) (
         (λ m is e. subst (λ k. Keeps c before k f) (line-one spelled.0 m spelled.1.0 is.0 (sym spelled.2 ∙ e)) keeps);
   }
 
--- of a read, and of a final
-module _ (bytes rest : List ℕ) (n : ℕ) where
-  read-of : (stage : Stage) (next : Piece) → bytes ≡ text_of_lines (lines_so_far stage) ++ rest → IsFaultless stage
-      → n ≡ length (lines_so_far stage) + 1 → ComesNext rest next
-      → Breaks (Rule stage next) fault.ReadValue → FaultyLine bytes n fault.ReadValue stage next
-  read-of start (whole l) text kept number comes breaks = absurd (breaks.broken tt)
-  read-of start (last l) text kept number comes breaks = absurd (breaks.broken tt)
-  read-of (headed second) (whole l) text kept number comes breaks = absurd (breaks.broken (λ c is e. tt))
-  read-of (headed second) (last l) text kept number comes breaks = absurd (breaks.broken tt)
-  read-of (within second c before) (last l) text kept number comes breaks = absurd (breaks.broken tt)
-  read-of (complete second c before) (whole l) text kept number comes breaks = absurd (breaks.broken tt)
-  read-of (complete second c before) (last l) text kept number comes breaks = absurd (breaks.broken tt)
-  read-of (within second c before) (whole l) text kept number comes breaks =
-      inside bytes rest l n second c before text kept number comes fault.ReadValue
-      (breaks.least fault.Notation (omega arith)) (breaks.least fault.Section (omega arith))
-      (breaks.least fault.Item) (breaks.least fault.End) breaks.broken
+-- a rule asks nothing of a line that can't stand in a section
+abbrev Elsewhere : (Stage → Piece → Type 0) → Type 0
+Elsewhere rule = ((l : List ℕ) → rule start (whole l))
+    × ((l : List ℕ) → rule start (last l))
+    × ((second : Bool) (l : List ℕ) → rule (headed second) (whole l))
+    × ((second : Bool) (l : List ℕ) → rule (headed second) (last l))
+    × ((second : Bool) (c : Certificate) (before : List SectionLine) (l : List ℕ)
+    → rule (within second c before) (last l))
+    × ((second : Bool) (c : Certificate) (before : List SectionLine) (l : List ℕ)
+    → rule (complete second c before) (whole l))
+    × ((second : Bool) (c : Certificate) (before : List SectionLine) (l : List ℕ)
+    → rule (complete second c before) (last l))
 
-  final-of : (stage : Stage) (next : Piece) → bytes ≡ text_of_lines (lines_so_far stage) ++ rest → IsFaultless stage
-      → n ≡ length (lines_so_far stage) + 1 → ComesNext rest next
-      → Breaks (Rule stage next) fault.Final → FaultyLine bytes n fault.Final stage next
-  final-of start (whole l) text kept number comes breaks = absurd (breaks.broken tt)
-  final-of start (last l) text kept number comes breaks = absurd (breaks.broken tt)
-  final-of (headed second) (whole l) text kept number comes breaks = absurd (breaks.broken (λ c is e. tt))
-  final-of (headed second) (last l) text kept number comes breaks = absurd (breaks.broken tt)
-  final-of (within second c before) (last l) text kept number comes breaks = absurd (breaks.broken tt)
-  final-of (complete second c before) (whole l) text kept number comes breaks = absurd (breaks.broken tt)
-  final-of (complete second c before) (last l) text kept number comes breaks = absurd (breaks.broken tt)
-  final-of (within second c before) (whole l) text kept number comes breaks =
-      inside bytes rest l n second c before text kept number comes fault.Final
-      (breaks.least fault.Notation (omega arith)) (breaks.least fault.Section (omega arith))
-      (breaks.least fault.Item) (breaks.least fault.End) breaks.broken
+abbrev nothing_of : Stage → Piece → Type 0
+nothing_of (headed second) (whole l) = (c : Certificate) → IsCertificate c → l ≡ certificate_text c → Unit {0}
+nothing_of stage next = Unit {0}
 
-  rank-of : (stage : Stage) (next : Piece) → bytes ≡ text_of_lines (lines_so_far stage) ++ rest → IsFaultless stage
-      → n ≡ length (lines_so_far stage) + 1 → ComesNext rest next
-      → Breaks (Rule stage next) fault.RankOrder → FaultyLine bytes n fault.RankOrder stage next
-  rank-of start (whole l) text kept number comes breaks = absurd (breaks.broken tt)
-  rank-of start (last l) text kept number comes breaks = absurd (breaks.broken tt)
-  rank-of (headed second) (whole l) text kept number comes breaks = absurd (breaks.broken (λ c is e. tt))
-  rank-of (headed second) (last l) text kept number comes breaks = absurd (breaks.broken tt)
-  rank-of (within second c before) (last l) text kept number comes breaks = absurd (breaks.broken tt)
-  rank-of (complete second c before) (whole l) text kept number comes breaks = absurd (breaks.broken tt)
-  rank-of (complete second c before) (last l) text kept number comes breaks = absurd (breaks.broken tt)
-  rank-of (within second c before) (whole l) text kept number comes breaks =
-      inside bytes rest l n second c before text kept number comes fault.RankOrder
-      (breaks.least fault.Notation (omega arith)) (breaks.least fault.Section (omega arith))
-      (breaks.least fault.Item) (breaks.least fault.End) breaks.broken
+nothing : Elsewhere nothing_of
+nothing = (
+  λ l. tt,
+  λ l. tt,
+  λ second l c is e. tt,
+  λ second l. tt,
+  λ second c before l. tt,
+  λ second c before l. tt,
+  λ second c before l. tt,
+)
 
-  step-of : (stage : Stage) (next : Piece) → bytes ≡ text_of_lines (lines_so_far stage) ++ rest → IsFaultless stage
-      → n ≡ length (lines_so_far stage) + 1 → ComesNext rest next
-      → Breaks (Rule stage next) fault.WalkStep → FaultyLine bytes n fault.WalkStep stage next
-  step-of start (whole l) text kept number comes breaks = absurd (breaks.broken tt)
-  step-of start (last l) text kept number comes breaks = absurd (breaks.broken tt)
-  step-of (headed second) (whole l) text kept number comes breaks = absurd (breaks.broken (λ c is e. tt))
-  step-of (headed second) (last l) text kept number comes breaks = absurd (breaks.broken tt)
-  step-of (within second c before) (last l) text kept number comes breaks = absurd (breaks.broken tt)
-  step-of (complete second c before) (whole l) text kept number comes breaks = absurd (breaks.broken tt)
-  step-of (complete second c before) (last l) text kept number comes breaks = absurd (breaks.broken tt)
-  step-of (within second c before) (whole l) text kept number comes breaks =
-      inside bytes rest l n second c before text kept number comes fault.WalkStep
-      (breaks.least fault.Notation (omega arith)) (breaks.least fault.Section (omega arith))
-      (breaks.least fault.Item) (breaks.least fault.End) breaks.broken
+-- so where it is broken the line stands in a section
+only-inside : (C : Stage → Piece → Type 0) (f : Fault) → Elsewhere (λ stage next. Rule stage next f)
+    → ((second : Bool) (c : Certificate) (before : List SectionLine) (l : List ℕ)
+    → C (within second c before) (whole l)) → (stage : Stage) (next : Piece) → (Rule stage next f → ⊥) → C stage next
+only-inside C f none is start (whole l) broken = absurd (broken (none.0 l))
+only-inside C f none is start (last l) broken = absurd (broken (none.1 l))
+only-inside C f none is (headed second) (whole l) broken = absurd (broken (none.2 second l))
+only-inside C f none is (headed second) (last l) broken = absurd (broken (none.3 second l))
+only-inside C f none is (within second c before) (whole l) broken = is second c before l
+only-inside C f none is (within second c before) (last l) broken = absurd (broken (none.4 second c before l))
+only-inside C f none is (complete second c before) (whole l) broken = absurd (broken (none.5 second c before l))
+only-inside C f none is (complete second c before) (last l) broken = absurd (broken (none.6 second c before l))
 
-  item-of : (stage : Stage) (next : Piece) → bytes ≡ text_of_lines (lines_so_far stage) ++ rest → IsFaultless stage
-      → n ≡ length (lines_so_far stage) + 1 → ComesNext rest next
-      → Breaks (Rule stage next) fault.Item → FaultyLine bytes n fault.Item stage next
-  item-of start (whole l) text kept number comes breaks = absurd (breaks.broken tt)
-  item-of start (last l) text kept number comes breaks = absurd (breaks.broken tt)
-  item-of (headed second) (whole l) text kept number comes breaks = absurd (breaks.broken (λ c is e. tt))
-  item-of (headed second) (last l) text kept number comes breaks = absurd (breaks.broken tt)
-  item-of (within second c before) (last l) text kept number comes breaks = absurd (breaks.broken tt)
-  item-of (complete second c before) (whole l) text kept number comes breaks = absurd (breaks.broken tt)
-  item-of (complete second c before) (last l) text kept number comes breaks = absurd (breaks.broken tt)
-  item-of (within second c before) (whole l) text kept number comes breaks =
-      inside bytes rest l n second c before text kept number comes fault.Item
-      (breaks.least fault.Notation (omega arith)) (breaks.least fault.Section (omega arith))
-      (breaks.least fault.Item) (breaks.least fault.End) breaks.broken
+-- its rule is that of the section's lines
+abbrev IsOfLines : Fault → Type 0
+IsOfLines f = (second : Bool) (c : Certificate) (before : List SectionLine) (l : List ℕ)
+    → ((line : SectionLine) → IsLineIn second line → l ≡ line_text line → Keeps c before line f)
+    → Rule (within second c before) (whole l) f
 
-  twice-of : (stage : Stage) (next : Piece) → bytes ≡ text_of_lines (lines_so_far stage) ++ rest → IsFaultless stage
-      → n ≡ length (lines_so_far stage) + 1 → ComesNext rest next
-      → Breaks (Rule stage next) fault.Twice → FaultyLine bytes n fault.Twice stage next
-  twice-of start (whole l) text kept number comes breaks = absurd (breaks.broken tt)
-  twice-of start (last l) text kept number comes breaks = absurd (breaks.broken tt)
-  twice-of (headed second) (whole l) text kept number comes breaks = absurd (breaks.broken (λ c is e. tt))
-  twice-of (headed second) (last l) text kept number comes breaks = absurd (breaks.broken tt)
-  twice-of (within second c before) (last l) text kept number comes breaks = absurd (breaks.broken tt)
-  twice-of (complete second c before) (whole l) text kept number comes breaks = absurd (breaks.broken tt)
-  twice-of (complete second c before) (last l) text kept number comes breaks = absurd (breaks.broken tt)
-  twice-of (within second c before) (whole l) text kept number comes breaks =
-      inside bytes rest l n second c before text kept number comes fault.Twice
-      (breaks.least fault.Notation (omega arith)) (breaks.least fault.Section (omega arith))
-      (breaks.least fault.Item) (breaks.least fault.End) breaks.broken
-
-  block-of : (stage : Stage) (next : Piece) → bytes ≡ text_of_lines (lines_so_far stage) ++ rest → IsFaultless stage
-      → n ≡ length (lines_so_far stage) + 1 → ComesNext rest next
-      → Breaks (Rule stage next) fault.Block → FaultyLine bytes n fault.Block stage next
-  block-of start (whole l) text kept number comes breaks = absurd (breaks.broken tt)
-  block-of start (last l) text kept number comes breaks = absurd (breaks.broken tt)
-  block-of (headed second) (whole l) text kept number comes breaks = absurd (breaks.broken (λ c is e. tt))
-  block-of (headed second) (last l) text kept number comes breaks = absurd (breaks.broken tt)
-  block-of (within second c before) (last l) text kept number comes breaks = absurd (breaks.broken tt)
-  block-of (complete second c before) (whole l) text kept number comes breaks = absurd (breaks.broken tt)
-  block-of (complete second c before) (last l) text kept number comes breaks = absurd (breaks.broken tt)
-  block-of (within second c before) (whole l) text kept number comes breaks =
-      inside bytes rest l n second c before text kept number comes fault.Block
-      (breaks.least fault.Notation (omega arith)) (breaks.least fault.Section (omega arith))
-      (breaks.least fault.Item) (breaks.least fault.End) breaks.broken
-
-  end-of : (stage : Stage) (next : Piece) → bytes ≡ text_of_lines (lines_so_far stage) ++ rest → IsFaultless stage
-      → n ≡ length (lines_so_far stage) + 1 → ComesNext rest next
-      → Breaks (Rule stage next) fault.End → FaultyLine bytes n fault.End stage next
-  end-of start (whole l) text kept number comes breaks = absurd (breaks.broken tt)
-  end-of start (last l) text kept number comes breaks = absurd (breaks.broken tt)
-  end-of (headed second) (whole l) text kept number comes breaks = absurd (breaks.broken (λ c is e. tt))
-  end-of (headed second) (last l) text kept number comes breaks = absurd (breaks.broken tt)
-  end-of (within second c before) (last l) text kept number comes breaks = absurd (breaks.broken tt)
-  end-of (complete second c before) (whole l) text kept number comes breaks = absurd (breaks.broken tt)
-  end-of (complete second c before) (last l) text kept number comes breaks = absurd (breaks.broken tt)
-  end-of (within second c before) (whole l) text kept number comes breaks =
-      inside bytes rest l n second c before text kept number comes fault.End
-      (breaks.least fault.Notation (omega arith)) (breaks.least fault.Section (omega arith))
-      (breaks.least fault.Item) (breaks.least fault.End) breaks.broken
-
-  decision-of : (stage : Stage) (next : Piece) → bytes ≡ text_of_lines (lines_so_far stage) ++ rest
-      → IsFaultless stage → n ≡ length (lines_so_far stage) + 1 → ComesNext rest next
-      → Breaks (Rule stage next) fault.DecisionOrder → FaultyLine bytes n fault.DecisionOrder stage next
-  decision-of start (whole l) text kept number comes breaks = absurd (breaks.broken tt)
-  decision-of start (last l) text kept number comes breaks = absurd (breaks.broken tt)
-  decision-of (headed second) (whole l) text kept number comes breaks = absurd (breaks.broken (λ c is e. tt))
-  decision-of (headed second) (last l) text kept number comes breaks = absurd (breaks.broken tt)
-  decision-of (within second c before) (last l) text kept number comes breaks = absurd (breaks.broken tt)
-  decision-of (complete second c before) (whole l) text kept number comes breaks = absurd (breaks.broken tt)
-  decision-of (complete second c before) (last l) text kept number comes breaks = absurd (breaks.broken tt)
-  decision-of (within second c before) (whole l) text kept number comes breaks =
-      inside bytes rest l n second c before text kept number comes fault.DecisionOrder
-      (breaks.least fault.Notation (omega arith)) (breaks.least fault.Section (omega arith))
-      (breaks.least fault.Item) (breaks.least fault.End) breaks.broken
-
-  left-of : (stage : Stage) (next : Piece) → bytes ≡ text_of_lines (lines_so_far stage) ++ rest → IsFaultless stage
-      → n ≡ length (lines_so_far stage) + 1 → ComesNext rest next
-      → Breaks (Rule stage next) fault.NotEnded → FaultyLine bytes n fault.NotEnded stage next
-  left-of start (whole l) text kept number comes breaks = absurd (breaks.broken tt)
-  left-of start (last l) text kept number comes breaks = absurd (breaks.broken tt)
-  left-of (headed second) (whole l) text kept number comes breaks = absurd (breaks.broken (λ c is e. tt))
-  left-of (headed second) (last l) text kept number comes breaks = absurd (breaks.broken tt)
-  left-of (within second c before) (last l) text kept number comes breaks = absurd (breaks.broken tt)
-  left-of (complete second c before) (whole l) text kept number comes breaks = absurd (breaks.broken tt)
-  left-of (complete second c before) (last l) text kept number comes breaks = absurd (breaks.broken tt)
-  left-of (within second c before) (whole l) text kept number comes breaks =
-      inside bytes rest l n second c before text kept number comes fault.NotEnded
-      (breaks.least fault.Notation (omega arith)) (breaks.least fault.Section (omega arith))
-      (breaks.least fault.Item) (breaks.least fault.End) breaks.broken
+module _ (bytes : List ℕ) (n : ℕ) where
+  in-section : (f : Fault) → Elsewhere (λ stage next. Rule stage next f) → IsOfLines f
+      → fault_number fault.Section < fault_number f → (first : FirstFault bytes n f)
+      → FaultyLine bytes n f first.stage first.next
+  in-section f none rule behind first =
+      only-inside (λ (stage : Stage) (next : Piece). bytes ≡ text_of_lines (lines_so_far stage) ++ first.rest
+      → IsFaultless stage → n ≡ length (lines_so_far stage) + 1 → ComesNext first.rest next
+      → Breaks (Rule stage next) f → FaultyLine bytes n f stage next) f none
+      (λ second c before l text kept number comes breaks.
+      inside bytes first.rest l n second c before text kept number comes f
+      (breaks.least fault.Notation (omega (arith, behind))) (breaks.least fault.Section behind)
+      (breaks.least fault.Item) (breaks.least fault.End) (λ keeps. breaks.broken (rule second c before l keeps)))
+      first.stage first.next first.breaks.broken first.text first.faultless first.number first.comes first.breaks
 
   -- a line that the section doesn't allow spells one all the same
-  section-of : (stage : Stage) (next : Piece) → bytes ≡ text_of_lines (lines_so_far stage) ++ rest → IsFaultless stage
-      → n ≡ length (lines_so_far stage) + 1 → ComesNext rest next
-      → Breaks (Rule stage next) fault.Section → (line : SectionLine) × HasLine bytes n (lines_before stage) line
-  section-of start (whole l) text kept number comes breaks = absurd (breaks.broken tt)
-  section-of start (last l) text kept number comes breaks = absurd (breaks.broken tt)
-  section-of (headed second) (whole l) text kept number comes breaks = absurd (breaks.broken (λ c is e. tt))
-  section-of (headed second) (last l) text kept number comes breaks = absurd (breaks.broken tt)
-  section-of (within second c before) (last l) text kept number comes breaks = absurd (breaks.broken tt)
-  section-of (complete second c before) (whole l) text kept number comes breaks = absurd (breaks.broken tt)
-  section-of (complete second c before) (last l) text kept number comes breaks = absurd (breaks.broken tt)
-  section-of (within second c before) (whole l) text kept number comes breaks =
+  pub section-line : (first : FirstFault bytes n fault.Section)
+      → (line : SectionLine) × HasLine bytes n (lines_before first.stage) line
+  section-line first =
+      only-inside (λ (stage : Stage) (next : Piece). bytes ≡ text_of_lines (lines_so_far stage) ++ first.rest
+      → IsFaultless stage → n ≡ length (lines_so_far stage) + 1 → ComesNext first.rest next
+      → Breaks (Rule stage next) fault.Section → (line : SectionLine) × HasLine bytes n (lines_before stage) line)
+      fault.Section nothing
+      (λ second c before l text kept number comes breaks.
       let spelled = breaks.least fault.Notation (omega arith) in
-      (spelled.0, has-line bytes rest l n second c before text kept number comes spelled.0 spelled.1.0 spelled.2)
+      (spelled.0, has-line bytes first.rest l n second c before text kept number comes spelled.0 spelled.1.0 spelled.2))
+      first.stage first.next first.breaks.broken first.text first.faultless first.number first.comes first.breaks
 
-pub section-line : (bytes : List ℕ) (n : ℕ) (first : FirstFault bytes n fault.Section)
-    → (line : SectionLine) × HasLine bytes n (lines_before first.stage) line
-section-line bytes n first =
-    section-of bytes first.rest n first.stage first.next first.text first.faultless first.number first.comes
-    first.breaks
+  pub rank-line : (first : FirstFault bytes n fault.RankOrder) → FaultyLine bytes n fault.RankOrder first.stage first.next
+  rank-line = in-section fault.RankOrder nothing (λ second c before l keeps. keeps) (omega arith)
 
-pub rank-line : (bytes : List ℕ) (n : ℕ) (first : FirstFault bytes n fault.RankOrder)
-    → FaultyLine bytes n fault.RankOrder first.stage first.next
-rank-line bytes n first =
-    rank-of bytes first.rest n first.stage first.next first.text first.faultless first.number first.comes first.breaks
+  pub read-line : (first : FirstFault bytes n fault.ReadValue) → FaultyLine bytes n fault.ReadValue first.stage first.next
+  read-line = in-section fault.ReadValue nothing (λ second c before l keeps. keeps) (omega arith)
 
-pub read-line : (bytes : List ℕ) (n : ℕ) (first : FirstFault bytes n fault.ReadValue)
-    → FaultyLine bytes n fault.ReadValue first.stage first.next
-read-line bytes n first =
-    read-of bytes first.rest n first.stage first.next first.text first.faultless first.number first.comes first.breaks
+  pub final-line : (first : FirstFault bytes n fault.Final) → FaultyLine bytes n fault.Final first.stage first.next
+  final-line = in-section fault.Final nothing (λ second c before l keeps. keeps) (omega arith)
 
-pub final-line : (bytes : List ℕ) (n : ℕ) (first : FirstFault bytes n fault.Final)
-    → FaultyLine bytes n fault.Final first.stage first.next
-final-line bytes n first = final-of bytes first.rest n first.stage first.next first.text first.faultless first.number
-    first.comes first.breaks
+  pub step-line : (first : FirstFault bytes n fault.WalkStep) → FaultyLine bytes n fault.WalkStep first.stage first.next
+  step-line = in-section fault.WalkStep nothing (λ second c before l keeps. keeps) (omega arith)
 
-pub step-line : (bytes : List ℕ) (n : ℕ) (first : FirstFault bytes n fault.WalkStep)
-    → FaultyLine bytes n fault.WalkStep first.stage first.next
-step-line bytes n first =
-    step-of bytes first.rest n first.stage first.next first.text first.faultless first.number first.comes first.breaks
+  pub item-line : (first : FirstFault bytes n fault.Item) → FaultyLine bytes n fault.Item first.stage first.next
+  item-line = in-section fault.Item nothing (λ second c before l keeps. keeps) (omega arith)
 
-pub item-line : (bytes : List ℕ) (n : ℕ) (first : FirstFault bytes n fault.Item)
-    → FaultyLine bytes n fault.Item first.stage first.next
-item-line bytes n first =
-    item-of bytes first.rest n first.stage first.next first.text first.faultless first.number first.comes first.breaks
+  pub twice-line : (first : FirstFault bytes n fault.Twice) → FaultyLine bytes n fault.Twice first.stage first.next
+  twice-line = in-section fault.Twice nothing (λ second c before l keeps. keeps) (omega arith)
 
-pub twice-line : (bytes : List ℕ) (n : ℕ) (first : FirstFault bytes n fault.Twice)
-    → FaultyLine bytes n fault.Twice first.stage first.next
-twice-line bytes n first = twice-of bytes first.rest n first.stage first.next first.text first.faultless first.number
-    first.comes first.breaks
+  pub block-line : (first : FirstFault bytes n fault.Block) → FaultyLine bytes n fault.Block first.stage first.next
+  block-line = in-section fault.Block nothing (λ second c before l keeps. keeps) (omega arith)
 
-pub block-line : (bytes : List ℕ) (n : ℕ) (first : FirstFault bytes n fault.Block)
-    → FaultyLine bytes n fault.Block first.stage first.next
-block-line bytes n first = block-of bytes first.rest n first.stage first.next first.text first.faultless first.number
-    first.comes first.breaks
+  pub end-line : (first : FirstFault bytes n fault.End) → FaultyLine bytes n fault.End first.stage first.next
+  end-line = in-section fault.End nothing (λ second c before l keeps. keeps) (omega arith)
 
-pub end-line : (bytes : List ℕ) (n : ℕ) (first : FirstFault bytes n fault.End)
-    → FaultyLine bytes n fault.End first.stage first.next
-end-line bytes n first =
-    end-of bytes first.rest n first.stage first.next first.text first.faultless first.number first.comes first.breaks
+  pub decision-line : (first : FirstFault bytes n fault.DecisionOrder) → FaultyLine bytes n fault.DecisionOrder first.stage first.next
+  decision-line = in-section fault.DecisionOrder nothing (λ second c before l keeps. keeps) (omega arith)
 
-pub decision-line : (bytes : List ℕ) (n : ℕ) (first : FirstFault bytes n fault.DecisionOrder)
-    → FaultyLine bytes n fault.DecisionOrder first.stage first.next
-decision-line bytes n first =
-    decision-of bytes first.rest n first.stage first.next first.text first.faultless first.number first.comes
-    first.breaks
-
-pub left-line : (bytes : List ℕ) (n : ℕ) (first : FirstFault bytes n fault.NotEnded)
-    → FaultyLine bytes n fault.NotEnded first.stage first.next
-left-line bytes n first =
-    left-of bytes first.rest n first.stage first.next first.text first.faultless first.number first.comes first.breaks
+  pub left-line : (first : FirstFault bytes n fault.NotEnded) → FaultyLine bytes n fault.NotEnded first.stage first.next
+  left-line = in-section fault.NotEnded nothing (λ second c before l keeps. keeps) (omega arith)

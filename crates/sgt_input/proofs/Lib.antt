@@ -3,5 +3,7 @@ pub mod Lines
 pub mod ReadOrNot
 pub mod Reader
 pub mod SearchedSites
+pub mod Sited
+pub mod SitedLines
 pub mod SiteLines
 pub mod Unreadable

@@ -1,10 +1,9 @@
 -- Texts of lines, each with its LF.
-use Rattle.std.proofs.Common.{◌≡◌, ℕ, List, [], ◌∷◌, ◌++◌, append_assoc, refl, sym, ap, ap₂, ◌∙◌}
+use Rattle.std.proofs.Common.{◌≡◌, ℕ, List, [], ◌∷◌, refl, sym, ap₂, ◌∙◌}
 use Rattle.std.specs.List.{AllByRecursion}
-use Rattle.std.proofs.lemmas.List.{append-nil}
 use Rattle.sgt_notation.specs.Spelling.{text_of_lines}
 use Rattle.sgt_notation.proofs.OneSpelling.{HasNot, cut_at_byte}
-use Rattle.sgt_notation.proofs.Texts.{text-append, first_line, text-one_line}
+use Rattle.sgt_notation.proofs.Texts.{first_line}
 use Rattle.sgt_names.proofs.Elements.{no_line}
 
 -- lines without an LF are cut in one way

@@ -2,9 +2,9 @@
 use Rattle.std.proofs.Common.{◌≡◌, ℕ, ◌+◌, ◌<◌, ◌≤◌, List, [], ◌∷◌, ◌++◌, length, take, drop, Option, Some, None, IfSome, append_assoc, refl, sym, ap, ◌∙◌, subst, arith, inl, inr}
 use Rattle.std.specs.Prelude.{⊤, Bool, true, false}
 use Rattle.std.proofs.lemmas.List.{append-nil, length-append, length-take, take-append-drop}
-use Rattle.sgt_names.specs.Limits.{max_line, most_reads}
+use Rattle.sgt_names.specs.Limits.{max_line}
 use Rattle.sgt_notation.specs.Spelling.{HasNoLf, text_of_lines}
-use Rattle.sgt_notation.specs.Lines.{Ahead, Gives, GaveNext, MetReadFault, ReadFaultIsDue, Spends, Stream, coming, most_left, passed}
+use Rattle.sgt_notation.specs.Lines.{Ahead, Gives, GaveNext, Spends, Stream, coming, most_left, passed}
 use Rattle.sgt_notation.specs.declared.fault.NotationFault.{NotationFault}
 use Rattle.sgt_notation.specs.declared.fault.NotationFault.TheVariants.{NotALine, TooLong as Long}
 use Rattle.sgt_notation.specs.declared.lines.Next.TheVariants.{Line, Cut, TooLong, End}
@@ -12,7 +12,7 @@ use Rattle.sgt_input.specs.declared.reading.Stop.TheVariants as stop
 use Rattle.sgt_input.specs.Stopping.{IsStop}
 use Rattle.sgt_input.specs.Taking.{TakesFront, TakesLine}
 use Rattle.sgt_input.specs.Unreadable.{Blocks, IsFirstUnreadable}
-use Rattle.sgt_notation.proofs.Texts.{all-spent, spends-none, spends_on, fault-met, text-one_line}
+use Rattle.sgt_notation.proofs.Texts.{spends_on, text-one_line}
 
 -- the bytes are these lines and then what comes
 abbrev pub IsRest : List (List ℕ) → Option (List ℕ) → Option (List ℕ) → Type 0

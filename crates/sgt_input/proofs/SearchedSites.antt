@@ -1,24 +1,19 @@
 -- The lines of sites are finitely many, so that one is found among them where there is one.
-use Rattle.std.proofs.Common.{◌≡◌, ℕ, zero, suc, ◌<◌, ◌≤◌, List, [], ◌∷◌, length, refl, arith, inl, inr}
-use Rattle.std.specs.Prelude.{All, AllPairs}
+use Rattle.std.proofs.Common.{◌≡◌, ℕ, zero, suc, ◌≤◌, List, [], ◌∷◌, length, arith, inl, inr}
 use Rattle.std.specs.List.{AllByRecursion}
 use Rattle.std.specs.Ordering.{nat_cmp}
 use Rattle.std.specs.Cmp.Lexicographic.{slice_cmp}
-use Rattle.std.specs.declared.cmp.Ordering.{Ordering}
-use Rattle.std.specs.declared.cmp.Ordering.TheVariants.{Less, Equal, Greater}
+use Rattle.std.specs.declared.cmp.Ordering.TheVariants.{Less}
 use Rattle.std.proofs.lemmas.List.Elements.{All-from_recursion, recursion_from_All}
 use Rattle.sgt_names.specs.Limits.{max_items, max_sites}
 use Rattle.sgt_names.specs.Name.{Name, IsName}
 use Rattle.sgt_names.specs.Ordered.{IsRisingBy}
 use Rattle.sgt_names.specs.declared.entry.Holding.{Holding}
-use Rattle.sgt_names.specs.declared.entry.Entry.TheVariants.{Commit}
-use Rattle.sgt_notation.specs.Events.{IsSiteLine, site_text}
-use Rattle.sgt_notation.specs.Spelling.{IsHolding, IsLine, IsSite, IsTx, IsValue}
-use Rattle.sgt_notation.specs.declared.SectionLine.{SectionLine}
-use Rattle.sgt_notation.specs.declared.SectionLine.TheVariants.{Initial, Logged}
+use Rattle.sgt_notation.specs.Events.{IsSiteLine}
+use Rattle.sgt_notation.specs.Spelling.{IsHolding, IsSite}
 use Rattle.sgt_notation.specs.declared.event.SiteLine.{SiteLine}
 use Rattle.sgt_notation.proofs.Decidable.{Decidable, decidable-as, decidable-both, decidable-AllPairs, IsSearched, searched-below, searched-both}
-use Rattle.sgt_notation.proofs.SearchedLines.{searched-lines, searched-holdings, searched-txs, searched-names}
+use Rattle.sgt_notation.proofs.SearchedLines.{searched-holdings, searched-names}
 use Rattle.sgt_notation.proofs.Texts.{decidable-Less}
 
 -- ---- what stands in lines of sections

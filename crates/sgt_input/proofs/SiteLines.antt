@@ -1,5 +1,5 @@
 -- The sites that an input begins with.
-use Rattle.std.proofs.Common.{◌≡◌, ◌≢◌, ◌==◌, ℕ, true, false, ◌+◌, ◌*◌, ◌≤◌, List, [], ◌∷◌, ◌++◌, length, map, refl, sym, ap, ap₂, ◌∙◌, arith, lit<, lit≤}
+use Rattle.std.proofs.Common.{◌≡◌, ◌≢◌, ◌==◌, ℕ, true, false, ◌+◌, ◌*◌, ◌≤◌, List, [], ◌∷◌, ◌++◌, length, map, sym, ap, ap₂, ◌∙◌, arith, lit<, lit≤}
 use Rattle.std.specs.Prelude.{codes, decimal}
 use Rattle.std.specs.List.{AllByRecursion, join_with_byte, range_with_len}
 use Rattle.std.proofs.lemmas.Bool.{eqb-false, eqb-true}
@@ -15,7 +15,7 @@ use Rattle.sgt_notation.specs.declared.event.SiteLine.{SiteLine}
 use Rattle.sgt_notation.proofs.OneSite.{site-no_lf, site-one}
 use Rattle.sgt_notation.proofs.Short.{value-short}
 use Rattle.sgt_input.proofs.Unreadable.{IsPlain}
-use Rattle.sgt_names.proofs.Elements.{empty-length, map-push}
+use Rattle.sgt_names.proofs.Elements.{empty-length}
 use Rattle.sgt_names.proofs.Stored.{name-length}
 
 -- ---- their numbers
@@ -70,10 +70,6 @@ pub site-plain : (l : SiteLine) → IsSiteLine l → IsPlain (site_text l)
 site-plain l is = (recursion_from_All (λ c. c ≢ 10) (site_text l) (site-no_lf l is), site-short l is)
 
 -- ---- lists
-
-pub not-nil : {A : Type 0} (xs : List A) (x : A) → xs ++ x ∷ [] ≡ [] → ⊥
-not-nil [] x e = absurd cc
-not-nil (y ∷ xs) x e = absurd cc
 
 pub empty_when : {A : Type 0} (xs : List A) (n : ℕ) → length xs ≡ n → true ≡ (n == 0) → xs ≡ []
 empty_when xs n size e = empty-length xs (size ∙ eqb-true n 0 (sym e))

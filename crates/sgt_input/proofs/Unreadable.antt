@@ -4,11 +4,11 @@ use Rattle.std.specs.Prelude.{Bool}
 use Rattle.std.specs.List.{AllByRecursion}
 use Rattle.std.proofs.lemmas.Bool.{eqb-false, eqb-true}
 use Rattle.std.proofs.lemmas.List.{append-nil, length-append}
-use Rattle.std.proofs.lemmas.List.Elements.{All-from_recursion, recursion_from_All}
+use Rattle.std.proofs.lemmas.List.Elements.{recursion_from_All}
 use Rattle.sgt_names.proofs.Lists.{list_cases}
 use Rattle.sgt_names.specs.Limits.{max_line}
 use Rattle.sgt_notation.specs.Lines.{IsLongerThan}
-use Rattle.sgt_notation.specs.Spelling.{HasNoLf, text_of_lines}
+use Rattle.sgt_notation.specs.Spelling.{text_of_lines}
 use Rattle.sgt_notation.specs.declared.fault.NotationFault.{NotationFault}
 use Rattle.sgt_notation.specs.declared.fault.NotationFault.TheVariants.{NotALine, TooLong, Memory}
 use Rattle.sgt_notation.specs.declared.lines.Next.TheVariants as next
@@ -16,7 +16,7 @@ use Rattle.sgt_notation.proofs.OneNext.{next-one}
 use Rattle.sgt_notation.proofs.OneSpelling.{HasNot, cut_at_byte}
 use Rattle.sgt_notation.proofs.Unspelled.{never}
 use Rattle.sgt_input.specs.Unreadable.{Blocks, IsFirstUnreadable}
-use Rattle.sgt_notation.proofs.Texts.{line_front, first_line, text-one_line}
+use Rattle.sgt_notation.proofs.Texts.{line_front, text-one_line}
 use Rattle.sgt_input.proofs.ReadOrNot.{no_lf}
 use Rattle.sgt_names.proofs.Elements.{no_line}
 
@@ -37,7 +37,7 @@ plain-last : (xs : List (List ℕ)) (z : List ℕ) → AllByRecursion IsPlain (x
 plain-last [] z all = all.0
 plain-last (x ∷ xs) z all = plain-last xs z all.1
 
-plain-no_lf : (xs : List (List ℕ)) → AllByRecursion IsPlain xs → AllByRecursion (HasNot 10) xs
+pub plain-no_lf : (xs : List (List ℕ)) → AllByRecursion IsPlain xs → AllByRecursion (HasNot 10) xs
 plain-no_lf [] all = tt
 plain-no_lf (x ∷ xs) all = (all.0.0, plain-no_lf xs all.1)
 

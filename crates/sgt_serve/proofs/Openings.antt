@@ -7,9 +7,10 @@ use Rattle.sgt_notation.specs.Spelling.{text_of_lines}
 use Rattle.sgt_notation.specs.declared.event.SiteLine.{SiteLine}
 use Rattle.sgt_notation.specs.declared.fault.NotationFault.TheVariants.{NotALine, TooLong, Memory}
 use Rattle.sgt_input.specs.Sites.{TakesSite}
+use Rattle.sgt_input.proofs.SitedLines.{took-site}
 use Rattle.sgt_input.proofs.SiteLines.{empty_when, filled_when}
 use Rattle.sgt_core.specs.Input.{IsBegun}
-use Rattle.sgt_core.proofs.OneInput.{took-site}
+use Rattle.sgt_core.proofs.OneInput.{events-kind}
 use Rattle.sgt_pipe.specs.Fronts.{IsLineOf, IsPart}
 use Rattle.sgt_pipe.specs.declared.history.History.{History}
 use Rattle.sgt_serve.specs.declared.opening.Opened.{Opened}
@@ -78,7 +79,7 @@ site_more : (n : ℕ) (sites sites' : List SiteLine) (history : History) (held h
     → HasSites sites history held
     → TakesNext n sites sites' held held' None → HasSites sites' history held'
 site_more n sites sites' history held held' line h (l, is, number, text, more, left) = record {
-  begun = (took-site (record { sites = sites; events = [] }) (record { sites = sites'; events = [] })
+  begun = (took-site events-kind (record { sites = sites; events = [] }) (record { sites = sites'; events = [] })
       (take n held) refl refl (l, is, number, text, more) h.begun).0;
   given = h.given ∙ (ap (λ (t : List ℕ). text_of_lines (map site_text sites) ++ t) line.text
       ∙ (sym (text-one_line (map site_text sites) (take n held) (drop (n + 1) held))

@@ -4,7 +4,6 @@ pub mod Doing
 pub mod Faults
 pub mod Keeping
 pub mod OneInput
-pub mod OneText
 pub mod Ordering
 pub mod Placing
 pub mod Reporting
@@ -14,5 +13,4 @@ pub mod Tries
 pub mod Unreadable
 pub mod Walks
 pub mod Shares
-pub mod DecidableInputs
 pub mod SearchedScripts

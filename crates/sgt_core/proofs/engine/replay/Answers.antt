@@ -1,7 +1,9 @@
 use Rattle.std.proofs.Common.{List, ℕ, ◌++◌, ap₂, inr, subst}
 use Rattle.sgt_names.specs.Device.{WritesFront}
+use Rattle.sgt_input.proofs.SitedLines.{none-begins}
+use Rattle.sgt_core.proofs.OneInput.{events-kind}
 use Rattle.sgt_core.proofs.PlayedLines.{none-played}
-use Rattle.sgt_core.proofs.Unreadable.{answer-unreadable, none-begins}
+use Rattle.sgt_core.proofs.Unreadable.{answer-unreadable}
 use Rattle.sgt_core.proofs.engine.replay.Goals as goal
 
 pub returns-clause-front : goal.returns-clause-front
@@ -25,7 +27,7 @@ returns-in-Ok-clause-unreadable g c =
     (c.in_ok-answer.ensures told c.in_ok-stop.ensures.stops)
 
 pub read_lines-requires-clause-begins : goal.read_lines-requires-clause-begins
-read_lines-requires-clause-begins g c = none-begins
+read_lines-requires-clause-begins g c = none-begins events-kind
 
 pub read_lines-requires-clause-fresh : goal.read_lines-requires-clause-fresh
 read_lines-requires-clause-fresh g c =

@@ -3,10 +3,11 @@ use Rattle.sgt_notation.specs.declared.event.SiteLine.{SiteLine}
 use Rattle.sgt_core_model.specs.Core.{fresh}
 use Rattle.sgt_core_machine.specs.Machine.{Parts, StandsFor}
 use Rattle.sgt_input.specs.Sites.{TakesSite}
+use Rattle.sgt_input.proofs.SitedLines.{took-site}
 use Rattle.sgt_input.proofs.SiteLines.{empty_when, filled_when}
 use Rattle.sgt_core.specs.declared.input.Input.{Input}
 use Rattle.sgt_core.specs.private.Playing.{AnswersEvent, IsOpening, IsPlayed}
-use Rattle.sgt_core.proofs.OneInput.{took-none, took-site}
+use Rattle.sgt_core.proofs.OneInput.{events-kind, took-none}
 use Rattle.sgt_core.proofs.PlayedLines.{begun-opening, first-played}
 use Rattle.sgt_core.proofs.playing.take_first.Goals as goal
 
@@ -17,7 +18,7 @@ returns-then-branch c =
     let site = subst (λ (b : Bool). TakesSite c.args.sites.now.items c.args.line.now c.take_site.new.sites.items b)
     c.if-branch.true c.in_ok-take_site.ensures in (
       new,
-      took-site old new c.args.line.now refl refl site,
+      took-site events-kind old new c.args.line.now refl refl site,
       subst (λ (core : Option Parts). IsPlayed new c.take_site.new.sites.items core c.args.text.now.items)
           (sym c.requires.none) (refl, refl, c.requires.empty),
     )

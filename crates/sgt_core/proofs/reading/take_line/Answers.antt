@@ -1,7 +1,8 @@
 use Rattle.std.proofs.Common.{◌∙◌, Bool, refl, subst, sym}
 use Rattle.sgt_input.specs.Sites.{TakesSite}
 use Rattle.sgt_input.proofs.SiteLines.{empty_when, filled_when}
-use Rattle.sgt_core.proofs.OneInput.{after-event, took-none, took-site}
+use Rattle.sgt_input.proofs.SitedLines.{took-site}
+use Rattle.sgt_core.proofs.OneInput.{after-event, events-kind, took-none}
 use Rattle.sgt_core.proofs.reading.take_line.Goals as goal
 
 pub returns-then-not-is_empty : goal.returns-then-not-is_empty
@@ -11,7 +12,7 @@ returns-then-not-is_empty c =
 
 pub returns-then-branch : goal.returns-then-branch
 returns-then-branch c =
-    took-site _ _ _ (empty_when _ _ (sym c.args.events.now.ok.0) c.if-not-is_empty.ensures) refl
+    took-site events-kind _ _ _ (empty_when _ _ (sym c.args.events.now.ok.0) c.if-not-is_empty.ensures) refl
     (subst (λ (b : Bool). TakesSite c.args.sites.now.items c.args.line.now c.take_site.new.sites.items b)
     c.if-branch.true (c.in_ok-take_site.ensures))
 

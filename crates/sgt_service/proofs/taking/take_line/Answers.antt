@@ -1,9 +1,10 @@
 use Rattle.std.proofs.Common.{◌∙◌, Bool, List, IfOk, refl, subst, sym}
 use Rattle.sgt_notation.specs.declared.event.SiteLine.{SiteLine}
 use Rattle.sgt_input.specs.Sites.{TakesSite}
+use Rattle.sgt_input.proofs.SitedLines.{took-site}
 use Rattle.sgt_input.proofs.SiteLines.{empty_when, filled_when}
 use Rattle.sgt_service.specs.private.Taking.{TakesScript}
-use Rattle.sgt_service.proofs.OneInput.{after-script, took-site}
+use Rattle.sgt_service.proofs.OneInput.{after-script, scripts-kind}
 use Rattle.sgt_service.proofs.taking.take_line.Goals as goal
 
 pub returns-then-not-is_empty : goal.returns-then-not-is_empty
@@ -17,7 +18,7 @@ returns-then-not-is_empty c =
 
 pub returns-then-branch : goal.returns-then-branch
 returns-then-branch c =
-    took-site _ _ _ (empty_when _ _ (sym c.args.scripts.now.ok.0) c.if-not-is_empty.ensures) refl
+    took-site scripts-kind _ _ _ (empty_when _ _ (sym c.args.scripts.now.ok.0) c.if-not-is_empty.ensures) refl
     (subst (λ (b : Bool). TakesSite c.args.sites.now.items c.args.line.now c.take_site.new.sites.items b)
     c.if-branch.true (c.in_ok-take_site.ensures))
 

@@ -1,10 +1,10 @@
-use Rattle.std.proofs.Common.{All, Vec, Global, ap, sym, subst, ◌≡◌, refl}
+use Rattle.std.proofs.Common.{All, Vec, Global, ap, sym, subst, refl}
 use Rattle.sgt_certifier.specs.declared.call.CertifierFault.TheVariants as fault
 use Rattle.sgt_certifier.specs.declared.install.Prepared.{Prepared}
 use Rattle.sgt_certifier.specs.Counted.{AreCounted, HavePlaces}
 use Rattle.sgt_certifier.proofs.Counting.{counted-lists, counted-wider}
-use Rattle.sgt_certifier.specs.Kept.{Kept, IsTold}
-use Rattle.sgt_certifier.proofs.Calling.{declines, view_by, told_with, allowed_with}
+use Rattle.sgt_certifier.specs.Kept.{Kept}
+use Rattle.sgt_certifier.proofs.Calling.{allowed_with, declines_plain}
 use Rattle.sgt_certifier.specs.History.{expect, installs_in, IsAllowed}
 use Rattle.sgt_certifier.proofs.certifier.Certifier.expect.Goals as goal
 
@@ -30,37 +30,23 @@ invariant_of-self-2 c =
 pub returns-in_err-may_withdraw-clause-err : goal.returns-in_err-may_withdraw-clause-err
 returns-in_err-may_withdraw-clause-err c =
     let i = c.self.inside in
-    let xs = installs_in i.history.items in
     let old = c.args.self.now in
-    let told = subst (λ (v : Kept). IsTold v.state (expect c.args.handle) c.in_err-may_withdraw.field-0.0)
-    c.self.view_is (told_with i.judge xs (expect c.args.handle) c.in_err-may_withdraw.field-0.0 tt
-    c.in_err-may_withdraw.ensures.err_expect) in
-    declines c.from_residual.result c.in_err-may_withdraw.field-0.0 old old (expect c.args.handle)
-    c.from_residual.ensures.1 told refl
+    declines_plain c.from_residual.result c.in_err-may_withdraw.field-0.0 i.judge i.history.items i.expected.items old old
+    (expect c.args.handle) c.self.view_is tt c.from_residual.ensures.1 c.in_err-may_withdraw.ensures.err_expect refl
 
 pub returns-in_err-lists-clause-err : goal.returns-in_err-lists-clause-err
 returns-in_err-lists-clause-err c =
     let i = c.self.inside in
-    let xs = installs_in i.history.items in
-    let old = c.args.self.now in
-    let new = view_by i.judge i.history.items i.expected.items in
-    let same : new ≡ old = c.self.view_is in
-    let told = subst (λ (v : Kept). IsTold v.state (expect c.args.handle) fault.Memory) c.self.view_is
-    (allowed_with i.judge xs (expect c.args.handle) tt c.in_ok-may_withdraw.ensures.expect) in
-    declines c.from_residual-in_err-lists.result fault.Memory old new (expect c.args.handle)
-    c.from_residual-in_err-lists.ensures.1 told same
+    declines_plain c.from_residual-in_err-lists.result fault.Memory i.judge i.history.items i.expected.items
+    c.args.self.now _ (expect c.args.handle) c.self.view_is tt c.from_residual-in_err-lists.ensures.1
+    c.in_ok-may_withdraw.ensures.expect c.self.view_is
 
 pub returns-in_err-place_lists-clause-err : goal.returns-in_err-place_lists-clause-err
 returns-in_err-place_lists-clause-err c =
     let i = c.self.inside in
-    let xs = installs_in i.history.items in
-    let old = c.args.self.now in
-    let new = view_by i.judge i.history.items i.expected.items in
-    let same : new ≡ old = c.self.view_is in
-    let told = subst (λ (v : Kept). IsTold v.state (expect c.args.handle) fault.Memory) c.self.view_is
-    (allowed_with i.judge xs (expect c.args.handle) tt c.in_ok-may_withdraw.ensures.expect) in
-    declines c.from_residual-in_err-place_lists.result fault.Memory old new (expect c.args.handle)
-    c.from_residual-in_err-place_lists.ensures.1 told same
+    declines_plain c.from_residual-in_err-place_lists.result fault.Memory i.judge i.history.items i.expected.items
+    c.args.self.now _ (expect c.args.handle) c.self.view_is tt c.from_residual-in_err-place_lists.ensures.1
+    c.in_ok-may_withdraw.ensures.expect c.self.view_is
 
 pub returns-clause-allowed : goal.returns-clause-allowed
 returns-clause-allowed c =

@@ -1,13 +1,13 @@
 use Rattle.std.proofs.Common.{◌≡◌, ◌++◌, ◌∷◌, [], refl, sym, ap, ◌∙◌, subst, arith, ◌≢◌, AllPairs, length}
 use Rattle.sgt_certifier.specs.declared.call.Call.TheVariants as call
 use Rattle.sgt_certifier.specs.declared.call.CertifierFault.TheVariants as fault
-use Rattle.sgt_certifier.specs.Kept.{Kept, Adds, IsExpected, changed_at, state_with, IsTold}
+use Rattle.sgt_certifier.specs.Kept.{Kept, Adds, IsExpected, changed_at, state_with}
 use Rattle.sgt_certifier.specs.Counted.{CountsEach}
-use Rattle.sgt_certifier.proofs.Calling.{notes_serves, notes_kept, told_note, allowed_note, declines, view_by}
+use Rattle.sgt_certifier.proofs.Calling.{allowed_note, declines_with, notes_kept, notes_serves, told_note, view_by}
 use Rattle.sgt_certifier.proofs.Changes.{expected_same}
 use Rattle.sgt_certifier.proofs.Counting.{changed-once, counted-few, counted-installed, counted-fewer, counted-wider}
 use Rattle.sgt_certifier.proofs.Judging.{may_note}
-use Rattle.sgt_certifier.specs.History.{installed, installs_in}
+use Rattle.sgt_certifier.specs.History.{installed}
 use Rattle.std.proofs.lemmas.List.{length_push}
 use Rattle.sgt_certifier.specs.Certifier.{State}
 use Rattle.sgt_certifier.specs.Judged.{note_at}
@@ -104,22 +104,16 @@ add_each-requires-clause-small c = λ s x.
 pub returns-in_err-may_note-clause-err : goal.returns-in_err-may_note-clause-err
 returns-in_err-may_note-clause-err c =
     let i = c.self.inside in
-    let xs = installs_in i.history.items in
     let old = c.args.self.now in
-    let told = subst (λ (v : Kept). IsTold v.state (installed c.args.tx c.args.site) c.in_err-may_note.field-0.0)
-    c.self.view_is (told_note i.judge i.history.items c.args.tx c.args.site _ c.in_err-may_note.field-0.0
-    c.in_err-may_note.ensures.takes_none c.self.invariant.0 c.in_err-may_note.ensures.err) in
-    declines c.from_residual.result c.in_err-may_note.field-0.0 old old (installed c.args.tx c.args.site)
-    c.from_residual.ensures.1 told refl
+    declines_with c.from_residual.result c.in_err-may_note.field-0.0 i.judge i.history.items i.expected.items old old
+    (installed c.args.tx c.args.site) c.self.view_is c.from_residual.ensures.1
+    (told_note i.judge i.history.items c.args.tx c.args.site _ c.in_err-may_note.field-0.0
+    c.in_err-may_note.ensures.takes_none c.self.invariant.0 c.in_err-may_note.ensures.err) refl
 
 pub returns-in_err-items-clause-err : goal.returns-in_err-items-clause-err
 returns-in_err-items-clause-err c =
     let i = c.self.inside in
-    let xs = installs_in i.history.items in
-    let old = c.args.self.now in
-    let new = view_by i.judge i.history.items c.take_items.new.expected.items in
-    let same : new ≡ old = ap (view_by i.judge i.history.items) c.in_err-items.ensures.err ∙ c.self.view_is in
-    let told = subst (λ (v : Kept). IsTold v.state (installed c.args.tx c.args.site) fault.Memory) c.self.view_is
-    (allowed_note i.judge i.history.items c.args.tx c.args.site _ c.self.invariant.0 c.in_ok-may_note.ensures.ok) in
-    declines c.from_residual-in_err-items.result fault.Memory old new (installed c.args.tx c.args.site)
-    c.from_residual-in_err-items.ensures.1 told same
+    declines_with c.from_residual-in_err-items.result fault.Memory i.judge i.history.items i.expected.items
+    c.args.self.now _ (installed c.args.tx c.args.site) c.self.view_is c.from_residual-in_err-items.ensures.1
+    (allowed_note i.judge i.history.items c.args.tx c.args.site _ c.self.invariant.0 c.in_ok-may_note.ensures.ok)
+    (ap (view_by i.judge i.history.items) c.in_err-items.ensures.err ∙ c.self.view_is)
