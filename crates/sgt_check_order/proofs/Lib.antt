@@ -4,7 +4,6 @@ pub mod Rolls
 pub mod Going
 pub mod Running
 pub mod Earlier
-pub mod Values
 pub mod Counted
 pub mod Judged
 pub mod Taking

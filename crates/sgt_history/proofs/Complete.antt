@@ -3,7 +3,7 @@
 use Rattle.std.proofs.Common.{◌≡◌, ◌≢◌, ℕ, zero, suc, ◌+◌, ◌-◌, ◌<◌, ◌≤◌, Bool, true, false, List, Some, None, Option, refl, sym, ap, ◌∙◌, subst, arith, inl, inr, length, ◌⊎◌}
 use Rattle.std.specs.Prelude.{slice_get, Contains}
 use Rattle.std.proofs.lemmas.Bool.{cases_eq, cases_lt, cases_order}
-use Rattle.std.proofs.lemmas.Option.{same_Some, slice_get_within}
+use Rattle.std.proofs.lemmas.Option.{slice_get_within}
 use Rattle.sgt_names.proofs.Lists.{option_cases}
 use Rattle.sgt_names.proofs.Places.{Contains_at, Contains-from_at}
 use Rattle.sgt_notation.proofs.Decidable.{Decidable}
@@ -12,24 +12,22 @@ use Rattle.sgt_history.specs.declared.history.Kind.TheVariants.{Read, Write}
 use Rattle.sgt_history.specs.declared.history.Operation.{Operation}
 use Rattle.sgt_history.specs.declared.named.Conflict.{Conflict}
 use Rattle.sgt_history.specs.declared.named.Conflict.TheVariants.{WriteWrite, WriteRead, ReadWrite}
-use Rattle.sgt_history.specs.declared.named.Flaw.TheVariants.{Internal, Duplicate, AbortedRead, Unwritten, IntermediateRead, Value}
+use Rattle.sgt_history.specs.declared.named.Flaw.TheVariants.{Internal, AbortedRead, Unwritten, IntermediateRead}
 use Rattle.sgt_history.specs.Transaction.{Transaction, ArePositive}
-use Rattle.sgt_history.specs.Serial.{IsCommitted, IsOrder, run_of, IsWriteOf, NoneWrites, IsLastWritten, Has, Follows, RunsRight, ValuesAgree, Serves}
+use Rattle.sgt_history.specs.Serial.{IsCommitted, IsOrder, run_of, IsWriteOf, NoneWrites, IsLastWritten, Has, Follows, RunsRight, Serves}
 use Rattle.sgt_history.specs.Conflicts.{IsOperation, Writes, Reads, IsNext, HaveConflict, Precedes}
 use Rattle.sgt_history.specs.Flaws.{IsForeign, NoneCommitted, AbortedWrites, IsFaultless}
 use Rattle.sgt_history.proofs.Runs.{one_at}
 use Rattle.sgt_history.proofs.Placed.{start_of, IsPlaced, IsFound, in_run, earlier-before}
 use Rattle.sgt_history.proofs.Standing.{Stands, stands, own_at, own-last}
 use Rattle.sgt_history.proofs.Excluded.{IsRun, in_order}
+use Rattle.sgt_history.proofs.Agreeing.{one_transaction, one_writer, values_agree}
 use Rattle.sgt_history.proofs.Search.{has_some, decidable-written, decidable-aborted, HasNext, next_of}
 
 module _ (h : List (Transaction ℕ ℕ)) (positive : ArePositive h) (faultless : IsFaultless h)
     (order : List ℕ) (ordered : IsOrder h order)
     (forward : (kind : Conflict) (from to x v w : ℕ) → HaveConflict h kind from to x v w → Precedes order from to) where
   -- ---- one transaction alone
-
-  one_transaction : (line : ℕ) (t u : Transaction ℕ ℕ) → slice_get h line ≡ Some t → slice_get h line ≡ Some u → t ≡ u
-  one_transaction line t u a b = same_Some t u (sym a ∙ b)
 
   -- of two writes of an item by one transaction the later has the greater version
   own-rise : (line : ℕ) (t : Transaction ℕ ℕ) → IsCommitted h line t → (top k j x : ℕ) (o w : Operation ℕ ℕ) → k ≤ top
@@ -71,28 +69,6 @@ module _ (h : List (Transaction ℕ ℕ)) (positive : ArePositive h) (faultless 
               | inr (inr behind) ↦ absurd (last.none j w (omega arith) lt at writes)
             ]
       ]
-
-  -- no version is written by two
-  one_writer : (l m x v : ℕ) → Writes h l x v → Writes h m x v → l ≡ m
-  one_writer l m x v a b =
-      elim (cases_order l m) [
-        | inl e ↦ e
-        | inr (inl lt) ↦ absurd (again l m a b lt)
-        | inr (inr gt) ↦ absurd (again m l b a gt)
-      ]
-    where
-      again : (l m : ℕ) → Writes h l x v → Writes h m x v → l < m → ⊥
-      again l m a b lt = faultless m Duplicate b.place (record {
-        t = b.t;
-        o = b.o;
-        is = b.is;
-        has = (
-          b.writes.write,
-          l,
-          lt,
-          subst (Writes h l b.o.item) (sym b.version_is) (subst (λ y. Writes h l y v) (sym b.writes.item) a),
-        );
-      })
 
   -- ---- the order
 
@@ -138,7 +114,7 @@ module _ (h : List (Transaction ℕ ℕ)) (positive : ArePositive h) (faultless 
       let first = ordered-by l next.line x next.version next.writes
       (λ apart. forward WriteWrite l next.line x v next.version (apart, a, next.writes, next.next)) in
       elim (cases_eq next.version w) [
-        | inl e ↦ subst (NotBehind l) (one_writer next.line m x w (subst (Writes h next.line x) e next.writes) b) first
+        | inl e ↦ subst (NotBehind l) (one_writer h faultless next.line m x w (subst (Writes h next.line x) e next.writes) b) first
         | inr apart ↦
             follow l next.line m first
             (chain-forward top next.line m x next.version w (omega (arith, le, next.next.above)) next.writes b
@@ -155,7 +131,7 @@ module _ (h : List (Transaction ℕ ℕ)) (positive : ArePositive h) (faultless 
       let first = ordered-by l next.line x next.version next.writes
       (λ apart. forward ReadWrite l next.line x v next.version (apart, r, next.writes, next.next)) in
       elim (cases_eq next.version w) [
-        | inl e ↦ subst (NotBehind l) (one_writer next.line m x w (subst (Writes h next.line x) e next.writes) b) first
+        | inl e ↦ subst (NotBehind l) (one_writer h faultless next.line m x w (subst (Writes h next.line x) e next.writes) b) first
         | inr apart ↦ follow l next.line m first (not-behind next.line m x next.version w next.writes b
             (omega (arith, next.most)))
       ]
@@ -178,7 +154,7 @@ module _ (h : List (Transaction ℕ ℕ)) (positive : ArePositive h) (faultless 
             one_at order a.found.i b.found.i a.found.line b.found.line e a.found.placed.at b.found.placed.at in
             inr (
               same,
-              one_transaction b.found.line a.found.t b.found.t
+              one_transaction h b.found.line a.found.t b.found.t
                   (ap (slice_get h) (sym same) ∙ a.found.placed.in_line) b.found.placed.in_line,
               omega (arith, a.found.placed.is, b.found.placed.is, ap (start_of h order) e, lt),
             )
@@ -253,7 +229,7 @@ module _ (h : List (Transaction ℕ ℕ)) (positive : ArePositive h) (faultless 
                 | inl e ↦ absurd (not-both a.found.line b.found.line
                     (ordered-by a.found.line b.found.line o.item v by_it
                     (λ apart. absurd
-                    (apart (one_writer a.found.line b.found.line o.item v
+                    (apart (one_writer h faultless a.found.line b.found.line o.item v
                     (subst (Writes h a.found.line o.item) (sym e) by_me) by_it)))) before)
                 | inr (inl lt) ↦ lt
                 | inr (inr gt) ↦ absurd
@@ -278,7 +254,7 @@ module _ (h : List (Transaction ℕ ℕ)) (positive : ArePositive h) (faultless 
       elim (decidable-written h o.item o.version) [
         | inl (by, w) ↦
             let apart : by ≢ line = λ e.
-            let same = one_transaction line w.t t (ap (slice_get h) (sym e) ∙ w.is.committed.0) is.committed.0 in
+            let same = one_transaction h line w.t t (ap (slice_get h) (sym e) ∙ w.is.committed.0) is.committed.0 in
             faultless line Internal place (record {
               t = t;
               o = o;
@@ -467,59 +443,5 @@ module _ (h : List (Transaction ℕ ℕ)) (positive : ArePositive h) (faultless 
       let a = in_order h order ordered p o there in
       record { read = read-follows p o a; write = write-follows p o a }
 
-  -- ---- values
-
-  value-fault : (p q : ℕ) (o w : Operation ℕ ℕ) → (a : IsRun h order p o) → (b : IsRun h order q w)
-      → (a.found.line < b.found.line) ⊎ ((a.found.line ≡ b.found.line) × (a.found.j < b.found.j))
-      → o.item ≡ w.item → o.version ≡ w.version → (u v : ℕ) → o.value ≡ Some u → w.value ≡ Some v → u ≢ v → ⊥
-  value-fault p q o w a b before item version u v given given' apart =
-      faultless b.found.line Value b.found.j (record {
-        t = b.found.t;
-        o = w;
-        is = b.is;
-        has = record {
-          value = v;
-          given = given';
-          line_of = a.found.line;
-          place_of = a.found.j;
-          t = a.found.t;
-          other = o;
-          is = a.is;
-          before = before;
-          item_is = item;
-          version_is = version;
-          value_of = u;
-          given_of = given;
-          apart = λ e. apart (sym e);
-        };
-      })
-
-  values_agree : ValuesAgree (run_of h order)
-  values_agree o w in_o in_w item version u v given given' =
-      let at = Contains_at (run_of h order) o in_o in
-      let at' = Contains_at (run_of h order) w in_w in
-      let a = in_order h order ordered at.0 o at.1 in
-      let b = in_order h order ordered at'.0 w at'.1 in
-      elim (cases_eq u v) [
-        | inl e ↦ e
-        | inr apart ↦ absurd (elim (cases_order a.found.line b.found.line) [
-          | inl line ↦
-              let same = one_transaction b.found.line a.found.t b.found.t (ap (slice_get h) (sym line)
-              ∙ a.is.committed.0) b.is.committed.0 in
-              elim (cases_order a.found.j b.found.j) [
-                | inl j ↦
-                    let here = ap (λ (t : Transaction ℕ ℕ). slice_get t.operations a.found.j) (sym same) ∙ a.is.there in
-                    let one = one_at b.found.t.operations a.found.j b.found.j o w j here b.is.there in
-                    apart (same_Some u v (sym given ∙ ap (λ (x : Operation ℕ ℕ). x.value) one ∙ given'))
-                | inr (inl lt) ↦ value-fault at.0 at'.0 o w a b (inr (line, lt)) item version u v given given' apart
-                | inr (inr gt) ↦ value-fault at'.0 at.0 w o b a (inr (sym line, gt)) (sym item)
-                    (sym version) v u given' given (λ e. apart (sym e))
-              ]
-          | inr (inl lt) ↦ value-fault at.0 at'.0 o w a b (inl lt) item version u v given given' apart
-          | inr (inr gt) ↦ value-fault at'.0 at.0 w o b a (inl gt) (sym item) (sym version) v u given' given
-              (λ e. apart (sym e))
-        ])
-      ]
-
   pub serves : Serves h order
-  serves = record { ordered = ordered; right = runs_right; values = values_agree }
+  serves = record { ordered = ordered; right = runs_right; values = values_agree h faultless order ordered }

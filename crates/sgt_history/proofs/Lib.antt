@@ -4,6 +4,7 @@ pub mod Placed
 pub mod Standing
 pub mod Forward
 pub mod Excluded
+pub mod Agreeing
 pub mod Search
 pub mod Complete
 pub mod Renaming

@@ -11,7 +11,6 @@ use Rattle.sgt_history.specs.declared.history.Kind.TheVariants.{Read, Write}
 use Rattle.sgt_history.specs.declared.history.Operation.{Operation}
 use Rattle.sgt_history.specs.declared.named.Conflict.{Conflict}
 use Rattle.sgt_history.specs.declared.named.Conflict.TheVariants.{WriteWrite, WriteRead, ReadWrite}
-use Rattle.sgt_history.specs.declared.named.Flaw.TheVariants.{Duplicate}
 use Rattle.sgt_history.specs.Transaction.{Transaction}
 use Rattle.sgt_history.specs.Serial.{IsWriteOf}
 use Rattle.sgt_history.specs.Conflicts.{IsOperation, Writes, Reads, IsNext, HaveConflict}
@@ -20,6 +19,7 @@ use Rattle.sgt_history_faults.specs.declared.touch.Touch.{Touch}
 use Rattle.sgt_history_faults.specs.Touch.{IsTouch, IsTouched, AreTouches}
 use Rattle.sgt_history_faults.specs.Order.{reads_of, MayPrecede, AreInOrder}
 use Rattle.sgt_history_conflicts.specs.Pairs.{IsWritten, Meets, NoneBetween, IsPair}
+use Rattle.sgt_history.proofs.Agreeing.{one_writer}
 use Rattle.sgt_history.proofs.Search.{decidable-kind}
 
 -- ---- a search
@@ -269,27 +269,6 @@ module _ (h : List (Transaction ℕ ℕ)) (touches : List Touch) (are : AreTouch
       )
 
   module _ (faultless : IsFaultless h) where
-    one-writer : (l m x v : ℕ) → Writes h l x v → Writes h m x v → l ≡ m
-    one-writer l m x v a b =
-        elim (cases_order l m) [
-          | inl e ↦ e
-          | inr (inl lt) ↦ absurd (again l m a b lt)
-          | inr (inr gt) ↦ absurd (again m l b a gt)
-        ]
-      where
-        again : (l m : ℕ) → Writes h l x v → Writes h m x v → l < m → ⊥
-        again l m a b lt = faultless m Duplicate b.place (record {
-          t = b.t;
-          o = b.o;
-          is = b.is;
-          has = (
-            b.writes.write,
-            l,
-            lt,
-            subst (Writes h l b.o.item) (sym b.version_is) (subst (λ y. Writes h l y v) (sym b.writes.item) a),
-          );
-        })
-
     -- ---- a pair is a conflict
 
     -- no chain version lies between a touch and the next write
@@ -330,7 +309,7 @@ module _ (h : List (Transaction ℕ ℕ)) (touches : List Touch) (are : AreTouch
         let most = versions-rise p.a p.b (ordered i k p.a p.b p.before p.first p.second) p.meets.0 in
         let above : p.a.version < p.b.version = elim (cases_eq p.a.version p.b.version) [
           | inl e ↦ absurd
-              (p.meets.1 (one-writer p.a.line p.b.line p.a.item p.b.version (subst (Writes h p.a.line p.a.item) e a) b))
+              (p.meets.1 (one_writer h faultless p.a.line p.b.line p.a.item p.b.version (subst (Writes h p.a.line p.a.item) e a) b))
           | inr apart ↦ omega (arith, most, apart)
         ] in
         (p.meets.1, a, b, next-version i k p.a p.b p.first p.second p.before p.none p.meets.0 above (inr p.meets.2))
@@ -430,8 +409,8 @@ module _ (h : List (Transaction ℕ ℕ)) (touches : List Touch) (are : AreTouch
               absurd (not (omega (arith, least, m.2, k.is.1.1)))
           | inr most ↦ omega (arith, most, m.1, a.0.version_is)
         ] in
-        let from_is = one-writer p.e.line from x v (subst (Writes h p.e.line x) version by) first in
-        let to_is = one-writer k.e.line to x w (writes-at k.p k.e x w k.at k.is.0 k.is.1.0 k.is.1.1) second in
+        let from_is = one_writer h faultless p.e.line from x v (subst (Writes h p.e.line x) version by) first in
+        let to_is = one_writer h faultless k.e.line to x w (writes-at k.p k.e x w k.at k.is.0 k.is.1.0 k.is.1.1) second in
         record {
           i = p.p;
           k = k.p;
@@ -467,7 +446,7 @@ module _ (h : List (Transaction ℕ ℕ)) (touches : List Touch) (are : AreTouch
         let m = mid a.0.i p.p b.0.i a.0.e p.e b.0.e a.0.at p.at b.0.at p.from (omega (arith, p.to)) item
         (omega (arith, version)) in
         let v_is : p.e.version ≡ v = omega (arith, m.1, m.2, a.0.version_is, b.0.version_is, same) in
-        let from_is = one-writer p.e.line from x v (writes-at p.p p.e x v p.at p.is (m.0 ∙ a.0.item_is) v_is) first in
+        let from_is = one_writer h faultless p.e.line from x v (writes-at p.p p.e x v p.at p.is (m.0 ∙ a.0.item_is) v_is) first in
         record {
           i = p.p;
           k = b.0.i;
@@ -510,7 +489,7 @@ module _ (h : List (Transaction ℕ ℕ)) (touches : List Touch) (are : AreTouch
         ] in
         let least = next.least n.e.line n.e.version by more in
         let version : n.e.version ≡ w = omega (arith, least, m.2, b.0.version_is) in
-        let to_is = one-writer n.e.line to x w (subst (Writes h n.e.line x) version by) second in
+        let to_is = one_writer h faultless n.e.line to x w (subst (Writes h n.e.line x) version by) second in
         record {
           i = a.0.i;
           k = n.p;

@@ -6,7 +6,7 @@ use Rattle.sgt_check.specs.Told.{spelled}
 use Rattle.sgt_check_order.specs.Answer.{IsJudged}
 use Rattle.sgt_check_order.specs.Told.{kept_of}
 use Rattle.sgt_check_order.proofs.Judged.{first-judged}
-use Rattle.sgt_check_order.proofs.Values.{values_agree}
+use Rattle.sgt_history.proofs.Agreeing.{values_agree}
 use Rattle.sgt_check_order.proofs.answer.order_answer.Goals as goal
 
 pub returns-in-None : goal.returns-in-None

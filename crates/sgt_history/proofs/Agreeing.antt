@@ -1,21 +1,47 @@
--- Where no line has a fault, the values that are given in an order of all committed transactions agree.
-use Rattle.std.proofs.Common.{◌≡◌, ◌≢◌, ℕ, ◌<◌, List, Some, sym, ap, ◌∙◌, inl, inr, ◌⊎◌}
+-- Where no line has a fault, no version is written by two transactions, and the values that are given in an order of
+-- all committed transactions agree.
+use Rattle.std.proofs.Common.{◌≡◌, ◌≢◌, ℕ, ◌<◌, List, Some, sym, ap, ◌∙◌, subst, inl, inr, ◌⊎◌}
 use Rattle.std.specs.Prelude.{slice_get}
 use Rattle.std.proofs.lemmas.Bool.{cases_eq, cases_order}
 use Rattle.std.proofs.lemmas.Option.{same_Some}
 use Rattle.sgt_names.proofs.Places.{Contains_at}
 use Rattle.sgt_history.specs.declared.history.Operation.{Operation}
-use Rattle.sgt_history.specs.declared.named.Flaw.TheVariants.{Value}
+use Rattle.sgt_history.specs.declared.named.Flaw.TheVariants.{Duplicate, Value}
 use Rattle.sgt_history.specs.Transaction.{Transaction}
 use Rattle.sgt_history.specs.Serial.{IsOrder, ValuesAgree, run_of}
+use Rattle.sgt_history.specs.Conflicts.{Writes}
 use Rattle.sgt_history.specs.Flaws.{IsFaultless}
 use Rattle.sgt_history.proofs.Runs.{one_at}
 use Rattle.sgt_history.proofs.Excluded.{IsRun, in_order}
 
-module _ (h : List (Transaction ℕ ℕ)) (faultless : IsFaultless h) (order : List ℕ) (ordered : IsOrder h order) where
-  one_transaction : (line : ℕ) (t u : Transaction ℕ ℕ) → slice_get h line ≡ Some t → slice_get h line ≡ Some u → t ≡ u
-  one_transaction line t u a b = same_Some t u (sym a ∙ b)
+pub one_transaction : (h : List (Transaction ℕ ℕ)) (line : ℕ) (t u : Transaction ℕ ℕ) → slice_get h line ≡ Some t
+    → slice_get h line ≡ Some u → t ≡ u
+one_transaction h line t u a b = same_Some t u (sym a ∙ b)
 
+module _ (h : List (Transaction ℕ ℕ)) (faultless : IsFaultless h) where
+  -- no version is written by two
+  pub one_writer : (l m x v : ℕ) → Writes h l x v → Writes h m x v → l ≡ m
+  one_writer l m x v a b =
+      elim (cases_order l m) [
+        | inl e ↦ e
+        | inr (inl lt) ↦ absurd (again l m a b lt)
+        | inr (inr gt) ↦ absurd (again m l b a gt)
+      ]
+    where
+      again : (l m : ℕ) → Writes h l x v → Writes h m x v → l < m → ⊥
+      again l m a b lt = faultless m Duplicate b.place (record {
+        t = b.t;
+        o = b.o;
+        is = b.is;
+        has = (
+          b.writes.write,
+          l,
+          lt,
+          subst (Writes h l b.o.item) (sym b.version_is) (subst (λ y. Writes h l y v) (sym b.writes.item) a),
+        );
+      })
+
+module _ (h : List (Transaction ℕ ℕ)) (faultless : IsFaultless h) (order : List ℕ) (ordered : IsOrder h order) where
   value-fault : (p q : ℕ) (o w : Operation ℕ ℕ) → (a : IsRun h order p o) → (b : IsRun h order q w)
       → (a.found.line < b.found.line) ⊎ ((a.found.line ≡ b.found.line) × (a.found.j < b.found.j))
       → o.item ≡ w.item → o.version ≡ w.version → (u v : ℕ) → o.value ≡ Some u → w.value ≡ Some v → u ≢ v → ⊥
@@ -51,7 +77,7 @@ module _ (h : List (Transaction ℕ ℕ)) (faultless : IsFaultless h) (order : L
         | inl e ↦ e
         | inr apart ↦ absurd (elim (cases_order a.found.line b.found.line) [
           | inl line ↦
-              let same = one_transaction b.found.line a.found.t b.found.t (ap (slice_get h) (sym line)
+              let same = one_transaction h b.found.line a.found.t b.found.t (ap (slice_get h) (sym line)
               ∙ a.is.committed.0) b.is.committed.0 in
               elim (cases_order a.found.j b.found.j) [
                 | inl j ↦
