@@ -1,5 +1,5 @@
-//! Tests of the auditor, of the serial run, of certificates for logs and of the crates that they stand on: what no
-//! proof reaches, and each public function on its happy path.
+//! Tests of the auditor, of one thread and of several, of the serial run, of certificates for logs and of the crates
+//! that they stand on: what no proof reaches, and each public function on its happy path.
 #![tactic(auto)]
 
 #[cfg(test)]
@@ -20,3 +20,5 @@ mod runs;
 mod sections;
 #[cfg(test)]
 mod sound;
+#[cfg(test)]
+mod workers;

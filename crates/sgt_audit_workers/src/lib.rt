@@ -12,8 +12,6 @@ mod rules;
 mod running;
 mod sections;
 mod tally;
-#[cfg(test)]
-mod tests;
 mod workers;
 
 pub use engine::audit_with;

@@ -1,14 +1,16 @@
 //! What no clause says: that verdicts come where memory can be had, as one thread gives them.
 
-use crate::audit_with;
-use crate::judging::LONG;
 use sgt_audit::audit;
+use sgt_audit_workers::audit_with;
 use sgt_names::{EngineFail, FromRead, MAX_LINE, MemSink, MemSource, Source};
 use std::alloc::Global;
 use std::io;
 use std::io::Read;
 use std::test::Fail;
 use std::thread::Threads;
+
+/// A line 2 with as many bytes is judged by several threads.
+const LONG: usize = 65_536;
 
 /// A refused transaction with a step at each of two sites.
 const TWO_SITES: &str =
