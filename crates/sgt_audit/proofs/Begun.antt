@@ -1,17 +1,15 @@
 -- When the last read began.
-use Rattle.std.proofs.Common.{◌≡◌, ◌<◌, ◌≤◌, ◌+◌, ◌⊎◌, ℕ, List, [], ◌∷◌, ◌++◌, length, Option, Some, None, Result, Ok, Err, IfSome, ap, arith, inl, inr, refl, sym, ◌∙◌}
+use Rattle.std.proofs.Common.{◌≡◌, ◌<◌, ◌≤◌, ◌+◌, ℕ, List, [], ◌∷◌, ◌++◌, length, Option, Some, None, IfSome, ap, arith, inl, inr, refl, ◌∙◌}
 use Rattle.std.specs.Prelude.{⊤, ◌*◌}
 use Rattle.std.proofs.lemmas.Bool.{cases_order}
 use Rattle.std.proofs.lemmas.List.{length-append}
 use Rattle.std.specs.Io.KnownBytes.{prepend_known}
 use Rattle.sgt_notation.specs.Spelling.{text_of_lines}
-use Rattle.sgt_notation.specs.Lines.{Ahead, Gives, IsOfLast, coming, most_left}
-use Rattle.sgt_notation.specs.declared.lines.Next.{Next}
+use Rattle.sgt_notation.specs.Lines.{Ahead, Gives, coming, most_left}
 use Rattle.sgt_notation.specs.declared.lines.Next.TheVariants.{Line, Cut, TooLong, End}
 use Rattle.sgt_audit.specs.declared.faults.Fault.{Fault}
 use Rattle.sgt_audit.specs.declared.machine.Progress.{Progress}
-use Rattle.sgt_audit.specs.Faults.{BeginsNoneBehind, FirstFault, ReadsNoFurther, Stage, lines_so_far, reach}
-use Rattle.sgt_audit.specs.Progress.{Stands}
+use Rattle.sgt_audit.specs.Faults.{BeginsNoneBehind, ReadsNoFurther, Stage, lines_so_far}
 use Rattle.sgt_audit.specs.private.Stops.{BeganWithin, Goes, IsOfLastRead, IsRest, MeetsFault}
 
 -- so many of the bytes are gone

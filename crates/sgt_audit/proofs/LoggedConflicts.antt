@@ -5,7 +5,6 @@ use Rattle.std.proofs.lemmas.Bool.{false≢true}
 use Rattle.std.proofs.lemmas.Option.{same_Some, none-some}
 use Rattle.sgt_names.proofs.Places.{All-from_at, All_at, Contains-from_at}
 use Rattle.sgt_names.proofs.Lists.{All_in, front_at, middle_at, within_at}
-use Rattle.sgt_notation.specs.declared.SectionLine.{SectionLine}
 use Rattle.sgt_notation.specs.declared.SectionLine.TheVariants.{End}
 use Rattle.sgt_bundle.specs.Text.{IsCertificate}
 use Rattle.sgt_bundle.specs.Valid.{AreLogged}
@@ -23,7 +22,6 @@ use Rattle.sgt_audit.specs.Alone.{MeetsSteps}
 use Rattle.sgt_audit.specs.Kept.{IsMet, AreMet, MeansMet}
 use Rattle.sgt_audit.specs.Reading.{Begun}
 use Rattle.sgt_audit.specs.private.Following.{MayFollow, with_next}
-use Rattle.sgt_audit.proofs.Places.{same_whole}
 
 -- ---- one more log is whole
 

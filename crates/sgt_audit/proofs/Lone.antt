@@ -16,14 +16,15 @@ use Rattle.sgt_audit.specs.declared.alone.Alone.{Alone}
 use Rattle.sgt_audit.specs.declared.faults.Fault.{Fault}
 use Rattle.sgt_audit.specs.declared.faults.Fault.TheVariants as fault
 use Rattle.sgt_audit.specs.Alone.{FollowsAlone, MeetsSteps, StandsAlone}
-use Rattle.sgt_audit.specs.Faults.{IsLineIn, Keeps, Rule, Breaks, within, whole}
+use Rattle.sgt_audit.specs.Faults.{IsLineIn, Keeps, Breaks}
 use Rattle.sgt_audit.specs.Kept.{IsMet, IsPlace, Tracks}
 use Rattle.sgt_audit.specs.Reading.{Begun, IsBegun, IsOpenLog, lines_read}
 use Rattle.sgt_audit.specs.private.Following.{Fits, MayFollow, with_next}
 use Rattle.sgt_audit.specs.private.Judging.{AdmitsLine, HasOpen, JudgedLine, KeptBelow}
-use Rattle.sgt_audit.proofs.Least.{logged-7, final-7, end-7, site-7}
+use Rattle.sgt_audit.specs.Rules.{KeepsBy}
+use Rattle.sgt_audit.specs.declared.rules.Rules.{Rules}
+use Rattle.sgt_audit.proofs.Least.{below-any, by-any, least-at, logged-7, final-7, end-7, site-7}
 use Rattle.sgt_audit.proofs.MayFollow.{added-begun, begins-follow, follow-decides, next-lines, sections-whole}
-use Rattle.sgt_audit.proofs.NextLine.{within-breaks}
 use Rattle.sgt_audit.proofs.OpenLogs.{has_open}
 use Rattle.sgt_audit.proofs.Places.{next-sites}
 use Rattle.sgt_audit.proofs.SiteStates.{admits}
@@ -52,23 +53,33 @@ kept-7 c before (Logged e) = logged-7 c before e
 kept-7 c before (Final h) = final-7 c before h
 kept-7 c before End = end-7 c before
 
+-- a line that may not stand next
+pub section-breaks : (rules : Rules) (c : Certificate) (before : List SectionLine) (line : SectionLine)
+    → (Begins c.sites (before ++ line ∷ []) → ⊥) → Breaks (KeepsBy rules c before line) fault.Section
+section-breaks rules c before line miss =
+    least-at (KeepsBy rules c before line) 7 fault.Section refl
+    (below-any rules c before line 7 (kept-7 c before line)) miss
+
 -- what is kept stands behind one more line
 pub next-stands : (c : Certificate) (b : Begun) (line : SectionLine) (old new : Alone) → StandsAlone c b old
-    → Begins b.sites (lines_read b ++ line ∷ []) → KeptBelow (Keeps c (lines_read b) line) 17
+    → KeptBelow (Keeps c (lines_read b) line) 17
     → ((a : Begun) → IsBegun a → MayFollow a a.current line → IsPlace a old.place
     → IsPlace (with_next a a.current line) new.place)
     → ((a : Begun) → IsDecidedOnce c.decisions → IsBegun a → MayFollow a a.current line
     → AdmitsLine c.decisions a.current line → Tracks c.decisions a old.state
     → Tracks c.decisions (with_next a a.current line) new.state)
     → StandsAlone c (with_next b b.current line) new
-next-stands c b line old new s begins kept place state = record {
-  once = s.once;
-  ranked = s.ranked;
-  sites = next-sites b b.current line ∙ s.sites;
-  begun = added-begun b s.begun line begins b.current refl;
-  place = place b s.begun (begins-follow b line begins) s.place;
-  open_site = state b s.once s.begun (begins-follow b line begins) (admits c b b.current line refl kept) s.open_site;
-}
+next-stands c b line old new s kept place state =
+    let begins = subst (λ n. Begins n (lines_read b ++ line ∷ [])) (sym s.sites) (kept fault.Section (omega arith)) in
+    let follows = begins-follow b line begins in
+    record {
+      once = s.once;
+      ranked = s.ranked;
+      sites = next-sites b b.current line ∙ s.sites;
+      begun = added-begun b s.begun line begins b.current refl;
+      place = place b s.begun follows s.place;
+      open_site = state b s.once s.begun follows (admits c b b.current line refl kept) s.open_site;
+    }
 
 -- whether the steps are conflicts, with the last line
 pub last-meets : (edges : List Edge) (o : Option SiteLog) (met : Bool)
@@ -139,8 +150,8 @@ module _ (ds : List Decision) (log : SiteLog) (is : IsOpenLog log) where
       let one : length (log ∷ []) ≡ length logs = ap length whole.1 in
       absurd (omega (arith, one, len))
 
-  pub not-walk : (line : SectionLine) (found : Option Fault) → Fits log line
-      → JudgedLine (Keeps two (lines_read first) line) found → found ≢ Some fault.WalkStep
-  not-walk line found fits judged same =
-      let breaks = subst (JudgedLine (Keeps two (lines_read first) line)) same judged in
-      breaks.broken (walks-hold line fits)
+  pub not-walk : (rules : Rules) (line : SectionLine) (found : Option Fault) → Fits log line
+      → JudgedLine (KeepsBy rules two (lines_read first) line) found → found ≢ Some fault.WalkStep
+  not-walk rules line found fits judged same =
+      let breaks = subst (JudgedLine (KeepsBy rules two (lines_read first) line)) same judged in
+      breaks.broken (by-any rules two (lines_read first) line fault.WalkStep (walks-hold line fits))

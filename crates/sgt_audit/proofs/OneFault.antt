@@ -45,14 +45,14 @@ one_piece rest (last l) (last m) (is, one) (as_is, none) = ap last (sym is ∙ a
 -- ---- lines of one text
 
 -- the second list of lines has one more behind the first, which comes next there
-record Beyond (xs ys : List SectionLine) (rest : List ℕ) : Type 0 where
-  line : SectionLine
-  more : List SectionLine
-  after : List ℕ
-  cut : ys ≡ xs ++ line ∷ more
-  next : rest ≡ line_text line ++ 10 ∷ after
+pub record Beyond (xs ys : List SectionLine) (rest : List ℕ) : Type 0 where
+  pub line : SectionLine
+  pub more : List SectionLine
+  pub after : List ℕ
+  pub cut : ys ≡ xs ++ line ∷ more
+  pub next : rest ≡ line_text line ++ 10 ∷ after
 
-abbrev Compared : List SectionLine → List SectionLine → List ℕ → List ℕ → Type 0
+abbrev pub Compared : List SectionLine → List SectionLine → List ℕ → List ℕ → Type 0
 Compared xs ys r s = ((xs ≡ ys) × (r ≡ s)) ⊎ (Beyond xs ys r ⊎ Beyond ys xs s)
 
 beyond-more : (x y : SectionLine) (xs ys : List SectionLine) (r : List ℕ) → x ≡ y → Beyond xs ys r
@@ -66,7 +66,7 @@ beyond-more x y xs ys r same b = record {
   next = b.next;
 }
 
-compare : (xs ys : List SectionLine) (r s : List ℕ) → AllByRecursion IsLine xs → AllByRecursion IsLine ys
+pub compare : (xs ys : List SectionLine) (r s : List ℕ) → AllByRecursion IsLine xs → AllByRecursion IsLine ys
     → text_of_lines (map line_text xs) ++ r ≡ text_of_lines (map line_text ys) ++ s → Compared xs ys r s
 compare [] [] r s h g e = inl (refl, e)
 compare [] (y ∷ ys) r s h g e =

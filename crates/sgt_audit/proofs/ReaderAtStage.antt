@@ -1,13 +1,12 @@
 -- How far a text was read, against all that its reader told.
-use Rattle.std.proofs.Common.{◌≡◌, ◌≢◌, ℕ, zero, suc, ◌+◌, ◌<◌, ◌≤◌, List, [], ◌∷◌, ◌++◌, length, take, Option, Some, None, IfSome, refl, sym, ap, ◌∙◌, subst, arith, inl, inr, append_assoc}
+use Rattle.std.proofs.Common.{◌≡◌, ◌≢◌, ℕ, zero, suc, ◌+◌, ◌<◌, ◌≤◌, List, [], ◌∷◌, ◌++◌, length, take, Option, Some, None, IfSome, refl, sym, ap, ◌∙◌, subst, arith, inl, inr}
 use Rattle.std.specs.Prelude.{IfOk, Result, Ok, Err}
 use Rattle.std.specs.List.{AllByRecursion}
 use Rattle.std.proofs.lemmas.Bool.{cases_eq, cases_order}
 use Rattle.std.proofs.lemmas.List.{append-nil, length-append}
 use Rattle.std.proofs.lemmas.List.Elements.{recursion_from_All, All-cons}
 use Rattle.sgt_notation.specs.Spelling.{text_of_lines, HasNoLf, line_text}
-use Rattle.sgt_names.specs.Limits.{most_reads}
-use Rattle.sgt_notation.specs.Lines.{Ahead, GaveNext, Gives, MetReadFault, ReadFaultIsDue, Spends, Stream, passed, stream}
+use Rattle.sgt_notation.specs.Lines.{Ahead, GaveNext, Gives, Spends, passed, stream}
 use Rattle.sgt_notation.proofs.Fronts.{passed-next}
 use Rattle.sgt_notation.proofs.Short.{line-no_lf, line-short}
 use Rattle.sgt_notation.specs.declared.lines.Next.TheVariants.{Line, Cut, TooLong, End}
@@ -25,7 +24,7 @@ use Rattle.sgt_audit.specs.private.NextLine.{Follows}
 use Rattle.sgt_audit.specs.private.Ending.{EndsWith, IsComplete, limit_of}
 use Rattle.sgt_audit.specs.private.Stops.{FedFront, Goes, IsJudged, IsRest, IsStop, IsWhole, MeetsFault}
 use Rattle.sgt_audit.proofs.OneFault.{first_fault-excluded, reach-one}
-use Rattle.sgt_notation.proofs.Texts.{text-append, all-spent, text-one_line, fault-met}
+use Rattle.sgt_notation.proofs.Texts.{text-one_line}
 
 -- what the machine has kept has no fault
 stage-faultless : (k : Kept) (b : Begun) (before : List SectionLine) (s : Stage)

@@ -29,15 +29,12 @@ use Rattle.sgt_audit_decisions.specs.Decided.{Decides, IsFound}
 use Rattle.sgt_audit_cells.specs.Tracks.{TracksOpen, IsReadyFor, IsPlaceAmong, IsNumberOf}
 use Rattle.sgt_audit_cells.specs.declared.state.SiteState.{SiteState}
 use Rattle.sgt_audit_cells.proofs.Tracking.{ready-next}
-use Rattle.sgt_bundle.specs.Certificate.{IsDecidedOnce}
-use Rattle.sgt_bundle.specs.Text.{Begins}
 use Rattle.sgt_bundle.specs.declared.certificate.Certificate.{Certificate}
 use Rattle.sgt_audit.specs.declared.faults.Fault.TheVariants as fault
 use Rattle.sgt_audit.specs.Faults.{Keeps}
 use Rattle.sgt_audit.specs.Kept.{TracksCurrent, Tracks}
-use Rattle.sgt_audit.proofs.MayFollow.{begins-follow}
 use Rattle.sgt_audit.proofs.OpenLogs.{has_open}
-use Rattle.sgt_audit.specs.Reading.{Begun, IsBegun, HasRoomFor, lines_read}
+use Rattle.sgt_audit.specs.Reading.{Begun, HasRoomFor, lines_read}
 use Rattle.sgt_audit.specs.private.Following.{Fits, MayFollow, with_next}
 use Rattle.sgt_audit.specs.private.Judging.{AdmitsLine, KeptBelow, IsLegalRead}
 use Rattle.sgt_audit.specs.private.Known.{IsKnownOf, IsKnownLine}

@@ -9,9 +9,10 @@ ghost use Rattle.sgt_audit.specs.Reading.{Begun};
 
 use crate::faults::Fault;
 use crate::format::{is_allowed, read_line};
-use crate::judging::judge_inside;
+use crate::judging::judge_line;
 use crate::known::{Known, look_up, look_up_at_hand};
 use crate::place::Place;
+use crate::rules::Rules;
 use crate::tracked::enter_line;
 use crate::walks::are_met;
 use sgt_audit_cells::SiteState;
@@ -46,14 +47,10 @@ fn meets_steps(certificate: &Decided, state: &SiteState, edges: &[Edge], line: &
 impl Alone {
     ghost use Rattle.std.specs.Prelude.{None, IsTrue, ◌↔◌, ◌<◌};
     ghost use Rattle.sgt_bundle.specs.Certificate.{IsDecidedOnce, AreRanks, ranks};
-    ghost use Rattle.sgt_bundle.specs.declared.bundle.SiteLog.{SiteLog};
     ghost use Rattle.sgt_bundle.specs.declared.certificate.Certificate.{Certificate};
-    ghost use Rattle.std.specs.Prelude.{[], ◌∷◌, ◌++◌, ◌≢◌, Some};
     ghost use Rattle.sgt_notation.specs.declared.SectionLine.TheVariants.{Logged};
-    ghost use Rattle.sgt_bundle.specs.Text.{Begins};
-    ghost use Rattle.sgt_audit.specs.Faults.{IsLineIn, Keeps};
-    ghost use Rattle.sgt_audit.specs.Reading.{IsBegun, lines_read};
-    ghost use Rattle.sgt_audit.specs.private.Judging.{JudgedLine};
+    ghost use Rattle.sgt_audit.specs.Faults.{IsLineIn};
+    ghost use Rattle.sgt_audit.specs.Reading.{IsBegun};
     ghost use Rattle.sgt_audit.specs.private.Known.{IsKnownLine};
 
     /// Before the section of the first of so many sites.
@@ -245,23 +242,6 @@ impl Alone {
         }
     }
 
-    /// The least fault of a line that may stand next, but for the walks.
-    #[inline(always)]
-    fn judge(&self, line: &SectionLine, known: &Option<Known>) -> Option<Fault>
-        ensures judged { (c : Certificate) (b : Begun) → StandsAlone c b self.now
-            → IsKnownLine c.decisions self.now.state line.now known.now
-            → Begins b.sites (lines_read b ++ line.now ∷ [])
-            → JudgedLine (Keeps c (lines_read b) line.now) result }
-        ensures not_walks { (c : Certificate) (b : Begun) → StandsAlone c b self.now
-            → IsKnownLine c.decisions self.now.state line.now known.now
-            → Begins b.sites (lines_read b ++ line.now ∷ []) → result ≢ Some Fault.WalkStep }
-    {
-        match &self.place.current {
-            Some(here) => judge_inside(&self.state, here, line, known),
-            None => None,
-        }
-    }
-
     /// The next line, which is one of the format.
     #[inline(never)]
     fn follow(
@@ -294,10 +274,7 @@ impl Alone {
             → IfOk result (FollowsAlone certificate.now edges.now b (line_text line.now) self.new) }
         ensures second { self.new.second ≡ self.old.second }
     {
-        if !self.place.may_go_on(line) {
-            return Ok(Some(Fault::Section));
-        }
-        if let Some(fault) = self.judge(line, known) {
+        if let Some(fault) = judge_line(Rules::Certified, &self.state, &self.place, line, known) {
             return Ok(Some(fault));
         }
         self.met = meets_steps(certificate, &self.state, edges, line);

@@ -1,17 +1,18 @@
 //! The least fault of a line, after lines with no fault.
 
-ghost use Rattle.std.specs.Prelude.{◌≡◌, ◌↔◌, ◌∷◌, ◌++◌, [], List, IsTrue, IfOk, Contains, Some};
+ghost use Rattle.std.specs.Prelude.{◌≡◌, ◌≢◌, ◌↔◌, ◌∷◌, ◌++◌, [], List, IsTrue, IfOk, Contains, Some};
 ghost use Rattle.sgt_notation.specs.declared.SectionLine.{SectionLine};
 ghost use Rattle.sgt_notation.specs.declared.SectionLine.TheVariants.{Logged, Final, End};
 ghost use Rattle.sgt_names.specs.Log.{names, value_at};
 ghost use Rattle.sgt_bundle.specs.Certificate.{IsDecidedOnce, AreRanks, ranks};
 ghost use Rattle.sgt_bundle.specs.declared.certificate.Decision.{Decision};
 ghost use Rattle.sgt_audit_cells.specs.Tracks.{TracksOpen};
-ghost use Rattle.sgt_audit.specs.Kept.{IsOpenPlace};
+ghost use Rattle.sgt_audit.specs.Kept.{IsOpenPlace, IsPlace, Tracks};
+ghost use Rattle.sgt_audit.specs.Reading.{Begun, IsBegun, lines_read};
 ghost use Rattle.sgt_bundle.specs.Text.{Begins};
 ghost use Rattle.sgt_bundle.specs.declared.bundle.SiteLog.{SiteLog};
 ghost use Rattle.sgt_bundle.specs.declared.certificate.Certificate.{Certificate};
-ghost use Rattle.sgt_audit.specs.Faults.{Keeps};
+ghost use Rattle.sgt_audit.specs.Rules.{KeepsBy, OfCertificate};
 ghost use Rattle.sgt_audit.specs.private.Judging.{ContinuesLog, HasOpen, JudgedLine, AnswersItself};
 ghost use Rattle.sgt_audit.specs.private.Known.{IsKnownOf, IsKnownLine};
 ghost use Rattle.sgt_audit.specs.private.Following.{Fits};
@@ -19,7 +20,8 @@ ghost use Rattle.sgt_audit.specs.private.Following.{Fits};
 use crate::entries::follows_last;
 use crate::faults::Fault;
 use crate::known::Known;
-use crate::place::OpenPlace;
+use crate::place::{OpenPlace, Place};
+use crate::rules::Rules;
 use crate::tracked::{
     holds_value, is_active, is_first, is_in_order, is_in_rank, is_legal, is_listed,
 };
@@ -32,7 +34,7 @@ use std::alloc::{AllocError, Global};
 
 /// Whether the line goes on with the block that is open at the end of the log, if one is.
 #[inline(always)]
-pub fn continues_log(place: &OpenPlace, line: &SectionLine) -> bool
+fn continues_log(place: &OpenPlace, line: &SectionLine) -> bool
     ensures { (log : SiteLog) → IsOpenPlace log place.now
         → (IsTrue result ↔ ContinuesLog log line.now) }
 {
@@ -45,20 +47,19 @@ pub fn continues_log(place: &OpenPlace, line: &SectionLine) -> bool
 /// The least fault of a line that is this entry, of which this is known.
 #[inline(always)]
 fn judge_entry(
+    rules: Rules,
     state: &SiteState,
     place: &OpenPlace,
     known: &Known,
-    line: &SectionLine,
     entry: &Entry,
 ) -> Option<Fault>
-    requires { line.now ≡ Logged entry.now }
     ensures { (c : Certificate) (before : List SectionLine) (log : SiteLog)
         → IsDecidedOnce c.decisions
-        → AreRanks (ranks c.decisions) → IsOpenPlace log place.now
+        → OfCertificate rules (AreRanks (ranks c.decisions)) → IsOpenPlace log place.now
         → IsKnownOf c.decisions state.now entry.now known.now
         → TracksOpen c.decisions log.items log.entries state.now
         → HasOpen before log → Begins c.sites (before ++ Logged entry.now ∷ [])
-        → JudgedLine (Keeps c before (Logged entry.now)) result }
+        → JudgedLine (KeepsBy rules c before (Logged entry.now)) result }
 {
     if !is_listed(known, entry) {
         return Some(Fault::Item);
@@ -69,16 +70,16 @@ fn judge_entry(
     if !is_legal(state, known, entry) {
         return Some(Fault::ReadValue);
     }
-    if !is_in_rank(state, known, entry) {
+    if !is_in_rank(rules, state, known, entry) {
         return Some(Fault::RankOrder);
     }
-    if !continues_log(place, line) {
+    if !continues_log(place, &SectionLine::Logged(*entry)) {
         return Some(Fault::Block);
     }
     if !is_active(state, known) {
         return Some(Fault::End);
     }
-    if !is_in_order(state, known, entry) {
+    if !is_in_order(rules, state, known, entry) {
         return Some(Fault::DecisionOrder);
     }
     None
@@ -103,13 +104,13 @@ fn holds_final(state: &SiteState, place: &OpenPlace, holding: &Holding) -> bool
 
 /// The least fault of a final value.
 #[inline(always)]
-pub fn judge_final(state: &SiteState, place: &OpenPlace, holding: &Holding) -> Option<Fault>
-    ensures { (ds : List Decision) (c : Certificate) (before : List SectionLine) (log : SiteLog)
+fn judge_final(state: &SiteState, place: &OpenPlace, holding: &Holding) -> Option<Fault>
+    ensures { (rules : Rules) (c : Certificate) (before : List SectionLine) (log : SiteLog)
         → IsOpenPlace log place.now
-        → TracksOpen ds log.items log.entries state.now
+        → TracksOpen c.decisions log.items log.entries state.now
         → Contains (names log.items) holding.now.item → HasOpen before log
         → Begins c.sites (before ++ Final holding.now ∷ [])
-        → JudgedLine (Keeps c before (Final holding.now)) result }
+        → JudgedLine (KeepsBy rules c before (Final holding.now)) result }
 {
     if !continues_log(place, &SectionLine::Final(*holding)) {
         return Some(Fault::Block);
@@ -124,11 +125,11 @@ pub fn judge_final(state: &SiteState, place: &OpenPlace, holding: &Holding) -> O
 }
 
 /// The least fault of a section's end, but for the walks.
-pub fn judge_end(state: &SiteState, place: &OpenPlace) -> Option<Fault>
-    ensures { (ds : List Decision) (c : Certificate) (before : List SectionLine) (log : SiteLog)
+fn judge_end(state: &SiteState, place: &OpenPlace) -> Option<Fault>
+    ensures { (rules : Rules) (c : Certificate) (before : List SectionLine) (log : SiteLog)
         → IsOpenPlace log place.now
-        → TracksOpen ds log.items log.entries state.now → HasOpen before log
-        → Begins c.sites (before ++ End ∷ []) → JudgedLine (Keeps c before End) result }
+        → TracksOpen c.decisions log.items log.entries state.now → HasOpen before log
+        → Begins c.sites (before ++ End ∷ []) → JudgedLine (KeepsBy rules c before End) result }
 {
     if !continues_log(place, &SectionLine::End) {
         return Some(Fault::Block);
@@ -141,7 +142,8 @@ pub fn judge_end(state: &SiteState, place: &OpenPlace) -> Option<Fault>
 
 /// The least fault of a line in the open section, of which this is known, but for the walks.
 #[inline(always)]
-pub(crate) fn judge_inside(
+fn judge_inside(
+    rules: Rules,
     state: &SiteState,
     place: &OpenPlace,
     line: &SectionLine,
@@ -149,21 +151,46 @@ pub(crate) fn judge_inside(
 ) -> Option<Fault>
     ensures { (c : Certificate) (before : List SectionLine) (log : SiteLog)
         → IsDecidedOnce c.decisions
-        → AreRanks (ranks c.decisions) → IsOpenPlace log place.now
+        → OfCertificate rules (AreRanks (ranks c.decisions)) → IsOpenPlace log place.now
         → IsKnownLine c.decisions state.now line.now known.now
         → TracksOpen c.decisions log.items log.entries state.now
         → HasOpen before log → Fits log line.now → Begins c.sites (before ++ line.now ∷ [])
-        → JudgedLine (Keeps c before line.now) result }
+        → JudgedLine (KeepsBy rules c before line.now) result }
 {
     match line {
         SectionLine::Logged(entry) => match known {
-            Some(known) => judge_entry(state, place, known, line, entry),
+            Some(known) => judge_entry(rules, state, place, known, entry),
             None => None,
         },
         SectionLine::Final(holding) => judge_final(state, place, holding),
         SectionLine::End => judge_end(state, place),
         SectionLine::Site(_) => None,
         SectionLine::Initial(_) => None,
+    }
+}
+
+/// The least fault of a line behind the lines that were read, of which this is known, but for the walks.
+#[inline(always)]
+pub fn judge_line(
+    rules: Rules,
+    state: &SiteState,
+    place: &Place,
+    line: &SectionLine,
+    known: &Option<Known>,
+) -> Option<Fault>
+    ensures { (c : Certificate) (b : Begun) → IsDecidedOnce c.decisions
+        → OfCertificate rules (AreRanks (ranks c.decisions))
+        → b.sites ≡ c.sites → IsBegun b → IsPlace b place.now → Tracks c.decisions b state.now
+        → IsKnownLine c.decisions state.now line.now known.now
+        → JudgedLine (KeepsBy rules c (lines_read b) line.now) result
+        × (result ≢ Some Fault.WalkStep) }
+{
+    if !place.may_go_on(line) {
+        return Some(Fault::Section);
+    }
+    match &place.current {
+        Some(here) => judge_inside(rules, state, here, line, known),
+        None => None,
     }
 }
 

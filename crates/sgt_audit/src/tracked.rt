@@ -13,12 +13,14 @@ ghost use Rattle.sgt_bundle.specs.declared.certificate.Decision.{Decision};
 ghost use Rattle.sgt_audit_cells.specs.Tracks.{TracksOpen};
 ghost use Rattle.sgt_audit.specs.Kept.{Tracks};
 ghost use Rattle.sgt_audit.specs.Reading.{Begun, IsBegun};
+ghost use Rattle.sgt_audit.specs.Rules.{OfCertificate};
 ghost use Rattle.sgt_audit.specs.private.Following.{MayFollow, with_next};
 ghost use Rattle.sgt_audit.specs.private.Judging.{IsLegalRead, AdmitsLine};
 ghost use Rattle.sgt_audit.specs.private.Known.{IsKnownOf, IsKnownLine};
 ghost use Rattle.sgt_audit_cells.specs.declared.state.SiteState.{SiteState};
 
 use crate::known::Known;
+use crate::rules::Rules;
 use sgt_audit_cells::{SiteState, item_in};
 use sgt_names::{Entry, Holding};
 use sgt_notation::SectionLine;
@@ -26,7 +28,7 @@ use std::alloc::AllocError;
 
 /// Whether the entry's item is listed. An end has none.
 #[inline(always)]
-pub fn is_listed(known: &Known, entry: &Entry) -> bool
+pub(crate) fn is_listed(known: &Known, entry: &Entry) -> bool
     ensures { (ds : List Decision) (state : SiteState) (items : List Holding) (entries : List Entry)
         → IsKnownOf ds state entry.now known.now → TracksOpen ds items entries state
         → (IsTrue result ↔ ForSome (item_of entry.now) (Contains (names items))) }
@@ -39,7 +41,7 @@ pub fn is_listed(known: &Known, entry: &Entry) -> bool
 
 /// Whether the entry is not the second read of its item by its transaction, nor its second change, made or asked for.
 #[inline(always)]
-pub fn is_first(state: &SiteState, known: &Known, entry: &Entry) -> bool
+pub(crate) fn is_first(state: &SiteState, known: &Known, entry: &Entry) -> bool
     ensures { (ds : List Decision) (items : List Holding) (entries : List Entry)
         → IsKnownOf ds state.now entry.now known.now
         → TracksOpen ds items entries state.now
@@ -68,7 +70,7 @@ pub(crate) fn holds_value(state: &SiteState, holding: &Holding) -> bool
 
 /// Whether the entry, on a listed item if it is a read, has the value of its item then.
 #[inline(always)]
-pub fn is_legal(state: &SiteState, known: &Known, entry: &Entry) -> bool
+pub(crate) fn is_legal(state: &SiteState, known: &Known, entry: &Entry) -> bool
     ensures { (ds : List Decision) (items : List Holding) (entries : List Entry)
         → IsKnownOf ds state.now entry.now known.now
         → TracksOpen ds items entries state.now
@@ -85,25 +87,28 @@ pub fn is_legal(state: &SiteState, known: &Known, entry: &Entry) -> bool
 }
 
 /// Whether the entry conflicts with no entry before it of a committed transaction of greater rank, if its own is
-/// committed.
+/// committed. It is asked of a certificate alone.
 #[inline(always)]
-pub(crate) fn is_in_rank(state: &SiteState, known: &Known, entry: &Entry) -> bool
+pub(crate) fn is_in_rank(rules: Rules, state: &SiteState, known: &Known, entry: &Entry) -> bool
     ensures { (ds : List Decision) (items : List Holding) (entries : List Entry) → IsDecidedOnce ds
-        → AreRanks (ranks ds)
+        → OfCertificate rules (AreRanks (ranks ds))
         → IsKnownOf ds state.now entry.now known.now
         → TracksOpen ds items entries state.now
         → ForSome (item_of entry.now) (Contains (names items))
-        → (IsTrue result ↔ All (λ f. RiseInRank ds f entry.now) entries) }
+        → (IsTrue result ↔ OfCertificate rules (All (λ f. RiseInRank ds f entry.now) entries)) }
 {
-    match known.place {
-        Some(place) => state.is_in_rank(place, entry, known.ruling.rank),
-        None => true,
+    match rules {
+        Rules::Asked => true,
+        Rules::Certified => match known.place {
+            Some(place) => state.is_in_rank(place, entry, known.ruling.rank),
+            None => true,
+        },
     }
 }
 
 /// Whether the entry of which this is known has its transaction decided as it says, with no end before it.
 #[inline(always)]
-pub fn is_active(state: &SiteState, known: &Known) -> bool
+pub(crate) fn is_active(state: &SiteState, known: &Known) -> bool
     ensures { (ds : List Decision) (e : Entry) (items : List Holding) (entries : List Entry)
         → IsKnownOf ds state.now e known.now
         → TracksOpen ds items entries state.now
@@ -116,16 +121,19 @@ pub fn is_active(state: &SiteState, known: &Known) -> bool
     }
 }
 
-/// Whether no end before the entry, if it is one, was decided later.
+/// Whether no end before the entry, if it is one, was decided later. It is asked of a certificate alone.
 #[inline(always)]
-pub(crate) fn is_in_order(state: &SiteState, known: &Known, entry: &Entry) -> bool
+pub(crate) fn is_in_order(rules: Rules, state: &SiteState, known: &Known, entry: &Entry) -> bool
     ensures { (ds : List Decision) (items : List Holding) (entries : List Entry) → IsDecidedOnce ds
         → IsKnownOf ds state.now entry.now known.now → TracksOpen ds items entries state.now
-        → (IsTrue result ↔ All (λ f. EndInOrder ds f entry.now) entries) }
+        → (IsTrue result ↔ OfCertificate rules (All (λ f. EndInOrder ds f entry.now) entries)) }
 {
-    match known.ruling.suiting {
-        Some(number) => state.is_in_order(entry, number),
-        None => true,
+    match rules {
+        Rules::Asked => true,
+        Rules::Certified => match known.ruling.suiting {
+            Some(number) => state.is_in_order(entry, number),
+            None => true,
+        },
     }
 }
 

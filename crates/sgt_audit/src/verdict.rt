@@ -26,7 +26,7 @@ pub enum Verdict {
 }
 
 /// The yes with the counts of these decisions.
-fn yes_to(decisions: &[Decision]) -> Verdict
+pub fn yes_to(decisions: &[Decision]) -> Verdict
     ensures { result ≡ yes_of decisions.now }
 {
     let mut committed = 0u64;

@@ -23,31 +23,11 @@ use crate::long::judge_open;
 use crate::sections::{Section, State, Text, read_line, read_on, state_behind, take_section};
 use crate::tally::Tally;
 use crate::workers::Workers;
-use sgt_audit::{Verdict, audit};
-use sgt_bundle::Decision;
+use sgt_audit::{Verdict, audit, yes_to};
 use sgt_names::{EngineFail, MAX_LINE, Sink, Source, write_all};
 use sgt_notation::Next;
 use std::alloc::Global;
 use std::thread::Threads;
-
-/// The yes with the counts of these decisions.
-fn yes_to(decisions: &[Decision]) -> Verdict
-    ensures { result ≡ yes_of decisions.now }
-{
-    let mut committed = 0u64;
-    let mut refused = 0u64;
-    let mut withdrawn = 0u64;
-    for decision in decisions {
-        committed += u64::from(decision.is_commit());
-        refused += u64::from(decision.is_refusal());
-        withdrawn += u64::from(decision.is_withdrawal());
-    }
-    Verdict::Yes {
-        committed,
-        refused,
-        withdrawn,
-    }
-}
 
 /// An open section of which nothing was read is what comes behind that.
 fn settle(text: &mut Text)

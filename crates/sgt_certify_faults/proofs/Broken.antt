@@ -1,8 +1,6 @@
 -- What is broken behind lines that were read, and what is kept.
-use Rattle.std.proofs.Common.{◌≡◌, ◌≢◌, ℕ, ◌+◌, ◌<◌, ◌≤◌, Bool, true, List, [], ◌∷◌, ◌++◌, length, map, Option, Some, None, refl, sym, ap, ◌∙◌, subst, arith}
+use Rattle.std.proofs.Common.{◌≡◌, ℕ, ◌<◌, ◌≤◌, Bool, true, List, [], ◌∷◌, ◌++◌, length, Option, Some, None, refl, sym, ap, ◌∙◌, subst, arith}
 use Rattle.sgt_names.specs.Limits.{max_line, max_sites}
-use Rattle.sgt_names.specs.declared.entry.Entry.{Entry}
-use Rattle.sgt_names.specs.declared.entry.Holding.{Holding}
 use Rattle.sgt_notation.specs.Spelling.{line_text}
 use Rattle.sgt_notation.proofs.OneSpelling.{line-one}
 use Rattle.sgt_notation.proofs.Short.{line-short}
@@ -15,11 +13,8 @@ use Rattle.sgt_audit.specs.declared.faults.Fault.TheVariants as fault
 use Rattle.sgt_audit.specs.Faults.{Breaks, IsLineIn, Piece, bytes_of, fault_number, whole, last}
 use Rattle.sgt_audit.specs.Reading.{Begun, HasRoomFor, IsBegun, lines_read}
 use Rattle.sgt_audit.specs.private.Following.{MayFollow}
-use Rattle.sgt_audit.proofs.MayFollow.{are-sections, begins-follow, follow-decides, sections-whole, whole-sections}
-use Rattle.sgt_audit.proofs.OpenLogs.{kept-between}
+use Rattle.sgt_audit.proofs.MayFollow.{begins-follow, follow-decides, sections-whole, whole-sections}
 use Rattle.sgt_certify_faults.specs.Faults.{AreAll, KeepsAlone, RuleAlone, RuleWithin, behind}
-use Rattle.sgt_certify_faults.specs.private.Judging.{IsJudged}
-use Rattle.sgt_certify_faults.proofs.Alone.{open_to_all, site-judged}
 
 -- ---- which sections may begin so
 
@@ -108,27 +103,6 @@ pub begins-all : (b : Begun) (line : SectionLine) → IsBegun b → b.sites ≡ 
     → KeepsAlone (lines_read b) line fault.Section → Begins b.sites (lines_read b ++ line ∷ [])
 begins-all b line begun sites keeps =
     (follow-decides b begun line true (λ _. follows-some b line sites keeps, λ _. refl)).0 refl
-
--- a line that may not come next
-pub section-broken : (b : Begun) (line : SectionLine) → IsBegun b → b.sites ≡ max_sites
-    → (Begins b.sites (lines_read b ++ line ∷ []) → ⊥) → Breaks (KeepsAlone (lines_read b) line) fault.Section
-section-broken b line begun sites miss = record {
-  broken = λ keeps. miss (begins-all b line begun sites keeps);
-  least = λ g lt. below-section (lines_read b) line g lt;
-}
-
--- a line between sections
-pub between-judged : (b : Begun) (line : SectionLine) → b.sites ≡ max_sites → b.current ≡ None
-    → Begins b.sites (lines_read b ++ line ∷ []) → (f : Fault) → KeepsAlone (lines_read b) line f
-between-judged b (Site k) sites none begins =
-    site-judged (lines_read b) k (kept-between open_to_all b (Site k) (sym sites) none begins)
-between-judged b (Initial h) sites none begins =
-    absurd (subst (λ o. MayFollow b o (Initial h)) none (begins-follow b (Initial h) begins))
-between-judged b (Logged e) sites none begins =
-    absurd (subst (λ o. MayFollow b o (Logged e)) none (begins-follow b (Logged e) begins))
-between-judged b (Final h) sites none begins =
-    absurd (subst (λ o. MayFollow b o (Final h)) none (begins-follow b (Final h) begins))
-between-judged b End sites none begins = absurd (subst (λ o. MayFollow b o End) none (begins-follow b End begins))
 
 -- ---- what comes next
 

@@ -1,88 +1,29 @@
 -- The first fault of a text, where the lines before it have none.
-use Rattle.std.proofs.Common.{◌≡◌, ◌≢◌, ℕ, ◌+◌, ◌<◌, ◌≤◌, Bool, true, List, [], ◌∷◌, ◌++◌, length, map, Option, Some, None, refl, sym, ap, ap₂, ◌∙◌, subst, arith, inl, inr, ◌⊎◌, append_assoc, All}
+use Rattle.std.proofs.Common.{◌≡◌, ℕ, ◌+◌, ◌<◌, Bool, List, [], ◌∷◌, ◌++◌, length, map, None, refl, sym, ap, ◌∙◌, subst, arith, inl, inr, ◌⊎◌, All}
 use Rattle.std.specs.List.{AllByRecursion}
 use Rattle.std.proofs.lemmas.Bool.{cases_order}
 use Rattle.std.proofs.lemmas.List.{append-nil, length-append, length-map}
-use Rattle.std.proofs.lemmas.List.Elements.{recursion_from_All, All-nil}
-use Rattle.sgt_names.specs.Limits.{max_sites}
-use Rattle.sgt_notation.specs.Spelling.{line_text, text_of_lines, HasNoLf, IsLine}
-use Rattle.sgt_notation.proofs.OneSpelling.{cut_at_byte, line-one, line-one_line}
+use Rattle.sgt_notation.specs.Spelling.{line_text, text_of_lines, IsLine}
+use Rattle.sgt_notation.proofs.OneSpelling.{line-one, line-one_line}
 use Rattle.sgt_notation.specs.declared.SectionLine.{SectionLine}
-use Rattle.sgt_notation.specs.declared.SectionLine.TheVariants.{Site, Initial, Logged, Final, End}
 use Rattle.sgt_bundle.specs.Parts.{IsShaped}
 use Rattle.sgt_bundle.specs.Text.{format_line, sections_from, AreSections, Begins}
-use Rattle.sgt_bundle.specs.declared.bundle.SiteLog.{SiteLog}
 use Rattle.sgt_bundle.proofs.OneText.{format-one_line}
 use Rattle.sgt_audit.specs.declared.faults.Fault.{Fault}
 use Rattle.sgt_audit.specs.declared.faults.Fault.TheVariants as fault
-use Rattle.sgt_audit.specs.Faults.{fault_number, IsLineIn, Piece, whole, last, ComesNext, Rule, start, Breaks}
+use Rattle.sgt_audit.specs.Faults.{fault_number, IsLineIn, Piece, whole, ComesNext, Breaks}
 use Rattle.sgt_audit.specs.Reading.{Begun}
-use Rattle.sgt_audit.specs.private.Following.{FitsBetween}
-use Rattle.sgt_audit.proofs.Formats.{format-one, lines-of}
+use Rattle.sgt_audit.proofs.Formats.{lines-of}
 use Rattle.sgt_audit.proofs.MayFollow.{begins-follow}
-use Rattle.sgt_audit.proofs.OneFault.{comes_line, one_piece, each_line}
+use Rattle.sgt_audit.proofs.OneFault.{compare, comes_line, each_line, one_piece}
+use Rattle.sgt_audit.proofs.OneFault.{behind as one_front}
 use Rattle.sgt_certify_logs.specs.Sound.{SpellsSoundLogs}
 use Rattle.sgt_certify_faults.specs.Faults.{AreAll, AreKept, AreSpelled, Front, none, behind, HasFault, IsFaultless, IsFirstFault, KeepsAlone, lines_of, RuleAlone}
-use Rattle.sgt_certify_faults.proofs.SoundLogs.{logs-allowed, logs-sound, logs-spelled}
+use Rattle.sgt_certify_faults.proofs.SoundLogs.{logs-sound, speaks}
+use Rattle.sgt_audit.proofs.KeptLines.{logs-allowed, logs-spelled}
 use Rattle.sgt_certify_faults.proofs.NoCertificate.{no-more}
 use Rattle.sgt_notation.proofs.Texts.{first_line, line_front}
 use Rattle.sgt_names.proofs.Elements.{no_line}
-
--- ---- lines of one text
-
--- the second list of lines has one more behind the first, which comes next there
-pub record Beyond (xs ys : List SectionLine) (rest : List ℕ) : Type 0 where
-  pub line : SectionLine
-  pub more : List SectionLine
-  pub after : List ℕ
-  pub cut : ys ≡ xs ++ line ∷ more
-  pub next : rest ≡ line_text line ++ 10 ∷ after
-
-abbrev pub Compared : List SectionLine → List SectionLine → List ℕ → List ℕ → Type 0
-Compared xs ys r s = ((xs ≡ ys) × (r ≡ s)) ⊎ (Beyond xs ys r ⊎ Beyond ys xs s)
-
-beyond-more : (x y : SectionLine) (xs ys : List SectionLine) (r : List ℕ) → x ≡ y → Beyond xs ys r
-    → Beyond (x ∷ xs) (y ∷ ys) r
-beyond-more x y xs ys r same b = record {
-  line = b.line;
-  more = b.more;
-  after = b.after;
-  cut =
-      ap₂ (λ z zs. z ∷ zs) (sym same) b.cut;
-  next = b.next;
-}
-
-pub compare : (xs ys : List SectionLine) (r s : List ℕ) → AllByRecursion IsLine xs → AllByRecursion IsLine ys
-    → text_of_lines (map line_text xs) ++ r ≡ text_of_lines (map line_text ys) ++ s → Compared xs ys r s
-compare [] [] r s h g e = inl (refl, e)
-compare [] (y ∷ ys) r s h g e =
-    inr (inl (record {
-      line = y;
-      more = ys;
-      after = text_of_lines (map line_text ys) ++ s;
-      cut = refl;
-      next = e
-          ∙ line_front (line_text y) (map line_text ys) s;
-    }))
-compare (x ∷ xs) [] r s h g e =
-    inr (inr (record {
-      line = x;
-      more = xs;
-      after = text_of_lines (map line_text xs) ++ r;
-      cut = refl;
-      next = sym e
-          ∙ line_front (line_text x) (map line_text xs) r;
-    }))
-compare (x ∷ xs) (y ∷ ys) r s h g e =
-    let e1 = sym (line_front (line_text x) (map line_text xs) r) ∙ e ∙ line_front (line_text y) (map line_text ys) s in
-    let cut = cut_at_byte 10 (line_text x) (line_text y) (text_of_lines (map line_text xs) ++ r)
-    (text_of_lines (map line_text ys) ++ s) (line-one_line x h.0) (line-one_line y g.0) e1 in
-    let same = line-one x y h.0 g.0 cut.0 in
-    elim (compare xs ys r s h.1 g.1 cut.1) [
-      | inl both ↦ inl (ap₂ (λ z zs. z ∷ zs) same both.0, both.1)
-      | inr (inl b) ↦ inr (inl (beyond-more x y xs ys r same b))
-      | inr (inr b) ↦ inr (inr (beyond-more y x ys xs s (sym same) b))
-    ]
 
 pub kept-lines : (second : Bool) (before : List SectionLine) → AreKept second before → AllByRecursion IsLine before
 kept-lines second before kept = each_line IsLine before (λ earlier later l e. (kept earlier later l e).0.0)
@@ -160,11 +101,6 @@ module _ (second : Bool) (xs : List SectionLine) (r : List ℕ) (p : Piece) (kep
             (good-line second ys b.line good.0 good.1 g)))
       ]
 
-first-behind : (f g : Bool) (xs ys : List ℕ) → format_line f ++ 10 ∷ xs ≡ format_line g ++ 10 ∷ ys → (f ≡ g) × (xs ≡ ys)
-first-behind f g xs ys e =
-    let cut = cut_at_byte 10 (format_line f) (format_line g) xs ys (format-one_line f) (format-one_line g) e in
-    (format-one f g cut.0, cut.1)
-
 behind-text : (second : Bool) (xs : List SectionLine) (r : List ℕ)
     → text_of_lines (lines_of (behind second xs)) ++ r ≡ format_line second ++ 10 ∷
     (text_of_lines (map line_text xs) ++ r)
@@ -194,7 +130,7 @@ next-or-later (behind second xs) none rest left next piece m g kept comes spelle
     absurd (broken (subst (λ n. RuleAlone none n g) (sym same) (good-first second g)))
 next-or-later (behind second xs) (behind other ys) rest left next piece m g kept comes spelled goes number broken e =
     let both =
-    first-behind second other (text_of_lines (map line_text xs) ++ rest)
+    one_front second other (text_of_lines (map line_text xs) ++ rest)
     (text_of_lines (map line_text ys) ++ left) (sym (behind-text second xs rest) ∙ e ∙ behind-text other ys left) in
     beside second xs rest next kept comes ys left piece m g (subst (λ t. All (IsLineIn t) ys) (sym both.0) spelled) goes
     (number ∙ ap (λ t. length (lines_of (behind t ys)) + 1) (sym both.0)) (subst (λ t. RuleAlone (behind t ys) piece g
@@ -252,9 +188,9 @@ sound-text second before count kept (logs, shape, all) = (
   logs,
   record {
     shape = subst (λ n. IsShaped n logs) (sym shape.each) shape;
-    logs = logs-spelled second before kept logs all;
+    logs = logs-spelled KeepsAlone speaks second before kept logs all;
     second = second;
-    allowed = logs-allowed second before kept logs all;
+    allowed = logs-allowed KeepsAlone speaks second before kept logs all;
     text = sym (first_line (format_line second) (map line_text before))
         ∙ ap (λ (ls : List SectionLine). text_of_lines (format_line second ∷ map line_text ls)) (sym all);
   },

@@ -1,18 +1,15 @@
 -- What is kept of lines, after one more.
-use Rattle.std.proofs.Common.{◌≡◌, ℕ, ◌+◌, Bool, List, ◌∷◌, ◌++◌, Some, None, refl, sym, subst, All}
-use Rattle.std.specs.List.{filter_map}
-use Rattle.sgt_names.specs.Limits.{max_sites}
+use Rattle.std.proofs.Common.{◌≡◌, ℕ, Bool, List, ◌∷◌, ◌++◌, Some, None, refl, subst}
 use Rattle.sgt_names.specs.declared.entry.Entry.{Entry}
 use Rattle.sgt_notation.specs.Spelling.{line_text}
 use Rattle.sgt_notation.specs.declared.SectionLine.{SectionLine}
 use Rattle.sgt_notation.specs.declared.SectionLine.TheVariants.{Logged}
 use Rattle.sgt_bundle.specs.Certificate.{IsDecidedOnce}
-use Rattle.sgt_bundle.specs.Text.{AreSections}
 use Rattle.sgt_bundle.specs.Valid.{IsDecided}
 use Rattle.sgt_bundle.specs.declared.certificate.Decision.{Decision}
 use Rattle.sgt_audit.specs.declared.faults.Fault.{Fault}
 use Rattle.sgt_audit.specs.declared.faults.Fault.TheVariants as fault
-use Rattle.sgt_audit.specs.Faults.{Breaks, IsLineIn, logged_in}
+use Rattle.sgt_audit.specs.Faults.{Breaks, IsLineIn}
 use Rattle.sgt_audit.specs.Kept.{IsPlace, Tracks}
 use Rattle.sgt_audit.specs.Reading.{Begun, IsBegun, lines_read}
 use Rattle.sgt_audit.specs.private.Following.{MayFollow, with_next}

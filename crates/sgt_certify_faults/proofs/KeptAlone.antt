@@ -1,37 +1,35 @@
 -- Logs that have a certificate keep every rule that doesn't speak of it.
-use Rattle.std.proofs.Common.{◌≡◌, ◌≢◌, ℕ, suc, ◌<◌, List, [], ◌∷◌, ◌++◌, length, map, take, Some, None, refl, sym, ap, ap₂, ◌∙◌, subst, arith, append_assoc, All, Contains}
-use Rattle.std.specs.Prelude.{slice_get}
-use Rattle.std.specs.List.{filter_map, last_or}
-use Rattle.std.specs.Option.{ForSome}
-use Rattle.std.proofs.lemmas.List.{length-take}
+use Rattle.std.proofs.Common.{◌≡◌, suc, List, [], ◌∷◌, ◌++◌, length, map, Some, refl, sym, ap, ◌∙◌, subst, All, Contains}
+use Rattle.std.specs.Prelude.{slice_get, ℕ}
+use Rattle.std.specs.List.{filter_map}
 use Rattle.std.proofs.lemmas.List.Elements.{All-append, All-nil, filter_map-append}
-use Rattle.std.proofs.lemmas.Option.{same_Some, slice_get_within, none-some}
-use Rattle.sgt_names.specs.Name.{Name}
-use Rattle.sgt_names.specs.Entry.{tx_of, item_of, IsEnd, IsOpen, Continues, Repeats}
-use Rattle.sgt_names.specs.Log.{names, value_at, AllEnded}
+use Rattle.std.proofs.lemmas.Option.{same_Some}
+use Rattle.sgt_names.specs.Entry.{tx_of}
 use Rattle.sgt_names.specs.declared.entry.Entry.{Entry}
-use Rattle.sgt_names.specs.declared.entry.Entry.TheVariants as entry
 use Rattle.sgt_names.specs.declared.entry.Holding.{Holding}
-use Rattle.sgt_names.proofs.Places.{All_at, AllPairs_at, All-from_at, slice_get-take, Contains-from_at}
-use Rattle.sgt_names.proofs.Lists.{front_at}
+use Rattle.sgt_names.proofs.Places.{All_at, All-from_at, Contains-from_at}
+use Rattle.sgt_names.proofs.Lists.{front_at, middle_at}
 use Rattle.sgt_notation.specs.declared.SectionLine.{SectionLine}
 use Rattle.sgt_notation.specs.declared.SectionLine.TheVariants.{Site, Initial, Logged, Final, End}
 use Rattle.sgt_bundle.specs.Parts.{Parts, IsShaped}
 use Rattle.sgt_bundle.specs.Certificate.{Suits}
-use Rattle.sgt_bundle.specs.Valid.{EndInOrder, RiseInRank, IsValidLog, IsValid}
-use Rattle.sgt_bundle.specs.Text.{section_lines, sections_from, Begins}
+use Rattle.sgt_bundle.specs.Valid.{IsValid}
+use Rattle.sgt_bundle.specs.Text.{section_lines, sections_from}
 use Rattle.sgt_bundle.specs.declared.certificate.Certificate.{Certificate}
 use Rattle.sgt_bundle.specs.declared.bundle.SiteLog.{SiteLog}
 use Rattle.sgt_bundle.proofs.OneText.{section_spread}
 use Rattle.sgt_audit.specs.declared.faults.Fault.{Fault}
 use Rattle.sgt_audit.specs.declared.faults.Fault.TheVariants as fault
-use Rattle.sgt_audit.specs.Faults.{entries_in, logged_in}
-use Rattle.sgt_audit.proofs.SectionLines.{up_to, items_in-is, entries_in-is}
-use Rattle.sgt_audit.proofs.LinePlaces.{EachPlace, IsClosed, in_sections, last-logged}
+use Rattle.sgt_audit.specs.declared.rules.Rules.TheVariants.{Asked}
+use Rattle.sgt_audit.specs.Faults.{Keeps, logged_in}
+use Rattle.sgt_audit.proofs.Faultless.{rules-kept}
+use Rattle.sgt_audit.proofs.Least.{by-any}
 use Rattle.sgt_certify_logs.specs.Witness.{IsIn}
-use Rattle.sgt_certify_logs.proofs.Decisions.{ds, log_of, decided_in, one-number}
+use Rattle.sgt_certify_logs.proofs.Decisions.{ds, decided_in, one-number}
 use Rattle.sgt_certify_logs.specs.Sound.{EndAlike}
 use Rattle.sgt_certify_faults.specs.Faults.{KeepsAlone}
+use Rattle.sgt_certify_faults.specs.private.Judging.{TellsLineOdds}
+use Rattle.sgt_certify_faults.proofs.Alone.{line-alike}
 
 -- ---- the entries of sections
 
@@ -80,13 +78,12 @@ module _ (sites : List SiteLog) (c : Certificate) (valid : IsValid (record { cer
   abbrev before : List SectionLine
   before = sections_from 0 sites
 
-  -- a line in front of what is left keeps every rule
-  abbrev Good : List SectionLine → SectionLine → Type 0
-  Good earlier l = (later : List SectionLine) → before ≡ earlier ++ l ∷ later → (f : Fault) → KeepsAlone earlier l f
+  -- with as many sites as there are logs it is valid too
+  abbrev counted : Parts
+  counted = record { certificate = record { decisions = c.decisions; sites = length sites }; sites = sites }
 
-  begins : (earlier later : List SectionLine) (l : SectionLine) → before ≡ earlier ++ l ∷ later
-      → (count : ℕ) × Begins count (earlier ++ l ∷ [])
-  begins earlier later l e = (length sites, (sites, later, shape, e ∙ sym (append_assoc earlier (l ∷ []) later)))
+  counted-valid : IsValid counted
+  counted-valid = record { logs = valid.logs; once = valid.once; ranks = valid.ranks; cycles = valid.cycles }
 
   -- entries of one transaction are decided by one decision
   alike : (f e : Entry) → IsIn sites f → IsIn sites e → tx_of f ≡ tx_of e → EndAlike f e
@@ -101,145 +98,29 @@ module _ (sites : List SiteLog) (c : Certificate) (valid : IsValid (record { cer
       let same_d = same_Some m.1.0 n.1.0 (sym m.1.1 ∙ ap (slice_get (ds b valid)) one ∙ n.1.1) in
       (n.1.0, subst (Suits f) same_d m.1.3, n.1.3)
 
-  alike-before : (earlier later : List SectionLine) (l : SectionLine) (e : Entry) → before ≡ earlier ++ l ∷ later
-      → IsIn sites e
+  alike-before : (earlier later : List SectionLine) (e : Entry) → before ≡ earlier ++ Logged e ∷ later
       → All (λ f. tx_of f ≡ tx_of e → EndAlike f e) (filter_map logged_in earlier)
-  alike-before earlier later l e cut there =
-      let back = filter_map logged_in (l ∷ later) in
+  alike-before earlier later e cut =
+      let front = filter_map logged_in earlier in
+      let back = filter_map logged_in later in
       let all = subst (All (IsIn sites)) (ap (filter_map logged_in) cut
-      ∙ filter_map-append logged_in earlier (l ∷ later))
+      ∙ filter_map-append logged_in earlier (Logged e ∷ later))
       (all-in sites 0 sites (λ s log at. Contains-from_at sites s log at)) in
-      All-from_at (λ f. tx_of f ≡ tx_of e → EndAlike f e) (filter_map logged_in earlier) (λ n f at.
-      alike f e (All_at (IsIn sites) (filter_map logged_in earlier ++ back) n f all
-      (front_at (filter_map logged_in earlier) back n f at)) there)
+      let there = All_at (IsIn sites) (front ++ e ∷ back) (length front) e all (middle_at front e back) in
+      All-from_at (λ f. tx_of f ≡ tx_of e → EndAlike f e) front (λ n f at.
+      alike f e (All_at (IsIn sites) (front ++ e ∷ back) n f all (front_at front (e ∷ back) n f at)) there)
 
-  module _ (k : ℕ) (log : SiteLog) (front : List SectionLine) (here : Contains sites log) where
-    v : IsValidLog c.decisions log
-    v = log_of b valid log here
-
-    -- a rule on the entries before place n
-    all-before : (P : Entry → Type 0) (n : ℕ) → ((p : ℕ) (f : Entry) → p < n → slice_get log.entries p ≡ Some f → P f)
-        → All P (entries_in (up_to front k log.items (take n log.entries) []))
-    all-before P n h = subst (All P) (sym (entries_in-is front k log.items (take n log.entries) []))
-        (All-from_at P (take n log.entries) (λ p f at. let place = slice_get-take log.entries n p f at in
-        h p f place.0 place.1))
-
-    reads-keep : (n : ℕ) (e : Entry) → slice_get log.entries n ≡ Some e
-        → KeepsAlone (up_to front k log.items (take n log.entries) []) (Logged e) fault.ReadValue
-    reads-keep n (entry.Read tx x w) at =
-        ap₂ (λ is es. value_at is es x) (items_in-is front k log.items (take n log.entries) [])
-        (entries_in-is front k log.items (take n log.entries) []) ∙ v.reads n tx x w at
-    reads-keep n (entry.Write tx x w) at = tt
-    reads-keep n (entry.Add tx x w) at = tt
-    reads-keep n (entry.Want tx x w) at = tt
-    reads-keep n (entry.WantAdd tx x w) at = tt
-    reads-keep n (entry.Commit tx) at = tt
-    reads-keep n (entry.Refuse tx) at = tt
-    reads-keep n (entry.Withdraw tx) at = tt
-
-    -- an open entry in front is gone on with
-    block-keeps : (n : ℕ) (e : Entry) → slice_get log.entries n ≡ Some e
-        → KeepsAlone (up_to front k log.items (take n log.entries) []) (Logged e) fault.Block
-    block-keeps n e at g last is_open =
-        let l = (last-logged front k log.items (take n log.entries) [] g last).1 in
-        let place = slice_get-take log.entries n l.0 g l.1 in
-        let next_place : n ≡ suc l.0 =
-        omega (arith, l.2, length-take n log.entries, slice_get_within log.entries n e at) in
-        let next = v.formed.0.blocks l.0 g place.1 is_open in
-        let same = same_Some next.0 e (sym next.1 ∙ ap (slice_get log.entries) (sym next_place) ∙ at) in
-        (e, refl, subst (Continues g) same next.2)
-
-    -- no entry is open behind the last one
-    ended-block : (finals : List Holding) (g : Entry)
-        → last_or None (up_to front k log.items log.entries finals) ≡ Some (Logged g) → IsOpen g → ⊥
-    ended-block finals g last is_open =
-        let l = (last-logged front k log.items log.entries finals g last).1 in
-        let next = v.formed.0.blocks l.0 g l.1 is_open in
-        let inside = slice_get_within log.entries (suc l.0) next.0 next.1 in
-        absurd (omega (arith, l.2))
-
-    ended : (finals : List Holding) → AllEnded (entries_in (up_to front k log.items log.entries finals))
-    ended finals = subst AllEnded (sym (entries_in-is front k log.items log.entries finals)) v.formed.1
-
-    logged-keeps : (n : ℕ) (e : Entry) → slice_get log.entries n ≡ Some e → (later : List SectionLine)
-        → before ≡ up_to front k log.items (take n log.entries) [] ++ Logged e ∷ later
-        → (f : Fault) → KeepsAlone (up_to front k log.items (take n log.entries) []) (Logged e) f
-    logged-keeps n e at later cut fault.Section =
-        begins (up_to front k log.items (take n log.entries) []) later (Logged e) cut
-    logged-keeps n e at later cut fault.Item =
-        subst (λ items. ForSome (item_of e) (Contains (names items)))
-        (sym (items_in-is front k log.items (take n log.entries) []))
-        (All_at (λ e. ForSome (item_of e) (Contains (names log.items))) log.entries n e v.formed.0.known at)
-    logged-keeps n e at later cut fault.Twice =
-        all-before (λ g. (x : Name) → Repeats x g e
-        → ⊥) n (λ p g lt at_p. AllPairs_at (λ e f. (x : Name) → Repeats x e f
-        → ⊥) log.entries p n g e v.formed.0.once lt at_p at)
-    logged-keeps n e at later cut fault.ReadValue = reads-keep n e at
-    logged-keeps n e at later cut fault.RankOrder =
-        all-before (λ g. RiseInRank [] g e) n (λ p g lt at_p kind x i j r s clash apart first second. absurd
-        (omega (arith, slice_get_within [] i _ first)))
-    logged-keeps n e at later cut fault.Block = block-keeps n e at
-    logged-keeps n e at later cut fault.End = (
-      alike-before (up_to front k log.items (take n log.entries) []) later (Logged e) e cut (
-        log,
-        here,
-        Contains-from_at log.entries n e at,
-      ),
-      all-before (λ g. IsEnd g → tx_of g ≢ tx_of e) n (λ p g lt at_p. AllPairs_at (λ e f. IsEnd e
-          → tx_of e ≢ tx_of f) log.entries p n g e v.formed.0.closed lt at_p at),
-    )
-    logged-keeps n e at later cut fault.DecisionOrder =
-        all-before (λ g. EndInOrder [] g e) n
-        (λ p g lt at_p first second i j by other. absurd (omega (arith, slice_get_within [] i by.0 by.1)))
-    logged-keeps n e at later cut _ = tt
-
-    final-keeps : (n : ℕ) (h : Holding) → slice_get log.finals n ≡ Some h → (later : List SectionLine)
-        → before ≡ up_to front k log.items log.entries (take n log.finals) ++ Final h ∷ later
-        → (f : Fault) → KeepsAlone (up_to front k log.items log.entries (take n log.finals)) (Final h) f
-    final-keeps n h at later cut fault.Section =
-        begins (up_to front k log.items log.entries (take n log.finals)) later (Final h) cut
-    final-keeps n h at later cut fault.Block = λ g last is_open. absurd (ended-block (take n log.finals) g last is_open)
-    final-keeps n h at later cut fault.NotEnded = ended (take n log.finals)
-    final-keeps n h at later cut fault.Final =
-        ap₂ (λ is es. value_at is es h.item) (items_in-is front k log.items log.entries (take n log.finals))
-        (entries_in-is front k log.items log.entries (take n log.finals))
-        ∙ All_at (λ h. value_at log.items log.entries h.item ≡ Some h.value) log.finals n h v.finals at
-    final-keeps n h at later cut _ = tt
-
-    end-keeps : (later : List SectionLine) → before ≡ up_to front k log.items log.entries log.finals ++ End ∷ later
-        → (f : Fault) → KeepsAlone (up_to front k log.items log.entries log.finals) End f
-    end-keeps later cut fault.Section = begins (up_to front k log.items log.entries log.finals) later End cut
-    end-keeps later cut fault.Block = λ g last is_open. absurd (ended-block log.finals g last is_open)
-    end-keeps later cut fault.NotEnded = ended log.finals
-    end-keeps later cut fault.WalkStep = λ logs len same tx walk in_it. absurd (omega (arith, in_it.1))
-    end-keeps later cut _ = tt
-
-    initial-keeps : (n : ℕ) (h : Holding) (later : List SectionLine)
-        → before ≡ up_to front k (take n log.items) [] [] ++ Initial h ∷ later → (f : Fault)
-        → KeepsAlone (up_to front k (take n log.items) [] []) (Initial h) f
-    initial-keeps n h later cut fault.Section = begins (up_to front k (take n log.items) [] []) later (Initial h) cut
-    initial-keeps n h later cut fault.Block = λ g last is_open. let l =
-        (last-logged front k (take n log.items) [] [] g last).1 in absurd (omega (arith, l.2))
-    initial-keeps n h later cut _ = tt
-
-    site-keeps : IsClosed front → (later : List SectionLine) → before ≡ front ++ Site k ∷ later → (f : Fault)
-        → KeepsAlone front (Site k) f
-    site-keeps closed later cut fault.Section = begins front later (Site k) cut
-    site-keeps closed later cut fault.Block = λ g last is_open. absurd (closed g last)
-    site-keeps closed later cut _ = tt
-
-    each-place : IsClosed front → EachPlace Good front k log
-    each-place closed = record {
-      site = λ later cut. site-keeps closed later cut;
-      initial = λ n h at later cut. initial-keeps n h later cut;
-      logged = λ n e at later cut. logged-keeps n e at later cut;
-      final = λ n h at later cut. final-keeps n h at later cut;
-      end = λ later cut. end-keeps later cut;
-    }
+  tells : (earlier later : List SectionLine) (l : SectionLine) → before ≡ earlier ++ l ∷ later
+      → ((f : Fault) → Keeps counted.certificate earlier l f) → TellsLineOdds c.decisions earlier l
+  tells earlier later (Site k) cut keeps = tt
+  tells earlier later (Initial h) cut keeps = tt
+  tells earlier later (Logged e) cut keeps = (λ by. alike-before earlier later e cut, λ all. (keeps fault.End).0)
+  tells earlier later (Final h) cut keeps = tt
+  tells earlier later End cut keeps = tt
 
   pub kept-alone : (earlier later : List SectionLine) (l : SectionLine) → before ≡ earlier ++ l ∷ later → (f : Fault)
       → KeepsAlone earlier l f
-  kept-alone earlier later l cut =
-      in_sections Good 0 sites [] (λ e h. absurd (none-some (Logged e) h))
-      (λ s j log ls at j-is closed. each-place j log ls (Contains-from_at sites s log at) closed) earlier later l
-      cut later cut
+  kept-alone earlier later l cut f =
+      let keeps = rules-kept counted counted-valid shape earlier later l cut in
+      (line-alike counted.certificate earlier l (tells earlier later l cut keeps) (λ kept. keeps fault.Section) f).0
+      (by-any Asked counted.certificate earlier l f (keeps f))

@@ -1,5 +1,5 @@
 -- What is kept of the transactions of entries, after one more.
-use Rattle.std.proofs.Common.{◌≡◌, ◌≢◌, ℕ, ◌+◌, ◌<◌, Bool, cond, List, [], ◌∷◌, ◌++◌, length, map, Option, Some, None, refl, sym, ap, ◌∙◌, subst, arith, inl, inr, append_assoc, All, set}
+use Rattle.std.proofs.Common.{◌≡◌, ◌≢◌, ℕ, Bool, cond, List, [], ◌∷◌, ◌++◌, length, map, Some, None, refl, sym, ap, ◌∙◌, subst, arith, inl, inr, All, set}
 use Rattle.std.specs.Prelude.{slice_get}
 use Rattle.std.specs.List.{filter_map}
 use Rattle.std.specs.BTreeMap.{BTreeMap, get}
@@ -10,7 +10,7 @@ use Rattle.std.proofs.lemmas.List.Elements.{All-nil, All-push, filter_map-append
 use Rattle.std.proofs.lemmas.Option.{none-some, same_Some, slice_get_within}
 use Rattle.sgt_names.specs.Entry.{tx_of}
 use Rattle.sgt_names.specs.declared.entry.Entry.{Entry}
-use Rattle.sgt_names.proofs.Lists.{front_at, middle_at, option_cases, within_at}
+use Rattle.sgt_names.proofs.Lists.{front_at, middle_at, within_at}
 use Rattle.sgt_notation.specs.Spelling.{line_text, text_of_lines}
 use Rattle.sgt_notation.specs.declared.SectionLine.{SectionLine}
 use Rattle.sgt_notation.specs.declared.SectionLine.TheVariants.{Site, Initial, Logged, Final, End}
@@ -19,7 +19,7 @@ use Rattle.sgt_audit_cells.proofs.Lists.{set-at, set-other}
 use Rattle.sgt_audit_decisions.proofs.Tables.{map-here, map-others}
 use Rattle.sgt_certify_faults.specs.declared.asked.Asking.{Asking}
 use Rattle.sgt_certify_faults.specs.declared.asked.Askings.{Askings}
-use Rattle.sgt_certify_faults.specs.private.Asked.{AreAskings, AreInFront, IsAskedIn, asked_end, asking_with, first_end, first_of}
+use Rattle.sgt_certify_faults.specs.private.Asked.{AreAskings, IsAskedIn, asked_end, asking_with, first_end, first_of}
 use Rattle.sgt_certify_faults.proofs.Odds.{first-none, first-others, first-own}
 use Rattle.sgt_certify_faults.proofs.ReadLines.{text-more}
 

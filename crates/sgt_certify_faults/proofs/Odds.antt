@@ -1,20 +1,20 @@
 -- The kinds of end that are asked for, and the decisions that suit them.
-use Rattle.std.proofs.Common.{◌≡◌, ◌≢◌, ℕ, suc, ◌<◌, Bool, true, false, cond, List, [], ◌∷◌, ◌++◌, length, map, take, drop, Option, Some, None, IfSome, IsTrue, refl, sym, ap, ap₂, ◌∙◌, subst, arith, inl, inr, ◌⊎◌, append_assoc, All, Contains}
+use Rattle.std.proofs.Common.{◌≡◌, ◌≢◌, ℕ, suc, Bool, cond, List, [], ◌∷◌, ◌++◌, length, map, take, drop, Option, Some, None, IfSome, refl, sym, ap, ap₂, ◌∙◌, subst, arith, inl, inr, ◌⊎◌, append_assoc, All}
 use Rattle.std.specs.Prelude.{slice_get, option_map}
 use Rattle.std.specs.List.{filter_map, cons_option}
-use Rattle.std.specs.BTreeMap.{BTreeMap, get}
-use Rattle.std.specs.Ordering.{nat_cmp, is_eq}
-use Rattle.std.proofs.lemmas.Bool.{cases_eq, cases_order, eq-eqb, ne_eqb, true≢false}
-use Rattle.std.proofs.lemmas.List.{append-nil, take-append-le}
-use Rattle.std.proofs.lemmas.List.Elements.{filter_map-append, All-append, All-cons, All-nil}
-use Rattle.std.proofs.lemmas.Option.{none-some, same_Some, slice_get_within, slice_get-map}
+use Rattle.std.specs.BTreeMap.{get}
+use Rattle.std.specs.Ordering.{nat_cmp}
+use Rattle.std.proofs.lemmas.Bool.{cases_eq, eq-eqb, ne_eqb}
+use Rattle.std.proofs.lemmas.List.{append-nil}
+use Rattle.std.proofs.lemmas.List.Elements.{filter_map-append}
+use Rattle.std.proofs.lemmas.Option.{none-some, same_Some, slice_get-map}
 use Rattle.std.proofs.Math.Seq.{take-append_seam}
 use Rattle.sgt_names.specs.Entry.{tx_of}
 use Rattle.sgt_names.specs.declared.entry.Entry.{Entry}
 use Rattle.sgt_names.specs.declared.entry.Entry.TheVariants as entry
 use Rattle.sgt_names.proofs.Lists.{All-weaken, filter_map-none, map_at, middle_at}
-use Rattle.sgt_names.proofs.Places.{All_at, All-from_at, AllPairs_at, AllPairs-from_at, slice_get-take, slice_get-take_at, split_at}
-use Rattle.sgt_notation.specs.Spelling.{IsLine, line_text, text_of_lines}
+use Rattle.sgt_names.proofs.Places.{All_at, AllPairs-from_at, split_at}
+use Rattle.sgt_notation.specs.Spelling.{line_text, text_of_lines}
 use Rattle.sgt_notation.specs.declared.SectionLine.{SectionLine}
 use Rattle.sgt_notation.specs.declared.SectionLine.TheVariants.{Logged}
 use Rattle.sgt_bundle.specs.Certificate.{Suits, decided_tx, IsDecidedOnce}
@@ -26,11 +26,10 @@ use Rattle.sgt_certify_logs.specs.Sound.{EndAlike}
 use Rattle.sgt_certify_logs.proofs.Decisions.{one-number}
 use Rattle.sgt_certify_faults.specs.declared.asked.Asked.{Asked}
 use Rattle.sgt_certify_faults.specs.declared.asked.Asked.TheVariants as asked
-use Rattle.sgt_certify_faults.specs.declared.asked.Asking.{Asking}
 use Rattle.sgt_certify_faults.specs.declared.asked.Askings.{Askings}
-use Rattle.sgt_certify_faults.specs.private.Asked.{AreAskings, AreDecidedAsAsked, AsksAsDecided, IsAskedIn, asked_end, asking_with, decision_of, decision_with, end_by, first_end, first_of}
+use Rattle.sgt_certify_faults.specs.private.Asked.{AreAskings, AreDecidedAsAsked, AsksAsDecided, IsAskedIn, asked_end, decision_of, decision_with, end_by, first_end, first_of}
 use Rattle.sgt_certify_faults.specs.private.Judging.{TellsOdds}
-use Rattle.sgt_certify_faults.proofs.FirstFaults.{Beyond, compare}
+use Rattle.sgt_audit.proofs.OneFault.{compare}
 use Rattle.sgt_audit.proofs.Formats.{lines-of}
 
 -- ---- entries and decisions of one kind

@@ -1,6 +1,6 @@
 -- Lines of logs that were read, and what follows them.
 use Rattle.std.proofs.Common.{◌≡◌, ◌≢◌, ℕ, suc, ◌+◌, ◌<◌, ◌≤◌, Bool, true, false, List, [], ◌∷◌, ◌++◌, length, map, Option, Some, None, refl, sym, ap, ◌∙◌, subst, arith, append_assoc, inl, inr, take, drop, ◌-◌, All, Contains}
-use Rattle.std.specs.Prelude.{slice_get, IfNone}
+use Rattle.std.specs.Prelude.{slice_get}
 use Rattle.std.specs.List.{filter_map}
 use Rattle.std.specs.Option.{ForSome}
 use Rattle.std.proofs.lemmas.Bool.{cases_order}
@@ -40,7 +40,6 @@ use Rattle.sgt_certify_faults.specs.private.Judging.{TellsLineOdds}
 use Rattle.sgt_certify_faults.specs.private.Reading.{IsReadTo}
 use Rattle.sgt_certify_faults.proofs.FirstFaults.{first-fault, no-fault, sound-text}
 use Rattle.sgt_certify_faults.proofs.Odds.{tells-odds}
-use Rattle.sgt_names.proofs.Elements.{none-weaker}
 use Rattle.sgt_notation.proofs.Texts.{line_front}
 
 -- ---- one more line

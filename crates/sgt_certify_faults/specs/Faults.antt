@@ -4,7 +4,6 @@ use Rattle.std.specs.Prelude.{◌≡◌, ◌≢◌, ℕ, ◌+◌, ◌≤◌, Boo
 use Rattle.std.specs.List.{filter_map}
 use Rattle.sgt_names.specs.Limits.{max_line, max_sites}
 use Rattle.sgt_names.specs.Entry.{tx_of, IsEnd}
-use Rattle.sgt_names.specs.declared.entry.Entry.{Entry}
 use Rattle.sgt_notation.specs.Lines.{IsLongerThan}
 use Rattle.sgt_notation.specs.Spelling.{line_text, text_of_lines}
 use Rattle.sgt_notation.specs.declared.SectionLine.{SectionLine}

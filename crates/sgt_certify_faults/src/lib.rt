@@ -3,7 +3,6 @@
 
 mod asked;
 mod first;
-mod judging;
 mod laws;
 mod lines;
 mod reading;

@@ -6,16 +6,13 @@ ghost use Rattle.sgt_notation.specs.Spelling.{line_text};
 ghost use Rattle.sgt_bundle.specs.Text.{AreSections};
 ghost use Rattle.sgt_bundle.specs.declared.certificate.Decision.{Decision};
 ghost use Rattle.sgt_audit.specs.Faults.{Breaks, IsLineIn, Piece, last, bytes_of};
-ghost use Rattle.sgt_audit.specs.Kept.{IsPlace, Tracks};
+ghost use Rattle.sgt_audit.specs.Kept.{IsPlace};
 ghost use Rattle.sgt_audit.specs.Reading.{Begun, IsBegun, lines_read};
-ghost use Rattle.sgt_audit.specs.private.Known.{IsKnownLine};
-ghost use Rattle.sgt_certify_faults.specs.Faults.{AreAll, KeepsAlone, RuleAlone, behind};
+ghost use Rattle.sgt_certify_faults.specs.Faults.{AreAll, RuleAlone, behind};
 ghost use Rattle.sgt_certify_faults.specs.private.Asked.{AreDecidedAsAsked};
-ghost use Rattle.sgt_certify_faults.specs.private.Judging.{IsJudged, TellsLineOdds};
 ghost use Rattle.sgt_certify_faults.specs.private.Reading.{Follows, HasRead};
 
-use crate::judging::judge_inside;
-use sgt_audit::{Fault, Known, Place, enter_line, look_up, read_line};
+use sgt_audit::{Fault, Place, Rules, enter_line, judge_line, look_up, read_line};
 use sgt_audit_cells::SiteState;
 use sgt_audit_decisions::Decided;
 use sgt_names::{MAX_LINE, MAX_SITES};
@@ -42,23 +39,6 @@ impl Reading {
         })
     }
 
-    /// The least fault of a line of a section, of which this is known.
-    fn judge(&self, line: &SectionLine, known: &Option<Known>) -> Option<Fault>
-        ensures { (ds : List Decision) (b : Begun) → b.sites ≡ max_sites → IsBegun b
-            → IsPlace b self.now.place → Tracks ds b self.now.state
-            → IsKnownLine ds self.now.state line.now known.now
-            → TellsLineOdds ds (lines_read b) line.now
-            → IsJudged (KeepsAlone (lines_read b) line.now) result }
-    {
-        if !self.place.may_go_on(line) {
-            return Some(Fault::Section);
-        }
-        match &self.place.current {
-            Some(place) => judge_inside(&self.state, place, line, known),
-            None => None,
-        }
-    }
-
     /// The next line, which is one of the format.
     fn follow(&mut self, decided: &Decided, line: &SectionLine) -> Result<Option<Fault>, AllocError>
         ensures { IfOk result (λ fault. (second : Bool) (bytes rest more : List ℕ) (count : ℕ)
@@ -70,7 +50,7 @@ impl Reading {
             (line_text line.now) more fault) }
     {
         let known = look_up(decided, &self.state, line);
-        if let Some(fault) = self.judge(line, &known) {
+        if let Some(fault) = judge_line(Rules::Asked, &self.state, &self.place, line, &known) {
             return Ok(Some(fault));
         }
         enter_line(&mut self.state, line, &known)?;

@@ -17,7 +17,7 @@ use Rattle.sgt_explain_lines.specs.Numbered.{with_site, open_site}
 use Rattle.sgt_explain_lines.specs.Sited.{StandsAt, site_at}
 use Rattle.sgt_explain_lines.specs.declared.section.Logged.{Logged as LoggedEntry}
 use Rattle.sgt_bundle.proofs.OneText.{logged-one}
-use Rattle.sgt_audit.proofs.NoFault.{final-logged}
+use Rattle.sgt_audit.proofs.KeptLines.{final-logged}
 
 -- an element of two lists in a row is one of the first, or of the second
 get-append : {A : Type 0} (xs ys : List A) (n : ℕ) (a : A) → slice_get (xs ++ ys) n ≡ Some a

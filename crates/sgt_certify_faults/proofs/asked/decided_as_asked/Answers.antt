@@ -1,4 +1,4 @@
-use Rattle.std.proofs.Common.{List, sym, ap, ◌∙◌, subst}
+use Rattle.std.proofs.Common.{sym, ap, ◌∙◌, subst}
 use Rattle.std.proofs.lemmas.Option.{none-some}
 use Rattle.sgt_names.proofs.Lists.{IsSome-value}
 use Rattle.sgt_bundle.specs.Certificate.{IsDecidedOnce}

@@ -1,6 +1,4 @@
-use Rattle.std.proofs.Common.{arith, length, subst}
-use Rattle.std.proofs.Common.{◌≤◌, ◌<◌}
-use Rattle.sgt_names.specs.Limits.{max_line}
+use Rattle.std.proofs.Common.{arith, subst}
 use Rattle.sgt_audit.specs.Faults.{last}
 use Rattle.sgt_certify_faults.specs.Faults.{GoesOn}
 use Rattle.sgt_certify_faults.proofs.ReadLines.{end-comes, first-end, first-long, long-next}

@@ -1,4 +1,4 @@
-use Rattle.std.proofs.Common.{◌++◌, ◌∷◌, [], length, refl, sym, subst, ◌∙◌, arith}
+use Rattle.std.proofs.Common.{◌++◌, ◌∷◌, [], refl, sym, subst, ◌∙◌, arith}
 use Rattle.sgt_notation.specs.declared.SectionLine.TheVariants.{End}
 use Rattle.sgt_bundle.specs.Text.{AreSections, Begins}
 use Rattle.sgt_audit_decisions.specs.Steps.{AreStepsAt}

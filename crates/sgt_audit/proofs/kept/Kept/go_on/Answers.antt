@@ -6,7 +6,7 @@ use Rattle.sgt_audit.specs.Kept.{IsStageOf, Means, MeansMet}
 use Rattle.sgt_audit.specs.Reading.{lines_read}
 use Rattle.sgt_audit.specs.private.Following.{with_next}
 use Rattle.sgt_audit.proofs.Lone.{alone-follows, no-end, same-whole}
-use Rattle.sgt_audit.proofs.MayFollow.{added-lines, are-sections, begins-follow}
+use Rattle.sgt_audit.proofs.MayFollow.{added-lines, are-sections}
 use Rattle.sgt_audit.proofs.NextLine.{alone-breaks, added-open}
 use Rattle.sgt_audit.proofs.NextStage.{complete-all, line-follows}
 use Rattle.sgt_audit.proofs.Places.{next-sites}

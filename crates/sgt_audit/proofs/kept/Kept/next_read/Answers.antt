@@ -1,4 +1,4 @@
-use Rattle.std.proofs.Common.{IfOk, refl, sym, subst}
+use Rattle.std.proofs.Common.{IfOk, sym, subst}
 use Rattle.sgt_notation.specs.Spelling.{line_text}
 use Rattle.sgt_audit_decisions.proofs.Loops.{refuted}
 use Rattle.sgt_audit.specs.declared.machine.Progress.TheVariants.{Reading}

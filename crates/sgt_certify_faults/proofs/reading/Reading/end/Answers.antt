@@ -1,4 +1,4 @@
-use Rattle.std.proofs.Common.{arith, length, true, false, sym, ap, ◌∙◌, subst}
+use Rattle.std.proofs.Common.{arith, length, sym, ap, ◌∙◌, subst}
 use Rattle.std.specs.Prelude.{not}
 use Rattle.std.proofs.lemmas.List.{nil_from_length}
 use Rattle.std.proofs.lemmas.Option.{none-some}
