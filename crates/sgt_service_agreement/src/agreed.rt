@@ -15,9 +15,10 @@ ghost use Rattle.sgt_service_agreement.specs.private.Counting.{AreCountedTo, Mee
 use crate::fault::ServiceFault;
 use sgt_arena::Handle;
 use sgt_certifier::{Certifier, ItemCount};
-use sgt_edges::{EdgeFault, EdgeList, gather};
+use sgt_edges::EdgeList;
 use sgt_names::{Draft, Holding, Item, Tx};
 use sgt_site::Site;
+use sgt_step::gather;
 use std::alloc::Global;
 
 /// Whether the version of each item of the site is the number of its installs there that the certifier's history
@@ -121,7 +122,7 @@ fn version_of(site: &Site, item: Item) -> u64
 /// - V4 with S1, S3, S7 or S8: the site refuses the pledge.
 /// - V3: there was no memory.
 ///
-/// The cost is that of `agrees`, `Site::pledge` and `gather`.
+/// The cost is that of `agrees` and `gather`.
 pub fn gather_agreed(
     alloc: Global,
     certifier: &Certifier,
@@ -147,14 +148,7 @@ pub fn gather_agreed(
     if !agreed {
         return Err(ServiceFault::NotPledged(site.number()));
     }
-    site.pledge(tx, draft)?;
-    match gather(alloc, site, draft, me) {
-        Ok(edges) => Ok(edges),
-        Err(EdgeFault::Memory) => {
-            let _ = site.unpledge(tx);
-            Err(ServiceFault::Memory)
-        }
-        // under the pledge the draft's reads are those of the log
-        Err(EdgeFault::SeenTooNew) => unreachable!(),
-    }
+    let mut edges = EdgeList::new(alloc);
+    gather(site, tx, me, draft, &mut edges)?;
+    Ok(edges)
 }

@@ -127,10 +127,7 @@ changes_filter s (t ∷ ts) = elim (cases_Bool (t.site == s)) [
   | inr miss ↦ rw miss (changes_filter s ts)
 ]
 
--- how many items are touched at the site tells whether any is
-pub some_at : (s : ℕ) (ts : List Touch) (n : ℕ) → n ≡ count_by (is_at s) ts → n ≢ 0 → at_site s ts ≢ []
-some_at s ts n items some none = some (items ∙ (sym (length-filter (is_at s) ts) ∙ ap length none))
-
+-- no item is touched at the site where none is counted
 pub none_at : (s : ℕ) (ts : List Touch) (n : ℕ) → n ≡ count_by (is_at s) ts → n ≡ 0 → at_site s ts ≡ []
 none_at s ts n items none = empty (at_site s ts) (length-filter (is_at s) ts ∙ (sym items ∙ none))
   where
@@ -143,11 +140,6 @@ pub block_here : (v : Ending) (s : ℕ) (ts here : List Touch) (n : ℕ) → n �
     → here ≡ at_site s ts → n ≡ block_length v (at_site s ts)
 block_here v s ts here n is part = is ∙ ap (λ (us : List Touch). block_length v (at_site s us)) part
     ∙ ap (block_length v) (filter-again (is_at s) ts)
-
-pub items_here : (s : ℕ) (ts here : List Touch) (n : ℕ) → n ≡ count_by (is_at s) here → here ≡ at_site s ts
-    → n ≡ count_by (is_at s) ts
-items_here s ts here n is part = is ∙ ap (count_by (is_at s)) part ∙ sym (length-filter (is_at s) (at_site s ts))
-    ∙ ap length (filter-again (is_at s) ts) ∙ length-filter (is_at s) ts
 
 pub block_at_none : (v : Ending) (s : ℕ) (ts : List Touch) (n : ℕ) → n ≡ count_by (is_at s) ts → n ≡ 0
     → 0 ≡ block_length v (at_site s ts)
@@ -178,27 +170,3 @@ block_at_some v s ts n k items some other changes =
     ended Committed [] e some = absurd (some refl)
     ended Refused (t ∷ ts) e some = sym (add-one (length (writing_in (t ∷ ts))))
     ended Refused [] e some = absurd (some refl)
-
-pub some_above : (n : ℕ) (ts : List Touch) → (All (λ t. t.site < n) ts → ⊥) → (s : ℕ) × (n ≤ s) × (at_site s ts ≢ [])
-some_above n [] none = absurd (none (All-nil (λ t. t.site < n)))
-some_above n (t ∷ ts) none = elim (cases_lt t.site n) [
-  | inl below ↦
-      let later = some_above n ts (λ all. none (All-cons (λ t. t.site < n) t ts below all)) in (
-        later.0,
-        later.1,
-        λ e. elim (cases_Bool (t.site == later.0)) [
-          | inl hit ↦ (let f : t ∷ at_site later.0 ts ≡ [] = rw hit at e in cc)
-          | inr miss ↦ later.2 (rw miss at e)
-        ],
-      )
-  | inr past ↦
-      let hit : (t.site == t.site) ≡ true = eq-eqb t.site t.site refl in
-      (t.site, past, λ e. (let f : t ∷ at_site t.site ts ≡ [] = rw hit at e in cc))
-]
-
-pub none_above : (n s : ℕ) (ts : List Touch) → All (λ t. t.site < n) ts → n ≤ s → at_site s ts ≡ []
-none_above n s [] all past = refl
-none_above n s (t ∷ ts) all past =
-    let first : t.site < n = all 0 t (omega arith) in
-    let miss : (t.site == s) ≡ false = ne_eqb t.site s (λ e. absurd (omega (arith, e, first, past))) in
-    rw miss (none_above n s ts (λ k d lt. all (suc k) d (omega (arith, lt))) past)

@@ -2,7 +2,6 @@ pub mod Adding
 pub mod Counting
 pub mod Decisions
 pub mod Faults
-pub mod Flagging
 pub mod Gathering
 pub mod Items
 pub mod Losing

@@ -1,10 +1,13 @@
 -- What lies under the certifier's lock.
 use Rattle.std.specs.Prelude.{◌≡◌, ◌≤◌, ◌⊎◌, ◌++◌, ◌∷◌, [], ℕ, zero, suc, List, length, All, Any, None}
 use Rattle.sgt_names.specs.declared.draft.Touch.{Touch}
-use Rattle.sgt_names.specs.Draft.{at_site, writing_in}
+use Rattle.sgt_names.specs.Draft.{at_site}
 use Rattle.sgt_edges.specs.declared.edge.Edge.{Edge}
 use Rattle.sgt_edges.specs.Edges.{IsGiven, StandsForAll}
-use Rattle.sgt_site.specs.State.{SiteState, IsSite, IsPledgedFor, commit_block, refuse_block, withdraw_block}
+use Rattle.sgt_site.specs.State.{SiteState, IsSite, IsPledgedFor}
+use Rattle.sgt_step.specs.OneSite.{ended_by}
+use Rattle.sgt_step.specs.declared.one_site.Ending.{Ending as SiteEnding}
+use Rattle.sgt_step.specs.declared.one_site.Ending.TheVariants as at
 use Rattle.sgt_certifier.specs.Certifier.{State, ruled}
 use Rattle.sgt_certifier.specs.History.{IsNoted, IsInstalling, Replays, Serves, tx_under}
 use Rattle.sgt_certifier.specs.Kept.{Kept, Adds, IsExpected, changed_at}
@@ -46,21 +49,16 @@ pub record AwaitsInstalls (certifier : Kept) (tx : ℕ) (touched : List Touch) (
   pub unnoted : (site : ℕ) → from ≤ site → IsNoted certifier.state tx site → ⊥
   pub expected : (site : ℕ) → from ≤ site → IsExpected certifier.expected touched site
 
+-- how a transaction that was decided so ends at a site
+abbrev pub ending_of : Ending → SiteEnding
+ending_of ending.Committed = at.Committed
+ending_of ending.Refused = at.Refused
+ending_of ending.Withdrawn = at.Withdrawn
+
 -- the site has gained the block of a transaction that was decided so, under its pledge
 abbrev pub IsEnded : Ending → Active → SiteState → SiteState → Type 0
-IsEnded ending.Committed active old new = new ≡ record old {
-  entries = old.entries
-      ++ commit_block active.tx (writing_in (at_site old.number active.draft.touched));
-  installed = old.installed ++ record { tx = active.tx; handle = active.handle } ∷ [];
-  pledge = None;
-}
-IsEnded ending.Refused active old new = new ≡ record old {
-  entries = old.entries
-      ++ refuse_block active.tx (writing_in (at_site old.number active.draft.touched));
-  pledge = None;
-}
-IsEnded ending.Withdrawn active old new =
-    new ≡ record old { entries = old.entries ++ withdraw_block active.tx; pledge = None }
+IsEnded verdict active old new =
+    new ≡ ended_by (ending_of verdict) active.tx active.handle active.draft.touched old
 
 -- the call that notes the install at a site, of a transaction that touches these items there
 abbrev pub install_of : ℕ → ℕ → List Touch → List Touch → List Call

@@ -1,5 +1,4 @@
 pub mod Counts
-pub mod Flags
 pub mod Guarded
 pub mod Opened
 pub mod Pledges

@@ -2,7 +2,7 @@
 
 ghost use Rattle.std.specs.Prelude.{◌≡◌, ◌↔◌, ◌++◌, IsTrue, IfErr, OnOk, OnErr};
 ghost use Rattle.sgt_site.specs.State.{IsPledgedFor};
-ghost use Rattle.sgt_service_locks.specs.Guarded.{decision_count, ticket_of};
+ghost use Rattle.sgt_service_locks.specs.Guarded.{decision_count, ticket_of, ending_of};
 ghost use Rattle.sgt_service_locks.specs.Undecided.{RefusesPledgeAt};
 
 use crate::active::Active;
@@ -13,8 +13,9 @@ use sgt_edges::EdgeList;
 use sgt_names::{SiteNo, Tx};
 use sgt_service_agreement::{ServiceFault, gather_agreed};
 use sgt_site::Site;
+use sgt_step::{Ending as SiteEnding, end, give_back};
 use sgt_workers::{Ending, Ticket};
-use std::alloc::{AllocError, Global};
+use std::alloc::Global;
 use std::sync::ledger::{Book, Share};
 
 /// The certifier beside the book of its decisions. Its own calls alone change it, and note that a site has lost its
@@ -362,10 +363,10 @@ impl<L: Ledgers> Guarded<L> {
             active.handle,
         )?;
         let _items = site.items();
-        match append(edges, &more) {
+        match edges.append(&more) {
             Ok(()) => Ok(()),
             Err(_refused) => {
-                let _ = site.unpledge(active.tx);
+                give_back(site, active.tx);
                 Err(ServiceFault::Memory)
             }
         }
@@ -443,22 +444,19 @@ impl<L: Ledgers> Guarded<L> {
         if !is_numbered(site, here) {
             return false;
         }
+        let ending = ending_of(verdict);
+        if end(site, active.tx, active.handle, &active.draft, ending).is_err() {
+            return false;
+        }
         match verdict {
             Ending::Committed => {
-                if site
-                    .install(active.tx, active.handle, &active.draft)
-                    .is_err()
-                {
-                    return false;
-                }
                 let Guarded { certifier, .. } = self;
                 match certifier.installed(active.tx, here, &active.draft) {
                     Ok(()) => true,
                     Err(_) => unreachable!(),
                 }
             }
-            Ending::Refused => site.refuse(active.tx, &active.draft).is_ok(),
-            Ending::Withdrawn => site.withdraw(active.tx).is_ok(),
+            _ => true,
         }
     }
 }
@@ -484,15 +482,15 @@ fn pledge_held(held: &mut Site, here: SiteNo, active: &Active) -> Result<(), Ser
     Ok(())
 }
 
-// Adds the edges of another list.
-fn append(edges: &mut EdgeList, more: &EdgeList) -> Result<(), AllocError>
-    ensures { OnOk result (edges.new ≡ edges.old ++ more.now) }
+// How a transaction that is decided so ends at a site.
+fn ending_of(verdict: Ending) -> SiteEnding
+    ensures { result ≡ ending_of verdict }
 {
-    let all = more.as_slice();
-    for edge in all {
-        edges.push(*edge)?;
+    match verdict {
+        Ending::Committed => SiteEnding::Committed,
+        Ending::Refused => SiteEnding::Refused,
+        Ending::Withdrawn => SiteEnding::Withdrawn,
     }
-    Ok(())
 }
 
 fn ticket_of(tx: Tx, reply: Decided) -> Ticket

@@ -13,7 +13,6 @@ mod pledging;
 mod read;
 mod seat;
 mod service;
-mod touched;
 
 pub use active::{Active, Back};
 pub use ledgers::{Begins, Blanks, Ledgers};

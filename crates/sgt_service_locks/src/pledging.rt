@@ -3,8 +3,6 @@
 ghost use Rattle.std.specs.Prelude.{◌≡◌, ◌≢◌, ◌↔◌, ◌<◌, [], false, None, All, IsTrue, count_by};
 ghost use Rattle.sgt_service_locks.specs.Counts.{block_length, is_at, is_changed_at};
 ghost use Rattle.sgt_names.specs.Draft.{at_site};
-ghost use Rattle.sgt_service_locks.specs.Flags.{AreFlagged};
-ghost use Rattle.sgt_site.specs.State.{IsPledged};
 
 use crate::active::Active;
 use crate::guarded::Guarded;
@@ -12,11 +10,11 @@ use crate::ledgers::Ledgers;
 use crate::pledges::{Blocks, Pledges};
 use crate::seat::Seat;
 use crate::service::Service;
-use crate::touched::Flags;
 use sgt_edges::EdgeList;
-use sgt_names::{Draft, Part, SiteNo, Touch, Tx};
+use sgt_names::{Draft, SiteNo, Touch};
 use sgt_service_agreement::ServiceFault;
 use sgt_site::{Site, SiteFault};
+use sgt_step::{TouchedSites, give_back};
 use sgt_workers::{Ending, Gate, Place};
 use std::alloc::Global;
 use std::sync::{MutexGuard, Wait};
@@ -31,7 +29,7 @@ impl<L: Ledgers, G: Gate> Service<L, G> {
     ghost use Rattle.std.specs.Prelude.{◌≡◌, ◌≢◌, ◌<◌, ◌≤◌, ◌+◌, ◌++◌, [], ℕ, List, false, Some, Err, IsTrue, IfOk, IfErr, IfSome, OnOk, OnErr, vec_len};
     ghost use Rattle.sgt_service_agreement.specs.declared.fault.ServiceFault.TheVariants.{NotPledged};
     ghost use Rattle.sgt_names.specs.Draft.{at_site};
-    ghost use Rattle.sgt_service_locks.specs.Flags.{AreFlagged};
+    ghost use Rattle.sgt_step.specs.Touched.{AreSitesOf};
     ghost use Rattle.sgt_workers.specs.declared.ticket.Ending.TheVariants.{Committed};
     ghost use Rattle.sgt_certifier.specs.History.{tx_under, Replays};
     ghost use Rattle.sgt_certifier.specs.Kept.{Adds, IsExpected, changed_at};
@@ -63,14 +61,13 @@ impl<L: Ledgers, G: Gate> Service<L, G> {
     }
 
     // Whether each site that the draft touches is there.
-    #[tactic(auto, using(crate::proofs::Counting::none_above, crate::proofs::Counting::some_above))]
     fn has_sites(&self, draft: &Draft) -> bool
         ensures all { IsTrue result → (site : ℕ) → vec_len self.now.sites ≤ site
             → at_site site draft.now.touched ≡ [] }
         ensures beyond { result ≡ false
             → (site : ℕ) × (vec_len self.now.sites ≤ site) × (at_site site draft.now.touched ≢ []) }
     {
-        stays_below(draft, self.sites.len())
+        TouchedSites::of(draft).are_below(self.sites.len())
     }
 
     // Gives the pledges back, at one site after another.
@@ -79,12 +76,12 @@ impl<L: Ledgers, G: Gate> Service<L, G> {
         requires sites { pledges.below ≤ vec_len self.now.sites }
     {
         let mut pledges = pledges;
-        let flags = Flags::of(&active.draft);
+        let touched = TouchedSites::of(&active.draft);
         for place in 0..pledges.below() {
             let here = self.number_at(place);
-            if touches(active, &flags, here) {
+            if touched.contains(here) {
                 let mut guard = self.lock_site(rt, here);
-                unpledge_held(&mut guard, active.tx);
+                give_back(&mut guard, active.tx);
                 pledges.free(guard, active.tx);
             } else {
                 pledges.pass(active, here);
@@ -108,10 +105,10 @@ impl<L: Ledgers, G: Gate> Service<L, G> {
         ensures refused { IfErr result (IsUnpledged (vec_len self.now.sites) active.now) }
     {
         let mut pledges = Pledges::none();
-        let flags = Flags::of(&active.draft);
+        let touched = TouchedSites::of(&active.draft);
         for place in 0..self.sites.len() {
             let here = self.number_at(place);
-            if touches(active, &flags, here) {
+            if touched.contains(here) {
                 let pledged = self.pledge_at(rt, guarded, here, active, &mut pledges);
                 if let Err(fault) = pledged {
                     self.give_back(rt, active, pledges);
@@ -251,10 +248,10 @@ impl<L: Ledgers, G: Gate> Service<L, G> {
             (IsUngathered (vec_len self.now.sites) guarded.old.certifier.history active.now) }
     {
         let mut pledges = Pledges::none();
-        let flags = Flags::of(&active.draft);
+        let touched = TouchedSites::of(&active.draft);
         for place in 0..self.sites.len() {
             let here = self.number_at(place);
-            if touches(active, &flags, here) {
+            if touched.contains(here) {
                 let gathered = self.gather_at(
                     rt,
                     alloc,
@@ -341,7 +338,7 @@ impl<L: Ledgers, G: Gate> Service<L, G> {
         ensures touched { IfErr result (λ e. at_site e.site active.now.draft.touched ≢ []) }
     {
         let mut blocks = blocks;
-        let flags = Flags::of(&active.draft);
+        let touched = TouchedSites::of(&active.draft);
         for place in 0..self.sites.len() {
             let here = self.number_at(place);
             if !self.end_one(
@@ -350,7 +347,7 @@ impl<L: Ledgers, G: Gate> Service<L, G> {
                 seat,
                 here,
                 active,
-                &flags,
+                &touched,
                 verdict,
                 &mut blocks,
             ) {
@@ -371,11 +368,11 @@ impl<L: Ledgers, G: Gate> Service<L, G> {
         seat: &mut Seat<L>,
         here: SiteNo,
         active: &Active,
-        flags: &Flags,
+        touched: &TouchedSites,
         verdict: Ending,
         blocks: &mut Blocks,
     ) -> bool
-        requires flagged { AreFlagged flags.now.flags active.now.draft.touched }
+        requires sites { AreSitesOf touched.now active.now.draft.touched }
         requires place { here < vec_len self.now.sites }
         requires next { (here ≡ blocks.old.written) × (blocks.old.written < blocks.old.below) }
         requires awaits { verdict ≡ Committed
@@ -399,7 +396,7 @@ impl<L: Ledgers, G: Gate> Service<L, G> {
         ensures stopped { result ≡ false → Stops blocks.old blocks.new }
         ensures same { result ≡ false → seat.new.counts.items ≡ seat.old.counts.items }
     {
-        if !touches(active, flags, here) {
+        if !touched.contains(here) {
             blocks.pass(active, here);
             return true;
         }
@@ -419,68 +416,6 @@ impl<L: Ledgers, G: Gate> Service<L, G> {
         seat.count_others(here, entries);
         true
     }
-}
-
-// Gives the transaction's pledge back at the site that is lent, if it stands there.
-fn unpledge_held(held: &mut Site, tx: Tx)
-    ensures given { IsPledged held.old tx → held.new ≡ record held.old { pledge = None } }
-    ensures none { (IsPledged held.old tx → ⊥) → held.new ≡ held.old }
-    ensures gone { IsPledged held.new tx → ⊥ }
-{
-    let _ = held.unpledge(tx);
-}
-
-// Whether the transaction touches an item at the site.
-#[tactic(auto, using(crate::proofs::Counting::some_at, crate::proofs::Counting::none_at))]
-fn touches(active: &Active, flags: &Flags, site: SiteNo) -> bool
-    requires { AreFlagged flags.now.flags active.now.draft.touched }
-    ensures some { IsTrue result → at_site site active.now.draft.touched ≢ [] }
-    ensures none { result ≡ false → at_site site active.now.draft.touched ≡ [] }
-{
-    if !flags.has(site) {
-        return false;
-    }
-    let items = items_at(active.draft.at(site), site);
-    if items == 0 {
-        return false;
-    }
-    true
-}
-
-// Whether the draft touches items at sites of smaller numbers alone.
-fn stays_below(draft: &Draft, sites: usize) -> bool
-    ensures { IsTrue result ↔ All (λ t. t.site < sites) draft.now.touched }
-{
-    let (few, parts) = draft.touched();
-    if !are_below(few, sites) {
-        return false;
-    }
-    parts_below(parts, sites)
-}
-
-fn parts_below(parts: &[Part], sites: usize) -> bool
-    ensures { IsTrue result ↔ All (λ p. All (λ t. t.site < sites) p.touched) parts.now }
-{
-    parts.iter().all(|part| is_part_below(part, sites))
-}
-
-fn is_part_below(part: &Part, sites: usize) -> bool
-    ensures { IsTrue result ↔ All (λ t. t.site < sites) part.now.touched }
-{
-    are_below(part.touched(), sites)
-}
-
-// Whether the touched items are at sites of smaller numbers alone.
-fn are_below(touched: &[Touch], sites: usize) -> bool
-    ensures { IsTrue result ↔ All (λ t. t.site < sites) touched.now }
-{
-    touched.iter().all(|touch| is_below(touch, sites))
-}
-
-fn is_below(touch: &Touch, sites: usize) -> bool
-    ensures { IsTrue result ↔ (touch.now.site < sites) }
-{
-    (touch.site.number() as usize) < sites
 }
 
 // How many entries the block of a transaction that is decided so has at the site.

@@ -8,20 +8,20 @@ use Rattle.sgt_service_locks.proofs.Losing.{lost_pledge}
 use Rattle.sgt_service_locks.proofs.Noting.{notes_untouched, noted}
 use Rattle.sgt_service_locks.proofs.service.Service.end_one.Goals as goal
 
-pub returns-then-not-touches-clause-awaits : goal.returns-then-not-touches-clause-awaits
-returns-then-not-touches-clause-awaits g c _ verdict =
+pub returns-then-not-contains-clause-awaits : goal.returns-then-not-contains-clause-awaits
+returns-then-not-contains-clause-awaits g c _ verdict =
     later c.args.guarded.now.certifier c.args.active.now.tx c.args.active.now.draft.touched c.args.here
     (c.args.here + 1) (omega arith) (c.requires.awaits verdict)
 
-pub returns-then-not-touches-clause-counted : goal.returns-then-not-touches-clause-counted
-returns-then-not-touches-clause-counted g c _ =
-    let none = c.touches.ensures.none c.if-not-touches.true in
+pub returns-then-not-contains-clause-counted : goal.returns-then-not-contains-clause-counted
+returns-then-not-contains-clause-counted g c _ =
+    let none = c.requires.sites.none c.args.here (sym c.contains.ensures ∙ c.if-not-contains.true) in
     gains_zero c.args.seat.now.counts.items c.args.here _
     (block_none c.args.verdict (at_site c.args.here c.args.active.now.draft.touched) none)
 
-pub returns-then-not-touches-clause-history : goal.returns-then-not-touches-clause-history
-returns-then-not-touches-clause-history g c _ =
-    let none = c.touches.ensures.none c.if-not-touches.true in
+pub returns-then-not-contains-clause-history : goal.returns-then-not-contains-clause-history
+returns-then-not-contains-clause-history g c _ =
+    let none = c.requires.sites.none c.args.here (sym c.contains.ensures ∙ c.if-not-contains.true) in
     notes_untouched c.args.verdict c.args.active.now c.args.here c.args.guarded.now.certifier.history
     (block_none c.args.verdict (at_site c.args.here c.args.active.now.draft.touched) none)
 

@@ -4,7 +4,7 @@ use Rattle.sgt_service_locks.specs.Guarded.{IsGathered, IsGatheredBelow}
 use Rattle.sgt_service_locks.specs.Undecided.{RefusesGather}
 use Rattle.sgt_service_locks.proofs.Gathering.{gathered_some, gathered_none}
 use Rattle.sgt_service_locks.proofs.service.Service.gather_all.Goals as goal
-use Rattle.sgt_service_locks.proofs.service.Service.gather_all.Goals.{then-touches+in_default, else-touches}
+use Rattle.sgt_service_locks.proofs.service.Service.gather_all.Goals.{then-contains+in_default, else-contains}
 
 pub returns-in-Err-clause-refused : goal.returns-in-Err-clause-refused
 returns-in-Err-clause-refused g c =
@@ -18,7 +18,7 @@ returns-in-Err-clause-refused g c =
       site,
       c.in-Err.ensures.refused.1,
       omega (arith, c.number_at-here.ensures, c.loop-place-test.true),
-      c.touches.ensures.some c.if-touches.true,
+      c.of-touched.ensures.some here (sym c.contains.ensures ∙ c.if-contains.true),
       at_start,
     )
 
@@ -36,15 +36,15 @@ loop-place-preserved g c =
       given = search rules;
       below = search rules;
       within = omega (arith, c.loop-place-test.true);
-      edges = elim c.if-touches.branch [
-        | then-touches+in_default w ↦
+      edges = elim c.if-contains.branch [
+        | then-contains+in_default w ↦
             let e = w.in_default.ensures.edges in
-            gathered_some history active place here before c.if-touches.edges e.0 c.number_at-here.ensures
-            (c.touches.ensures.some w.if-touches.true) i.edges
+            gathered_some history active place here before c.if-contains.edges e.0 c.number_at-here.ensures
+            (c.of-touched.ensures.some here (sym c.contains.ensures ∙ w.if-contains.true)) i.edges
             (e.1, w.edges-is ∙ e.2, subst (λ (k : Kept). IsGathered k.history active here e.0 e.1) i.certifier e.3)
-        | else-touches w ↦
+        | else-contains w ↦
             subst (λ edges. IsGatheredBelow history active (place + 1) edges) (sym w.edges-is)
             (gathered_none history active place here before c.number_at-here.ensures
-            (c.touches.ensures.none w.if-touches.false) i.edges)
+            (c.of-touched.ensures.none here (sym c.contains.ensures ∙ w.if-contains.false)) i.edges)
       ];
     }

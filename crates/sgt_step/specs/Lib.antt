@@ -1,0 +1,3 @@
+pub mod OneSite
+pub mod Touched
+pub mod private
