@@ -155,5 +155,5 @@ further_told line = or_else (cycle_told line) (or_else (end_told line) (or_else 
     (or_else (operation_told line) (explained_told line))))
 
 -- the members that a line tells, each with a comma in front
-abbrev pub members_of : List ℕ → List ℕ
+unfoldable pub members_of : List ℕ → List ℕ
 members_of line = or_nothing (or_else (yes_told line) (or_else (no_told line) (further_told line)))

@@ -25,29 +25,51 @@ long_name [] name other = other
 long_name (r ∷ table) name other = if is_text name r.short then r.long else long_name table name other
 
 abbrev pub line_two : List NameRow
-line_two = row (codes "F1") (codes "Format") ∷ row (codes "F2") (codes "Notation") ∷ row (codes "F3") (codes "Certificate")
-    ∷ row (codes "F4") (codes "Ranks") ∷ row (codes "F5") (codes "DecidedTwice") ∷ row (codes "F6") (codes "WalkShape")
+line_two = row (codes "F1") (codes "Format")
+    ∷ row (codes "F2") (codes "Notation")
+    ∷ row (codes "F3") (codes "Certificate")
+    ∷ row (codes "F4") (codes "Ranks")
+    ∷ row (codes "F5") (codes "DecidedTwice")
+    ∷ row (codes "F6") (codes "WalkShape")
     ∷ []
 
 abbrev pub log_lines : List NameRow
-log_lines = row (codes "F7") (codes "Section") ∷ row (codes "F8") (codes "Item") ∷ row (codes "F9") (codes "Twice")
-    ∷ row (codes "F10") (codes "ReadValue") ∷ row (codes "F11") (codes "RankOrder") ∷ row (codes "F12") (codes "Block")
-    ∷ row (codes "F13") (codes "End") ∷ []
+log_lines = row (codes "F7") (codes "Section")
+    ∷ row (codes "F8") (codes "Item")
+    ∷ row (codes "F9") (codes "Twice")
+    ∷ row (codes "F10") (codes "ReadValue")
+    ∷ row (codes "F11") (codes "RankOrder")
+    ∷ row (codes "F12") (codes "Block")
+    ∷ row (codes "F13") (codes "End")
+    ∷ []
 
 abbrev pub log_ends : List NameRow
-log_ends = row (codes "F14") (codes "DecisionOrder") ∷ row (codes "F15") (codes "NotEnded") ∷ row (codes "F16") (codes "Final")
-    ∷ row (codes "F17") (codes "WalkStep") ∷ row (codes "F18") (codes "Truncated") ∷ row (codes "F19") (codes "Trailing")
-    ∷ row (codes "C1") (codes "ChainBroken") ∷ []
+log_ends = row (codes "F14") (codes "DecisionOrder")
+    ∷ row (codes "F15") (codes "NotEnded")
+    ∷ row (codes "F16") (codes "Final")
+    ∷ row (codes "F17") (codes "WalkStep")
+    ∷ row (codes "F18") (codes "Truncated")
+    ∷ row (codes "F19") (codes "Trailing")
+    ∷ row (codes "C1") (codes "ChainBroken")
+    ∷ []
 
 abbrev pub history_lines : List NameRow
-history_lines = row (codes "L1") (codes "NotALine") ∷ row (codes "L2") (codes "TooLong") ∷ row (codes "L3") (codes "IdRepeated")
-    ∷ row (codes "internal") (codes "Contradicts Itself") ∷ row (codes "duplicate") (codes "Version Written Twice")
-    ∷ row (codes "unwritten") (codes "Version Nobody Wrote") ∷ row (codes "value") (codes "Two Values Of A Version") ∷ []
+history_lines = row (codes "L1") (codes "NotALine")
+    ∷ row (codes "L2") (codes "TooLong")
+    ∷ row (codes "L3") (codes "IdRepeated")
+    ∷ row (codes "internal") (codes "Contradicts Itself")
+    ∷ row (codes "duplicate") (codes "Version Written Twice")
+    ∷ row (codes "unwritten") (codes "Version Nobody Wrote")
+    ∷ row (codes "value") (codes "Two Values Of A Version")
+    ∷ []
 
 abbrev pub cycles : List NameRow
-cycles = row (codes "G0") (codes "Write Cycle") ∷ row (codes "G1a") (codes "Aborted Read")
-    ∷ row (codes "G1b") (codes "Intermediate Read") ∷ row (codes "G1c") (codes "Circular Information Flow")
-    ∷ row (codes "G-single") (codes "Single Anti-dependency Cycle") ∷ row (codes "G2-item") (codes "Item Anti-dependency Cycle")
+cycles = row (codes "G0") (codes "Write Cycle")
+    ∷ row (codes "G1a") (codes "Aborted Read")
+    ∷ row (codes "G1b") (codes "Intermediate Read")
+    ∷ row (codes "G1c") (codes "Circular Information Flow")
+    ∷ row (codes "G-single") (codes "Single Anti-dependency Cycle")
+    ∷ row (codes "G2-item") (codes "Item Anti-dependency Cycle")
     ∷ []
 
 -- the longer name of a fault or a cycle, as `sgt explain` has it; else the name again

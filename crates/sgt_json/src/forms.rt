@@ -300,6 +300,7 @@ fn further_told(alloc: Global, line: &[u8]) -> Result<Option<Vec<u8>>, AllocErro
 }
 
 /// The members that a line tells, each with a comma in front.
+#[tactic(auto, unfolding(crate::specs::Forms::members_of))]
 pub(crate) fn members_of(alloc: Global, line: &[u8]) -> Result<Vec<u8>, AllocError>
     ensures { IfOk result (λ text. text.items ≡ members_of line.now) }
 {

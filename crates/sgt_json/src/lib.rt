@@ -3,6 +3,11 @@
 
 mod forms;
 mod names;
+mod object;
 mod piece;
 mod quoted;
 mod scan;
+mod tally;
+
+pub use object::{Asked, object_of};
+pub use tally::Tally;

@@ -1,9 +1,9 @@
 -- Words that stand on a line.
 use Rattle.std.specs.Prelude.{IfNone}
-use Rattle.sgt_line.specs.Clashes.{Clashes, HasWord, IsAmong, IsBesideOrder, WritesOverInput}
+use Rattle.sgt_line.specs.Clashes.{Clashes, HasWord, IsAmong, IsBesideObject, IsBesideOrder, WritesOverInput}
 use Rattle.sgt_line.specs.Parts.{Parts}
 use Rattle.std.proofs.lemmas.Option.{same_Some}
-use Rattle.std.proofs.Common.{◌≡◌, ◌<◌, ◌∙◌, ℕ, zero, suc, Option, Some, None, List, [], ◌∷◌, Any, get_or, ap, length, refl, sym, subst, arith, inl, inr}
+use Rattle.std.proofs.Common.{◌≡◌, ◌⊎◌, ◌<◌, ◌∙◌, ℕ, zero, suc, Option, Some, None, List, [], ◌∷◌, Any, get_or, ap, length, refl, sym, subst, arith, inl, inr}
 
 module _ {A : Type 0} (P : A → Type 0) (w : A) (ws : List A) where
   any_later : Any P ws → Any P (w ∷ ws)
@@ -36,8 +36,9 @@ pub none_weaker : {A : Type 0} (o : Option A) (P Q : Type 0) → (P → Q) → I
 none_weaker None P Q so holds = so holds
 none_weaker (Some x) P Q so holds = tt
 
--- where nothing is written over what is read, and nothing stands beside an order, nothing clashes
-pub nothing_clashes : (p : Parts) → (WritesOverInput p → ⊥) → ((text : List ℕ) → IsBesideOrder p text → ⊥)
+-- where nothing is written over what is read, and nothing stands beside an order or an object, nothing clashes
+pub nothing_clashes : (p : Parts) → (WritesOverInput p → ⊥)
+    → ((text : List ℕ) → IsBesideOrder p text ⊎ IsBesideObject p text → ⊥)
     → (text : List ℕ) → Clashes p text → ⊥
 nothing_clashes p over beside text (inl order) = beside text order
 nothing_clashes p over beside text (inr (writes, is)) = over writes

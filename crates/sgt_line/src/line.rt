@@ -42,6 +42,8 @@ pub struct Line {
     pub tells_lines: bool,
     /// Whether behind a no standard error is told what to type to learn more.
     pub tells_why: bool,
+    /// Whether the answer is written as an object of JSON.
+    pub is_json: bool,
 }
 
 // How the number of an audit's workers begins where it stands in one word.
@@ -65,6 +67,7 @@ impl Line {
             is_chain: false,
             tells_lines: false,
             tells_why: false,
+            is_json: false,
         }
     }
 
@@ -256,6 +259,7 @@ impl Line {
             Kind::Chain => self.is_chain = true,
             Kind::Progress => self.tells_lines = true,
             Kind::Why => self.tells_why = true,
+            Kind::Json => self.is_json = true,
             Kind::Plain => self.leave(alloc, word)?,
             Kind::Dashes => return Ok(kind),
             Kind::Numbered => {
