@@ -4,7 +4,7 @@ ghost use Rattle.std.specs.Prelude.{◌≡◌};
 
 use crate::against::judged;
 use crate::chain::audit_files;
-use crate::host::{Host, over, writer};
+use crate::host::{Host, file_of, over, writer};
 use crate::output::Output;
 use crate::svg::drawn;
 use sgt_command_line::{Choice, NoChoice, Way, wanted_by, way_of};
@@ -65,14 +65,24 @@ impl<'a> Answer<'a> {
     fn take(&mut self, bytes: &[u8]) -> bool
         ensures { self.new.refused ≡ self.old.refused }
     {
-        if self.is_bundle {
+        if self.kept.is_empty() && (self.is_bundle || bytes.starts_with(BUNDLE)) {
+            self.is_bundle = true;
             return self.pass(bytes);
         }
-        if self.kept.extend_from_slice(bytes).is_err() {
-            return false;
+        self.kept.extend_from_slice(bytes).is_ok()
+    }
+
+    // The answer; of a bundle the line that an audit says of it.
+    fn into_text(self, alloc: Global) -> Result<Vec<u8>, AllocError> {
+        if !self.is_bundle {
+            return Ok(self.kept);
         }
-        self.is_bundle = self.kept.starts_with(BUNDLE);
-        true
+        let tally = self.tally;
+        let line = format!(in alloc;
+            "yes {} committed {} refused {} withdrawn\n",
+            tally.committed, tally.refused, tally.withdrawn
+        )?;
+        Ok(line.into_bytes())
     }
 }
 
@@ -89,5 +99,133 @@ impl Sink for Answer<'_> {
         }
         self.refused += 1;
         Err(Failed)
+    }
+}
+
+// The word of the command.
+fn word_of(line: &Line) -> &str {
+    match line.words.get(1) {
+        Some(word) => word.as_str(),
+        None => "audit",
+    }
+}
+
+// Writes the answer on the file of this name as an object, where there is an answer.
+fn tell<H, W: Sink>(
+    host: &Host<'_, H>,
+    line: &Line,
+    name: &str,
+    answer: Vec<u8>,
+    output: &mut W,
+) -> Result<(), EngineFail> {
+    if answer.is_empty() {
+        return Ok(());
+    }
+    let asked = Asked {
+        command: word_of(line),
+        file: name,
+    };
+    let text = object_of(host.rt.alloc(), asked, answer.as_slice())?;
+    match write_all(output, text.as_slice()) {
+        Ok(()) => Ok(()),
+        Err(_) => Err(EngineFail::WriteFault),
+    }
+}
+
+// The answer's text, where it could be kept whole.
+fn whole(alloc: Global, answer: Answer<'_>) -> Result<Vec<u8>, EngineFail> {
+    if answer.refused > 0 && answer.is_written {
+        return Err(EngineFail::Memory);
+    }
+    if !answer.is_written {
+        return Ok(Vec::new(alloc));
+    }
+    Ok(answer.into_text(alloc)?)
+}
+
+// The status of a file, whose object is written.
+fn answered<H: Threads + Wait + Sync, W: Sink>(
+    host: &Host<'_, H>,
+    line: &Line,
+    choice: &Result<Choice, NoChoice>,
+    name: &str,
+    output: &mut W,
+) -> Result<u8, EngineFail> {
+    let mut answer = Answer::new(host);
+    let status = match way_of(line, choice) {
+        Way::Against => {
+            let order = file_of(line.against.as_ref());
+            judged(host, wanted_by(choice), order, name, &mut answer)
+        }
+        Way::Drawn => {
+            let names = (name, file_of(line.place.as_ref()));
+            drawn(host, line, names, &mut answer)?
+        }
+        _ => over(host, line.words.as_slice(), name, &mut answer),
+    };
+    let text = whole(host.rt.alloc(), answer)?;
+    tell(host, line, name, text, output)?;
+    Ok(status)
+}
+
+// The answer on a chain, without the name of the file that is named behind `no`.
+fn unnamed(alloc: Global, answer: Vec<u8>, name: &str) -> Result<Vec<u8>, AllocError> {
+    let head = format!(in alloc; "no {name}")?;
+    let Some(behind) = answer.as_slice().strip_prefix(head.as_bytes()) else {
+        return Ok(answer);
+    };
+    let mut text = Vec::from_slice(alloc, b"no")?;
+    text.extend_from_slice(behind)?;
+    Ok(text)
+}
+
+// The status of a chain, whose object is written.
+fn chained<H, W: Sink>(host: &Host<'_, H>, line: &Line, output: &mut W) -> Result<u8, EngineFail> {
+    let alloc = host.rt.alloc();
+    let mut answer = Answer::new(host);
+    let (status, name) = audit_files(host, line.files.as_slice(), &mut answer);
+    let text = unnamed(alloc, whole(alloc, answer)?, name)?;
+    tell(host, line, name, text, output)?;
+    Ok(status)
+}
+
+// The greatest status of the files, whose objects are written.
+fn answered_each<H: Threads + Wait + Sync, W: Sink>(
+    host: &Host<'_, H>,
+    line: &Line,
+    choice: &Result<Choice, NoChoice>,
+    output: &mut W,
+) -> Result<u8, EngineFail> {
+    let mut status = 0;
+    for name in &line.files {
+        status = status.max(answered(host, line, choice, name.as_str(), output)?);
+    }
+    Ok(status)
+}
+
+/// Whether the answer is to be written as an object.
+pub(crate) fn asks_object(line: &Line, choice: &Result<Choice, NoChoice>) -> bool {
+    match choice {
+        Ok(Choice::Audit | Choice::AuditWith { .. } | Choice::Certify) => line.is_json,
+        Ok(Choice::Explain | Choice::Transaction(_) | Choice::Check(_)) => line.is_json,
+        _ => false,
+    }
+}
+
+/// Answers with an object for each file. A certified bundle goes to the file that is named for it, and its object to
+/// standard output.
+pub(crate) fn answer_objects<H: Threads + Wait + Sync>(
+    host: &Host<'_, H>,
+    line: &Line,
+    choice: &Result<Choice, NoChoice>,
+) -> Result<u8, EngineFail> {
+    let mut output = match host.command {
+        CommandName::Certify => ToWrite::new(Output::new(host.rt, None, host.hush)),
+        _ => writer(host),
+    };
+    match way_of(line, choice) {
+        Way::Each => answered_each(host, line, choice, &mut output),
+        Way::Chain => chained(host, line, &mut output),
+        _ => answered(host, line, choice, file_of(line.files.first()), &mut output),
     }
 }

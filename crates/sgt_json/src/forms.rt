@@ -58,10 +58,7 @@ fn no_told(alloc: Global, line: &[u8]) -> Result<Option<Vec<u8>>, AllocError>
     if let Some(text) = told(alloc, no_line_form, line)? {
         return Ok(Some(text));
     }
-    let no_form = &[
-        Piece::Fixed("no "),
-        Piece::Fault,
-    ];
+    let no_form = &[Piece::Fixed("no "), Piece::Fault];
     if let Some(text) = told(alloc, no_form, line)? {
         return Ok(Some(text));
     }
@@ -242,10 +239,7 @@ fn operation_told(alloc: Global, line: &[u8]) -> Result<Option<Vec<u8>>, AllocEr
     if let Some(text) = told(alloc, told_form, line)? {
         return Ok(Some(text));
     }
-    let order_form = &[
-        Piece::Fixed("order line "),
-        Piece::Number(",\"line\":"),
-    ];
+    let order_form = &[Piece::Fixed("order line "), Piece::Number(",\"line\":")];
     told(alloc, order_form, line)
 }
 

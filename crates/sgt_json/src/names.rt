@@ -39,12 +39,30 @@ fn in_line_two<'a>(name: &[u8], other: &'a [u8]) -> &'a [u8]
     ensures { result.now ≡ long_name line_two name.now other.now }
 {
     let table = [
-        Row { short: "F1", long: "Format" },
-        Row { short: "F2", long: "Notation" },
-        Row { short: "F3", long: "Certificate" },
-        Row { short: "F4", long: "Ranks" },
-        Row { short: "F5", long: "DecidedTwice" },
-        Row { short: "F6", long: "WalkShape" },
+        Row {
+            short: "F1",
+            long: "Format",
+        },
+        Row {
+            short: "F2",
+            long: "Notation",
+        },
+        Row {
+            short: "F3",
+            long: "Certificate",
+        },
+        Row {
+            short: "F4",
+            long: "Ranks",
+        },
+        Row {
+            short: "F5",
+            long: "DecidedTwice",
+        },
+        Row {
+            short: "F6",
+            long: "WalkShape",
+        },
     ];
     long_name(&table, name, other)
 }
@@ -53,13 +71,34 @@ fn in_log_lines<'a>(name: &[u8], other: &'a [u8]) -> &'a [u8]
     ensures { result.now ≡ long_name log_lines name.now other.now }
 {
     let table = [
-        Row { short: "F7", long: "Section" },
-        Row { short: "F8", long: "Item" },
-        Row { short: "F9", long: "Twice" },
-        Row { short: "F10", long: "ReadValue" },
-        Row { short: "F11", long: "RankOrder" },
-        Row { short: "F12", long: "Block" },
-        Row { short: "F13", long: "End" },
+        Row {
+            short: "F7",
+            long: "Section",
+        },
+        Row {
+            short: "F8",
+            long: "Item",
+        },
+        Row {
+            short: "F9",
+            long: "Twice",
+        },
+        Row {
+            short: "F10",
+            long: "ReadValue",
+        },
+        Row {
+            short: "F11",
+            long: "RankOrder",
+        },
+        Row {
+            short: "F12",
+            long: "Block",
+        },
+        Row {
+            short: "F13",
+            long: "End",
+        },
     ];
     long_name(&table, name, other)
 }
@@ -68,13 +107,34 @@ fn in_log_ends<'a>(name: &[u8], other: &'a [u8]) -> &'a [u8]
     ensures { result.now ≡ long_name log_ends name.now other.now }
 {
     let table = [
-        Row { short: "F14", long: "DecisionOrder" },
-        Row { short: "F15", long: "NotEnded" },
-        Row { short: "F16", long: "Final" },
-        Row { short: "F17", long: "WalkStep" },
-        Row { short: "F18", long: "Truncated" },
-        Row { short: "F19", long: "Trailing" },
-        Row { short: "C1", long: "ChainBroken" },
+        Row {
+            short: "F14",
+            long: "DecisionOrder",
+        },
+        Row {
+            short: "F15",
+            long: "NotEnded",
+        },
+        Row {
+            short: "F16",
+            long: "Final",
+        },
+        Row {
+            short: "F17",
+            long: "WalkStep",
+        },
+        Row {
+            short: "F18",
+            long: "Truncated",
+        },
+        Row {
+            short: "F19",
+            long: "Trailing",
+        },
+        Row {
+            short: "C1",
+            long: "ChainBroken",
+        },
     ];
     long_name(&table, name, other)
 }
@@ -83,13 +143,34 @@ fn in_history_lines<'a>(name: &[u8], other: &'a [u8]) -> &'a [u8]
     ensures { result.now ≡ long_name history_lines name.now other.now }
 {
     let table = [
-        Row { short: "L1", long: "NotALine" },
-        Row { short: "L2", long: "TooLong" },
-        Row { short: "L3", long: "IdRepeated" },
-        Row { short: "internal", long: "Contradicts Itself" },
-        Row { short: "duplicate", long: "Version Written Twice" },
-        Row { short: "unwritten", long: "Version Nobody Wrote" },
-        Row { short: "value", long: "Two Values Of A Version" },
+        Row {
+            short: "L1",
+            long: "NotALine",
+        },
+        Row {
+            short: "L2",
+            long: "TooLong",
+        },
+        Row {
+            short: "L3",
+            long: "IdRepeated",
+        },
+        Row {
+            short: "internal",
+            long: "Contradicts Itself",
+        },
+        Row {
+            short: "duplicate",
+            long: "Version Written Twice",
+        },
+        Row {
+            short: "unwritten",
+            long: "Version Nobody Wrote",
+        },
+        Row {
+            short: "value",
+            long: "Two Values Of A Version",
+        },
     ];
     long_name(&table, name, other)
 }
@@ -98,12 +179,30 @@ fn in_cycles<'a>(name: &[u8], other: &'a [u8]) -> &'a [u8]
     ensures { result.now ≡ long_name cycles name.now other.now }
 {
     let table = [
-        Row { short: "G0", long: "Write Cycle" },
-        Row { short: "G1a", long: "Aborted Read" },
-        Row { short: "G1b", long: "Intermediate Read" },
-        Row { short: "G1c", long: "Circular Information Flow" },
-        Row { short: "G-single", long: "Single Anti-dependency Cycle" },
-        Row { short: "G2-item", long: "Item Anti-dependency Cycle" },
+        Row {
+            short: "G0",
+            long: "Write Cycle",
+        },
+        Row {
+            short: "G1a",
+            long: "Aborted Read",
+        },
+        Row {
+            short: "G1b",
+            long: "Intermediate Read",
+        },
+        Row {
+            short: "G1c",
+            long: "Circular Information Flow",
+        },
+        Row {
+            short: "G-single",
+            long: "Single Anti-dependency Cycle",
+        },
+        Row {
+            short: "G2-item",
+            long: "Item Anti-dependency Cycle",
+        },
     ];
     long_name(&table, name, other)
 }

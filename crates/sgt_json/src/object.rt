@@ -66,12 +66,7 @@ fn after(ended: Ended) -> Ended
 }
 
 // Writes a line and what it tells, behind the key's front.
-fn push_told(
-    alloc: Global,
-    out: &mut Vec<u8>,
-    key: &[u8],
-    line: &[u8],
-) -> Result<(), AllocError>
+fn push_told(alloc: Global, out: &mut Vec<u8>, key: &[u8], line: &[u8]) -> Result<(), AllocError>
     ensures { OnOk result (out.new.items ≡ out.old.items ++ told_text key.now line.now) }
 {
     let members = members_of(alloc, line)?;
@@ -91,12 +86,7 @@ fn push_first(alloc: Global, out: &mut Vec<u8>, line: &[u8]) -> Result<(), Alloc
 }
 
 // Writes a line, and what it tells.
-fn push_line(
-    alloc: Global,
-    out: &mut Vec<u8>,
-    ended: Ended,
-    line: &[u8],
-) -> Result<(), AllocError>
+fn push_line(alloc: Global, out: &mut Vec<u8>, ended: Ended, line: &[u8]) -> Result<(), AllocError>
     ensures { OnOk result (out.new.items ≡ out.old.items ++ line_text ended line.now) }
 {
     match ended {

@@ -105,7 +105,11 @@ pub(crate) fn told(
     ensures { IfOk result (λ found. option_map (λ text. text.items) found ≡ told (map piece_of form.now) line.now) }
 {
     let Some((piece, behind)) = form.split_first() else {
-        return Ok(if line.is_empty() { Some(Vec::new(alloc)) } else { None });
+        return Ok(if line.is_empty() {
+            Some(Vec::new(alloc))
+        } else {
+            None
+        });
     };
     let Some(size) = size_of(*piece, line) else {
         return Ok(None);

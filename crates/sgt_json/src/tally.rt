@@ -26,7 +26,11 @@ fn more(count: u64) -> u64
 fn next_line(line: u8, byte: u8) -> u8
     ensures { result ≡ next_line line byte }
 {
-    if byte == b'\n' && line < 2 { line + 1 } else { line }
+    if byte == b'\n' && line < 2 {
+        line + 1
+    } else {
+        line
+    }
 }
 
 impl Tally {

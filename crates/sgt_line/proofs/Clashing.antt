@@ -52,3 +52,15 @@ among_words file word words S at both = (
       let one = same_Some told.0 word (sym told.1 ∙ at) in
       both.1 (subst (λ w. HasWord w words) one told.2),
 )
+
+neither : (p : Parts) → ((text : List ℕ) → IsBesideOrder p text → ⊥) → ((text : List ℕ) → IsBesideObject p text → ⊥)
+    → (text : List ℕ) → IsBesideOrder p text ⊎ IsBesideObject p text → ⊥
+neither p order object text (inl beside) = order text beside
+neither p order object text (inr beside) = object text beside
+
+-- where nothing stands beside an order, nothing does beside an order or an object where nothing does beside an object
+pub none_beside : {A : Type 0} (o : Option A) (p : Parts) → ((text : List ℕ) → IsBesideOrder p text → ⊥)
+    → IfNone o ((text : List ℕ) → IsBesideObject p text → ⊥)
+    → IfNone o ((text : List ℕ) → IsBesideOrder p text ⊎ IsBesideObject p text → ⊥)
+none_beside None p order object = neither p order object
+none_beside (Some x) p order object = tt

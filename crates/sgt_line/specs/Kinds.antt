@@ -2,7 +2,7 @@
 use Rattle.std.specs.Prelude.{◌≡◌, ◌≢◌, ◌⊎◌, ℕ, List, ◌++◌, codes, ⊤}
 use Rattle.sgt_line.specs.Names.{NamesRule}
 use Rattle.sgt_line.specs.declared.kind.Kind.{Kind}
-use Rattle.sgt_line.specs.declared.kind.Kind.TheVariants.{Against, Chain, Dashes, Expected, File, Joined, JoinedPlace, Json, Numbered, Output, Place, Plain, Progress, Quiet, RuleName, Strict, Why}
+use Rattle.sgt_line.specs.declared.kind.Kind.TheVariants.{Against, Chain, Dashes, Expected, File, Joined, JoinedPlace, Json, Numbered, Output, Page, Place, Plain, Progress, Quiet, RuleName, Strict, Why}
 use Rattle.sgt_line.specs.declared.name.CommandName.{CommandName}
 use Rattle.sgt_line.specs.declared.name.CommandName.TheVariants.{Audit, Certify, Check, Draw, Explain, Replay, Run, Serial, Serve}
 
@@ -32,6 +32,7 @@ IsNoted command word Progress = TellsLines command × (word ≡ codes "--progres
 IsNoted command word Why = (command ≢ Serve) × (word ≡ codes "--why")
 IsNoted command word Json = (((command ≡ Audit) ⊎ (command ≡ Certify)) ⊎ ((command ≡ Explain) ⊎ (command ≡ Check)))
     × (word ≡ codes "--json")
+IsNoted command word Page = (command ≡ Explain) × (word ≡ codes "--html")
 IsNoted command word Dashes = word ≡ codes "--"
 IsNoted command word Place = (((command ≡ Replay) ⊎ (command ≡ Run)) × (word ≡ codes "--bundle"))
     ⊎ (((command ≡ Serve) × (word ≡ codes "--bundles")) ⊎ ((command ≡ Check) × (word ≡ codes "--svg")))
@@ -73,5 +74,6 @@ IsSwitch Chain = ⊤
 IsSwitch Progress = ⊤
 IsSwitch Why = ⊤
 IsSwitch Json = ⊤
+IsSwitch Page = ⊤
 IsSwitch Dashes = ⊤
 IsSwitch kind = ⊥

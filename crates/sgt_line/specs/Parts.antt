@@ -21,6 +21,7 @@ pub record Parts : Type 0 where
   pub tells_lines : Bool
   pub tells_why : Bool
   pub is_json : Bool
+  pub is_page : Bool
 
 -- a line that has these words alone
 abbrev pub bare : List (List ℕ) → Parts
@@ -38,6 +39,7 @@ bare words = record {
   tells_lines = false;
   tells_why = false;
   is_json = false;
+  is_page = false;
 }
 
 -- one more word is left for the program
@@ -76,4 +78,5 @@ parts_of line = record {
   tells_lines = line.tells_lines;
   tells_why = line.tells_why;
   is_json = line.is_json;
+  is_page = line.is_page;
 }

@@ -63,7 +63,7 @@ fn beside_given(line: &Line) -> Option<&'static str>
     None
 }
 
-// What stands on the line that is refused beside an object of JSON, by the text that says so.
+// What stands on the line that is refused beside an object of JSON or a page, by the text that says so.
 fn beside_object(line: &Line) -> Option<&'static str>
     ensures some { IfSome result (λ text. IsBesideObject (parts_of line.now) text.now) }
     ensures none { IfNone result ((text : List ℕ) → IsBesideObject (parts_of line.now) text → ⊥) }
@@ -71,8 +71,14 @@ fn beside_object(line: &Line) -> Option<&'static str>
     if line.is_json && line.is_quiet {
         return Some("--quiet (with --json)");
     }
+    if line.is_json && line.is_page {
+        return Some("--html (with --json)");
+    }
     if line.is_json && line.names_rule {
         return Some("RULE (with --json)");
+    }
+    if line.is_page && line.names_rule {
+        return Some("RULE (with --html)");
     }
     None
 }

@@ -43,6 +43,8 @@ pub enum Kind {
     Why,
     /// The answer is written as an object of JSON.
     Json,
+    /// An explanation is written as a page of HTML.
+    Page,
     /// Behind it each word is a file.
     Dashes,
 }
@@ -115,6 +117,12 @@ fn is_json(command: CommandName, word: &str) -> bool
         CommandName::Explain | CommandName::Check => word == "--json",
         _ => false,
     }
+}
+
+fn is_page(command: CommandName, word: &str) -> bool
+    ensures { IsTrue result ↔ IsNoted command word.now kind.Page }
+{
+    command == CommandName::Explain && word == "--html"
 }
 
 fn is_place(command: CommandName, word: &str) -> bool
@@ -223,6 +231,8 @@ fn switch_of(command: CommandName, word: &str) -> Option<Kind>
         Some(Kind::Why)
     } else if is_json(command, word) {
         Some(Kind::Json)
+    } else if is_page(command, word) {
+        Some(Kind::Page)
     } else if word == "--" {
         Some(Kind::Dashes)
     } else {

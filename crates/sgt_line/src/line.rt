@@ -44,6 +44,8 @@ pub struct Line {
     pub tells_why: bool,
     /// Whether the answer is written as an object of JSON.
     pub is_json: bool,
+    /// Whether an explanation is written as a page of HTML.
+    pub is_page: bool,
 }
 
 // How the number of an audit's workers begins where it stands in one word.
@@ -68,6 +70,7 @@ impl Line {
             tells_lines: false,
             tells_why: false,
             is_json: false,
+            is_page: false,
         }
     }
 
@@ -260,6 +263,7 @@ impl Line {
             Kind::Progress => self.tells_lines = true,
             Kind::Why => self.tells_why = true,
             Kind::Json => self.is_json = true,
+            Kind::Page => self.is_page = true,
             Kind::Plain => self.leave(alloc, word)?,
             Kind::Dashes => return Ok(kind),
             Kind::Numbered => {
