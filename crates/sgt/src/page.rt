@@ -14,6 +14,7 @@ use std::thread::Threads;
 
 // How much of an explanation and of a picture is shown, so that a page stays small.
 const TEXT: usize = 16_384;
+
 const PICTURE: usize = 153_600;
 
 // How much is read at a time.
@@ -60,10 +61,24 @@ fn told<H: Threads + Wait + Sync>(
         last: 0,
     };
     let status = if is_quiet {
-        program(host.threads, alloc, words, &mut reader, &mut held, &mut Nowhere)
+        program(
+            host.threads,
+            alloc,
+            words,
+            &mut reader,
+            &mut held,
+            &mut Nowhere,
+        )
     } else {
         let mut errors = ToWrite::new(LastWords::new(host.rt.stderr(), host.hush));
-        program(host.threads, alloc, words, &mut reader, &mut held, &mut errors)
+        program(
+            host.threads,
+            alloc,
+            words,
+            &mut reader,
+            &mut held,
+            &mut errors,
+        )
     };
     (status, held)
 }
@@ -72,7 +87,11 @@ fn told<H: Threads + Wait + Sync>(
 fn drawing(alloc: Global, words: &[String]) -> Result<Vec<String>, AllocError> {
     let mut given = Vec::new(alloc);
     for word in words {
-        let same = if given.len() == 1 { "draw" } else { word.as_str() };
+        let same = if given.len() == 1 {
+            "draw"
+        } else {
+            word.as_str()
+        };
         given.push(String::from_str(alloc, same)?)?;
     }
     Ok(given)
@@ -179,14 +198,17 @@ fn page<H: Threads + Wait + Sync>(
     let words = str::from_utf8(rule.bytes()).unwrap_or("");
     let (name, meaning) = words.split_once('\n').unwrap_or(("", ""));
     let drawn = picture(host, line, text)?;
-    Ok(page_of(alloc, Page {
-        title: title.as_bytes(),
-        verdict: verdict.as_bytes(),
-        name: name.as_bytes(),
-        meaning: meaning.as_bytes(),
-        picture: drawn.bytes(),
-        text: front_of(answer).as_bytes(),
-    })?)
+    Ok(page_of(
+        alloc,
+        Page {
+            title: title.as_bytes(),
+            verdict: verdict.as_bytes(),
+            name: name.as_bytes(),
+            meaning: meaning.as_bytes(),
+            picture: drawn.bytes(),
+            text: front_of(answer).as_bytes(),
+        },
+    )?)
 }
 
 /// Writes the explanation of this file as a page.

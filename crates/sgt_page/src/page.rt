@@ -2,10 +2,10 @@
 
 ghost use Rattle.std.specs.Prelude.{◌≡◌, ◌++◌, IfOk, OnOk};
 ghost use Rattle.sgt_page.specs.Written.{written};
-ghost use Rattle.sgt_page.specs.Page.{page_text};
+ghost use Rattle.sgt_page.specs.Page.{fixed, page_text, shown_of};
 
 use crate::fixed::{FOOT, HEAD, HEADING, MEANING, NAME, PICTURE, SCRIPT, STYLE, TEXT, VERDICT};
-use crate::written::push_part;
+use crate::written::{push_markup, push_part};
 use std::alloc::{AllocError, Global};
 
 /// What a page shows.
@@ -53,25 +53,14 @@ fn push_shown(out: &mut Vec<u8>, page: Page<'_>) -> Result<(), AllocError>
     push_part(out, TEXT, page.text)
 }
 
-fn push_end(out: &mut Vec<u8>) -> Result<(), AllocError>
-    ensures { OnOk result (out.new.items ≡ out.old.items ++ (SCRIPT.now ++ FOOT.now)) }
-{
-    out.extend_from_slice(SCRIPT.as_bytes())?;
-    out.extend_from_slice(FOOT.as_bytes())
-}
-
 /// The page.
 pub fn page_of(alloc: Global, page: Page<'_>) -> Result<Vec<u8>, AllocError>
-    ensures { IfOk result (λ text. text.items ≡ page_text
-        (record { head = HEAD.now; style = STYLE.now; heading = HEADING.now; verdict = VERDICT.now; name = NAME.now;
-            meaning = MEANING.now; picture = PICTURE.now; text = TEXT.now; script = SCRIPT.now; foot = FOOT.now })
-        (record { title = page.entry.title.now; verdict = page.entry.verdict.now; name = page.entry.name.now;
-            meaning = page.entry.meaning.now; picture = page.entry.picture.now; text = page.entry.text.now })) }
+    ensures { IfOk result (λ text. text.items ≡ page_text fixed (shown_of page.entry)) }
 {
     let mut out = Vec::new(alloc);
     push_head(&mut out, page.title)?;
     push_top(&mut out, page)?;
     push_shown(&mut out, page)?;
-    push_end(&mut out)?;
+    push_markup(&mut out, SCRIPT, FOOT)?;
     Ok(out)
 }
