@@ -131,6 +131,15 @@ fn rule_in(answer: &str) -> Option<&str> {
     first.rsplit(' ').next()
 }
 
+// The words that ask what a rule is.
+fn asking(alloc: Global, rule: &str) -> Result<Vec<String>, AllocError> {
+    let mut words = Vec::new(alloc);
+    for word in ["sgt", "explain", rule] {
+        words.push(String::from_str(alloc, word)?)?;
+    }
+    Ok(words)
+}
+
 // What `sgt explain` says of a rule.
 fn meaning<H: Threads + Wait + Sync>(
     host: &Host<'_, H>,
@@ -140,10 +149,7 @@ fn meaning<H: Threads + Wait + Sync>(
     let Some(rule) = rule else {
         return Ok(Held::new(alloc));
     };
-    let mut words = Vec::new(alloc);
-    for word in ["sgt", "explain", rule] {
-        words.push(String::from_str(alloc, word)?)?;
-    }
+    let words = asking(alloc, rule)?;
     Ok(told(host, words.as_slice(), &[], true).1)
 }
 
