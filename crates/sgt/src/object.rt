@@ -30,6 +30,14 @@ pub struct Answer<'a> {
     refused: u64,
 }
 
+// Whether the file, if there is one, took these bytes.
+fn is_written(file: &mut Option<ToWrite<Output<'_>>>, bytes: &[u8]) -> bool {
+    match file {
+        Some(file) => write_all(file, bytes).is_ok(),
+        None => true,
+    }
+}
+
 impl<'a> Answer<'a> {
     // Nothing yet.
     fn new<H>(host: &Host<'a, H>) -> Answer<'a> {
@@ -52,13 +60,8 @@ impl<'a> Answer<'a> {
         ensures { self.new.refused ≡ self.old.refused }
     {
         self.tally.pass(bytes);
-        match &mut self.file {
-            Some(file) => {
-                self.is_written = write_all(file, bytes).is_ok();
-                self.is_written
-            }
-            None => true,
-        }
+        self.is_written = is_written(&mut self.file, bytes);
+        self.is_written
     }
 
     // Some bytes more; whether they were taken.
@@ -94,7 +97,11 @@ impl Sink for Answer<'_> {
     ghost failures = { λ s. s.refused };
 
     fn write(&mut self, bytes: &[u8]) -> Result<usize, Failed> {
-        if self.take(bytes) || self.refused == u64::MAX {
+        let is_taken = self.take(bytes);
+        if is_taken {
+            return Ok(bytes.len());
+        }
+        if self.refused == u64::MAX {
             return Ok(bytes.len());
         }
         self.refused += 1;

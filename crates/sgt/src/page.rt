@@ -15,7 +15,7 @@ use std::thread::Threads;
 // How much of an explanation and of a picture is shown, so that a page stays small.
 const TEXT: usize = 16_384;
 
-const PICTURE: usize = 153_600;
+const PICTURE: usize = 131_072;
 
 // How much is read at a time.
 const PIECE: usize = 65_536;
