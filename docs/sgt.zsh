@@ -6,6 +6,7 @@ _sgt() {
     local -a commands topics quiet
     local help='(- : *)--help[what the command is for, and all its options]'
     local why='--why[tell standard error behind a no what to type to learn more]'
+    local json='--json[write the answer as an object of JSON]'
     local -a output
     output=('(-o --output)'{-o,--output=}'[write the answer to this file]:file:_files')
     local progress='--progress[tell standard error of each million lines read]'
@@ -36,7 +37,7 @@ _sgt() {
     fi
     [[ $state == word ]] || return
     case $line[1] in
-        audit) _arguments $help $why $output $progress $quiet \
+        audit) _arguments $help $json $why $output $progress $quiet \
             '(--chain)--workers=[how many sections are judged at once]:number:({1..16})' \
             '--expect-committed=[how many transactions are to be committed]:number:' \
             '(--workers)--chain[the files are the bundles of one system in a row]' '*:bundle:_files' ;;
@@ -48,13 +49,14 @@ _sgt() {
             '--bundle=[write the bundle to this file]:file:_files' '1:scripts:_files' ;;
         serve) _arguments $help '--bundles=[write each bundle into this folder]:folder:_path_files -/' \
             '1:events:_files' ;;
-        certify) _arguments $help $why $output '1:logs:_files' ;;
-        check) _arguments $help $why $output $progress $quiet \
+        certify) _arguments $help $json $why $output '1:logs:_files' ;;
+        check) _arguments $help $json $why $output $progress $quiet \
             '(--against)--order[write an order that serves]' '--real-time[the order has to keep real time]' \
             '--sessions[the order has to keep that of each session]' \
             '(--order --svg)--against=[judge the order in this file]:order:_files' \
             '(--against)--svg=[draw the circle of a no in this file]:file:_files' '1:history:_files' ;;
-        explain) _arguments $help $why $output '--tx=[say what this transaction did]:transaction:' \
+        explain) _arguments $help $why $output '(--html)--json[write the answer as an object of JSON]' \
+            '(--json)--html[write the explanation as a page of HTML]' '--tx=[say what this transaction did]:transaction:' \
             '1:bundle or rule: _alternative "topics:rule:($topics)" "files:bundle:_files"' ;;
         draw) _arguments $help $why $output '--tx=[draw the cycle of this refused transaction alone]:transaction:' \
             '--dot[Graphviz text in place of SVG]' '1:bundle:_files' ;;

@@ -27,8 +27,8 @@ fn open_order<'a, H>(host: &Host<'a, H>, order: &str, name: &str) -> Result<Stea
     }
 }
 
-// The status of the order in the file of this name, by the history in the other.
-fn judged<H, W: Sink>(
+/// The status of the order in the file of this name, by the history in the other.
+pub(crate) fn judged<H, W: Sink>(
     host: &Host<'_, H>,
     wanted: CheckWanted,
     order: &str,

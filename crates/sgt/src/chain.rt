@@ -38,26 +38,32 @@ fn next<H, W: Sink>(
     Some(ended(host, &steady, name, status))
 }
 
-// The status of the files, up to the first that doesn't go on.
-fn audit_files<H, W: Sink>(host: &Host<'_, H>, files: &[String], writer: &mut W) -> u8 {
+/// The status of the files, up to the first that doesn't go on, and the name of the last that was read.
+pub(crate) fn audit_files<'f, H, W: Sink>(
+    host: &Host<'_, H>,
+    files: &'f [String],
+    writer: &mut W,
+) -> (u8, &'f str) {
+    let mut last = "-";
     let mut auditor = ChainAuditor::new(host.rt.alloc());
     for name in files {
-        if let Some(status) = next(host, &mut auditor, name.as_str(), writer) {
-            return status;
+        last = name.as_str();
+        if let Some(status) = next(host, &mut auditor, last, writer) {
+            return (status, last);
         }
     }
     let mut errors = ToWrite::new(LastWords::new(host.rt.stderr(), host.hush));
     let mut fronted = Fronted::new(writer);
     let status = end_chain(&auditor, host.rt.alloc(), &mut fronted, &mut errors);
-    expected_status(host, fronted.front(), status)
+    (expected_status(host, fronted.front(), status), last)
 }
 
 /// Audits the files as a chain; quietly by the status alone.
 pub(crate) fn audit_chain<H>(host: &Host<'_, H>, line: &Line) -> u8 {
     let files = line.files.as_slice();
     if line.is_quiet {
-        return audit_files(host, files, &mut Held::new(host.rt.alloc()));
+        return audit_files(host, files, &mut Held::new(host.rt.alloc())).0;
     }
     let mut output = writer(host);
-    audit_files(host, files, &mut output)
+    audit_files(host, files, &mut output).0
 }

@@ -33,6 +33,14 @@ pub struct Host<'a, H> {
     pub expected: Option<u64>,
 }
 
+/// The file of this name; with none, standard input.
+pub(crate) fn file_of(name: Option<&String>) -> &str {
+    match name {
+        Some(name) => name.as_str(),
+        None => "-",
+    }
+}
+
 /// The writer of the answer, which was given nothing.
 pub(crate) fn writer<'a, H>(host: &Host<'a, H>) -> ToWrite<Output<'a>> {
     ToWrite::new(Output::new(host.rt, host.output, host.hush))

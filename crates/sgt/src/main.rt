@@ -8,8 +8,10 @@ mod expected;
 mod folder;
 mod front;
 mod host;
+mod object;
 mod ordinary;
 mod output;
+mod page;
 mod progress;
 mod svg;
 mod talk;
@@ -20,8 +22,10 @@ use crate::against::judge_order;
 use crate::chain::audit_chain;
 use crate::devices::{Hush, LastWords};
 use crate::expected::expected_of;
-use crate::host::{Host, over, writer};
+use crate::host::{Host, file_of, over, writer};
+use crate::object::{answer_objects, asks_object};
 use crate::ordinary::{audit_each, judge, run_held};
+use crate::page::{asks_page, explain_page};
 use crate::svg::check_drawn;
 use crate::talk::serve_events;
 use crate::unreadable::Watched;
@@ -88,20 +92,18 @@ fn command_of(line: &Line) -> CommandName {
     }
 }
 
-// The file of this name; with none, standard input.
-fn file_of(name: Option<&String>) -> &str {
-    match name {
-        Some(name) => name.as_str(),
-        None => "-",
-    }
-}
-
 // Runs the program as the line says.
 fn run<H: Threads + Wait + Sync>(
     host: &Host<'_, H>,
     line: &Line,
     choice: &Result<Choice, NoChoice>,
 ) -> Result<u8, EngineFail> {
+    if asks_object(line, choice) {
+        return answer_objects(host, line, choice);
+    }
+    if asks_page(line, choice) {
+        return explain_page(host, line);
+    }
     let name = file_of(line.files.first());
     match way_of(line, choice) {
         Way::Talk => Ok(serve_events(host, line, name)),

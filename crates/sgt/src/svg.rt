@@ -50,8 +50,8 @@ impl<W: Sink> Sink for Copied<'_, W> {
     }
 }
 
-// Judges the history, and draws the cycle that the answer tells, if it tells one, in the file of this name.
-fn drawn<H: Threads + Wait + Sync, W: Sink>(
+/// Judges the history, and draws the cycle that the answer tells, if it tells one, in the file of this name.
+pub(crate) fn drawn<H: Threads + Wait + Sync, W: Sink>(
     host: &Host<'_, H>,
     line: &Line,
     names: (&str, &str),

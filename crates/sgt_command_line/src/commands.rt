@@ -36,7 +36,7 @@ const DRAW: &str =
 
 // The usage of each command, with an example. What of it is a file or about files is taken out of the words before.
 const AUDIT_USAGE: &str =
-    "sgt audit [-q] [--workers N] [--expect-committed N] [--why] [--progress] [-o FILE] [FILE]...\n       sgt audit --chain [-q] [--expect-committed N] [--why] [--progress] [-o FILE] FILE...\n  e.g. sgt audit bundle.txt";
+    "sgt audit [-q] [--workers N] [--expect-committed N] [--json] [--why] [--progress] [-o FILE] [FILE]...\n       sgt audit --chain [-q] [--expect-committed N] [--json] [--why] [--progress] [-o FILE] FILE...\n  e.g. sgt audit bundle.txt";
 
 const SERIAL_USAGE: &str =
     "sgt serial [--why] [--progress] [-o FILE] [FILE]\n  e.g. sgt serial bundle.txt";
@@ -47,13 +47,13 @@ const REPLAY_USAGE: &str =
 const SERVE_USAGE: &str = "sgt serve [--bundles DIR] [FILE]\n  e.g. sgt serve --bundles bundles";
 
 const CHECK_USAGE: &str =
-    "sgt check [--order] [--real-time] [--sessions] [--svg FILE] [-q] [--why] [--progress] [-o FILE] [FILE]\n       sgt check --against ORDER [--real-time] [--sessions] [-q] [--why] [-o FILE] [FILE]\n  e.g. sgt check history.jsonl";
+    "sgt check [--order] [--real-time] [--sessions] [--svg FILE] [-q] [--json] [--why] [--progress] [-o FILE] [FILE]\n       sgt check --against ORDER [--real-time] [--sessions] [-q] [--json] [--why] [-o FILE] [FILE]\n  e.g. sgt check history.jsonl";
 
 const CERTIFY_USAGE: &str =
-    "sgt certify [--why] [-o FILE] [FILE]\n  e.g. sgt certify -o bundle.txt logs.txt";
+    "sgt certify [--json] [--why] [-o FILE] [FILE]\n  e.g. sgt certify -o bundle.txt logs.txt";
 
 const EXPLAIN_USAGE: &str =
-    "sgt explain [--tx N] [--why] [-o FILE] [FILE]\n       sgt explain RULE\n  e.g. sgt explain bundle.txt";
+    "sgt explain [--tx N] [--json | --html] [--why] [-o FILE] [FILE]\n       sgt explain RULE\n  e.g. sgt explain bundle.txt";
 
 const DRAW_USAGE: &str =
     "sgt draw [--tx N] [--dot] [--why] [-o FILE] [FILE]\n  e.g. sgt draw -o bundle.svg bundle.txt";
@@ -202,6 +202,14 @@ fn why<'a>(alloc: Global) -> Arg<'a> {
     )
 }
 
+fn json<'a>(alloc: Global) -> Arg<'a> {
+    flag(
+        alloc,
+        "json",
+        "Writes the answer as an object of JSON, a line for each file",
+    )
+}
+
 fn output<'a>(alloc: Global) -> Arg<'a> {
     Arg::new(alloc, "output")
         .long("output")
@@ -243,6 +251,7 @@ fn full_audit<'a>(alloc: Global) -> Result<Command<'a>, AllocError> {
         .arg(quiet(alloc))?
         .arg(chain)?
         .arg(expected)?
+        .arg(json(alloc))?
         .arg(why(alloc))?
         .arg(progress(alloc))?
         .arg(output(alloc))
@@ -300,6 +309,7 @@ fn full_check<'a>(alloc: Global) -> Result<Command<'a>, AllocError> {
         .arg(against)?
         .arg(svg)?
         .arg(quiet(alloc))?
+        .arg(json(alloc))?
         .arg(why(alloc))?
         .arg(progress(alloc))?
         .arg(output(alloc))
@@ -308,13 +318,21 @@ fn full_check<'a>(alloc: Global) -> Result<Command<'a>, AllocError> {
 fn full_certify<'a>(alloc: Global) -> Result<Command<'a>, AllocError> {
     certify_line(alloc)
         .arg(file(alloc))?
+        .arg(json(alloc))?
         .arg(why(alloc))?
         .arg(output(alloc))
 }
 
 fn full_explain<'a>(alloc: Global) -> Result<Command<'a>, AllocError> {
+    let page = flag(
+        alloc,
+        "html",
+        "Writes the explanation as a page of HTML, with its picture",
+    );
     explain_line(alloc)?
         .arg(file(alloc))?
+        .arg(json(alloc))?
+        .arg(page)?
         .arg(why(alloc))?
         .arg(output(alloc))
 }

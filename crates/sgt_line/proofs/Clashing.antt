@@ -1,9 +1,9 @@
 -- Words that stand on a line.
 use Rattle.std.specs.Prelude.{IfNone}
-use Rattle.sgt_line.specs.Clashes.{Clashes, HasWord, IsAmong, IsBesideOrder, WritesOverInput}
+use Rattle.sgt_line.specs.Clashes.{Clashes, HasWord, IsAmong, IsBesideObject, IsBesideOrder, WritesOverInput}
 use Rattle.sgt_line.specs.Parts.{Parts}
 use Rattle.std.proofs.lemmas.Option.{same_Some}
-use Rattle.std.proofs.Common.{◌≡◌, ◌<◌, ◌∙◌, ℕ, zero, suc, Option, Some, None, List, [], ◌∷◌, Any, get_or, ap, length, refl, sym, subst, arith, inl, inr}
+use Rattle.std.proofs.Common.{◌≡◌, ◌⊎◌, ◌<◌, ◌∙◌, ℕ, zero, suc, Option, Some, None, List, [], ◌∷◌, Any, get_or, ap, length, refl, sym, subst, arith, inl, inr}
 
 module _ {A : Type 0} (P : A → Type 0) (w : A) (ws : List A) where
   any_later : Any P ws → Any P (w ∷ ws)
@@ -36,8 +36,9 @@ pub none_weaker : {A : Type 0} (o : Option A) (P Q : Type 0) → (P → Q) → I
 none_weaker None P Q so holds = so holds
 none_weaker (Some x) P Q so holds = tt
 
--- where nothing is written over what is read, and nothing stands beside an order, nothing clashes
-pub nothing_clashes : (p : Parts) → (WritesOverInput p → ⊥) → ((text : List ℕ) → IsBesideOrder p text → ⊥)
+-- where nothing is written over what is read, and nothing stands beside an order or an object, nothing clashes
+pub nothing_clashes : (p : Parts) → (WritesOverInput p → ⊥)
+    → ((text : List ℕ) → IsBesideOrder p text ⊎ IsBesideObject p text → ⊥)
     → (text : List ℕ) → Clashes p text → ⊥
 nothing_clashes p over beside text (inl order) = beside text order
 nothing_clashes p over beside text (inr (writes, is)) = over writes
@@ -51,3 +52,15 @@ among_words file word words S at both = (
       let one = same_Some told.0 word (sym told.1 ∙ at) in
       both.1 (subst (λ w. HasWord w words) one told.2),
 )
+
+neither : (p : Parts) → ((text : List ℕ) → IsBesideOrder p text → ⊥) → ((text : List ℕ) → IsBesideObject p text → ⊥)
+    → (text : List ℕ) → IsBesideOrder p text ⊎ IsBesideObject p text → ⊥
+neither p order object text (inl beside) = order text beside
+neither p order object text (inr beside) = object text beside
+
+-- where nothing stands beside an order, nothing does beside an order or an object where nothing does beside an object
+pub none_beside : {A : Type 0} (o : Option A) (p : Parts) → ((text : List ℕ) → IsBesideOrder p text → ⊥)
+    → IfNone o ((text : List ℕ) → IsBesideObject p text → ⊥)
+    → IfNone o ((text : List ℕ) → IsBesideOrder p text ⊎ IsBesideObject p text → ⊥)
+none_beside None p order object = neither p order object
+none_beside (Some x) p order object = tt

@@ -2,9 +2,9 @@
 use Rattle.std.specs.Prelude.{◌≡◌, ◌≢◌, ◌⊎◌, ℕ, List, ◌++◌, codes, ⊤}
 use Rattle.sgt_line.specs.Names.{NamesRule}
 use Rattle.sgt_line.specs.declared.kind.Kind.{Kind}
-use Rattle.sgt_line.specs.declared.kind.Kind.TheVariants.{Against, Chain, Dashes, Expected, File, Joined, JoinedPlace, Numbered, Output, Place, Plain, Progress, Quiet, RuleName, Strict, Why}
+use Rattle.sgt_line.specs.declared.kind.Kind.TheVariants.{Against, Chain, Dashes, Expected, File, Joined, JoinedPlace, Json, Numbered, Output, Page, Place, Plain, Progress, Quiet, RuleName, Strict, Why}
 use Rattle.sgt_line.specs.declared.name.CommandName.{CommandName}
-use Rattle.sgt_line.specs.declared.name.CommandName.TheVariants.{Audit, Check, Draw, Explain, Replay, Run, Serial, Serve}
+use Rattle.sgt_line.specs.declared.name.CommandName.TheVariants.{Audit, Certify, Check, Draw, Explain, Replay, Run, Serial, Serve}
 
 -- the word begins with a dash
 abbrev pub IsDashed : List ℕ → Type 0
@@ -30,6 +30,9 @@ IsNoted command word Strict = (command ≡ Replay) × (word ≡ codes "--strict"
 IsNoted command word Chain = (command ≡ Audit) × (word ≡ codes "--chain")
 IsNoted command word Progress = TellsLines command × (word ≡ codes "--progress")
 IsNoted command word Why = (command ≢ Serve) × (word ≡ codes "--why")
+IsNoted command word Json = (((command ≡ Audit) ⊎ (command ≡ Certify)) ⊎ ((command ≡ Explain) ⊎ (command ≡ Check)))
+    × (word ≡ codes "--json")
+IsNoted command word Page = (command ≡ Explain) × (word ≡ codes "--html")
 IsNoted command word Dashes = word ≡ codes "--"
 IsNoted command word Place = (((command ≡ Replay) ⊎ (command ≡ Run)) × (word ≡ codes "--bundle"))
     ⊎ (((command ≡ Serve) × (word ≡ codes "--bundles")) ⊎ ((command ≡ Check) × (word ≡ codes "--svg")))
@@ -70,5 +73,7 @@ IsSwitch Strict = ⊤
 IsSwitch Chain = ⊤
 IsSwitch Progress = ⊤
 IsSwitch Why = ⊤
+IsSwitch Json = ⊤
+IsSwitch Page = ⊤
 IsSwitch Dashes = ⊤
 IsSwitch kind = ⊥

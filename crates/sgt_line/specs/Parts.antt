@@ -20,6 +20,8 @@ pub record Parts : Type 0 where
   pub is_chain : Bool
   pub tells_lines : Bool
   pub tells_why : Bool
+  pub is_json : Bool
+  pub is_page : Bool
 
 -- a line that has these words alone
 abbrev pub bare : List (List ℕ) → Parts
@@ -36,6 +38,8 @@ bare words = record {
   is_chain = false;
   tells_lines = false;
   tells_why = false;
+  is_json = false;
+  is_page = false;
 }
 
 -- one more word is left for the program
@@ -73,4 +77,6 @@ parts_of line = record {
   is_chain = line.is_chain;
   tells_lines = line.tells_lines;
   tells_why = line.tells_why;
+  is_json = line.is_json;
+  is_page = line.is_page;
 }

@@ -3,7 +3,7 @@ use Rattle.std.specs.Prelude.{◌≡◌, ◌≢◌, ◌⊎◌, ℕ, true, List, 
 use Rattle.sgt_line.specs.Kinds.{IsKind, JoinsPlace}
 use Rattle.sgt_line.specs.Names.{IsNameOf, command_text}
 use Rattle.sgt_line.specs.Parts.{HasRoom, Parts, bare, left, with_extra, with_file, with_rule}
-use Rattle.sgt_line.specs.declared.kind.Kind.TheVariants.{Against, Chain, Dashes, Expected, File, Joined, JoinedPlace, Numbered, Output, Place, Plain, Progress, Quiet, RuleName, Strict, Why}
+use Rattle.sgt_line.specs.declared.kind.Kind.TheVariants.{Against, Chain, Dashes, Expected, File, Joined, JoinedPlace, Json, Numbered, Output, Page, Place, Plain, Progress, Quiet, RuleName, Strict, Why}
 use Rattle.sgt_line.specs.declared.name.CommandName.{CommandName}
 
 -- what takes a place of which there is one: the place that is there stays, and the word is a plain one
@@ -65,6 +65,10 @@ pub data Reads (command : CommandName) (first : Parts) : List (List ℕ) → Par
       → Reads command first (ws ++ (w ∷ [])) (record p { tells_lines = true })
   why : {ws : List (List ℕ)} {p : Parts} (w : List ℕ) → Reads command first ws p → IsKind command w Why
       → Reads command first (ws ++ (w ∷ [])) (record p { tells_why = true })
+  json : {ws : List (List ℕ)} {p : Parts} (w : List ℕ) → Reads command first ws p → IsKind command w Json
+      → Reads command first (ws ++ (w ∷ [])) (record p { is_json = true })
+  page : {ws : List (List ℕ)} {p : Parts} (w : List ℕ) → Reads command first ws p → IsKind command w Page
+      → Reads command first (ws ++ (w ∷ [])) (record p { is_page = true })
 
 -- the same with `--`, behind which each word is a file
 pub data Behind (command : CommandName) (first : Parts) : List (List ℕ) → Parts → Type 0 where

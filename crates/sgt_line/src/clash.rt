@@ -1,8 +1,8 @@
 //! Options that don't go with an order that is given, and a file that would be written over what is read.
 
-ghost use Rattle.std.specs.Prelude.{◌≡◌, ◌↔◌, ℕ, IfNone, IfOk, IfSome, IsTrue, List, map, string_bytes};
+ghost use Rattle.std.specs.Prelude.{◌≡◌, ◌↔◌, ◌⊎◌, ℕ, IfNone, IfOk, IfSome, IsTrue, List, map, string_bytes};
 ghost use Rattle.std.specs.Option.{option_map};
-ghost use Rattle.sgt_line.specs.Clashes.{Clashes, HasWord, IsAmong, IsBeside, IsBesideOrder, IsCheck, Settles, WritesOverInput};
+ghost use Rattle.sgt_line.specs.Clashes.{Clashes, HasWord, IsAmong, IsBeside, IsBesideObject, IsBesideOrder, IsCheck, Settles, WritesOverInput};
 ghost use Rattle.sgt_line.specs.Parts.{parts_of};
 
 use crate::line::Line;
@@ -63,6 +63,39 @@ fn beside_given(line: &Line) -> Option<&'static str>
     None
 }
 
+// What stands on the line that is refused beside an object of JSON or a page, by the text that says so.
+fn beside_object(line: &Line) -> Option<&'static str>
+    ensures some { IfSome result (λ text. IsBesideObject (parts_of line.now) text.now) }
+    ensures none { IfNone result ((text : List ℕ) → IsBesideObject (parts_of line.now) text → ⊥) }
+{
+    if line.is_json && line.is_quiet {
+        return Some("--quiet (with --json)");
+    }
+    if line.is_json && line.is_page {
+        return Some("--html (with --json)");
+    }
+    if line.is_json && line.names_rule {
+        return Some("RULE (with --json)");
+    }
+    if line.is_page && line.names_rule {
+        return Some("RULE (with --html)");
+    }
+    None
+}
+
+// What stands beside an order, or beside an object.
+fn beside(line: &Line) -> Option<&'static str>
+    ensures some { IfSome result (λ text. IsBesideOrder (parts_of line.now) text.now
+        ⊎ IsBesideObject (parts_of line.now) text.now) }
+    ensures none { IfNone result ((text : List ℕ) → IsBesideOrder (parts_of line.now) text
+        ⊎ IsBesideObject (parts_of line.now) text → ⊥) }
+{
+    match beside_given(line) {
+        Some(text) => Some(text),
+        None => beside_object(line),
+    }
+}
+
 // Whether the file, if there is one, is among those.
 fn is_among(file: &Option<String>, files: &[String]) -> bool
     ensures { IsTrue result ↔ IsAmong (option_map string_bytes file.now) (map string_bytes files.now) }
@@ -89,7 +122,7 @@ fn clash_of(line: &Line) -> Option<&'static str>
     if writes_over_input(line) {
         return Some("FILE (read, and to be written)");
     }
-    beside_given(line)
+    beside(line)
 }
 
 impl Line {

@@ -41,6 +41,10 @@ pub enum Kind {
     Progress,
     /// Behind a no it is told what to type to learn more.
     Why,
+    /// The answer is written as an object of JSON.
+    Json,
+    /// An explanation is written as a page of HTML.
+    Page,
     /// Behind it each word is a file.
     Dashes,
 }
@@ -103,6 +107,22 @@ fn is_why(command: CommandName, word: &str) -> bool
     ensures { IsTrue result ↔ IsNoted command word.now kind.Why }
 {
     command != CommandName::Serve && word == "--why"
+}
+
+fn is_json(command: CommandName, word: &str) -> bool
+    ensures { IsTrue result ↔ IsNoted command word.now kind.Json }
+{
+    match command {
+        CommandName::Audit | CommandName::Certify => word == "--json",
+        CommandName::Explain | CommandName::Check => word == "--json",
+        _ => false,
+    }
+}
+
+fn is_page(command: CommandName, word: &str) -> bool
+    ensures { IsTrue result ↔ IsNoted command word.now kind.Page }
+{
+    command == CommandName::Explain && word == "--html"
 }
 
 fn is_place(command: CommandName, word: &str) -> bool
@@ -209,6 +229,10 @@ fn switch_of(command: CommandName, word: &str) -> Option<Kind>
         Some(Kind::Progress)
     } else if is_why(command, word) {
         Some(Kind::Why)
+    } else if is_json(command, word) {
+        Some(Kind::Json)
+    } else if is_page(command, word) {
+        Some(Kind::Page)
     } else if word == "--" {
         Some(Kind::Dashes)
     } else {

@@ -42,6 +42,10 @@ pub struct Line {
     pub tells_lines: bool,
     /// Whether behind a no standard error is told what to type to learn more.
     pub tells_why: bool,
+    /// Whether the answer is written as an object of JSON.
+    pub is_json: bool,
+    /// Whether an explanation is written as a page of HTML.
+    pub is_page: bool,
 }
 
 // How the number of an audit's workers begins where it stands in one word.
@@ -65,6 +69,8 @@ impl Line {
             is_chain: false,
             tells_lines: false,
             tells_why: false,
+            is_json: false,
+            is_page: false,
         }
     }
 
@@ -256,6 +262,8 @@ impl Line {
             Kind::Chain => self.is_chain = true,
             Kind::Progress => self.tells_lines = true,
             Kind::Why => self.tells_why = true,
+            Kind::Json => self.is_json = true,
+            Kind::Page => self.is_page = true,
             Kind::Plain => self.leave(alloc, word)?,
             Kind::Dashes => return Ok(kind),
             Kind::Numbered => {

@@ -5,7 +5,8 @@ ghost use Rattle.std.specs.Prelude.{◌<◌};
 use crate::row::{Given, Row};
 use sgt_audit_chain::ChainAuditor;
 use sgt_command_line::{CheckWanted, Way, choose, wanted_by, way_of};
-use sgt_line::{cut, shown, strict_status};
+use sgt_json::{Asked, Tally, object_of};
+use sgt_line::{Line, cut, shown, strict_status};
 use sgt_names::{MemSink, MemSource, Outcome, write_all};
 use sgt_program::{audit_next, check_order, end_chain, program};
 use sgt_serve::{MemBundles, Pipe, serve};
@@ -64,7 +65,41 @@ fn sink_of(alloc: Global, bytes: &[u8]) -> Result<MemSink, AllocError> {
     Ok(sink)
 }
 
-/// A line for each file, its name in front. The status is the greatest.
+/// The answer of the file of this name as an object; of a certified bundle its counts.
+fn object(alloc: Global, line: &Line, name: &str, answer: &[u8]) -> Result<Vec<u8>, AllocError> {
+    let command = match line.words.get(1) {
+        Some(word) => word.as_str(),
+        None => "audit",
+    };
+    let asked = Asked {
+        command,
+        file: name,
+    };
+    if !answer.starts_with(b"sgt ") {
+        return object_of(alloc, asked, answer);
+    }
+    let mut tally = Tally::new();
+    tally.pass(answer);
+    let counts = format!(in alloc;
+        "yes {} committed {} refused {} withdrawn\n",
+        tally.committed, tally.refused, tally.withdrawn
+    )?;
+    object_of(alloc, asked, counts.as_bytes())
+}
+
+/// What stands for one of several files: its object, or its line, its name in front.
+fn told_of(alloc: Global, line: &Line, name: &str, answer: &[u8]) -> Result<Vec<u8>, AllocError> {
+    if line.is_json {
+        return object(alloc, line, name, answer);
+    }
+    let mut text = Vec::new(alloc);
+    let head = format!(in alloc; "{name}: ")?;
+    text.extend_from_slice(head.as_bytes())?;
+    text.extend_from_slice(answer)?;
+    Ok(text)
+}
+
+/// A line for each file, its name in front, or its object. The status is the greatest.
 fn audit_each<H: Threads + Wait + Sync>(
     rt: &H,
     alloc: Global,
@@ -81,9 +116,8 @@ fn audit_each<H: Threads + Wait + Sync>(
         let found = run(rt, alloc, given.line.words.as_slice(), source)?;
         status = status.max(found.status);
         if found.status <= 1 {
-            let head = format!(in alloc; "{name}: ")?;
-            let _ = write_all(&mut output, head.as_bytes());
-            let _ = write_all(&mut output, found.output.bytes());
+            let told = told_of(alloc, &given.line, name.as_str(), found.output.bytes())?;
+            let _ = write_all(&mut output, told.as_slice());
         }
         let _ = write_all(&mut errors, found.errors.bytes());
     }
@@ -231,6 +265,14 @@ pub(crate) fn answer_to<H: Threads + Wait + Sync>(
         let front = sink_of(alloc, front)?;
         answer.bundle = Some(bundle);
         answer.output = front;
+    }
+    if line.is_json && line.files.len() < 2 && !answer.output.bytes().is_empty() {
+        let name = match line.files.first() {
+            Some(name) => name.as_str(),
+            None => "-",
+        };
+        let text = object(alloc, line, name, answer.output.bytes())?;
+        answer.output = sink_of(alloc, text.as_slice())?;
     }
     if line.is_quiet {
         answer.output = MemSink::new(alloc, 0)?;

@@ -9,4 +9,4 @@ returns-clause-none c =
     none_weaker _ _ _
     (nothing_clashes (parts_of c.args.line.now)
     (λ over. absurd (true≢false (sym (c.writes_over_input.ensures.1 over) ∙ c.if-writes_over_input.false))))
-    c.beside_given.ensures.none
+    c.beside.ensures.none

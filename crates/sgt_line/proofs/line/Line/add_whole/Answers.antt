@@ -78,6 +78,14 @@ pub returns-in-Why : goal.returns-in-Why
 returns-in-Why c = λ first taken reading.
     reads.why c.args.word.now reading (subst (λ k. IsKind c.args.command c.args.word.now k) c.in-Why.is c.requires)
 
+pub returns-in-Json : goal.returns-in-Json
+returns-in-Json c = λ first taken reading.
+    reads.json c.args.word.now reading (subst (λ k. IsKind c.args.command c.args.word.now k) c.in-Json.is c.requires)
+
+pub returns-in-Page : goal.returns-in-Page
+returns-in-Page c = λ first taken reading.
+    reads.page c.args.word.now reading (subst (λ k. IsKind c.args.command c.args.word.now k) c.in-Page.is c.requires)
+
 pub returns-in_ok-leave-in-Plain : goal.returns-in_ok-leave-in-Plain
 returns-in_ok-leave-in-Plain c = λ first taken reading.
     subst (Reads c.args.command first (taken ++ (c.args.word.now ∷ []))) (sym c.in_ok-leave-in-Plain.ensures)
