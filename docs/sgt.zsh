@@ -58,7 +58,7 @@ _sgt() {
         explain) _arguments $help $why $output '(--html)--json[write the answer as an object of JSON]' \
             '(--json)--html[write the explanation as a page of HTML]' '--tx=[say what this transaction did]:transaction:' \
             '1:bundle or rule: _alternative "topics:rule:($topics)" "files:bundle:_files"' ;;
-        draw) _arguments $help $why $output '--tx=[draw the cycle of this refused transaction alone]:transaction:' \
+        draw) _arguments $help $why $output '--tx=[draw this transaction alone, with its cycle or its neighbours]:transaction:' \
             '--dot[Graphviz text in place of SVG]' '1:bundle:_files' ;;
         help) commands[-1]=() && _describe -t commands command commands ;;
     esac

@@ -71,12 +71,220 @@ Exit status:
   3  want of memory
   4  a read or a write failed";
 
-// A command that has no option but what is taken out of the words before.
-fn plain_line<'a>(alloc: Global, name: &'a str, about: &'a str, usage: &'a str) -> Command<'a> {
-    Command::new(alloc, name)
+// A word that a command takes, with its help.
+#[derive(Clone, Copy)]
+enum Taken {
+    // An option without a value.
+    Flag(&'static str, &'static str),
+    // The same, with a letter.
+    Letter(char, &'static str, &'static str),
+    // An option with a value, which the help calls by the second name.
+    Value(&'static str, &'static str, &'static str),
+    // The same, with a letter.
+    LetterValue(char, &'static str, &'static str, &'static str),
+    // A word alone, at most once.
+    Word(&'static str, &'static str),
+    // Words alone.
+    Words(&'static str, &'static str),
+}
+
+const FILE: Taken = Taken::Word("FILE", "Is read in place of standard input");
+
+const WHY: Taken = Taken::Flag(
+    "why",
+    "Tells standard error behind a no what to type to learn more",
+);
+
+const PROGRESS: Taken = Taken::Flag(
+    "progress",
+    "Tells standard error of each million lines read",
+);
+
+const QUIET: Taken = Taken::Letter('q', "quiet", "Answers by the status alone");
+
+const OUTPUT: Taken = Taken::LetterValue(
+    'o',
+    "output",
+    "FILE",
+    "Writes the answer to this file in place of standard output",
+);
+
+const JSON: Taken = Taken::Flag(
+    "json",
+    "Writes the answer as an object of JSON, a line for each file",
+);
+
+const BUNDLE: Taken = Taken::Value(
+    "bundle",
+    "FILE",
+    "Writes the bundle to this file, once all is done",
+);
+
+// What stands behind `explain`, `draw` and `check`, and is left for the program.
+const EXPLAIN_WORDS: [Taken; 2] = [
+    Taken::Word(
+        "RULE",
+        "Says what F1 to F19, K1 to K4 or C1 is, a reply's E8, L1 or V9, an anomaly as G1a, or no-ranks",
+    ),
+    Taken::Value("tx", "N", "Says what transaction N did"),
+];
+
+const DRAW_WORDS: [Taken; 2] = [
+    Taken::Value(
+        "tx",
+        "N",
+        "Draws transaction N alone: a refused one's cycle, a committed one with its neighbours",
+    ),
+    Taken::Flag("dot", "Writes Graphviz text in place of SVG"),
+];
+
+const CHECK_WORDS: [Taken; 3] = [
+    Taken::Flag(
+        "order",
+        "Writes behind a yes `---` and the ids in an order that serves",
+    ),
+    Taken::Flag(
+        "real-time",
+        "Asks for an order in which who was done before another began stands before it",
+    ),
+    Taken::Flag(
+        "sessions",
+        "Asks for an order in which the transactions of a session stand as they do in the history",
+    ),
+];
+
+// What is taken out of the words before: of files, and what main alone does.
+const AUDIT_TAKEN: [Taken; 8] = [
+    Taken::Words(
+        "FILE",
+        "Are read in place of standard input; of several, a line each",
+    ),
+    QUIET,
+    Taken::Flag(
+        "chain",
+        "Takes the files for one system's bundles in a row: each begins where the one before ends",
+    ),
+    Taken::Value(
+        "expect-committed",
+        "N",
+        "Ends a yes of another number of committed transactions with status 1",
+    ),
+    JSON,
+    WHY,
+    PROGRESS,
+    OUTPUT,
+];
+
+const SERIAL_TAKEN: [Taken; 4] = [FILE, WHY, PROGRESS, OUTPUT];
+
+const REPLAY_TAKEN: [Taken; 6] = [
+    FILE,
+    Taken::Flag("strict", "Ends with status 1 where an event was refused"),
+    WHY,
+    PROGRESS,
+    BUNDLE,
+    OUTPUT,
+];
+
+const SERVE_TAKEN: [Taken; 2] = [
+    FILE,
+    Taken::Value(
+        "bundles",
+        "DIR",
+        "Writes each bundle into this folder, as 00000001.sgt and so on",
+    ),
+];
+
+const RUN_TAKEN: [Taken; 4] = [FILE, WHY, BUNDLE, OUTPUT];
+
+const CHECK_TAKEN: [Taken; 8] = [
+    FILE,
+    Taken::Value(
+        "against",
+        "ORDER",
+        "Judges the order in this file, an id a line as --order writes it",
+    ),
+    Taken::Value(
+        "svg",
+        "FILE",
+        "Draws the circle of a no in this file, as SVG; without a circle it stays as it is",
+    ),
+    QUIET,
+    JSON,
+    WHY,
+    PROGRESS,
+    OUTPUT,
+];
+
+const CERTIFY_TAKEN: [Taken; 4] = [FILE, JSON, WHY, OUTPUT];
+
+const EXPLAIN_TAKEN: [Taken; 5] = [
+    FILE,
+    JSON,
+    Taken::Flag(
+        "html",
+        "Writes the explanation as a page of HTML, with its picture",
+    ),
+    WHY,
+    OUTPUT,
+];
+
+const DRAW_TAKEN: [Taken; 3] = [FILE, WHY, OUTPUT];
+
+// The word, for clap.
+fn arg_of<'a>(alloc: Global, taken: Taken) -> Arg<'a> {
+    match taken {
+        Taken::Flag(name, help) => flag(alloc, name, help),
+        Taken::Letter(letter, name, help) => flag(alloc, name, help).short(letter),
+        Taken::Value(name, value, help) => valued(alloc, name, value, help),
+        Taken::LetterValue(letter, name, value, help) => {
+            valued(alloc, name, value, help).short(letter)
+        }
+        Taken::Word(name, help) => Arg::new(alloc, name).help(help),
+        Taken::Words(name, help) => Arg::new(alloc, name).help(help).action(ArgAction::Append),
+    }
+}
+
+fn flag<'a>(alloc: Global, name: &'a str, help: &'a str) -> Arg<'a> {
+    Arg::new(alloc, name)
+        .long(name)
+        .action(ArgAction::SetTrue)
+        .help(help)
+}
+
+fn valued<'a>(alloc: Global, name: &'a str, value: &'a str, help: &'a str) -> Arg<'a> {
+    Arg::new(alloc, name)
+        .long(name)
+        .value_name(value)
+        .help(help)
+}
+
+// The command, which takes these words too.
+fn with_taken<'a>(
+    alloc: Global,
+    line: Command<'a>,
+    taken: &[Taken],
+) -> Result<Command<'a>, AllocError> {
+    let mut line = line;
+    for word in taken {
+        line = line.arg(arg_of(alloc, *word))?;
+    }
+    Ok(line)
+}
+
+// A command of this name, which takes these words.
+fn line_of<'a>(
+    alloc: Global,
+    name: &'a str,
+    about: &'a str,
+    usage: &'a str,
+    taken: &[Taken],
+) -> Result<Command<'a>, AllocError> {
+    let line = Command::new(alloc, name)
         .about(about)
         .override_usage(usage)
-        .after_help(MORE)
+        .after_help(MORE);
+    with_taken(alloc, line, taken)
 }
 
 fn audit_line<'a>(alloc: Global) -> Result<Command<'a>, AllocError> {
@@ -87,274 +295,62 @@ fn audit_line<'a>(alloc: Global) -> Result<Command<'a>, AllocError> {
         "1",
         "How many sections are judged at once, from 1 to 16",
     );
-    plain_line(alloc, "audit", AUDIT, AUDIT_USAGE).arg(workers)
+    line_of(alloc, "audit", AUDIT, AUDIT_USAGE, &[])?.arg(workers)
 }
 
-fn serial_line<'a>(alloc: Global) -> Command<'a> {
-    plain_line(alloc, "serial", SERIAL, SERIAL_USAGE)
+// The command with the words that are left for the program.
+fn own_line<'a>(alloc: Global, name: CommandName) -> Result<Command<'a>, AllocError> {
+    match name {
+        CommandName::Audit => audit_line(alloc),
+        CommandName::Serial => line_of(alloc, "serial", SERIAL, SERIAL_USAGE, &[]),
+        CommandName::Replay => line_of(alloc, "replay", REPLAY, REPLAY_USAGE, &[]),
+        CommandName::Run => run_line(alloc),
+        CommandName::Certify => line_of(alloc, "certify", CERTIFY, CERTIFY_USAGE, &[]),
+        CommandName::Explain => line_of(alloc, "explain", EXPLAIN, EXPLAIN_USAGE, &EXPLAIN_WORDS),
+        CommandName::Draw => line_of(alloc, "draw", DRAW, DRAW_USAGE, &DRAW_WORDS),
+        CommandName::Serve => line_of(alloc, "serve", SERVE, SERVE_USAGE, &[]),
+        CommandName::Check => line_of(alloc, "check", CHECK, CHECK_USAGE, &CHECK_WORDS),
+    }
 }
 
-fn replay_line<'a>(alloc: Global) -> Command<'a> {
-    plain_line(alloc, "replay", REPLAY, REPLAY_USAGE)
-}
-
-fn serve_line<'a>(alloc: Global) -> Command<'a> {
-    plain_line(alloc, "serve", SERVE, SERVE_USAGE)
-}
-
-fn certify_line<'a>(alloc: Global) -> Command<'a> {
-    plain_line(alloc, "certify", CERTIFY, CERTIFY_USAGE)
-}
-
-fn explain_line<'a>(alloc: Global) -> Result<Command<'a>, AllocError> {
-    let rule = Arg::new(alloc, "RULE").help(
-        "Says what F1 to F19, K1 to K4 or C1 is, a reply's E8, L1 or V9, an anomaly as G1a, or no-ranks",
-    );
-    let tx = Arg::new(alloc, "tx")
-        .long("tx")
-        .value_name("N")
-        .help("Says what transaction N did");
-    Command::new(alloc, "explain")
-        .about(EXPLAIN)
-        .override_usage(EXPLAIN_USAGE)
-        .after_help(MORE)
-        .arg(rule)?
-        .arg(tx)
-}
-
-fn draw_line<'a>(alloc: Global) -> Result<Command<'a>, AllocError> {
-    let tx = Arg::new(alloc, "tx")
-        .long("tx")
-        .value_name("N")
-        .help("Draws the cycle of refused transaction N alone");
-    let dot = Arg::new(alloc, "dot")
-        .long("dot")
-        .action(ArgAction::SetTrue)
-        .help("Writes Graphviz text in place of SVG");
-    Command::new(alloc, "draw")
-        .about(DRAW)
-        .override_usage(DRAW_USAGE)
-        .after_help(MORE)
-        .arg(tx)?
-        .arg(dot)
-}
-
-fn check_line<'a>(alloc: Global) -> Result<Command<'a>, AllocError> {
-    let order = flag(
-        alloc,
-        "order",
-        "Writes behind a yes `---` and the ids in an order that serves",
-    );
-    let real_time = flag(
-        alloc,
-        "real-time",
-        "Asks for an order in which who was done before another began stands before it",
-    );
-    let sessions = flag(
-        alloc,
-        "sessions",
-        "Asks for an order in which the transactions of a session stand as they do in the history",
-    );
-    plain_line(alloc, "check", CHECK, CHECK_USAGE)
-        .arg(order)?
-        .arg(real_time)?
-        .arg(sessions)
-}
+// In the order in which the help lists them.
+const COMMANDS: [CommandName; 9] = [
+    CommandName::Audit,
+    CommandName::Serial,
+    CommandName::Replay,
+    CommandName::Serve,
+    CommandName::Run,
+    CommandName::Certify,
+    CommandName::Check,
+    CommandName::Explain,
+    CommandName::Draw,
+];
 
 /// All that is left for the program of the words.
 pub fn command<'a>(alloc: Global) -> Result<Command<'a>, AllocError> {
-    let line = Command::new(alloc, "sgt")
+    let mut line = Command::new(alloc, "sgt")
         .about(ABOUT)
         .after_help(MORE)
         .version(VERSION)
         .disable_help_subcommand(true);
-    line.subcommand(audit_line(alloc)?)?
-        .subcommand(serial_line(alloc))?
-        .subcommand(replay_line(alloc))?
-        .subcommand(serve_line(alloc))?
-        .subcommand(run_line(alloc)?)?
-        .subcommand(certify_line(alloc))?
-        .subcommand(check_line(alloc)?)?
-        .subcommand(explain_line(alloc)?)?
-        .subcommand(draw_line(alloc)?)
-}
-
-fn flag<'a>(alloc: Global, name: &'a str, help: &'a str) -> Arg<'a> {
-    Arg::new(alloc, name)
-        .long(name)
-        .action(ArgAction::SetTrue)
-        .help(help)
-}
-
-fn progress<'a>(alloc: Global) -> Arg<'a> {
-    flag(
-        alloc,
-        "progress",
-        "Tells standard error of each million lines read",
-    )
-}
-
-fn why<'a>(alloc: Global) -> Arg<'a> {
-    flag(
-        alloc,
-        "why",
-        "Tells standard error behind a no what to type to learn more",
-    )
-}
-
-fn json<'a>(alloc: Global) -> Arg<'a> {
-    flag(
-        alloc,
-        "json",
-        "Writes the answer as an object of JSON, a line for each file",
-    )
-}
-
-fn output<'a>(alloc: Global) -> Arg<'a> {
-    Arg::new(alloc, "output")
-        .long("output")
-        .short('o')
-        .value_name("FILE")
-        .help("Writes the answer to this file in place of standard output")
-}
-
-fn bundle<'a>(alloc: Global) -> Arg<'a> {
-    Arg::new(alloc, "bundle")
-        .long("bundle")
-        .value_name("FILE")
-        .help("Writes the bundle to this file, once all is done")
-}
-
-fn file<'a>(alloc: Global) -> Arg<'a> {
-    Arg::new(alloc, "FILE").help("Is read in place of standard input")
-}
-
-fn quiet<'a>(alloc: Global) -> Arg<'a> {
-    flag(alloc, "quiet", "Answers by the status alone").short('q')
-}
-
-fn full_audit<'a>(alloc: Global) -> Result<Command<'a>, AllocError> {
-    let files = Arg::new(alloc, "FILE").action(ArgAction::Append).help(
-        "Are read in place of standard input; of several, a line each",
-    );
-    let chain = flag(
-        alloc,
-        "chain",
-        "Takes the files for one system's bundles in a row: each begins where the one before ends",
-    );
-    let expected = Arg::new(alloc, "expect-committed")
-        .long("expect-committed")
-        .value_name("N")
-        .help("Ends a yes of another number of committed transactions with status 1");
-    audit_line(alloc)?
-        .arg(files)?
-        .arg(quiet(alloc))?
-        .arg(chain)?
-        .arg(expected)?
-        .arg(json(alloc))?
-        .arg(why(alloc))?
-        .arg(progress(alloc))?
-        .arg(output(alloc))
-}
-
-fn full_replay<'a>(alloc: Global) -> Result<Command<'a>, AllocError> {
-    let strict = flag(
-        alloc,
-        "strict",
-        "Ends with status 1 where an event was refused",
-    );
-    replay_line(alloc)
-        .arg(file(alloc))?
-        .arg(strict)?
-        .arg(why(alloc))?
-        .arg(progress(alloc))?
-        .arg(bundle(alloc))?
-        .arg(output(alloc))
-}
-
-fn full_serve<'a>(alloc: Global) -> Result<Command<'a>, AllocError> {
-    let folder = Arg::new(alloc, "bundles")
-        .long("bundles")
-        .value_name("DIR")
-        .help("Writes each bundle into this folder, as 00000001.sgt and so on");
-    serve_line(alloc).arg(file(alloc))?.arg(folder)
-}
-
-fn full_serial<'a>(alloc: Global) -> Result<Command<'a>, AllocError> {
-    serial_line(alloc)
-        .arg(file(alloc))?
-        .arg(why(alloc))?
-        .arg(progress(alloc))?
-        .arg(output(alloc))
-}
-
-fn full_run<'a>(alloc: Global) -> Result<Command<'a>, AllocError> {
-    run_line(alloc)?
-        .arg(file(alloc))?
-        .arg(why(alloc))?
-        .arg(bundle(alloc))?
-        .arg(output(alloc))
-}
-
-fn full_check<'a>(alloc: Global) -> Result<Command<'a>, AllocError> {
-    let against = Arg::new(alloc, "against")
-        .long("against")
-        .value_name("ORDER")
-        .help("Judges the order in this file, an id a line as --order writes it");
-    let svg = Arg::new(alloc, "svg").long("svg").value_name("FILE").help(
-        "Draws the circle of a no in this file, as SVG; without a circle it stays as it is",
-    );
-    check_line(alloc)?
-        .arg(file(alloc))?
-        .arg(against)?
-        .arg(svg)?
-        .arg(quiet(alloc))?
-        .arg(json(alloc))?
-        .arg(why(alloc))?
-        .arg(progress(alloc))?
-        .arg(output(alloc))
-}
-
-fn full_certify<'a>(alloc: Global) -> Result<Command<'a>, AllocError> {
-    certify_line(alloc)
-        .arg(file(alloc))?
-        .arg(json(alloc))?
-        .arg(why(alloc))?
-        .arg(output(alloc))
-}
-
-fn full_explain<'a>(alloc: Global) -> Result<Command<'a>, AllocError> {
-    let page = flag(
-        alloc,
-        "html",
-        "Writes the explanation as a page of HTML, with its picture",
-    );
-    explain_line(alloc)?
-        .arg(file(alloc))?
-        .arg(json(alloc))?
-        .arg(page)?
-        .arg(why(alloc))?
-        .arg(output(alloc))
-}
-
-fn full_draw<'a>(alloc: Global) -> Result<Command<'a>, AllocError> {
-    draw_line(alloc)?
-        .arg(file(alloc))?
-        .arg(why(alloc))?
-        .arg(output(alloc))
+    for name in COMMANDS {
+        line = line.subcommand(own_line(alloc, name)?)?;
+    }
+    Ok(line)
 }
 
 /// The words of a command with those that are taken out before, for its help.
 pub fn listing_line<'a>(alloc: Global, name: CommandName) -> Result<Command<'a>, AllocError> {
+    let line = own_line(alloc, name)?;
     match name {
-        CommandName::Audit => full_audit(alloc),
-        CommandName::Serial => full_serial(alloc),
-        CommandName::Replay => full_replay(alloc),
-        CommandName::Run => full_run(alloc),
-        CommandName::Certify => full_certify(alloc),
-        CommandName::Explain => full_explain(alloc),
-        CommandName::Draw => full_draw(alloc),
-        CommandName::Serve => full_serve(alloc),
-        CommandName::Check => full_check(alloc),
+        CommandName::Audit => with_taken(alloc, line, &AUDIT_TAKEN),
+        CommandName::Serial => with_taken(alloc, line, &SERIAL_TAKEN),
+        CommandName::Replay => with_taken(alloc, line, &REPLAY_TAKEN),
+        CommandName::Run => with_taken(alloc, line, &RUN_TAKEN),
+        CommandName::Serve => with_taken(alloc, line, &SERVE_TAKEN),
+        CommandName::Check => with_taken(alloc, line, &CHECK_TAKEN),
+        CommandName::Certify => with_taken(alloc, line, &CERTIFY_TAKEN),
+        CommandName::Explain => with_taken(alloc, line, &EXPLAIN_TAKEN),
+        CommandName::Draw => with_taken(alloc, line, &DRAW_TAKEN),
     }
 }
