@@ -29,11 +29,12 @@ use Rattle.sgt_core_machine.specs.declared.machine.Running.{Running}
 use Rattle.sgt_core_machine.specs.declared.machine.Open.{Open}
 use Rattle.sgt_core_machine.specs.declared.machine.Phase.{Phase}
 use Rattle.sgt_core_machine.specs.declared.machine.Phase.TheVariants as phase
-use Rattle.sgt_core_machine.specs.declared.installing.Verdict.{Verdict}
-use Rattle.sgt_core_machine.specs.declared.installing.Verdict.TheVariants.{Committed, Refused}
+use Rattle.sgt_step.specs.declared.one_site.Ending.{Ending}
+use Rattle.sgt_step.specs.declared.one_site.Ending.TheVariants.{Committed, Refused, Withdrawn}
 use Rattle.sgt_core_model.specs.Core.{CoreState, as_changes, with_entries, only_at, changed_at, is_committed, noted}
 use Rattle.sgt_core_machine.specs.Machine.{Parts, Carries, IsRunning, RunsAt, IsHandleOf, AwaitsInstall, IsDueBy, IsDueAt, IsPart, IsPlace, IsPhase, IsStep, StandsFor, IsReached}
-use Rattle.sgt_core_machine.specs.private.Installing.{verdict_in, block_by, installed_by, ended_by, IsNotedBy, Writes}
+use Rattle.sgt_core_machine.specs.private.Installing.{verdict_in, IsNotedBy, Writes}
+use Rattle.sgt_step.specs.OneSite.{block_of, installed_by, ended_by}
 use Rattle.sgt_core_model.proofs.Kept.{IsKept, IsRead}
 use Rattle.sgt_core_model.proofs.Entries.{as_wants}
 use Rattle.sgt_core_model.proofs.Faults.{is_in-Decides}
@@ -47,33 +48,44 @@ use Rattle.sgt_names.proofs.Elements.{get-slice_set_same, get-slice_set_other, c
 -- ---- the verdict
 
 -- the step is decided so
-pub record IsVerdict (c : CoreState) (verdict : Verdict) (tx : ℕ) : Type 0 where
+pub record IsVerdict (c : CoreState) (verdict : Ending) (tx : ℕ) : Type 0 where
   pub decided : c.certifier.step ≡ Some tx
   pub committed : verdict ≡ Committed → Contains c.certifier.order tx
   pub refused : verdict ≡ Refused → Contains c.certifier.order tx → ⊥
+  pub ruled : verdict ≡ Withdrawn → ⊥
 
 pub committed-apart : Committed ≡ Refused → ⊥
 committed-apart e = cc
 
-pub verdict_phase : (m : Parts) (c : CoreState) (o : Open) (verdict : Verdict) (x : Phase)
+pub verdict_phase : (m : Parts) (c : CoreState) (o : Open) (verdict : Ending) (x : Phase)
     → verdict_in x ≡ Some verdict → IsPhase m c o x → IsVerdict c verdict o.tx
 verdict_phase m c o verdict (phase.Gathering edges) e h = absurd cc
 verdict_phase m c o verdict phase.Committed e h =
     let is = same_Some Committed verdict e in
-    record { decided = h.0; committed = λ v. h.1; refused = λ v. absurd (committed-apart (is ∙ v)) }
+    record {
+      decided = h.0;
+      committed = λ v. h.1;
+      refused = λ v. absurd (committed-apart (is ∙ v));
+      ruled = λ v. (let f : Committed ≡ Withdrawn = is ∙ v in cc);
+    }
 verdict_phase m c o verdict phase.Refused e h =
     let is = same_Some Refused verdict e in
-    record { decided = h.0; committed = λ v. absurd (committed-apart (sym (is ∙ v))); refused = λ v. h.1 }
+    record {
+      decided = h.0;
+      committed = λ v. absurd (committed-apart (sym (is ∙ v)));
+      refused = λ v. h.1;
+      ruled = λ v. (let f : Refused ≡ Withdrawn = is ∙ v in cc);
+    }
 
 -- the block that is due by a decision
-due_phase : (m : Parts) (c : CoreState) (tx : ℕ) (touched : List Touch) (s : ℕ) (verdict : Verdict) (x : Phase)
+due_phase : (m : Parts) (c : CoreState) (tx : ℕ) (touched : List Touch) (s : ℕ) (verdict : Ending) (x : Phase)
     → verdict_in x ≡ Some verdict
-    → IsDueBy m c tx touched x s → c.due s ≡ block_by verdict tx (c.changes tx s)
+    → IsDueBy m c tx touched x s → c.due s ≡ block_of verdict tx (c.changes tx s)
 due_phase m c tx touched s verdict (phase.Gathering edges) e h = absurd cc
 due_phase m c tx touched s verdict phase.Committed e h = h.0
-    ∙ ap (λ v. block_by v tx (c.changes tx s)) (same_Some Committed verdict e)
+    ∙ ap (λ v. block_of v tx (c.changes tx s)) (same_Some Committed verdict e)
 due_phase m c tx touched s verdict phase.Refused e h = h
-    ∙ ap (λ v. block_by v tx (c.changes tx s)) (same_Some Refused verdict e)
+    ∙ ap (λ v. block_of v tx (c.changes tx s)) (same_Some Refused verdict e)
 
 -- and what the certifier awaits of a commit
 pub awaits_phase : (m : Parts) (c : CoreState) (tx : ℕ) (touched : List Touch) (s : ℕ) (x : Phase)
@@ -124,14 +136,15 @@ still_unnoted s tx site u items ne out m =
       ]
     ]
 
-pub awaits_stays : (verdict : Verdict) (old new : State) (s tx u : ℕ) → IsNotedBy verdict old new s tx → (u ≡ s → ⊥)
+pub awaits_stays : (verdict : Ending) (old new : State) (s tx u : ℕ) → IsNotedBy verdict old new s tx → (u ≡ s → ⊥)
     → AwaitsInstall old tx u → AwaitsInstall new tx u
 awaits_stays Refused old new s tx u is ne h = subst (λ (k : State). AwaitsInstall k tx u) (sym is) h
+awaits_stays Withdrawn old new s tx u is ne h = subst (λ (k : State). AwaitsInstall k tx u) (sym is) h
 awaits_stays Committed old new s tx u is ne h =
     λ n. still_unnoted old tx s u [] ne h (subst (λ (st : State). IsNoted st tx u) is.after n)
 
 -- the certifier carries what the model notes
-pub carries_noted : (verdict : Verdict) (m : Parts) (c : CoreState) (new : State) (s tx : ℕ) → IsVerdict c verdict tx
+pub carries_noted : (verdict : Ending) (m : Parts) (c : CoreState) (new : State) (s tx : ℕ) → IsVerdict c verdict tx
     → IsNotedBy verdict m.certifier new s tx → Carries m.certifier c.certifier
     → Carries new (noted c tx s)
 carries_noted Committed m c new s tx v is h =
@@ -146,6 +159,7 @@ carries_noted Refused m c new s tx v is h =
       | inr miss ↦ miss
     ] in
     rw miss (subst (λ (k : State). Carries k c.certifier) (sym is) h)
+carries_noted Withdrawn m c new s tx v is h = absurd (v.ruled refl)
 
 -- ---- the handles
 
@@ -153,12 +167,13 @@ handle_stays : (s t : State) (installs : List Noted) → t ≡ record s { instal
     → IsHandleOf s i → IsHandleOf t i
 handle_stays s t installs is i h = subst (λ (st : State). IsHandleOf st i) (sym is) h
 
-pub handles_by : (verdict : Verdict) (s : State) (tx slot : ℕ) (handle : Handle) (installed : List Install)
+pub handles_by : (verdict : Ending) (s : State) (tx slot : ℕ) (handle : Handle) (installed : List Install)
     → (verdict ≡ Committed → Contains s.order tx) → tx ≡ suc (s.before + slot)
     → handle ≡ record { index = slot; generation = s.generation }
     → ((i : Install) → Contains installed i → IsHandleOf s i)
     → (i : Install) → Contains (installed_by verdict installed (record { tx = tx; handle = handle })) i → IsHandleOf s i
 handles_by Refused s tx slot handle installed order number is h i m = h i m
+handles_by Withdrawn s tx slot handle installed order number is h i m = h i m
 handles_by Committed s tx slot handle installed order number is h i m =
     let one : Install = record { tx = tx; handle = handle } in
     elim (Contains-append_cases installed (one ∷ []) i m) [
@@ -175,12 +190,13 @@ handles_by Committed s tx slot handle installed order number is h i m =
 
 -- ---- the block
 
-block_some : (verdict : Verdict) (tx : ℕ) (cs : List (Name × Change)) → block_by verdict tx cs ≡ [] → ⊥
+block_some : (verdict : Ending) (tx : ℕ) (cs : List (Name × Change)) → block_of verdict tx cs ≡ [] → ⊥
 block_some Committed tx cs e = no_block (as_changes tx cs) (entry.Commit tx) e
 block_some Refused tx cs e = no_block (as_wants tx cs) (entry.Refuse tx) e
+block_some Withdrawn tx cs e = absurd cc
 
 -- a block is due where the machine says so
-pub due_some : (m : Parts) (c : CoreState) (tx : ℕ) (touched : List Touch) (s : ℕ) (verdict : Verdict) (x : Phase)
+pub due_some : (m : Parts) (c : CoreState) (tx : ℕ) (touched : List Touch) (s : ℕ) (verdict : Ending) (x : Phase)
     → verdict_in x ≡ Some verdict
     → IsDueBy m c tx touched x s → c.due s ≡ [] → ⊥
 due_some m c tx touched s verdict x e h none =
@@ -197,7 +213,7 @@ written_state c tx s = record (with_entries c (only_at s (c.due s))) {
 }
 
 -- the open step of the transaction at this place of the table is decided so, and its block is due at the site
-pub record IsToWrite (m : Parts) (c : CoreState) (verdict : Verdict) (tx slot s : ℕ) : Type 0 where
+pub record IsToWrite (m : Parts) (c : CoreState) (verdict : Ending) (tx slot s : ℕ) : Type 0 where
   pub open_step : Open
   pub is : m.step ≡ Some open_step
   pub own : open_step.tx ≡ tx
@@ -209,7 +225,7 @@ pub record IsToWrite (m : Parts) (c : CoreState) (verdict : Verdict) (tx slot s 
   pub there : slice_get m.places s ≡ Some place
   pub due : place.part ≡ Due
 
-module _ (m : Parts) (c : CoreState) (s : StandsFor m c) (verdict : Verdict) (tx slot t : ℕ)
+module _ (m : Parts) (c : CoreState) (s : StandsFor m c) (verdict : Ending) (tx slot t : ℕ)
     (w : IsToWrite m c verdict tx slot t) where
   abbrev k : IsKept c
   k = reached_kept c s.reached
@@ -278,11 +294,11 @@ module _ (m : Parts) (c : CoreState) (s : StandsFor m c) (verdict : Verdict) (tx
   changes : (u : ℕ) → c.changes tx u ≡ writing_in (at_site u r.draft.touched)
   changes u = ap (λ i. c.changes i u) w.number ∙ own.changes u
 
-  block : c.due t ≡ block_by verdict tx (writing_in (at_site p.site.number r.draft.touched))
+  block : c.due t ≡ block_of verdict tx (writing_in (at_site p.site.number r.draft.touched))
   block =
       due_phase m c tx r.draft.touched t verdict o.phase w.verdict_is due_of
-      ∙ (ap (block_by verdict tx) (changes t)
-      ∙ ap (λ n. block_by verdict tx (writing_in (at_site n r.draft.touched))) (sym at_t.number))
+      ∙ (ap (block_of verdict tx) (changes t)
+      ∙ ap (λ n. block_of verdict tx (writing_in (at_site n r.draft.touched))) (sym at_t.number))
 
   inside : t < length c.items
   inside = subst (λ n. t < n) (sym (ap length s.items ∙ length-map m.places (λ (q : Place). q.site.items)))
@@ -327,16 +343,19 @@ module _ (m : Parts) (c : CoreState) (s : StandsFor m c) (verdict : Verdict) (tx
     wrote_running = same_Some h.block.running r (same_Some (Some h.block.running) (Some r) (sym h.block.runs ∙ w.runs))
 
     abbrev q : Place
-    q = record { site = ended_by verdict tx r p.site; part = Written }
+    q = record { site = ended_by verdict tx r.handle r.draft.touched p.site; part = Written }
 
     pub new_places : n.places ≡ slice_set m.places t q
     new_places =
         h.block.is
         ∙ (ap (λ (v : Place). slice_set m.places t (record {
-          site = ended_by verdict tx h.block.running v.site;
+          site = ended_by verdict tx h.block.running.handle h.block.running.draft.touched v.site;
           part = Written;
         })) wrote_place
-        ∙ ap (λ (v : Running). slice_set m.places t (record { site = ended_by verdict tx v p.site; part = Written }))
+        ∙ ap (λ (v : Running). slice_set m.places t (record {
+          site = ended_by verdict tx v.handle v.draft.touched p.site;
+          part = Written;
+        }))
         wrote_running)
 
     same_table : n.table ≡ m.table
@@ -405,7 +424,7 @@ module _ (m : Parts) (c : CoreState) (s : StandsFor m c) (verdict : Verdict) (tx
     here = record {
       number = at_t.number;
       entries = ap (λ es. c.entries t ++ es) (only_here t (c.due t) ∙ block)
-          ∙ ap (λ es. es ++ block_by verdict tx (writing_in (at_site p.site.number r.draft.touched))) at_t.entries;
+          ∙ ap (λ es. es ++ block_of verdict tx (writing_in (at_site p.site.number r.draft.touched))) at_t.entries;
       handles = λ i member. handle_stays c.certifier d.certifier d.certifier.installs same_state i
           (handles_by verdict c.certifier tx slot r.handle p.site.installed decided_so.committed (w.number
           ∙ ap (λ b. suc (b + slot)) (sym s.before)) own.handle at_t.handles i member);

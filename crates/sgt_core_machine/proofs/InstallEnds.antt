@@ -15,7 +15,7 @@ use Rattle.sgt_core_machine.specs.declared.machine.Part.{Part}
 use Rattle.sgt_core_machine.specs.declared.machine.Part.TheVariants.{Idle, Due, Written}
 use Rattle.sgt_core_machine.specs.declared.machine.Running.{Running}
 use Rattle.sgt_core_machine.specs.declared.machine.Open.{Open}
-use Rattle.sgt_core_machine.specs.declared.installing.Verdict.{Verdict}
+use Rattle.sgt_step.specs.declared.one_site.Ending.{Ending}
 use Rattle.sgt_core_model.specs.Core.{CoreState, sites_of, is_empty, is_written, noted, installed}
 use Rattle.sgt_core_model.specs.Step.{IsAllowed, MayStep}
 use Rattle.sgt_core_machine.specs.Machine.{Parts, Carries, RunsAt, IsPart, IsPlace, IsStep, StandsFor}
@@ -46,7 +46,7 @@ carries_finished s t i h = record {
   lead = h.lead;
 }
 
-module _ (m : Parts) (c : CoreState) (s : StandsFor m c) (verdict : Verdict) (tx slot t : ℕ)
+module _ (m : Parts) (c : CoreState) (s : StandsFor m c) (verdict : Ending) (tx slot t : ℕ)
     (w : IsToWrite m c verdict tx slot t) (n : Parts) (h : Writes verdict m n t slot tx) where
   abbrev d : CoreState
   d = written_state c tx t

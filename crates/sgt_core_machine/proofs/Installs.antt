@@ -16,8 +16,8 @@ use Rattle.sgt_core_machine.specs.declared.machine.Running.{Running}
 use Rattle.sgt_core_machine.specs.declared.machine.Open.{Open}
 use Rattle.sgt_core_machine.specs.declared.machine.Phase.{Phase}
 use Rattle.sgt_core_machine.specs.declared.machine.Phase.TheVariants as phase
-use Rattle.sgt_core_machine.specs.declared.installing.Verdict.{Verdict}
-use Rattle.sgt_core_machine.specs.declared.installing.Verdict.TheVariants.{Committed}
+use Rattle.sgt_step.specs.declared.one_site.Ending.{Ending}
+use Rattle.sgt_step.specs.declared.one_site.Ending.TheVariants.{Committed}
 use Rattle.sgt_core_model.specs.Core.{CoreState, touches}
 use Rattle.sgt_core_model.specs.Step.{StepIs, IsOtherOpen, IsDecided, Fails, fault_place, IsRefused, IsAllowed, MayStep}
 use Rattle.sgt_core_machine.specs.Machine.{Parts, IsPart, IsPhase, IsStep, StandsFor, IsSlotOf}
@@ -87,7 +87,7 @@ undecided_by m c None e h = h.1
 undecided_by m c (Some o) e h = undecided_in m c o o.phase e h.2
 
 -- the open step that was decided
-decided_step : (o : Option Open) (verdict : Verdict) → verdict_of o ≡ Some verdict
+decided_step : (o : Option Open) (verdict : Ending) → verdict_of o ≡ Some verdict
     → (p : Open) × (o ≡ Some p) × (verdict_in p.phase ≡ Some verdict)
 decided_step None verdict e = absurd cc
 decided_step (Some p) verdict e = (p, refl, e)
@@ -116,7 +116,7 @@ module _ (m : Parts) (c : CoreState) (s : StandsFor m c) (tx slot : ℕ) (h : Is
       ∙ undecided_by m c m.step none s.step in absurd cc in
       install_too_early m c s tx slot h no_other t reply (slice_get_within m.places t p at) undecided e
 
-  module _ (verdict : Verdict) (v : Some verdict ≡ verdict_of m.step) where
+  module _ (verdict : Ending) (v : Some verdict ≡ verdict_of m.step) where
     abbrev o : Open
     o = (decided_step m.step verdict (sym v)).0
 

@@ -1,12 +1,11 @@
 pub mod WholeCommits
 pub mod WholeGoing
 pub mod TouchedSites
-pub mod Flags
+pub mod PledgedSites
 pub mod FirstFound
 pub mod Withdrawals
 pub mod Refusals
 pub mod Standing
-pub mod Versions
 pub mod Windows
 pub mod Drafting
 pub mod Redrafting

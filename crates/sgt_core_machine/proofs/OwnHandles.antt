@@ -12,9 +12,9 @@ use Rattle.sgt_core_model.specs.declared.reply.CoreFault.TheVariants as fault
 use Rattle.sgt_core_model.specs.Core.{CoreState, OpenStep}
 use Rattle.sgt_core_model.specs.Step.{StepIs, IsAllowed, IsOtherOpen, gathered_in}
 use Rattle.sgt_notation.specs.declared.event.Event.TheVariants.{Gather}
-use Rattle.sgt_core_machine.specs.declared.installing.Verdict.{Verdict}
-use Rattle.sgt_core_machine.specs.declared.installing.Verdict.TheVariants.{Committed, Refused}
-use Rattle.sgt_core_machine.specs.private.Installing.{installed_by}
+use Rattle.sgt_step.specs.declared.one_site.Ending.{Ending}
+use Rattle.sgt_step.specs.declared.one_site.Ending.TheVariants.{Committed, Refused, Withdrawn}
+use Rattle.sgt_step.specs.OneSite.{installed_by}
 use Rattle.sgt_core_machine.specs.Machine.{IsHandleOf}
 use Rattle.sgt_core_machine.proofs.Leading.{handle_member}
 use Rattle.sgt_names.proofs.Elements.{contains-none}
@@ -77,11 +77,12 @@ module _ (s : State) (tx slot : ℕ) (handle : Handle) (is : List Install) (numb
         ]
       ]
 
-  pub own_by : (verdict : Verdict) (a b : ℕ) (h : Handle)
+  pub own_by : (verdict : Ending) (a b : ℕ) (h : Handle)
       → handle_of (installed_by verdict is (record { tx = tx; handle = handle })) a ≡ Some h
       → handle_of (installed_by verdict is (record { tx = tx; handle = handle })) b ≡ Some h → a ≡ b
   own_by Committed a b h one two = own_more a b h one two
   own_by Refused a b h one two = apart a b h one two
+  own_by Withdrawn a b h one two = apart a b h one two
 
 -- a site where the transaction may be gathered is none where it was
 pub not_yet : (c : CoreState) (tx t : ℕ) → IsAllowed c (Gather tx t) → (IsOtherOpen c tx → ⊥)

@@ -9,6 +9,8 @@ use Rattle.sgt_names.specs.Limits.{max_sites}
 use Rattle.sgt_names.specs.Draft.{Touches}
 use Rattle.sgt_names.specs.declared.draft.Touch.{Touch}
 use Rattle.sgt_notation.specs.declared.event.Event.TheVariants.{Commit}
+use Rattle.sgt_step.specs.Touched.{is_in, AreSitesOf}
+use Rattle.sgt_step.proofs.Listing.{filter_same}
 use Rattle.sgt_core_machine.specs.declared.machine.Place.{Place}
 use Rattle.sgt_core_model.specs.Core.{CoreState, touches}
 use Rattle.sgt_core_model.specs.Step.{IsAllowed}
@@ -18,40 +20,13 @@ use Rattle.sgt_core_machine.proofs.Standing.{reached_kept, core_closed, certifie
 use Rattle.sgt_core_machine.proofs.Redrafting.{slot_begun, slot_active}
 use Rattle.sgt_core_machine.proofs.Touching.{touches_draft, draft_touches, commit_allowed}
 
--- ---- one number further
-
-range_next : (low n m : ℕ) → m ≡ suc n → range_with_len low m ≡ range_with_len low n ++ (low + n) ∷ []
-range_next low n m e = ap (range_with_len low) e ∙ go low n
-  where
-    go : (low n : ℕ) → range_with_len low (suc n) ≡ range_with_len low n ++ (low + n) ∷ []
-    go low zero = let same : low ≡ low + 0 = omega arith in ap (λ k. k ∷ []) same
-    go low (suc n) =
-        let same : low + 1 + n ≡ low + suc n = omega arith in
-        ap (λ xs. low ∷ xs) (go (low + 1) n ∙ ap (λ k. range_with_len (low + 1) n ++ k ∷ []) same)
-
-filter_next : (p : ℕ → Bool) (n : ℕ)
-    → filter p (range_with_len 0 (n + 1)) ≡ filter p (range_with_len 0 n) ++ filter p (n ∷ [])
-filter_next p n =
-    let one : n + 1 ≡ suc n = omega arith in
-    let same : 0 + n ≡ n = omega arith in
-    ap (filter p) (range_next 0 n (n + 1) one) ∙ (filter-append p (range_with_len 0 n) ((0 + n) ∷ [])
-    ∙ ap (λ k. filter p (range_with_len 0 n) ++ filter p (k ∷ [])) same)
-
-pub touched_hit : (ts : List Touch) (n : ℕ) (xs : List ℕ) → AreTouched ts n xs → Touches ts n
-    → AreTouched ts (n + 1) (xs ++ n ∷ [])
-touched_hit ts n xs h any p each =
-    let hit : p n ≡ true = (each n).1 any in
-    let last : filter p (n ∷ []) ≡ n ∷ [] = rw hit refl in
-    ap (λ ys. ys ++ n ∷ []) (h p each) ∙ (ap (λ ys. filter p (range_with_len 0 n) ++ ys) (sym last)
-    ∙ sym (filter_next p n))
-
-pub touched_miss : (ts : List Touch) (n : ℕ) (xs : List ℕ) → AreTouched ts n xs → (Touches ts n → ⊥)
-    → AreTouched ts (n + 1) xs
-touched_miss ts n xs h out p each =
-    let miss : p n ≡ false = elim (cases_Bool (p n)) [ inl hit ↦ absurd (out ((each n).0 hit)) | inr miss ↦ miss ] in
-    let last : filter p (n ∷ []) ≡ [] = rw miss refl in
-    h p each ∙ (sym (append-nil (filter p (range_with_len 0 n)))
-    ∙ (ap (λ ys. filter p (range_with_len 0 n) ++ ys) (sym last) ∙ sym (filter_next p n)))
+-- the sites that are listed by their flags are those that are touched
+pub listed_touched : (flags : List Bool) (ts : List Touch) (count : ℕ) (xs : List ℕ) → AreSitesOf flags ts
+    → xs ≡ filter (is_in flags) (range_with_len 0 count) → AreTouched ts count xs
+listed_touched flags ts count xs of is p each = is ∙ filter_same (is_in flags) p (λ s. (
+  λ hit. (each s).1 ((of.touched s).0 hit),
+  λ hit. (of.touched s).1 ((each s).0 hit),
+)) (range_with_len 0 count)
 
 -- ---- it may be committed
 

@@ -2,10 +2,11 @@
 use Rattle.std.specs.Prelude.{◌≡◌, ℕ, List, ◌++◌, All, Option, Some, None, slice_get, slice_set, length}
 use Rattle.sgt_names.specs.Draft.{at_site}
 use Rattle.sgt_names.specs.declared.draft.Touch.{Touch}
-use Rattle.sgt_site.specs.State.{IsSite, IsPledged}
+use Rattle.sgt_site.specs.State.{SiteState, IsSite, IsPledged}
 use Rattle.sgt_site.specs.Refused.{MayPledge}
 use Rattle.sgt_edges.specs.Edges.{IsGiven, StandsForAll, HaveOwnHandles, AreApart}
 use Rattle.sgt_edges.specs.declared.edge.Edge.{Edge}
+use Rattle.sgt_step.specs.OneSite.{AreEdgesOf}
 use Rattle.sgt_core_machine.specs.Machine.{Parts}
 use Rattle.sgt_core_machine.specs.declared.machine.Place.{Place}
 use Rattle.sgt_core_machine.specs.declared.machine.Part.TheVariants.{Idle, Due}
@@ -26,6 +27,23 @@ pub record AreGiven (places : List Place) (table : List (Option Running)) (site 
     pub given : All (IsGiven place.site running.draft.touched running.handle) edges
     pub stand : StandsForAll place.site running.draft.touched running.handle edges
     pub once : HaveOwnHandles place.site → AreApart edges
+
+-- the transaction is pledged at the site, and its edges there are these. Nothing else changes
+pub record GivesAt (old new : List Place) (who : Option Running) (site tx : ℕ) (edges : List Edge) : Type 0 where
+  pub place : Place
+  pub running : Running
+  pub there : slice_get old site ≡ Some place
+  pub runs : who ≡ Some running
+  pub legal : IsSite place.site
+  pub may : MayPledge place.site tx running.draft.touched
+  pub pledged : SiteState
+  pub pledge : pledged
+      ≡ record place.site {
+        pledge = Some
+            (record { tx = tx; part = at_site place.site.number running.draft.touched });
+      }
+  pub edges_are : AreEdgesOf pledged running.draft.touched running.handle edges
+  pub is : new ≡ slice_set old site (record place { site = pledged })
 
 -- the site refuses no pledge of the transaction at this place of the table
 abbrev pub MayPledgeAt : List Place → List (Option Running) → (site slot tx : ℕ) → Type 0

@@ -1,69 +1,62 @@
-//! A transaction is gathered at a site: its pledge there, and its edges.
+//! A transaction is gathered at a site, and its edges are added to the open step.
 
-ghost use Rattle.std.specs.Prelude.{◌≡◌, ◌≢◌, ◌↔◌, ◌++◌, ◌<◌, Some, Any, length, slice_get, IsTrue, IfOk, IfErr, OnOk, OnErr};
-ghost use Rattle.sgt_edges.specs.Edges.{SeesTooNew};
-ghost use Rattle.sgt_core_machine.specs.Gathered.{AreGiven, MayPledgeAt, PledgesAt, step_with, IsReleased, AreReleased, IsMissedAt};
+ghost use Rattle.std.specs.Prelude.{◌≡◌, ◌≢◌, ◌↔◌, ◌++◌, ◌<◌, Some, None, Any, length, slice_get, slice_set, IsTrue, IfOk, IfErr, OnOk, OnErr};
+ghost use Rattle.sgt_site.specs.State.{IsPledged};
+ghost use Rattle.sgt_site.specs.Refused.{MayPledge};
+ghost use Rattle.sgt_core_machine.specs.Gathered.{GivesAt, step_with, IsReleased, AreReleased, IsMissedAt};
 ghost use Rattle.sgt_core_machine.specs.declared.machine.Place.{Place as APlace};
-ghost use Rattle.sgt_core_machine.specs.declared.machine.Part.TheVariants.{Idle};
+ghost use Rattle.sgt_core_machine.specs.declared.machine.Part.TheVariants.{Idle, Due};
 ghost use Rattle.sgt_core_machine.specs.declared.machine.Running.{Running as ARunning};
 
 use crate::machine::{Open, Part, Phase, Place, Running};
-use sgt_edges::{EdgeFault, EdgeList, gather_into};
+use sgt_edges::EdgeList;
 use sgt_names::{Draft, Part as DraftPart, Touch, Tx};
 use sgt_site::SiteFault;
+use sgt_step::{gather, give_back};
 use std::alloc::{AllocError, Global};
 use std::mem;
 
-// Puts the edges of the transaction at a place of the table, at a site, into a list. It errs for want of memory alone.
-pub(crate) fn edges_at(
-    edges: &mut EdgeList,
-    places: &[Place],
-    table: &[Option<Running>],
-    at: usize,
-    slot: usize,
-) -> Result<(), EdgeFault>
-    requires site { at < length places.now }
-    requires slot { (r : ARunning) × (slice_get table.now slot ≡ Some (Some r)) }
-    requires seen { (p : APlace) (r : ARunning) → slice_get places.now at ≡ Some p
-        → slice_get table.now slot ≡ Some (Some r)
-        → SeesTooNew p.site r.draft.touched → ⊥ }
-    ensures ok { OnOk result (AreGiven places.now table.now at slot edges.new) }
-    ensures memory { IfErr result (λ f. f ≡ EdgeFault.Memory) }
-{
-    let place = &places[at];
-    let _items = place.site.items();
-    match &table[slot] {
-        Some(running) => gather_into(edges, &place.site, &running.draft, running.handle),
-        None => unreachable!(),
-    }
-}
-
-// Pledges the transaction at a place of the table at a site. It errs for want of memory alone.
-pub(crate) fn pledge_at(
+// Gathers the transaction at a site: its pledge there, and its edges in a list. It errs for want of memory alone.
+pub(crate) fn gather_there(
     places: &mut Vec<Place>,
-    table: &[Option<Running>],
     at: usize,
-    slot: usize,
+    running: &Option<Running>,
     tx: Tx,
+    edges: &mut EdgeList,
 ) -> Result<(), SiteFault>
     requires site { at < length places.old.items }
-    requires slot { (r : ARunning) × (slice_get table.now slot ≡ Some (Some r)) }
-    requires may { MayPledgeAt places.old.items table.now at slot tx }
-    ensures ok { OnOk result (PledgesAt places.old.items places.new.items table.now at slot tx) }
+    requires running { (r : ARunning) × (running.now ≡ Some r) }
+    requires may { (p : APlace) (r : ARunning) → slice_get places.old.items at ≡ Some p
+        → running.now ≡ Some r → MayPledge p.site tx r.draft.touched }
+    ensures ok { OnOk result (GivesAt places.old.items places.new.items running.now at tx edges.new) }
     ensures err { OnErr result (places.new.items ≡ places.old.items) }
     ensures memory { IfErr result (λ f. f ≡ SiteFault.Memory) }
 {
     let place = &mut places[at];
-    match &table[slot] {
-        Some(running) => {
-            let pledged = place.site.pledge(tx, &running.draft);
-            if pledged.is_ok() {
-                place.part = Part::Due;
-            }
-            pledged
-        }
+    let _items = place.site.items();
+    match running {
+        Some(running) => gather(&mut place.site, tx, running.handle, &running.draft, edges),
         None => unreachable!(),
     }
+}
+
+// The block of the open step is due at the site.
+pub(crate) fn make_due(places: &mut Vec<Place>, at: usize)
+    requires { at < length places.old.items }
+    ensures { (p : APlace) → slice_get places.old.items at ≡ Some p
+        → places.new.items ≡ slice_set places.old.items at (record p { part = Due }) }
+{
+    places[at].part = Part::Due;
+}
+
+// Gives the transaction's pledge back that stands at the site.
+pub(crate) fn give_back_at(places: &mut Vec<Place>, at: usize, tx: Tx)
+    requires { at < length places.old.items }
+    ensures { (p : APlace) → slice_get places.old.items at ≡ Some p → IsPledged p.site tx
+        → places.new.items
+        ≡ slice_set places.old.items at (record p { site = record p.site { pledge = None } }) }
+{
+    give_back(&mut places[at].site, tx);
 }
 
 // Adds edges to the step of the transaction. Where none is open it is opened with their list, and the spare one is
@@ -96,10 +89,7 @@ pub(crate) fn add_edges(
 fn release(place: &mut Place, tx: Tx)
     ensures { IsReleased tx place.old place.new }
 {
-    match place.site.unpledge(tx) {
-        Ok(()) => {}
-        Err(_) => {}
-    }
+    give_back(&mut place.site, tx);
     place.part = Part::Idle;
 }
 

@@ -9,15 +9,7 @@ use crate::machine::{Machine, Part, Phase, Place, Running, refused};
 use sgt_certifier::Judge;
 use sgt_core_model::{CoreFault, Reply};
 use sgt_names::{SiteNo, Tx};
-
-/// What was decided of the open step's transaction.
-#[derive(Clone, Copy)]
-pub enum Verdict {
-    /// It is committed.
-    Committed,
-    /// It is refused.
-    Refused,
-}
+use sgt_step::{Ending, end};
 
 impl Machine {
     ghost use Rattle.sgt_notation.specs.declared.event.Event.TheVariants as event;
@@ -61,23 +53,23 @@ impl Machine {
     }
 
     // What was decided of the open step's transaction.
-    fn verdict(&self) -> Option<Verdict>
+    fn verdict(&self) -> Option<Ending>
         ensures { result ≡ verdict_of self.now.step }
     {
         match &self.step {
             Some(open) => match open.phase {
                 Phase::Gathering(_) => None,
-                Phase::Committed => Some(Verdict::Committed),
-                Phase::Refused => Some(Verdict::Refused),
+                Phase::Committed => Some(Ending::Committed),
+                Phase::Refused => Some(Ending::Refused),
             },
             None => None,
         }
     }
 
     // Writes the block of the transaction that was decided so at the site, and notes its install.
-    fn write(&mut self, tx: Tx, site: SiteNo, slot: usize, verdict: Verdict)
+    fn write(&mut self, tx: Tx, site: SiteNo, slot: usize, verdict: Ending)
         requires pledge { IsPledgedAt self.old.places.items self.old.running.items site slot tx }
-        requires awaits { verdict ≡ Verdict.Committed → AwaitsAt self.old.certifier site tx }
+        requires awaits { verdict ≡ Ending.Committed → AwaitsAt self.old.certifier site tx }
         ensures { Writes verdict (parts_of self.old) (parts_of self.new) site slot tx }
     {
         let table = self.running.as_slice();
@@ -106,11 +98,11 @@ fn part_at(places: &[Place], at: usize) -> Part
 }
 
 // Notes the install of the transaction, if it is committed.
-fn note_install(certifier: &mut Judge, tx: Tx, site: SiteNo, verdict: Verdict)
-    requires { verdict ≡ Verdict.Committed → AwaitsAt certifier.old site tx }
+fn note_install(certifier: &mut Judge, tx: Tx, site: SiteNo, verdict: Ending)
+    requires { verdict ≡ Ending.Committed → AwaitsAt certifier.old site tx }
     ensures { IsNotedBy verdict certifier.old certifier.new site tx }
 {
-    if let Verdict::Committed = verdict {
+    if let Ending::Committed = verdict {
         certifier.note(tx, site);
     }
 }
@@ -122,7 +114,7 @@ fn write_at(
     slot: usize,
     tx: Tx,
     site: SiteNo,
-    verdict: Verdict,
+    verdict: Ending,
 )
     requires { IsPledgedAt places.old.items table.now site slot tx }
     ensures { WritesAt verdict places.old.items places.new.items table.now site slot tx }
@@ -130,10 +122,7 @@ fn write_at(
     let place = &mut places[site.number() as usize];
     match &table[slot] {
         Some(running) => {
-            let written = match verdict {
-                Verdict::Committed => place.site.install(tx, running.handle, &running.draft),
-                Verdict::Refused => place.site.refuse(tx, &running.draft),
-            };
+            let written = end(&mut place.site, tx, running.handle, &running.draft, verdict);
             match written {
                 Ok(()) => place.part = Part::Written,
                 Err(_) => unreachable!(),

@@ -12,18 +12,17 @@ ghost use Rattle.sgt_site.specs.declared.fault.SiteFault.TheVariants.{BadItems};
 ghost use Rattle.sgt_core_machine.specs.declared.machine.Part.TheVariants.{Idle};
 ghost use Rattle.sgt_core_machine.specs.declared.machine.Place.{Place as APlace};
 ghost use Rattle.sgt_core_model.specs.Core.{CoreState, fresh};
-ghost use Rattle.sgt_edges.specs.Edges.{SeesTooNew};
 ghost use Rattle.sgt_core_machine.specs.Gathered.{GathersAt, MayPledgeAt, AreReleased};
 ghost use Rattle.sgt_core_model.specs.Step.{IsOwnOpen, IsOtherOpen, IsOfSite, tx_in, IsRefused, MayStep};
 ghost use Rattle.sgt_core_machine.specs.Machine.{parts_of, StandsFor, Stands, GoesOn, IsSlotOf, RefusesItem, RefusesSites, AreOpened, Redrafts, ChangesTo, ReadsTo, ReadsAt, HasRoomAt, IsOfClose, close_fault};
 ghost use Rattle.sgt_core_machine.specs.declared.machine.Running.{Running as ARunning};
 
-use crate::gathering::{add_edges, edges_at, is_gathered, pledge_at, release_all};
+use crate::gathering::{add_edges, gather_there, give_back_at, is_gathered, make_due, release_all};
 use crate::looking::look_at;
 use sgt_arena::{Handle, MAX_PLACES};
 use sgt_certifier::{CertifierFault, Judge};
 use sgt_core_model::{CoreFault, Reply};
-use sgt_edges::{EdgeFault, EdgeList};
+use sgt_edges::EdgeList;
 use sgt_names::{Draft, Holding, Item, Listed, Seen, SiteNo, Tx, Value};
 use sgt_site::{Site, SiteFault};
 use std::alloc::{AllocError, Global};
@@ -298,31 +297,37 @@ impl Machine {
     fn gather_at(&mut self, tx: Tx, slot: usize, at: usize) -> Result<(), AllocError>
         requires site { at < length self.old.places.items }
         requires slot { (r : ARunning) × (slice_get self.old.running.items slot ≡ Some (Some r)) }
-        requires seen { (p : APlace) (r : ARunning) → slice_get self.old.places.items at ≡ Some p
-            → slice_get self.old.running.items slot ≡ Some (Some r)
-            → SeesTooNew p.site r.draft.touched → ⊥ }
         requires may { MayPledgeAt self.old.places.items self.old.running.items at slot tx }
         ensures ok { OnOk result (GathersAt (parts_of self.old) (parts_of self.new) tx slot at) }
         ensures err { OnErr result
             (parts_of self.new ≡ record (parts_of self.old) { step = self.new.step }) }
     {
-        let table = self.running.as_slice();
-        match edges_at(&mut self.more, self.places.as_slice(), table, at, slot) {
+        match gather_there(
+            &mut self.places,
+            at,
+            &self.running[slot],
+            tx,
+            &mut self.more,
+        ) {
             Ok(()) => {}
-            Err(EdgeFault::Memory) => return Err(AllocError),
-            Err(EdgeFault::SeenTooNew) => unreachable!(),
+            Err(SiteFault::Memory) => return Err(AllocError),
+            Err(_) => unreachable!(),
         }
-        add_edges(
+        match add_edges(
             self.alloc,
             &mut self.step,
             tx,
             &mut self.more,
             &mut self.spare,
-        )?;
-        match pledge_at(&mut self.places, table, at, slot, tx) {
-            Ok(()) => Ok(()),
-            Err(SiteFault::Memory) => Err(AllocError),
-            Err(_) => unreachable!(),
+        ) {
+            Ok(()) => {
+                make_due(&mut self.places, at);
+                Ok(())
+            }
+            Err(refused) => {
+                give_back_at(&mut self.places, at, tx);
+                Err(refused)
+            }
         }
     }
 

@@ -1,19 +1,19 @@
 //! A transaction is committed or refused as a whole: gathered at each site that it touches, decided, and its block
 //! written there.
 
-ghost use Rattle.std.specs.Prelude.{◌≡◌, ◌<◌, ◌≤◌, false, Some, None, length, get_or, slice_get, All, Any, IfOk, IfErr, OnOk, OnErr};
-ghost use Rattle.sgt_names.specs.Draft.{IsUsed, Touches};
+ghost use Rattle.std.specs.Prelude.{◌≡◌, ◌<◌, ◌≤◌, Some, None, length, slice_get, IfOk, IfErr, OnOk, OnErr};
 ghost use Rattle.sgt_names.specs.Limits.{max_sites};
 ghost use Rattle.sgt_notation.specs.declared.event.Event.TheVariants as event;
 ghost use Rattle.sgt_core_model.specs.Core.{CoreState};
 ghost use Rattle.sgt_core_model.specs.Step.{MayStep, MayDecide};
 ghost use Rattle.sgt_core_machine.specs.Machine.{parts_of, StandsFor, Stands, GoesOn};
-ghost use Rattle.sgt_core_machine.specs.private.Whole.{AreFlags, AreTouched, Marks, IsWhole, RefusesWhole, GathersAll, AwaitsBlocks, DecidesWhole, InstallsAll};
+ghost use Rattle.sgt_core_machine.specs.private.Whole.{AreTouched, IsWhole, RefusesWhole, GathersAll, AwaitsBlocks, DecidesWhole, InstallsAll};
 ghost use Rattle.sgt_core_machine.specs.declared.machine.Running.{Running as ARunning};
 
 use crate::machine::{Machine, Running, refused};
 use sgt_core_model::{CoreFault, Reply};
-use sgt_names::{Draft, Part, SiteNo, Touch, Tx};
+use sgt_names::{SiteNo, Tx};
+use sgt_step::TouchedSites;
 use std::alloc::AllocError;
 use std::mem;
 
@@ -130,68 +130,8 @@ fn touched_sites(
     ensures { (r : ARunning) → slice_get table.now slot ≡ Some (Some r)
         → OnOk result (AreTouched r.draft.touched count sites.new.items) }
 {
-    let flags = flags_at(table, slot);
-    sites.clear();
-    for number in 0..count {
-        if is_set(&flags, number) {
-            let Ok(site) = SiteNo::new(number as u64) else {
-                unreachable!();
-            };
-            sites.push(site)?;
-        }
-    }
-    Ok(())
-}
-
-// Whether the flag of the site of this number is set.
-fn is_set(flags: &[bool; 64], number: usize) -> bool
-    requires { number < 64 }
-    ensures { result ≡ get_or flags.now number false }
-{
-    flags[number]
-}
-
-// Which sites the transaction at a place of the table touches.
-fn flags_at(table: &[Option<Running>], slot: usize) -> [bool; 64]
-    requires { slot < length table.now }
-    ensures { (r : ARunning) → slice_get table.now slot ≡ Some (Some r)
-        → AreFlags result r.draft.touched }
-{
     match &table[slot] {
-        Some(running) => flags_of(&running.draft),
-        None => [false; 64],
-    }
-}
-
-// Which sites the draft touches.
-fn flags_of(draft: &Draft) -> [bool; 64]
-    ensures { AreFlags result draft.now.touched }
-{
-    let mut flags = [false; 64];
-    let (few, parts) = draft.touched();
-    mark_all(&mut flags, few);
-    mark_parts(&mut flags, parts);
-    flags
-}
-
-// Sets the flags of the sites of these parts.
-fn mark_parts(flags: &mut [bool; 64], parts: &[Part])
-    requires long { length flags.old ≡ 64 }
-    ensures { Marks flags.old flags.new (λ s. Any (λ p. Touches p.touched s) parts.now) }
-{
-    for part in parts {
-        mark_all(flags, part.touched());
-    }
-}
-
-// Sets the flags of the sites of these items.
-fn mark_all(flags: &mut [bool; 64], touched: &[Touch])
-    requires long { length flags.old ≡ 64 }
-    requires used { All IsUsed touched.now }
-    ensures marks { Marks flags.old flags.new (Touches touched.now) }
-    ensures long { length flags.new ≡ 64 }
-{
-    for touch in touched {
-        flags[touch.site.number() as usize] = true;
+        Some(running) => TouchedSites::of(&running.draft).list_below(sites, count),
+        None => Ok(()),
     }
 }

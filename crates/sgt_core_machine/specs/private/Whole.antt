@@ -1,6 +1,6 @@
 -- A transaction is gathered wherever it touches, decided, and its blocks are written: what is so
 -- between the parts.
-use Rattle.std.specs.Prelude.{◌≡◌, ◌↔◌, ◌⊎◌, ◌<◌, ◌≤◌, ℕ, Bool, true, false, get_or, List, [], ◌∷◌, length, map, filter, Contains, Some}
+use Rattle.std.specs.Prelude.{◌≡◌, ◌↔◌, ◌<◌, ◌≤◌, ℕ, Bool, true, List, [], ◌∷◌, length, map, filter, Contains, Some}
 use Rattle.std.specs.List.{range_with_len}
 use Rattle.sgt_names.specs.Draft.{Touches}
 use Rattle.sgt_names.specs.declared.draft.Touch.{Touch}
@@ -16,15 +16,6 @@ use Rattle.sgt_core_model.specs.Step.{IsOtherOpen, gathered_in, IsRefused, IsAll
 abbrev pub AreTouched : List Touch → ℕ → List ℕ → Type 0
 AreTouched touched count sites = (p : ℕ → Bool) → ((s : ℕ) → (p s ≡ true) ↔ Touches touched s)
     → sites ≡ filter p (range_with_len 0 count)
-
--- the flags of the sites that are touched are set, and no others
-abbrev pub AreFlags : List Bool → List Touch → Type 0
-AreFlags flags touched = (s : ℕ) → (get_or flags s false ≡ true) ↔ Touches touched s
-
--- the flags of these sites were set, and no others
-abbrev pub Marks : (old new : List Bool) → (ℕ → Type 0) → Type 0
-Marks old new Hits =
-    (s : ℕ) → (get_or new s false ≡ true) ↔ ((get_or old s false ≡ true) ⊎ Hits s)
 
 -- the transaction may be committed, and touches these sites
 pub record IsWhole (c : CoreState) (tx : ℕ) (sites : List ℕ) : Type 0 where

@@ -13,7 +13,6 @@ use Rattle.sgt_core_model.proofs.Runs.{gather_idle}
 use Rattle.sgt_core_machine.proofs.Standing.{reached_kept}
 use Rattle.sgt_core_machine.proofs.Stepping.{same_draft, gather_goes, gives_up, only_step}
 use Rattle.sgt_core_machine.proofs.Unrefused.{may_pledge, idle_pledge}
-use Rattle.sgt_core_machine.proofs.Versions.{not_too_new}
 use Rattle.sgt_core_machine.proofs.machine.Machine.gather.Goals as goal
 
 pub returns-in-Err : goal.returns-in-Err
@@ -97,11 +96,6 @@ returns-in-Err-gather_at c = λ d s.
     (parts_of c.gather_at.new.self) (parts_of c.give_up.new.self) same.0 same.1
     c.give_up.ensures.places c.give_up.ensures.rest (Gather c.args.tx c.args.site) _
     c.refused-in-Err-gather_at.ensures (may, refl)
-
-pub gather_at-requires-clause-seen : goal.gather_at-requires-clause-seen
-gather_at-requires-clause-seen c =
-    λ p r here runs too. not_too_new (parts_of c.args.self.now) c.requires.0 c.requires.1 c.in-Ok.slot _ p r here runs
-    too
 
 pub gather_at-requires-clause-may : goal.gather_at-requires-clause-may
 gather_at-requires-clause-may c = λ p r here runs.
