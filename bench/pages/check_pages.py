@@ -39,7 +39,7 @@ def commands():
 def options():
     """The options that the code knows, by their long names."""
     words = text_of(f"{WORDS}/commands.rt")
-    named = re.findall(r'\.long\("([\w-]+)"\)', words) + re.findall(r'= flag\(\s*alloc,\s*"([\w-]+)"', words)
+    named = re.findall(r"""Taken::(?:Flag|Letter|Value|LetterValue)\((?:\s*'.',)?\s*"([\w-]+)\"""", words)
     named += re.findall(r'number_option\(\s*alloc,\s*"(\w+)"', text_of(f"{WORDS}/options.rt"))
     lines = text_of(f"{LINE}/kind.rt").splitlines()
     of_others = {line for line in lines if (names := set(re.findall(r"CommandName::(\w+)", line))) and names <= missing()}
