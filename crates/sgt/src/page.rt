@@ -37,13 +37,14 @@ fn whole<H>(host: &Host<'_, H>, name: &str) -> Result<Result<Vec<u8>, u8>, Alloc
     };
     let mut text = Vec::new(alloc);
     let mut piece = Vec::from_elem(alloc, 0u8, PIECE)?;
-    loop {
+    for _ in 0..u64::MAX {
         match (&mut steady).read(piece.as_mut_slice()) {
-            Ok(0) => return Ok(Ok(text)),
+            Ok(0) => break,
             Ok(n) => text.extend_from_slice(piece.as_slice().get(..n).unwrap_or(&[]))?,
             Err(_) => return Ok(Err(ended(host, &steady, name, 4))),
         }
     }
+    Ok(Ok(text))
 }
 
 // What the program writes for these words over the text, and its status.
