@@ -21,13 +21,14 @@ IsBeside p text = ((p.place ≢ None) × (text ≡ codes "--svg (with --against)
 abbrev pub IsBesideOrder : Parts → (text : List ℕ) → Type 0
 IsBesideOrder p text = (IsCheck p × (p.against ≢ None)) × IsBeside p text
 
--- a status alone, a page, or what a rule says, where an object of JSON is asked for; or what a rule says as a page; by
--- the text with which it is refused
+-- a status alone, a page, or what a rule says, where an object of JSON is asked for; or a status alone, or what a rule
+-- says, where a page is; by the text with which it is refused
 abbrev pub IsBesideObject : Parts → (text : List ℕ) → Type 0
 IsBesideObject p text = ((p.is_json ≡ true) × (((p.is_quiet ≡ true) × (text ≡ codes "--quiet (with --json)"))
     ⊎ (((p.is_page ≡ true) × (text ≡ codes "--html (with --json)"))
     ⊎ ((p.names_rule ≡ true) × (text ≡ codes "RULE (with --json)")))))
-    ⊎ ((p.is_page ≡ true) × (p.names_rule ≡ true) × (text ≡ codes "RULE (with --html)"))
+    ⊎ ((p.is_page ≡ true) × (((p.is_quiet ≡ true) × (text ≡ codes "--quiet (with --html)"))
+    ⊎ ((p.names_rule ≡ true) × (text ≡ codes "RULE (with --html)"))))
 
 -- this file, if there is one, is among those
 abbrev pub IsAmong : Option (List ℕ) → List (List ℕ) → Type 0

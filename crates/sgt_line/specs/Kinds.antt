@@ -32,7 +32,7 @@ IsNoted command word Progress = TellsLines command × (word ≡ codes "--progres
 IsNoted command word Why = (command ≢ Serve) × (word ≡ codes "--why")
 IsNoted command word Json = (((command ≡ Audit) ⊎ (command ≡ Certify)) ⊎ ((command ≡ Explain) ⊎ (command ≡ Check)))
     × (word ≡ codes "--json")
-IsNoted command word Page = (command ≡ Explain) × (word ≡ codes "--html")
+IsNoted command word Page = ((command ≡ Explain) ⊎ (command ≡ Check)) × (word ≡ codes "--html")
 IsNoted command word Dashes = word ≡ codes "--"
 IsNoted command word Place = (((command ≡ Replay) ⊎ (command ≡ Run)) × (word ≡ codes "--bundle"))
     ⊎ (((command ≡ Serve) × (word ≡ codes "--bundles")) ⊎ ((command ≡ Check) × (word ≡ codes "--svg")))

@@ -77,6 +77,9 @@ fn beside_object(line: &Line) -> Option<&'static str>
     if line.is_json && line.names_rule {
         return Some("RULE (with --json)");
     }
+    if line.is_page && line.is_quiet {
+        return Some("--quiet (with --html)");
+    }
     if line.is_page && line.names_rule {
         return Some("RULE (with --html)");
     }

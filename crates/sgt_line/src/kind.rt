@@ -43,7 +43,7 @@ pub enum Kind {
     Why,
     /// The answer is written as an object of JSON.
     Json,
-    /// An explanation is written as a page of HTML.
+    /// The answer is written as a page of HTML.
     Page,
     /// Behind it each word is a file.
     Dashes,
@@ -122,7 +122,7 @@ fn is_json(command: CommandName, word: &str) -> bool
 fn is_page(command: CommandName, word: &str) -> bool
     ensures { IsTrue result ↔ IsNoted command word.now kind.Page }
 {
-    command == CommandName::Explain && word == "--html"
+    (command == CommandName::Explain || command == CommandName::Check) && word == "--html"
 }
 
 fn is_place(command: CommandName, word: &str) -> bool

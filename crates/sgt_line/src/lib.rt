@@ -13,5 +13,6 @@ mod written;
 pub use kind::tells_lines;
 pub use line::Line;
 pub use name::{CommandName, named};
+pub use rule::names_rule;
 pub use texts::{behind_first, first_of, last_of, only_of};
 pub use written::{cut, has_refusal, shown, strict_status};

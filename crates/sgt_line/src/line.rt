@@ -44,7 +44,7 @@ pub struct Line {
     pub tells_why: bool,
     /// Whether the answer is written as an object of JSON.
     pub is_json: bool,
-    /// Whether an explanation is written as a page of HTML.
+    /// Whether the answer is written as a page of HTML.
     pub is_page: bool,
 }
 
