@@ -1,7 +1,8 @@
 #!/usr/bin/env python3
-"""Looks over the pages that `sgt explain --html` writes of texts: that they are small and name nothing elsewhere, that no
-text of the explanation is markup, and what their script makes of it. With Debian's `chromium` the page is loaded by it
-and its console is read; else the script is run by `node` over a small stand-in for the page.
+"""Looks over the pages that `sgt explain --html` writes of texts, and `sgt check --html` of histories: that they are
+small and name nothing elsewhere, that no text of the explanation is markup, and what their script makes of it. With
+Debian's `chromium` the page is loaded by it and its console is read; else the script is run by `node` over a small
+stand-in for the page.
 
 usage: browse.py PROGRAM TEXT ..        (the status is 1 if anything was found)
 """
@@ -14,6 +15,9 @@ import sys
 import tempfile
 
 MOST = 300_000
+
+# A step of logs, or of a history.
+STEP = re.compile(r"^  \d+ .+ before \d+ .+: site \d+, lines \d+ and \d+$|^\S.* (?:ww|wr|rw|po|rt) .+ lines \d+ \d+$", re.M)
 
 STAND_IN = r"""
 class E{constructor(t){this.tag=t;this.kids=[];this.dataset={};this.on=new Set();this.words='';this.calls={};
@@ -48,7 +52,7 @@ def by_node(page):
     if run.returncode != 0:
         return [run.stderr.strip().splitlines()[-1]]
     told = json.loads(run.stdout)
-    wanted = len(re.findall(r"^  \d+ .+ before \d+ .+: site \d+, lines \d+ and \d+$", html.unescape(text), re.M))
+    wanted = len(STEP.findall(html.unescape(text)))
     found = [] if told["steps"] == wanted else [f"{told['steps']} steps, {wanted} wanted"]
     found += [] if all(n == 2 for n in told["marked"]) else [f"a step marks {told['marked']} rows"]
     found += [] if "is not among" in told["said"] else ["a transaction that isn't shown is found"]
@@ -78,7 +82,9 @@ def main():
     program, *texts = sys.argv[1:]
     count = 0
     for name in texts:
-        run = subprocess.run([program, "explain", "--html", name], capture_output=True, text=True, check=False)
+        with open(name, "rb") as file:
+            command = "check" if file.read(1) == b"{" else "explain"
+        run = subprocess.run([program, command, "--html", name], capture_output=True, text=True, check=False)
         for it in found_in(run.stdout):
             print(f"{name}: {it}")
             count += 1

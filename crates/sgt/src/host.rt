@@ -6,7 +6,7 @@ use crate::output::Output;
 use crate::progress::Progress;
 use crate::unreadable::{Fronted, Watched, tell_unreadable};
 use crate::why::tell_why;
-use sgt_line::CommandName;
+use sgt_line::{CommandName, Line};
 use sgt_names::{FromRead, Sink, ToWrite};
 use sgt_program::program;
 use std::fs::File;
@@ -38,6 +38,14 @@ pub(crate) fn file_of(name: Option<&String>) -> &str {
     match name {
         Some(name) => name.as_str(),
         None => "-",
+    }
+}
+
+/// The word of the command.
+pub(crate) fn word_of(line: &Line) -> &str {
+    match line.words.get(1) {
+        Some(word) => word.as_str(),
+        None => "audit",
     }
 }
 

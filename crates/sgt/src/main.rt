@@ -13,6 +13,7 @@ mod ordinary;
 mod output;
 mod page;
 mod progress;
+mod sentence;
 mod svg;
 mod talk;
 mod unreadable;
@@ -25,7 +26,7 @@ use crate::expected::expected_of;
 use crate::host::{Host, file_of, over, writer};
 use crate::object::{answer_objects, asks_object};
 use crate::ordinary::{audit_each, judge, run_held};
-use crate::page::{asks_page, explain_page};
+use crate::page::{answer_page, asks_page};
 use crate::svg::check_drawn;
 use crate::talk::serve_events;
 use crate::unreadable::Watched;
@@ -102,7 +103,7 @@ fn run<H: Threads + Wait + Sync>(
         return answer_objects(host, line, choice);
     }
     if asks_page(line, choice) {
-        return explain_page(host, line);
+        return answer_page(host, line, choice);
     }
     let name = file_of(line.files.first());
     match way_of(line, choice) {

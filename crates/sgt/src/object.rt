@@ -4,7 +4,7 @@ ghost use Rattle.std.specs.Prelude.{◌≡◌};
 
 use crate::against::judged;
 use crate::chain::audit_files;
-use crate::host::{Host, file_of, over, writer};
+use crate::host::{Host, file_of, over, word_of, writer};
 use crate::output::Output;
 use crate::svg::drawn;
 use sgt_command_line::{Choice, NoChoice, Way, wanted_by, way_of};
@@ -109,14 +109,6 @@ impl Sink for Answer<'_> {
     }
 }
 
-// The word of the command.
-fn word_of(line: &Line) -> &str {
-    match line.words.get(1) {
-        Some(word) => word.as_str(),
-        None => "audit",
-    }
-}
-
 // Writes the answer on the file of this name as an object, where there is an answer.
 fn tell<H, W: Sink>(
     host: &Host<'_, H>,
@@ -150,6 +142,27 @@ fn whole(alloc: Global, answer: Answer<'_>) -> Result<Vec<u8>, EngineFail> {
     Ok(answer.into_text(alloc)?)
 }
 
+/// The status of a file, on which the answer is written.
+pub(crate) fn answer_into<H: Threads + Wait + Sync, W: Sink>(
+    host: &Host<'_, H>,
+    line: &Line,
+    choice: &Result<Choice, NoChoice>,
+    name: &str,
+    output: &mut W,
+) -> Result<u8, EngineFail> {
+    match way_of(line, choice) {
+        Way::Against => {
+            let order = file_of(line.against.as_ref());
+            Ok(judged(host, wanted_by(choice), order, name, output))
+        }
+        Way::Drawn => {
+            let names = (name, file_of(line.place.as_ref()));
+            drawn(host, line, names, output)
+        }
+        _ => Ok(over(host, line.words.as_slice(), name, output)),
+    }
+}
+
 // The status of a file, whose object is written.
 fn answered<H: Threads + Wait + Sync, W: Sink>(
     host: &Host<'_, H>,
@@ -159,17 +172,7 @@ fn answered<H: Threads + Wait + Sync, W: Sink>(
     output: &mut W,
 ) -> Result<u8, EngineFail> {
     let mut answer = Answer::new(host);
-    let status = match way_of(line, choice) {
-        Way::Against => {
-            let order = file_of(line.against.as_ref());
-            judged(host, wanted_by(choice), order, name, &mut answer)
-        }
-        Way::Drawn => {
-            let names = (name, file_of(line.place.as_ref()));
-            drawn(host, line, names, &mut answer)?
-        }
-        _ => over(host, line.words.as_slice(), name, &mut answer),
-    };
+    let status = answer_into(host, line, choice, name, &mut answer)?;
     let text = whole(host.rt.alloc(), answer)?;
     tell(host, line, name, text, output)?;
     Ok(status)
@@ -214,7 +217,8 @@ fn answered_each<H: Threads + Wait + Sync, W: Sink>(
 pub(crate) fn asks_object(line: &Line, choice: &Result<Choice, NoChoice>) -> bool {
     match choice {
         Ok(Choice::Audit | Choice::AuditWith { .. } | Choice::Certify) => line.is_json,
-        Ok(Choice::Explain | Choice::Transaction(_) | Choice::Check(_)) => line.is_json,
+        Ok(Choice::Explain | Choice::ExplainAll | Choice::Transaction(_)) => line.is_json,
+        Ok(Choice::Check(_)) => line.is_json,
         _ => false,
     }
 }

@@ -1,9 +1,12 @@
-//! An explanation as a page of HTML.
+//! An answer as a page of HTML.
 
 use crate::devices::{Held, LastWords};
-use crate::host::{Host, ended, file_of, open, writer};
+use crate::host::{Host, ended, file_of, open, word_of, writer};
+use crate::object::answer_into;
+use crate::sentence::{rule_in, sentence};
 use sgt_command_line::{Choice, NoChoice};
-use sgt_line::Line;
+use sgt_history_picture::picture_of;
+use sgt_line::{CommandName, Line};
 use sgt_names::{Asks, Bytes, EngineFail, Nowhere, ToWrite, write_all};
 use sgt_page::{Page, page_of};
 use sgt_program::program;
@@ -23,7 +26,8 @@ const PIECE: usize = 65_536;
 /// Whether the answer is to be written as a page.
 pub(crate) fn asks_page(line: &Line, choice: &Result<Choice, NoChoice>) -> bool {
     match choice {
-        Ok(Choice::Explain | Choice::Transaction(_)) => line.is_page,
+        Ok(Choice::Explain | Choice::ExplainAll | Choice::Transaction(_)) => line.is_page,
+        Ok(Choice::Check(_)) => line.is_page,
         _ => false,
     }
 }
@@ -88,17 +92,17 @@ fn told<H: Threads + Wait + Sync>(
 fn drawing(alloc: Global, words: &[String]) -> Result<Vec<String>, AllocError> {
     let mut given = Vec::new(alloc);
     for word in words {
-        let same = if given.len() == 1 {
-            "draw"
-        } else {
-            word.as_str()
+        let same = match word.as_str() {
+            "--all" => continue,
+            _ if given.len() == 1 => "draw",
+            same => same,
         };
         given.push(String::from_str(alloc, same)?)?;
     }
     Ok(given)
 }
 
-// The picture, where there is one that isn't too large.
+// The picture of the same text, where there is one.
 fn picture<H: Threads + Wait + Sync>(
     host: &Host<'_, H>,
     line: &Line,
@@ -107,29 +111,19 @@ fn picture<H: Threads + Wait + Sync>(
     let alloc = host.rt.alloc();
     let words = drawing(alloc, line.words.as_slice())?;
     let (status, held) = told(host, words.as_slice(), text, true);
-    let is_picture = status == 0 && held.bytes().starts_with(b"<svg ");
-    if is_picture && held.bytes().len() <= PICTURE {
+    if status <= 1 && held.bytes().starts_with(b"<svg ") {
         return Ok(held);
     }
     Ok(Held::new(alloc))
 }
 
-// The rule that the explanation names: of a cycle its anomaly, and else what stands behind `no`.
-fn rule_in(answer: &str) -> Option<&str> {
-    if let Some((_, behind)) = answer.split_once("\n`sgt explain ") {
-        let (name, _) = behind.split_once('`')?;
-        if name != "BUNDLE" {
-            return Some(name);
-        }
+// The picture, if it isn't too large.
+fn small(picture: &[u8]) -> &[u8] {
+    if picture.len() <= PICTURE {
+        picture
+    } else {
+        b""
     }
-    let (first, _) = answer.split_once('\n')?;
-    if !first.starts_with("no ") {
-        return None;
-    }
-    if !first.starts_with("no line ") {
-        return Some(first);
-    }
-    first.rsplit(' ').next()
 }
 
 // The words that ask what a rule is.
@@ -154,22 +148,6 @@ fn meaning<H: Threads + Wait + Sync>(
     Ok(told(host, words.as_slice(), &[], true).1)
 }
 
-// The verdict, in a sentence.
-fn sentence(alloc: Global, first: &str) -> Result<String, AllocError> {
-    if let Some(counts) = first.strip_prefix("yes ") {
-        return format!(in alloc; "Yes: the bundle is valid, with {counts}.");
-    }
-    if let Some(counts) = first.strip_prefix("a certificate exists: ") {
-        return format!(in alloc; "Yes: a certificate exists for these logs, with {counts}.");
-    }
-    if let Some(place) = first.strip_prefix("no line ") {
-        if let Some((number, fault)) = place.split_once(' ') {
-            return format!(in alloc; "No: line {number} is the first with a fault, {fault}.");
-        }
-    }
-    format!(in alloc; "No: there is no certificate for these logs ({first}).")
-}
-
 // The explanation, in whole lines, as much of it as is shown.
 fn front_of(answer: &str) -> &str {
     if answer.len() <= TEXT {
@@ -187,24 +165,25 @@ fn front_of(answer: &str) -> &str {
     answer.get(..end).unwrap_or("")
 }
 
-// The page of an explanation.
+// The page of an answer, with this picture.
 fn page<H: Threads + Wait + Sync>(
     host: &Host<'_, H>,
     line: &Line,
-    text: &[u8],
     answer: &str,
+    picture: &[u8],
 ) -> Result<Vec<u8>, EngineFail> {
     let alloc = host.rt.alloc();
-    let title = format!(in alloc; "sgt explain {}", file_of(line.files.first()))?;
+    let command = host.command;
+    let file = file_of(line.files.first());
+    let title = format!(in alloc; "sgt {} {file}", word_of(line))?;
     let first = match answer.split_once('\n') {
         Some((first, _)) => first,
         None => answer,
     };
-    let verdict = sentence(alloc, first)?;
-    let rule = meaning(host, rule_in(answer))?;
+    let verdict = sentence(alloc, command, first)?;
+    let rule = meaning(host, rule_in(command, answer))?;
     let words = str::from_utf8(rule.bytes()).unwrap_or("");
     let (name, meaning) = words.split_once('\n').unwrap_or(("", ""));
-    let drawn = picture(host, line, text)?;
     Ok(page_of(
         alloc,
         Page {
@@ -212,14 +191,30 @@ fn page<H: Threads + Wait + Sync>(
             verdict: verdict.as_bytes(),
             name: name.as_bytes(),
             meaning: meaning.as_bytes(),
-            picture: drawn.bytes(),
+            picture: small(picture),
             text: front_of(answer).as_bytes(),
         },
     )?)
 }
 
-/// Writes the explanation of this file as a page.
-pub(crate) fn explain_page<H: Threads + Wait + Sync>(
+// Writes the page of the answer that was held, with this picture.
+fn write_page<H: Threads + Wait + Sync>(
+    host: &Host<'_, H>,
+    line: &Line,
+    held: &Held,
+    picture: &[u8],
+) -> Result<(), EngineFail> {
+    let answer = str::from_utf8(held.bytes()).unwrap_or("");
+    let made = page(host, line, answer, picture)?;
+    let mut output = writer(host);
+    match write_all(&mut output, made.as_slice()) {
+        Ok(()) => Ok(()),
+        Err(_) => Err(EngineFail::WriteFault),
+    }
+}
+
+// Writes the explanation of a file as a page.
+fn explain_page<H: Threads + Wait + Sync>(
     host: &Host<'_, H>,
     line: &Line,
 ) -> Result<u8, EngineFail> {
@@ -234,11 +229,41 @@ pub(crate) fn explain_page<H: Threads + Wait + Sync>(
     if status > 1 {
         return Ok(status);
     }
-    let answer = str::from_utf8(held.bytes()).unwrap_or("");
-    let made = page(host, line, text.as_slice(), answer)?;
-    let mut output = writer(host);
-    match write_all(&mut output, made.as_slice()) {
-        Ok(()) => Ok(status),
-        Err(_) => Err(EngineFail::WriteFault),
+    let drawn = picture(host, line, text.as_slice())?;
+    write_page(host, line, &held, drawn.bytes())?;
+    Ok(status)
+}
+
+// Writes the verdict on a history as a page.
+fn check_page<H: Threads + Wait + Sync>(
+    host: &Host<'_, H>,
+    line: &Line,
+    choice: &Result<Choice, NoChoice>,
+) -> Result<u8, EngineFail> {
+    let alloc = host.rt.alloc();
+    let mut held = Held::new(alloc);
+    let status = answer_into(host, line, choice, file_of(line.files.first()), &mut held)?;
+    if held.refused > 0 {
+        return Err(EngineFail::Memory);
+    }
+    if held.bytes().is_empty() {
+        return Ok(status);
+    }
+    match picture_of(alloc, held.bytes())? {
+        Some(drawn) => write_page(host, line, &held, drawn.as_slice())?,
+        None => write_page(host, line, &held, b"")?,
+    }
+    Ok(status)
+}
+
+/// Writes the answer on a file as a page.
+pub(crate) fn answer_page<H: Threads + Wait + Sync>(
+    host: &Host<'_, H>,
+    line: &Line,
+    choice: &Result<Choice, NoChoice>,
+) -> Result<u8, EngineFail> {
+    match host.command {
+        CommandName::Check => check_page(host, line, choice),
+        _ => explain_page(host, line),
     }
 }

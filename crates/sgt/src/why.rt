@@ -2,7 +2,7 @@
 
 use crate::devices::Steady;
 use crate::host::Host;
-use sgt_line::CommandName;
+use sgt_line::{CommandName, names_rule};
 use std::io::Read;
 
 // What a text looks like that is not what the command reads.
@@ -96,6 +96,7 @@ fn reason_of(answer: &[u8]) -> Option<&str> {
 // Tells what to type to learn more of a no for this reason.
 fn tell_reason<H>(host: &Host<'_, H>, name: &str, reason: &str) {
     let rt = host.rt;
+    let place = if names_rule(name) { "./" } else { "" };
     let is_explained = match host.command {
         CommandName::Audit | CommandName::Serial | CommandName::Draw => reason != "C1",
         CommandName::Certify => true,
@@ -103,7 +104,7 @@ fn tell_reason<H>(host: &Host<'_, H>, name: &str, reason: &str) {
     };
     let _ = match reason {
         _ if is_explained && name != "-" => {
-            eprintln!(rt; "sgt: to learn more: sgt explain {name}")
+            eprintln!(rt; "sgt: to learn more: sgt explain {place}{name}")
         }
         "order" | "ranks" | "walk" => {
             eprintln!(rt; "sgt: to learn more: sgt explain no-{reason}")

@@ -17,7 +17,7 @@ use Rattle.sgt_line.specs.declared.name.CommandName.{CommandName}
 use Rattle.sgt_command_line.specs.Options.{SaysRun}
 use Rattle.sgt_command_line.specs.Words.{Asks, Says, SaysTx, SaysWorkers, TellsPicture, TellsTx, command_of}
 use Rattle.sgt_command_line.specs.declared.choice.Choice.{Choice}
-use Rattle.sgt_command_line.specs.declared.choice.Choice.TheVariants.{Audit, AuditWith, Certify, Check, Draw, DrawWith, Explain, Replay, Rule, Run, Serial, Transaction}
+use Rattle.sgt_command_line.specs.declared.choice.Choice.TheVariants.{Audit, AuditWith, Certify, Check, Draw, DrawWith, Explain, ExplainAll, Replay, Rule, Run, Serial, Transaction}
 use Rattle.sgt_command_line.specs.private.Runs.{IsRunOf}
 use Rattle.sgt_names.proofs.Elements.{some-weaker}
 
@@ -52,10 +52,11 @@ tx_joined words w rest o e is all tx (text, says, inr joined) =
     all tx (subst (λ t. SaysTx t tx) (ap (drop 5) both) says)
 
 -- the third letter of the first word
-abbrev third : List (List ℕ) → ℕ
+abbrev pub third : List (List ℕ) → ℕ
 third words = get_or (get_or words 0 []) 2 0
 
-pub letter_of : (topic : Topic) → (rest : List ℕ) → topic_name topic ≡ codes "--tx=" ++ rest → ⊥
+-- the name of a rule begins with no dash
+pub letter_of : (topic : Topic) → (rest : List ℕ) → topic_name topic ≡ codes "-" ++ rest → ⊥
 letter_of (Bundle fault.Format) rest e = absurd (omega (arith, ap (λ (l : List ℕ). get_or l 0 0) e))
 letter_of (Bundle f) rest e = absurd (omega (arith, ap (λ (l : List ℕ). get_or l 0 0) e))
 letter_of (Line cert_fault.NotJson) rest e = absurd (omega (arith, ap (λ (l : List ℕ). get_or l 0 0) e))
@@ -65,14 +66,15 @@ letter_of (Told r) rest e = absurd (omega (arith, ap (λ (l : List ℕ). get_or 
 letter_of (Found anomaly.Internal) rest e = absurd (omega (arith, ap (λ (l : List ℕ). get_or l 0 0) e))
 letter_of (Found a) rest e = absurd (omega (arith, ap (λ (l : List ℕ). get_or l 0 0) e))
 
--- no rule and no transaction
-pub no_explained : (options : List (List ℕ)) → (options ≡ [] → ⊥)
+-- neither all, nor a rule, nor a transaction
+pub no_explained : (options : List (List ℕ)) → (options ≡ [] → ⊥) → options ≢ codes "--all" ∷ []
     → ((topic : Topic) → options ≢ topic_name topic ∷ []) → ((tx : ℕ) → TellsTx options tx → ⊥)
     → (choice : Choice) → command_of choice ≡ command.Explain → Says options choice → ⊥
-no_explained options some no_rule no_tx Explain is says = some says
-no_explained options some no_rule no_tx (Rule topic) is says = no_rule topic says
-no_explained options some no_rule no_tx (Transaction tx) is says = no_tx tx says
-no_explained options some no_rule no_tx choice is says = absurd cc
+no_explained options some not_all no_rule no_tx Explain is says = some says
+no_explained options some not_all no_rule no_tx ExplainAll is says = not_all says
+no_explained options some not_all no_rule no_tx (Rule topic) is says = no_rule topic says
+no_explained options some not_all no_rule no_tx (Transaction tx) is says = no_tx tx says
+no_explained options some not_all no_rule no_tx choice is says = absurd cc
 
 pub empty : {A : Type 0} (xs : List A) (b : Bool) → b ≡ (length xs == 0) → b ≡ true → xs ≡ []
 empty [] b e is_true = refl

@@ -11,8 +11,8 @@ use Rattle.sgt_explain.specs.declared.topics.Topic.TheVariants.{Bundle, Line, To
 use Rattle.sgt_line.specs.declared.name.CommandName.TheVariants as command
 use Rattle.sgt_command_line.specs.Words.{Says, TellsTx, command_of}
 use Rattle.sgt_command_line.specs.declared.choice.Choice.{Choice}
-use Rattle.sgt_command_line.specs.declared.choice.Choice.TheVariants.{Explain, Rule, Transaction}
-use Rattle.sgt_command_line.proofs.Told.{letter_of}
+use Rattle.sgt_command_line.specs.declared.choice.Choice.TheVariants.{Explain, ExplainAll, Rule, Transaction}
+use Rattle.sgt_command_line.proofs.Told.{letter_of, third}
 
 -- a name as a number
 abbrev number_of : List ℕ → ℕ
@@ -61,7 +61,8 @@ topic-one s t e = ap (λ o. unwrap_or o s)
 
 no_tx : (options : List (List ℕ)) (topic : Topic) → options ≡ topic_name topic ∷ [] → (tx : ℕ) → TellsTx options tx → ⊥
 no_tx options topic e tx (text, says, inl apart) = omega (arith, ap length apart, ap length e)
-no_tx options topic e tx (text, says, inr joined) = letter_of topic text (ap (λ l. get_or l 0 []) (sym e ∙ joined))
+no_tx options topic e tx (text, says, inr joined) =
+    letter_of topic (codes "-tx=" ++ text) (ap (λ l. get_or l 0 []) (sym e ∙ joined))
 
 -- the name of a rule asks for that rule alone
 pub rule_alone : (options : List (List ℕ)) (topic : Topic) → options ≡ topic_name topic ∷ []
@@ -69,5 +70,19 @@ pub rule_alone : (options : List (List ℕ)) (topic : Topic) → options ≡ top
 rule_alone options topic e Explain is says = absurd (omega (arith, ap length says, ap length e))
 rule_alone options topic e (Rule other) is says =
     ap (λ t. Some (Rule t)) (topic-one topic other (ap (λ l. get_or l 0 []) (sym e ∙ says)))
+rule_alone options topic e ExplainAll is says =
+    absurd (letter_of topic (codes "-all") (ap (λ l. get_or l 0 []) (sym e ∙ says)))
 rule_alone options topic e (Transaction tx) is says = absurd (no_tx options topic e tx says)
 rule_alone options topic e choice is says = absurd cc
+
+-- `--all` asks for all alone
+pub all_alone : (options : List (List ℕ)) → options ≡ codes "--all" ∷ []
+    → (choice : Choice) → command_of choice ≡ command.Explain → Says options choice → Some ExplainAll ≡ Some choice
+all_alone options e Explain is says = absurd (omega (arith, ap length says, ap length e))
+all_alone options e ExplainAll is says = refl
+all_alone options e (Rule topic) is says =
+    absurd (letter_of topic (codes "-all") (ap (λ l. get_or l 0 []) (sym says ∙ e)))
+all_alone options e (Transaction tx) is (text, says, inl apart) = absurd (omega (arith, ap length apart, ap length e))
+all_alone options e (Transaction tx) is (text, says, inr joined) =
+    absurd (omega (arith, ap third (sym joined ∙ e)))
+all_alone options e choice is says = absurd cc

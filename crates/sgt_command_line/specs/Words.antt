@@ -6,7 +6,7 @@ use Rattle.sgt_line.specs.Names.{command_text}
 use Rattle.sgt_command_line.specs.Check.{SaysCheck}
 use Rattle.sgt_command_line.specs.Options.{ReadsNumber, SaysRun}
 use Rattle.sgt_command_line.specs.declared.choice.Choice.{Choice}
-use Rattle.sgt_command_line.specs.declared.choice.Choice.TheVariants.{Audit, AuditWith, Certify, Check, Draw, DrawWith, Explain, Replay, Rule, Run, Serial, Transaction}
+use Rattle.sgt_command_line.specs.declared.choice.Choice.TheVariants.{Audit, AuditWith, Certify, Check, Draw, DrawWith, Explain, ExplainAll, Replay, Rule, Run, Serial, Transaction}
 use Rattle.sgt_command_line.specs.declared.choice.NoChoice.{NoChoice}
 use Rattle.sgt_command_line.specs.declared.choice.NoChoice.TheVariants.{Help, Usage, Bare, Memory}
 use Rattle.sgt_line.specs.declared.name.CommandName.{CommandName}
@@ -41,6 +41,7 @@ command_of Serial = command.Serial
 command_of Replay = command.Replay
 command_of Certify = command.Certify
 command_of Explain = command.Explain
+command_of ExplainAll = command.Explain
 command_of (Transaction tx) = command.Explain
 command_of (Rule topic) = command.Explain
 command_of Draw = command.Draw
@@ -48,11 +49,12 @@ command_of (DrawWith tx is_dot) = command.Draw
 command_of (Check wanted) = command.Check
 command_of (Run workers tries) = command.Run
 
--- what stands behind the command's name says this: nothing where the command stands alone; the
--- number of workers; a transaction; a rule's name; options of a picture or of a check; of a run what clap finds
+-- what stands behind the command's name says this: nothing where the command stands alone; the number of workers; that
+-- all are to be explained; a transaction; a rule's name; options of a picture or of a check; of a run what clap finds
 abbrev pub Says : List (List ℕ) → Choice → Type 0
 Says options (AuditWith workers) = (text : List ℕ) × SaysWorkers text workers
     × (options ≡ codes "--workers" ∷ text ∷ [])
+Says options ExplainAll = options ≡ codes "--all" ∷ []
 Says options (Transaction tx) = TellsTx options tx
 Says options (Rule topic) = options ≡ topic_name topic ∷ []
 Says options (DrawWith tx is_dot) = TellsPicture options tx is_dot

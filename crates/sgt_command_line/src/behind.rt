@@ -100,6 +100,16 @@ fn rule_told(options: &[String]) -> Option<Topic>
     Topic::find(only_of(options)?)
 }
 
+// Whether all refused transactions are asked for.
+fn asks_all(options: &[String]) -> bool
+    ensures { IsTrue result ↔ (map string_bytes options.now ≡ codes "--all" ∷ []) }
+{
+    match only_of(options) {
+        Some(word) => word == "--all",
+        None => false,
+    }
+}
+
 // What stands behind `explain`.
 fn explain_behind(options: &[String]) -> Option<Choice>
     ensures some { IfSome result (λ choice. (command_of choice ≡ command.Explain)
@@ -109,6 +119,9 @@ fn explain_behind(options: &[String]) -> Option<Choice>
 {
     if options.is_empty() {
         return Some(Choice::Explain);
+    }
+    if asks_all(options) {
+        return Some(Choice::ExplainAll);
     }
     match rule_told(options) {
         Some(topic) => Some(Choice::Rule(topic)),

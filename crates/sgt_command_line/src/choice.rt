@@ -27,13 +27,16 @@ pub enum Choice {
     Replay,
     /// Make the certificate of logs that have none, or say why there is none.
     Certify,
-    /// Judge a bundle, and say what the verdict means.
+    /// Judge a bundle or logs without a certificate, and say what the verdict means; of a yes for a hundred refused
+    /// transactions at most.
     Explain,
+    /// The same, for all refused transactions.
+    ExplainAll,
     /// The same, and what this transaction did.
     Transaction(Tx),
     /// Say what a rule is.
     Rule(Topic),
-    /// Judge a bundle, and draw it where it is valid.
+    /// Judge a bundle or logs without a certificate, and draw what is valid, or the cycle that says why it isn't.
     Draw,
     /// The same, of this refused transaction's cycle alone, or as Graphviz text.
     DrawWith { tx: Option<Tx>, is_dot: bool },
@@ -99,7 +102,7 @@ pub fn asks_talk(words: &[String]) -> bool
 
 /// What the words ask for; the first word is the program's name. The options of `run` are read by clap, `audit` may
 /// have
-/// `--workers N` behind it, `explain` a rule's name or `--tx N`, `draw` `--tx N` and `--dot`, and `check` `--order`, `--real-time` and `--sessions`;
+/// `--workers N` behind it, `explain` a rule's name, `--all` or `--tx N`, `draw` `--tx N` and `--dot`, and `check` `--order`, `--real-time` and `--sessions`;
 /// else a command stands alone (`serve` is no choice: see `asks_talk`). Other words are help, where one of them asks
 /// for it, or no command.
 pub fn choose(alloc: Global, words: &[String]) -> Result<Choice, NoChoice>

@@ -26,13 +26,13 @@ const SERVE: &str =
 const CERTIFY: &str =
     "Makes the certificate of logs that have none, and writes the bundle, or why there is no certificate";
 
-const EXPLAIN: &str = "Writes audit's line on a bundle, and what it means";
+const EXPLAIN: &str = "Writes audit's line on a bundle, or certify's on logs, and what it means";
 
 const CHECK: &str =
     "Writes `yes C committed A aborted` for a serializable history, else the anomaly with what shows it: docs/HISTORIES.md";
 
 const DRAW: &str =
-    "Draws a valid bundle as SVG: transactions by rank, their conflicts, and refused ones with their cycles; else writes audit's `no` line";
+    "Draws a valid bundle as SVG: transactions by rank, their conflicts, and refused ones with their cycles; of logs the bundle that certify makes, or the cycle that excludes one; else writes the `no` line";
 
 // The usage of each command, with an example. What of it is a file or about files is taken out of the words before.
 const AUDIT_USAGE: &str =
@@ -47,13 +47,13 @@ const REPLAY_USAGE: &str =
 const SERVE_USAGE: &str = "sgt serve [--bundles DIR] [FILE]\n  e.g. sgt serve --bundles bundles";
 
 const CHECK_USAGE: &str =
-    "sgt check [--order] [--real-time] [--sessions] [--svg FILE] [-q] [--json] [--why] [--progress] [-o FILE] [FILE]\n       sgt check --against ORDER [--real-time] [--sessions] [-q] [--json] [--why] [-o FILE] [FILE]\n  e.g. sgt check history.jsonl";
+    "sgt check [--order] [--real-time] [--sessions] [--svg FILE] [-q] [--json | --html] [--why] [--progress] [-o FILE] [FILE]\n       sgt check --against ORDER [--real-time] [--sessions] [-q] [--json | --html] [--why] [-o FILE] [FILE]\n  e.g. sgt check history.jsonl";
 
 const CERTIFY_USAGE: &str =
     "sgt certify [--json] [--why] [-o FILE] [FILE]\n  e.g. sgt certify -o bundle.txt logs.txt";
 
 const EXPLAIN_USAGE: &str =
-    "sgt explain [--tx N] [--json | --html] [--why] [-o FILE] [FILE]\n       sgt explain RULE\n  e.g. sgt explain bundle.txt";
+    "sgt explain [--tx N | --all] [--json | --html] [--why] [-o FILE] [FILE]\n       sgt explain RULE\n  e.g. sgt explain bundle.txt";
 
 const DRAW_USAGE: &str =
     "sgt draw [--tx N] [--dot] [--why] [-o FILE] [FILE]\n  e.g. sgt draw -o bundle.svg bundle.txt";
@@ -114,6 +114,11 @@ const JSON: Taken = Taken::Flag(
     "Writes the answer as an object of JSON, a line for each file",
 );
 
+const PAGE: Taken = Taken::Flag(
+    "html",
+    "Writes the answer as a page of HTML, with its picture",
+);
+
 const BUNDLE: Taken = Taken::Value(
     "bundle",
     "FILE",
@@ -121,12 +126,20 @@ const BUNDLE: Taken = Taken::Value(
 );
 
 // What stands behind `explain`, `draw` and `check`, and is left for the program.
-const EXPLAIN_WORDS: [Taken; 2] = [
+const EXPLAIN_WORDS: [Taken; 3] = [
     Taken::Word(
         "RULE",
         "Says what F1 to F19, K1 to K4 or C1 is, a reply's E8, L1 or V9, an anomaly as G1a, or no-ranks",
     ),
-    Taken::Value("tx", "N", "Says what transaction N did"),
+    Taken::Value(
+        "tx",
+        "N",
+        "Says what transaction N did; status 1 if it is nowhere",
+    ),
+    Taken::Flag(
+        "all",
+        "Explains all refused transactions, not the first hundred alone",
+    ),
 ];
 
 const DRAW_WORDS: [Taken; 2] = [
@@ -197,7 +210,7 @@ const SERVE_TAKEN: [Taken; 2] = [
 
 const RUN_TAKEN: [Taken; 4] = [FILE, WHY, BUNDLE, OUTPUT];
 
-const CHECK_TAKEN: [Taken; 8] = [
+const CHECK_TAKEN: [Taken; 9] = [
     FILE,
     Taken::Value(
         "against",
@@ -211,6 +224,7 @@ const CHECK_TAKEN: [Taken; 8] = [
     ),
     QUIET,
     JSON,
+    PAGE,
     WHY,
     PROGRESS,
     OUTPUT,
@@ -218,16 +232,7 @@ const CHECK_TAKEN: [Taken; 8] = [
 
 const CERTIFY_TAKEN: [Taken; 4] = [FILE, JSON, WHY, OUTPUT];
 
-const EXPLAIN_TAKEN: [Taken; 5] = [
-    FILE,
-    JSON,
-    Taken::Flag(
-        "html",
-        "Writes the explanation as a page of HTML, with its picture",
-    ),
-    WHY,
-    OUTPUT,
-];
+const EXPLAIN_TAKEN: [Taken; 5] = [FILE, JSON, PAGE, WHY, OUTPUT];
 
 const DRAW_TAKEN: [Taken; 3] = [FILE, WHY, OUTPUT];
 
