@@ -13,7 +13,6 @@ mod ordinary;
 mod output;
 mod page;
 mod progress;
-mod sentence;
 mod svg;
 mod talk;
 mod unreadable;

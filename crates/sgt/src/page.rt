@@ -3,22 +3,16 @@
 use crate::devices::{Held, LastWords};
 use crate::host::{Host, ended, file_of, open, word_of, writer};
 use crate::object::answer_into;
-use crate::sentence::{rule_in, sentence};
 use sgt_command_line::{Choice, NoChoice};
 use sgt_history_picture::picture_of;
 use sgt_line::{CommandName, Line};
 use sgt_names::{Asks, Bytes, EngineFail, Nowhere, ToWrite, write_all};
-use sgt_page::{Page, page_of};
+use sgt_page::{Answered, page_of_answer, rule_in};
 use sgt_program::program;
 use std::alloc::{AllocError, Global};
 use std::io::Read;
 use std::sync::Wait;
 use std::thread::Threads;
-
-// How much of an explanation and of a picture is shown, so that a page stays small.
-const TEXT: usize = 16_384;
-
-const PICTURE: usize = 131_072;
 
 // How much is read at a time.
 const PIECE: usize = 65_536;
@@ -117,15 +111,6 @@ fn picture<H: Threads + Wait + Sync>(
     Ok(Held::new(alloc))
 }
 
-// The picture, if it isn't too large.
-fn small(picture: &[u8]) -> &[u8] {
-    if picture.len() <= PICTURE {
-        picture
-    } else {
-        b""
-    }
-}
-
 // The words that ask what a rule is.
 fn asking(alloc: Global, rule: &str) -> Result<Vec<String>, AllocError> {
     let mut words = Vec::new(alloc);
@@ -148,55 +133,6 @@ fn meaning<H: Threads + Wait + Sync>(
     Ok(told(host, words.as_slice(), &[], true).1)
 }
 
-// The explanation, in whole lines, as much of it as is shown.
-fn front_of(answer: &str) -> &str {
-    if answer.len() <= TEXT {
-        return answer;
-    }
-    let mut end = 0;
-    for (place, byte) in answer.as_bytes().iter().enumerate() {
-        if place >= TEXT {
-            break;
-        }
-        if *byte == b'\n' {
-            end = place + 1;
-        }
-    }
-    answer.get(..end).unwrap_or("")
-}
-
-// The page of an answer, with this picture.
-fn page<H: Threads + Wait + Sync>(
-    host: &Host<'_, H>,
-    line: &Line,
-    answer: &str,
-    picture: &[u8],
-) -> Result<Vec<u8>, EngineFail> {
-    let alloc = host.rt.alloc();
-    let command = host.command;
-    let file = file_of(line.files.first());
-    let title = format!(in alloc; "sgt {} {file}", word_of(line))?;
-    let first = match answer.split_once('\n') {
-        Some((first, _)) => first,
-        None => answer,
-    };
-    let verdict = sentence(alloc, command, first)?;
-    let rule = meaning(host, rule_in(command, answer))?;
-    let words = str::from_utf8(rule.bytes()).unwrap_or("");
-    let (name, meaning) = words.split_once('\n').unwrap_or(("", ""));
-    Ok(page_of(
-        alloc,
-        Page {
-            title: title.as_bytes(),
-            verdict: verdict.as_bytes(),
-            name: name.as_bytes(),
-            meaning: meaning.as_bytes(),
-            picture: small(picture),
-            text: front_of(answer).as_bytes(),
-        },
-    )?)
-}
-
 // Writes the page of the answer that was held, with this picture.
 fn write_page<H: Threads + Wait + Sync>(
     host: &Host<'_, H>,
@@ -204,8 +140,19 @@ fn write_page<H: Threads + Wait + Sync>(
     held: &Held,
     picture: &[u8],
 ) -> Result<(), EngineFail> {
-    let answer = str::from_utf8(held.bytes()).unwrap_or("");
-    let made = page(host, line, answer, picture)?;
+    let command = word_of(line);
+    let text = str::from_utf8(held.bytes()).unwrap_or("");
+    let rule = meaning(host, rule_in(command, text))?;
+    let made = page_of_answer(
+        host.rt.alloc(),
+        Answered {
+            command,
+            file: file_of(line.files.first()),
+            text,
+            rule: str::from_utf8(rule.bytes()).unwrap_or(""),
+            picture,
+        },
+    )?;
     let mut output = writer(host);
     match write_all(&mut output, made.as_slice()) {
         Ok(()) => Ok(()),

@@ -1,6 +1,5 @@
 //! A verdict in a sentence, and the rule that an answer names.
 
-use sgt_line::CommandName;
 use std::alloc::{AllocError, Global};
 
 // The sentence for a bundle, or for logs.
@@ -40,13 +39,9 @@ fn of_history(alloc: Global, first: &str) -> Result<String, AllocError> {
 }
 
 /// The verdict of which this is the first line, in a sentence.
-pub(crate) fn sentence(
-    alloc: Global,
-    command: CommandName,
-    first: &str,
-) -> Result<String, AllocError> {
+pub(crate) fn sentence(alloc: Global, command: &str, first: &str) -> Result<String, AllocError> {
     match command {
-        CommandName::Check => of_history(alloc, first),
+        "check" => of_history(alloc, first),
         _ => of_logs(alloc, first),
     }
 }
@@ -80,9 +75,9 @@ fn rule_of_history(answer: &str) -> Option<&str> {
 }
 
 /// The rule that the answer names, as `sgt explain` takes it.
-pub(crate) fn rule_in(command: CommandName, answer: &str) -> Option<&str> {
+pub fn rule_in<'a>(command: &str, answer: &'a str) -> Option<&'a str> {
     match command {
-        CommandName::Check => rule_of_history(answer),
+        "check" => rule_of_history(answer),
         _ => rule_of_logs(answer),
     }
 }

@@ -1,0 +1,22 @@
+use Rattle.std.proofs.lemmas.Result.{IfOk-weaker}
+use Rattle.std.proofs.Common.{◌∙◌, List, subst, sym, ℕ}
+use Rattle.sgt_page.specs.Answer.{IsFrontOf}
+use Rattle.sgt_page.specs.Page.{shown_of}
+use Rattle.sgt_page.proofs.answer.page_of_answer.Goals as goal
+
+pub returns : goal.returns
+returns c =
+    IfOk-weaker c.page_of.result _ _ (λ page is. record {
+      shown = shown_of record {
+        title = c.as_bytes.result;
+        verdict = c.as_bytes-2.result;
+        name = c.as_bytes-3.result;
+        meaning = c.as_bytes-4.result;
+        picture = c.small.result;
+        text = c.as_bytes-5.result;
+      };
+      title = c.as_bytes.ensures.value ∙ c.in_ok-title.ensures;
+      picture = c.small.ensures;
+      text = subst (λ (t : List ℕ). IsFrontOf t c.args.answer.text.now) (sym c.as_bytes-5.ensures.value) c.front_of.ensures;
+      is = is;
+    }) c.page_of.ensures

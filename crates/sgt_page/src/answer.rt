@@ -1,0 +1,99 @@
+//! What a page shows of an answer.
+
+ghost use Rattle.std.specs.Prelude.{◌≡◌, ◌≤◌, ◌++◌, ◌⊎◌, ℕ, List, [], IfOk, codes, length, string_bytes};
+ghost use Rattle.sgt_page.specs.Answer.{IsFrontOf, IsPageOf, title_of};
+
+use crate::page::{Page, page_of};
+use crate::sentence::sentence;
+use std::alloc::{AllocError, Global};
+
+// How much of an answer and of a picture is shown, so that a page stays small.
+pub(crate) const MOST_TEXT: usize = 16_384;
+
+pub(crate) const MOST_PICTURE: usize = 131_072;
+
+/// An answer that is to be shown.
+#[derive(Clone, Copy)]
+pub struct Answered<'a> {
+    /// The command that answered, as `explain` or `check`.
+    pub command: &'a str,
+    /// The name of what it read.
+    pub file: &'a str,
+    /// What it wrote.
+    pub text: &'a str,
+    /// What `sgt explain` says of the rule that the answer names (see `rule_in`): a line with its name, and behind it
+    /// what it means. Or nothing.
+    pub rule: &'a str,
+    /// SVG, or nothing.
+    pub picture: &'a [u8],
+}
+
+// How much of the text stands in whole lines within what is shown.
+fn whole_lines(text: &[u8]) -> usize {
+    let mut end = 0;
+    for (place, byte) in text.iter().enumerate() {
+        if place >= MOST_TEXT {
+            break;
+        }
+        if *byte == b'\n' {
+            end = place + 1;
+        }
+    }
+    end
+}
+
+// The answer, in whole lines, as much of it as is shown.
+fn front_of(text: &str) -> &str
+    ensures { IsFrontOf result.now text.now }
+{
+    if text.len() <= MOST_TEXT {
+        return text;
+    }
+    let end = whole_lines(text.as_bytes());
+    match text.split_at_checked(end) {
+        Some((front, _)) => front,
+        None => "",
+    }
+}
+
+// The picture, if it isn't too large.
+fn small(picture: &[u8]) -> &[u8]
+    ensures { ((length picture.now ≤ 131072) × (result.now ≡ picture.now)) ⊎ (result.now ≡ []) }
+{
+    if picture.len() <= MOST_PICTURE {
+        return picture;
+    }
+    b""
+}
+
+fn title(alloc: Global, answer: Answered<'_>) -> Result<String, AllocError>
+    ensures { IfOk result (λ title. string_bytes title ≡ title_of answer.entry) }
+{
+    let mut title = String::from_str(alloc, "sgt ")?;
+    title.push_str(answer.command)?;
+    title.push_str(" ")?;
+    title.push_str(answer.file)?;
+    Ok(title)
+}
+
+/// The page of an answer: its verdict in a sentence, the rule that it names, the picture, and the answer's text up to
+/// 16,384 bytes in whole lines. A picture of more than 131,072 bytes is left out.
+pub fn page_of_answer(alloc: Global, answer: Answered<'_>) -> Result<Vec<u8>, AllocError>
+    ensures { IfOk result (λ page. IsPageOf answer.entry page.items) }
+{
+    let title = title(alloc, answer)?;
+    let (first, _) = answer.text.split_once('\n').unwrap_or((answer.text, ""));
+    let verdict = sentence(alloc, answer.command, first)?;
+    let (name, meaning) = answer.rule.split_once('\n').unwrap_or((answer.rule, ""));
+    page_of(
+        alloc,
+        Page {
+            title: title.as_bytes(),
+            verdict: verdict.as_bytes(),
+            name: name.as_bytes(),
+            meaning: meaning.as_bytes(),
+            picture: small(answer.picture),
+            text: front_of(answer.text).as_bytes(),
+        },
+    )
+}
