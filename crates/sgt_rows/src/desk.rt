@@ -2,10 +2,10 @@
 
 ghost use Rattle.std.specs.Prelude.{◌<◌};
 
+use crate::forms::{formed, object};
 use crate::row::{Given, Row};
 use sgt_audit_chain::ChainAuditor;
 use sgt_command_line::{CheckWanted, Way, choose, wanted_by, way_of};
-use sgt_json::{Asked, Tally, object_of};
 use sgt_line::{Line, cut, shown, strict_status};
 use sgt_names::{MemSink, MemSource, Outcome, write_all};
 use sgt_program::{audit_next, check_order, end_chain, program};
@@ -63,28 +63,6 @@ fn sink_of(alloc: Global, bytes: &[u8]) -> Result<MemSink, AllocError> {
     let mut sink = MemSink::new(alloc, ROOM)?;
     let _ = write_all(&mut sink, bytes);
     Ok(sink)
-}
-
-/// The answer of the file of this name as an object; of a certified bundle its counts.
-fn object(alloc: Global, line: &Line, name: &str, answer: &[u8]) -> Result<Vec<u8>, AllocError> {
-    let command = match line.words.get(1) {
-        Some(word) => word.as_str(),
-        None => "audit",
-    };
-    let asked = Asked {
-        command,
-        file: name,
-    };
-    if !answer.starts_with(b"sgt ") {
-        return object_of(alloc, asked, answer);
-    }
-    let mut tally = Tally::new();
-    tally.pass(answer);
-    let counts = format!(in alloc;
-        "yes {} committed {} refused {} withdrawn\n",
-        tally.committed, tally.refused, tally.withdrawn
-    )?;
-    object_of(alloc, asked, counts.as_bytes())
 }
 
 /// What stands for one of several files: its object, or its line, its name in front.
@@ -266,13 +244,10 @@ pub(crate) fn answer_to<H: Threads + Wait + Sync>(
         answer.bundle = Some(bundle);
         answer.output = front;
     }
-    if line.is_json && line.files.len() < 2 && !answer.output.bytes().is_empty() {
-        let name = match line.files.first() {
-            Some(name) => name.as_str(),
-            None => "-",
-        };
-        let text = object(alloc, line, name, answer.output.bytes())?;
-        answer.output = sink_of(alloc, text.as_slice())?;
+    if line.files.len() < 2 && !answer.output.bytes().is_empty() {
+        if let Some(text) = formed(rt, alloc, line, answer.output.bytes())? {
+            answer.output = sink_of(alloc, text.as_slice())?;
+        }
     }
     if line.is_quiet {
         answer.output = MemSink::new(alloc, 0)?;

@@ -4,6 +4,7 @@
 
 mod desk;
 mod devices;
+mod forms;
 mod row;
 mod trial;
 
