@@ -50,13 +50,15 @@ _sgt() {
         serve) _arguments $help '--bundles=[write each bundle into this folder]:folder:_path_files -/' \
             '1:events:_files' ;;
         certify) _arguments $help $json $why $output '1:logs:_files' ;;
-        check) _arguments $help $json $why $output $progress $quiet \
+        check) _arguments $help '(--html -q --quiet)--json[write the answer as an object of JSON]' \
+            '(--json -q --quiet)--html[write the answer as a page of HTML]' $why $output $progress $quiet \
             '(--against)--order[write an order that serves]' '--real-time[the order has to keep real time]' \
             '--sessions[the order has to keep that of each session]' \
             '(--order --svg)--against=[judge the order in this file]:order:_files' \
             '(--against)--svg=[draw the circle of a no in this file]:file:_files' '1:history:_files' ;;
         explain) _arguments $help $why $output '(--html)--json[write the answer as an object of JSON]' \
-            '(--json)--html[write the explanation as a page of HTML]' '--tx=[say what this transaction did]:transaction:' \
+            '(--json)--html[write the explanation as a page of HTML]' '(--all)--tx=[say what this transaction did]:transaction:' \
+            '(--tx)--all[explain all refused transactions, not the first hundred alone]' \
             '1:bundle or rule: _alternative "topics:rule:($topics)" "files:bundle:_files"' ;;
         draw) _arguments $help $why $output '--tx=[draw this transaction alone, with its cycle or its neighbours]:transaction:' \
             '--dot[Graphviz text in place of SVG]' '1:bundle:_files' ;;
