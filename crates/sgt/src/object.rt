@@ -217,8 +217,7 @@ fn answered_each<H: Threads + Wait + Sync, W: Sink>(
 pub(crate) fn asks_object(line: &Line, choice: &Result<Choice, NoChoice>) -> bool {
     match choice {
         Ok(Choice::Audit | Choice::AuditWith { .. } | Choice::Certify) => line.is_json,
-        Ok(Choice::Explain | Choice::ExplainAll | Choice::Transaction(_)) => line.is_json,
-        Ok(Choice::Check(_)) => line.is_json,
+        Ok(Choice::Explain(_) | Choice::Check(_)) => line.is_json,
         _ => false,
     }
 }

@@ -20,8 +20,7 @@ const PIECE: usize = 65_536;
 /// Whether the answer is to be written as a page.
 pub(crate) fn asks_page(line: &Line, choice: &Result<Choice, NoChoice>) -> bool {
     match choice {
-        Ok(Choice::Explain | Choice::ExplainAll | Choice::Transaction(_)) => line.is_page,
-        Ok(Choice::Check(_)) => line.is_page,
+        Ok(Choice::Explain(_) | Choice::Check(_)) => line.is_page,
         _ => false,
     }
 }

@@ -28,8 +28,7 @@ impl Watched {
                 sessions: wanted.sessions,
             }),
             Ok(Choice::Audit | Choice::AuditWith { .. } | Choice::Serial) => Watched::Bundle,
-            Ok(Choice::Explain | Choice::ExplainAll | Choice::Transaction(_)) => Watched::Bundle,
-            Ok(Choice::Certify) => Watched::Bundle,
+            Ok(Choice::Certify | Choice::Explain(_)) => Watched::Bundle,
             Ok(Choice::Draw | Choice::DrawWith { .. }) => Watched::Bundle,
             _ => Watched::Other,
         }

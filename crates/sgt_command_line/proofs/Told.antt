@@ -10,6 +10,7 @@ use Rattle.sgt_explain.specs.declared.topics.Reply.TheVariants as reply
 use Rattle.sgt_explain.specs.declared.topics.Topic.TheVariants.{Bundle, Line, Told, Found}
 use Rattle.std.specs.Prelude.{IfOk, IfSome, Result, Ok, Err, IsErr}
 use Rattle.sgt_explain.specs.Topics.{topic_name}
+use Rattle.sgt_explain.specs.declared.asked.Asked.TheVariants as asking
 use Rattle.sgt_explain.specs.declared.topics.Topic.{Topic}
 use Rattle.sgt_line.specs.Names.{command_text}
 use Rattle.sgt_line.specs.declared.name.CommandName.TheVariants as command
@@ -17,7 +18,7 @@ use Rattle.sgt_line.specs.declared.name.CommandName.{CommandName}
 use Rattle.sgt_command_line.specs.Options.{SaysRun}
 use Rattle.sgt_command_line.specs.Words.{Asks, Says, SaysTx, SaysWorkers, TellsPicture, TellsTx, command_of}
 use Rattle.sgt_command_line.specs.declared.choice.Choice.{Choice}
-use Rattle.sgt_command_line.specs.declared.choice.Choice.TheVariants.{Audit, AuditWith, Certify, Check, Draw, DrawWith, Explain, ExplainAll, Replay, Rule, Run, Serial, Transaction}
+use Rattle.sgt_command_line.specs.declared.choice.Choice.TheVariants.{Audit, AuditWith, Certify, Check, Draw, DrawWith, Explain, Replay, Rule, Run, Serial}
 use Rattle.sgt_command_line.specs.private.Runs.{IsRunOf}
 use Rattle.sgt_names.proofs.Elements.{some-weaker}
 
@@ -70,10 +71,10 @@ letter_of (Found a) rest e = absurd (omega (arith, ap (λ (l : List ℕ). get_or
 pub no_explained : (options : List (List ℕ)) → (options ≡ [] → ⊥) → options ≢ codes "--all" ∷ []
     → ((topic : Topic) → options ≢ topic_name topic ∷ []) → ((tx : ℕ) → TellsTx options tx → ⊥)
     → (choice : Choice) → command_of choice ≡ command.Explain → Says options choice → ⊥
-no_explained options some not_all no_rule no_tx Explain is says = some says
-no_explained options some not_all no_rule no_tx ExplainAll is says = not_all says
+no_explained options some not_all no_rule no_tx (Explain asking.First) is says = some says
+no_explained options some not_all no_rule no_tx (Explain asking.All) is says = not_all says
 no_explained options some not_all no_rule no_tx (Rule topic) is says = no_rule topic says
-no_explained options some not_all no_rule no_tx (Transaction tx) is says = no_tx tx says
+no_explained options some not_all no_rule no_tx (Explain (asking.Transaction tx)) is says = no_tx tx says
 no_explained options some not_all no_rule no_tx choice is says = absurd cc
 
 pub empty : {A : Type 0} (xs : List A) (b : Bool) → b ≡ (length xs == 0) → b ≡ true → xs ≡ []

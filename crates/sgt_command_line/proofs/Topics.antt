@@ -4,6 +4,7 @@ use Rattle.std.specs.Prelude.{fold, unwrap_or}
 use Rattle.sgt_audit.specs.declared.faults.Fault.TheVariants as fault
 use Rattle.sgt_bundle.specs.declared.fault.CertFault.TheVariants as cert_fault
 use Rattle.sgt_explain.specs.Topics.{topic_name}
+use Rattle.sgt_explain.specs.declared.asked.Asked.TheVariants as asking
 use Rattle.sgt_explain.specs.declared.topics.Anomaly.TheVariants as anomaly
 use Rattle.sgt_explain.specs.declared.topics.Reply.TheVariants as reply
 use Rattle.sgt_explain.specs.declared.topics.Topic.{Topic}
@@ -11,7 +12,7 @@ use Rattle.sgt_explain.specs.declared.topics.Topic.TheVariants.{Bundle, Line, To
 use Rattle.sgt_line.specs.declared.name.CommandName.TheVariants as command
 use Rattle.sgt_command_line.specs.Words.{Says, TellsTx, command_of}
 use Rattle.sgt_command_line.specs.declared.choice.Choice.{Choice}
-use Rattle.sgt_command_line.specs.declared.choice.Choice.TheVariants.{Explain, ExplainAll, Rule, Transaction}
+use Rattle.sgt_command_line.specs.declared.choice.Choice.TheVariants.{Explain, Rule}
 use Rattle.sgt_command_line.proofs.Told.{letter_of, third}
 
 -- a name as a number
@@ -67,22 +68,23 @@ no_tx options topic e tx (text, says, inr joined) =
 -- the name of a rule asks for that rule alone
 pub rule_alone : (options : List (List ℕ)) (topic : Topic) → options ≡ topic_name topic ∷ []
     → (choice : Choice) → command_of choice ≡ command.Explain → Says options choice → Some (Rule topic) ≡ Some choice
-rule_alone options topic e Explain is says = absurd (omega (arith, ap length says, ap length e))
+rule_alone options topic e (Explain asking.First) is says = absurd (omega (arith, ap length says, ap length e))
 rule_alone options topic e (Rule other) is says =
     ap (λ t. Some (Rule t)) (topic-one topic other (ap (λ l. get_or l 0 []) (sym e ∙ says)))
-rule_alone options topic e ExplainAll is says =
+rule_alone options topic e (Explain asking.All) is says =
     absurd (letter_of topic (codes "-all") (ap (λ l. get_or l 0 []) (sym e ∙ says)))
-rule_alone options topic e (Transaction tx) is says = absurd (no_tx options topic e tx says)
+rule_alone options topic e (Explain (asking.Transaction tx)) is says = absurd (no_tx options topic e tx says)
 rule_alone options topic e choice is says = absurd cc
 
 -- `--all` asks for all alone
 pub all_alone : (options : List (List ℕ)) → options ≡ codes "--all" ∷ []
-    → (choice : Choice) → command_of choice ≡ command.Explain → Says options choice → Some ExplainAll ≡ Some choice
-all_alone options e Explain is says = absurd (omega (arith, ap length says, ap length e))
-all_alone options e ExplainAll is says = refl
+    → (choice : Choice) → command_of choice ≡ command.Explain → Says options choice
+    → Some (Explain asking.All) ≡ Some choice
+all_alone options e (Explain asking.First) is says = absurd (omega (arith, ap length says, ap length e))
+all_alone options e (Explain asking.All) is says = refl
 all_alone options e (Rule topic) is says =
     absurd (letter_of topic (codes "-all") (ap (λ l. get_or l 0 []) (sym says ∙ e)))
-all_alone options e (Transaction tx) is (text, says, inl apart) = absurd (omega (arith, ap length apart, ap length e))
-all_alone options e (Transaction tx) is (text, says, inr joined) =
+all_alone options e (Explain (asking.Transaction tx)) is (text, says, inl apart) = absurd (omega (arith, ap length apart, ap length e))
+all_alone options e (Explain (asking.Transaction tx)) is (text, says, inr joined) =
     absurd (omega (arith, ap third (sym joined ∙ e)))
 all_alone options e choice is says = absurd cc

@@ -1,12 +1,14 @@
 -- What the words of the command line ask for.
 use Rattle.std.specs.Prelude.{◌≡◌, ◌≢◌, ◌<◌, ◌≤◌, ◌^◌, ℕ, ◌⊎◌, Any, Bool, true, false, List, [], ◌∷◌, ◌++◌, Option, Some, None, drop, codes, length, string_bytes, ⊤}
 use Rattle.sgt_explain.specs.Topics.{topic_name}
+use Rattle.sgt_explain.specs.declared.asked.Asked.{Asked}
+use Rattle.sgt_explain.specs.declared.asked.Asked.TheVariants as asking
 use Rattle.sgt_names.specs.Limits.{max_workers}
 use Rattle.sgt_line.specs.Names.{command_text}
 use Rattle.sgt_command_line.specs.Check.{SaysCheck}
 use Rattle.sgt_command_line.specs.Options.{ReadsNumber, SaysRun}
 use Rattle.sgt_command_line.specs.declared.choice.Choice.{Choice}
-use Rattle.sgt_command_line.specs.declared.choice.Choice.TheVariants.{Audit, AuditWith, Certify, Check, Draw, DrawWith, Explain, ExplainAll, Replay, Rule, Run, Serial, Transaction}
+use Rattle.sgt_command_line.specs.declared.choice.Choice.TheVariants.{Audit, AuditWith, Certify, Check, Draw, DrawWith, Explain, Replay, Rule, Run, Serial}
 use Rattle.sgt_command_line.specs.declared.choice.NoChoice.{NoChoice}
 use Rattle.sgt_command_line.specs.declared.choice.NoChoice.TheVariants.{Help, Usage, Bare, Memory}
 use Rattle.sgt_line.specs.declared.name.CommandName.{CommandName}
@@ -33,6 +35,12 @@ TellsPicture options (Some tx) true = (words : List (List ℕ)) × TellsTx words
     × ((options ≡ codes "--dot" ∷ words) ⊎ (options ≡ words ++ (codes "--dot" ∷ [])))
 TellsPicture options None false = ⊥
 
+-- what is asked for besides an explanation: nothing, that no refused transaction is left out, or what one did
+abbrev pub TellsAsked : List (List ℕ) → Asked → Type 0
+TellsAsked options asking.First = options ≡ []
+TellsAsked options asking.All = options ≡ codes "--all" ∷ []
+TellsAsked options (asking.Transaction tx) = TellsTx options tx
+
 -- the command that is asked for
 abbrev pub command_of : Choice → CommandName
 command_of Audit = command.Audit
@@ -40,22 +48,19 @@ command_of (AuditWith workers) = command.Audit
 command_of Serial = command.Serial
 command_of Replay = command.Replay
 command_of Certify = command.Certify
-command_of Explain = command.Explain
-command_of ExplainAll = command.Explain
-command_of (Transaction tx) = command.Explain
+command_of (Explain asked) = command.Explain
 command_of (Rule topic) = command.Explain
 command_of Draw = command.Draw
 command_of (DrawWith tx is_dot) = command.Draw
 command_of (Check wanted) = command.Check
 command_of (Run workers tries) = command.Run
 
--- what stands behind the command's name says this: nothing where the command stands alone; the number of workers; that
--- all are to be explained; a transaction; a rule's name; options of a picture or of a check; of a run what clap finds
+-- what stands behind the command's name says this: nothing where the command stands alone; the number of workers; what
+-- is asked for besides an explanation; a rule's name; options of a picture or of a check; of a run what clap finds
 abbrev pub Says : List (List ℕ) → Choice → Type 0
 Says options (AuditWith workers) = (text : List ℕ) × SaysWorkers text workers
     × (options ≡ codes "--workers" ∷ text ∷ [])
-Says options ExplainAll = options ≡ codes "--all" ∷ []
-Says options (Transaction tx) = TellsTx options tx
+Says options (Explain asked) = TellsAsked options asked
 Says options (Rule topic) = options ≡ topic_name topic ∷ []
 Says options (DrawWith tx is_dot) = TellsPicture options tx is_dot
 Says options (Check wanted) = SaysCheck options wanted
@@ -77,10 +82,14 @@ AsksFor words choice = Asks (drop 1 words) choice
 abbrev pub AsksTalk : List (List ℕ) → Type 0
 AsksTalk words = drop 1 words ≡ command_text command.Serve ∷ []
 
--- behind the program's name stands `explain`, and maybe more
-abbrev pub NamesExplain : List (List ℕ) → Type 0
-NamesExplain words = (options : List (List ℕ))
-    × (drop 1 words ≡ command_text command.Explain ∷ options)
+-- the command keeps all that it reads: `explain` and `draw`
+abbrev pub KeepsInput : CommandName → Type 0
+KeepsInput name = (name ≡ command.Explain) ⊎ (name ≡ command.Draw)
+
+-- behind the program's name stands such a command, and maybe more
+abbrev pub NamesKeeper : List (List ℕ) → Type 0
+NamesKeeper words = (name : CommandName) × KeepsInput name × ((options : List (List ℕ))
+    × (drop 1 words ≡ command_text name ∷ options))
 
 -- other words are help or no command
 abbrev pub AsksNone : List (List ℕ) → Type 0

@@ -9,7 +9,7 @@ ghost use Rattle.sgt_command_line.specs.Words.{Says, SaysTx, SaysWorkers, TellsP
 
 use crate::check::check_wanted;
 use crate::choice::Choice;
-use sgt_explain::Topic;
+use sgt_explain::{Asked, Topic};
 use sgt_line::{CommandName, first_of, last_of, only_of};
 use sgt_names::{MAX_WORKERS, Tx};
 
@@ -118,14 +118,14 @@ fn explain_behind(options: &[String]) -> Option<Choice>
         → Says (map string_bytes options.now) choice → result ≡ Some choice }
 {
     if options.is_empty() {
-        return Some(Choice::Explain);
+        return Some(Choice::Explain(Asked::First));
     }
     if asks_all(options) {
-        return Some(Choice::ExplainAll);
+        return Some(Choice::Explain(Asked::All));
     }
     match rule_told(options) {
         Some(topic) => Some(Choice::Rule(topic)),
-        None => Some(Choice::Transaction(tx_told(options)?)),
+        None => Some(Choice::Explain(Asked::Transaction(tx_told(options)?))),
     }
 }
 

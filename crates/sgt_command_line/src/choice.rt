@@ -9,7 +9,7 @@ use crate::behind::choice_behind;
 use crate::check::CheckWanted;
 use crate::help::no_choice;
 use crate::options::choose_run;
-use sgt_explain::Topic;
+use sgt_explain::{Asked, Topic};
 use sgt_line::{CommandName, behind_first, first_of, named, only_of};
 use sgt_names::Tx;
 use std::alloc::{AllocError, Global};
@@ -27,13 +27,8 @@ pub enum Choice {
     Replay,
     /// Make the certificate of logs that have none, or say why there is none.
     Certify,
-    /// Judge a bundle or logs without a certificate, and say what the verdict means; of a yes for a hundred refused
-    /// transactions at most.
-    Explain,
-    /// The same, for all refused transactions.
-    ExplainAll,
-    /// The same, and what this transaction did.
-    Transaction(Tx),
+    /// Judge a bundle or logs without a certificate, and say what the verdict means, and what is asked for besides.
+    Explain(Asked),
     /// Say what a rule is.
     Rule(Topic),
     /// Judge a bundle or logs without a certificate, and draw what is valid, or the cycle that says why it isn't.

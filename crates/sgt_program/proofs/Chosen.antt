@@ -1,10 +1,9 @@
 -- What was chosen is what the words ask for.
 use Rattle.std.proofs.Common.{◌≡◌, ◌⊎◌, ◌∙◌, ℕ, Bool, true, false, not, List, ◌∷◌, Result, Ok, Err, inl, inr, ap, sym, subst}
-use Rattle.sgt_line.specs.Names.{command_text}
 use Rattle.sgt_line.specs.declared.name.CommandName.TheVariants as command
-use Rattle.sgt_command_line.specs.Words.{AsksFor, NamesExplain, command_of}
+use Rattle.sgt_command_line.specs.Words.{AsksFor, KeepsInput, NamesKeeper, command_of}
 use Rattle.sgt_command_line.specs.declared.choice.Choice.{Choice}
-use Rattle.sgt_command_line.specs.declared.choice.Choice.TheVariants.{Audit, AuditWith, Certify, Check, Draw, DrawWith, Explain, Replay, Rule, Run, Serial, Transaction}
+use Rattle.sgt_command_line.specs.declared.choice.Choice.TheVariants.{Audit, AuditWith, Certify, Check, Draw, DrawWith, Explain, Replay, Rule, Run, Serial}
 use Rattle.sgt_program.specs.Commands.{LeavesUnread}
 use Rattle.sgt_command_line.specs.declared.choice.NoChoice.{NoChoice}
 use Rattle.sgt_command_line.specs.declared.choice.NoChoice.TheVariants.{Help, Usage, Bare, Memory}
@@ -60,12 +59,16 @@ of_a_run r x Q either is = elim either [
   | inr e ↦ e.1
 ]
 
--- who asks for an explanation names `explain`
-pub names_explain : (words : List (List ℕ)) (choice : Choice) → AsksFor words choice
-    → command_of choice ≡ command.Explain → NamesExplain words
-names_explain words choice (inl none) is =
-    absurd (let bad : command.Audit ≡ command.Explain = sym (ap command_of none.1) ∙ is in cc)
-names_explain words choice (inr (options, named, says)) is = (options, named ∙ ap (λ c. command_text c ∷ options) is)
+-- who asks for what a command that keeps its input gives names such a command
+pub names_keeper : (words : List (List ℕ)) (choice : Choice) → AsksFor words choice → KeepsInput (command_of choice)
+    → NamesKeeper words
+names_keeper words choice (inl none) is =
+    let audit : KeepsInput command.Audit = subst (λ c. KeepsInput (command_of c)) none.1 is in
+    elim audit [
+      | inl e ↦ cc
+      | inr e ↦ cc
+    ]
+names_keeper words choice (inr (options, named, says)) is = (command_of choice, is, options, named)
 
 -- where nothing is read for any words, nothing is for these
 pub left_unread : (choice : Choice) (Unread : Type 0) → Unread → LeavesUnread choice Unread
@@ -74,8 +77,7 @@ left_unread (AuditWith workers) Unread is = tt
 left_unread Serial Unread is = tt
 left_unread Replay Unread is = tt
 left_unread Certify Unread is = tt
-left_unread Explain Unread is = tt
-left_unread (Transaction tx) Unread is = tt
+left_unread (Explain asked) Unread is = tt
 left_unread (Rule topic) Unread is = is
 left_unread Draw Unread is = tt
 left_unread (DrawWith tx is_dot) Unread is = tt

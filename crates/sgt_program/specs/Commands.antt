@@ -1,5 +1,5 @@
 -- What each command answers, by the exit status.
-use Rattle.std.specs.Prelude.{◌≡◌, ◌≢◌, ◌⊎◌, ◌<◌, ◌≤◌, ⊤, ℕ, IsTrue, List, Option, Some, None, length, IfSome}
+use Rattle.std.specs.Prelude.{◌≡◌, ◌≢◌, ◌⊎◌, ◌<◌, ◌≤◌, ⊤, ℕ, if◌then◌else◌, IsTrue, List, Option, Some, None, length, IfSome}
 use Rattle.std.specs.Io.KnownBytes.{Appends}
 use Rattle.sgt_names.specs.Device.{WritesFront}
 use Rattle.sgt_names.specs.declared.outcome.Outcome.{Outcome}
@@ -14,9 +14,11 @@ use Rattle.sgt_check.specs.Answer as check
 use Rattle.sgt_check.specs.declared.options.Options.{Options}
 use Rattle.sgt_check_kept.specs.Answer as keeping
 use Rattle.sgt_check_order.specs.Answer as against
-use Rattle.sgt_draw.specs.Drawn as draw
+use Rattle.sgt_draw_logs.specs.Either as draw
 use Rattle.sgt_explain_logs.specs.Either as explain
 use Rattle.sgt_explain.specs.Topics.{IsRuleOf, topic_name}
+use Rattle.sgt_explain.specs.declared.asked.Asked.{Asked}
+use Rattle.sgt_explain.specs.declared.asked.Explained.{Explained}
 use Rattle.sgt_explain.specs.declared.topics.Topic.{Topic}
 use Rattle.sgt_core.specs.Replay as replay
 use Rattle.sgt_service.specs.Report as run
@@ -26,7 +28,7 @@ use Rattle.sgt_history_text.specs.declared.wanted.Wanted.{Wanted}
 use Rattle.sgt_command_line.specs.Words.{AsksFor, AsksHelp, AsksNone, MayLackMemory}
 use Rattle.sgt_command_line.specs.declared.check.CheckWanted.{CheckWanted}
 use Rattle.sgt_command_line.specs.declared.choice.Choice.{Choice}
-use Rattle.sgt_command_line.specs.declared.choice.Choice.TheVariants.{Audit, AuditWith, Certify, Check, Draw, DrawWith, Explain, Replay, Rule, Run, Serial, Transaction}
+use Rattle.sgt_command_line.specs.declared.choice.Choice.TheVariants.{Audit, AuditWith, Certify, Check, Draw, DrawWith, Explain, Replay, Rule, Run, Serial}
 
 abbrev pub outcome : Verdict → Outcome
 outcome (Yes c r w) = Outcome_.Yes
@@ -131,19 +133,24 @@ AnswersOrder wanted status order told written written' =
     ByStatus (λ outcome. against.WroteAnswer wanted order told outcome written written')
     (against.WroteAnswerFront wanted order told written written') status
 
+-- the outcome of the verdict; or a no, where the transaction that is asked for is nowhere
+abbrev pub explained : Explained → Outcome
+explained told = if told.is_found then told.outcome else Outcome_.No
+
 -- the explanation: of logs without a certificate what `certify` answers, of all else the line of the verdict, a yes
--- at 0 and a no at 1, and what it means, with what this transaction did, or no transaction
-abbrev pub AnswersExplain : Option ℕ → (status : ℕ) (told written written' : Option (List ℕ))
-    → Type 0
+-- at 0 and a no at 1, and what it means, with what is asked for besides; of a transaction that is nowhere at 1
+abbrev pub AnswersExplain : Asked → (status : ℕ) (told written written' : Option (List ℕ)) → Type 0
 AnswersExplain asked status told written written' =
-    ByStatus (λ outcome. explain.WroteExplanation asked told outcome written written')
+    ByStatus (λ outcome. (ended : Explained) × (outcome ≡ explained ended)
+    × explain.WroteExplanation asked told ended written written')
     (explain.WroteExplanationFront told written written') status
 
--- the picture of a valid bundle at 0, and at 1 the line of a no
+-- at 0 the picture of a valid bundle, or of the one that `certify` makes of logs; at 1 the line of a no, or the picture
+-- of the cycle that shows that logs have no certificate
 abbrev pub AnswersDraw : (status : ℕ) (told written written' : Option (List ℕ)) → Type 0
 AnswersDraw status told written written' =
-    ByStatus (λ outcome. draw.WroteDrawn told outcome written written')
-    (draw.WroteDrawnFront told written written') status
+    ByStatus (λ outcome. draw.WroteEither told outcome written written')
+    (draw.WroteEitherFront told written written') status
 
 -- a rule: its text at 0, which begins with its name, and nothing else but a front at 3 and 4
 pub record AnswersRule (topic : Topic) (status : ℕ) (written written' : Option (List ℕ)) : Type 0 where
@@ -160,8 +167,7 @@ Answers Serial = AnswersSerial
 Answers Replay = AnswersReplay
 Answers Certify = AnswersCertify
 Answers (Check wanted) = AnswersCheck wanted
-Answers Explain = AnswersExplain None
-Answers (Transaction tx) = AnswersExplain (Some tx)
+Answers (Explain asked) = AnswersExplain asked
 Answers (Rule topic) = λ status told written written'. AnswersRule topic status written written'
 Answers Draw = AnswersDraw
 Answers (DrawWith tx is_dot) = AnswersDraw

@@ -23,7 +23,7 @@ status_of (Ran (Err ReadFault)) = 4
 status_of (Ran (Err WriteFault)) = 4
 
 -- the reader failed between these counts of its failures; or it told as many bytes as the bound on
--- reads, and all reads were made, or the bytes were kept to be explained
+-- reads, and all reads were made, or the bytes were kept to be explained or drawn
 abbrev pub ReadFailed : (is_kept : Type 0) → (told : Option (List ℕ))
     → (failures failures' asked asked' : ℕ) → Type 0
 ReadFailed is_kept told failures failures' asked asked' = (failures < failures')

@@ -3,7 +3,7 @@
 ghost use Rattle.std.specs.Prelude.{◌≡◌, ◌<◌, Err, map, length, string_bytes, IfErr, IsOk, codes};
 ghost use Rattle.sgt_program.specs.Commands.{Answers, ComesOf, LeavesUnread};
 ghost use Rattle.sgt_program.specs.Ending.{AsksWorkers, LeavesDevices, ReadFailed, ReaderIsQuiet, TellsErrors, WroteOrFailed, status_of, text_of_fail};
-ghost use Rattle.sgt_command_line.specs.Words.{AsksFor, NamesExplain};
+ghost use Rattle.sgt_command_line.specs.Words.{AsksFor, NamesKeeper};
 ghost use Rattle.sgt_command_line.specs.declared.choice.Choice.{Choice};
 ghost use Rattle.sgt_program.specs.declared.ending.Ending.{Ending};
 ghost use Rattle.sgt_program.specs.declared.ending.Ending.TheVariants.{Ran, NoCommand};
@@ -62,8 +62,8 @@ pub fn refuse_words<E: Sink>(errors: &mut E) -> u8
     refuse(errors, "sgt: the arguments are not UTF-8\n")
 }
 
-/// Does what the words ask for, and gives the exit status: 0 yes or done (or help was shown); 1 no, a replay that
-/// ended with a transaction active, a script that was not committed, or a fault that ended a run; 2 the words are no
+/// Does what the words ask for, and gives the exit status: 0 yes or done (or help was shown); 1 no, an
+/// explanation of a transaction that is nowhere, a replay that ended with a transaction active, a script that was not committed, or a fault that ended a run; 2 the words are no
 /// command (nothing is read or written then) or a line of a replay's or a run's input can't be read; 3 want of
 /// memory; 4 a read or a write failed. The first word is the program's name. For help and for a rule nothing is read.
 /// Only a run and an audit by workers start threads; they are joined when this returns.
@@ -88,7 +88,7 @@ pub fn program<H: Threads + Wait + Sync, R: Source, W: Sink, E: Sink>(
         × LeavesDevices ending
         (ReaderIsQuiet (AsksWorkers (map string_bytes words.now)) ending (R.failures reader.old)
         (R.failures reader.new) × (W.failures writer.new ≡ W.failures writer.old))
-        (ReadFailed (NamesExplain (map string_bytes words.now)) (R.tells reader.old)
+        (ReadFailed (NamesKeeper (map string_bytes words.now)) (R.tells reader.old)
         (R.failures reader.old) (R.failures reader.new) (R.asked reader.old) (R.asked reader.new))
         (W.failures writer.old < W.failures writer.new)
         (writer.new ≡ writer.old)

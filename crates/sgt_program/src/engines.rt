@@ -3,10 +3,9 @@
 ghost use Rattle.std.specs.Prelude.{⊤, ◌≡◌, ◌<◌, ◌↔◌, length, IsTrue, IfOk, IfErr, OnErr, OnOk};
 ghost use Rattle.std.specs.Io.KnownBytes.{Appends};
 ghost use Rattle.sgt_names.specs.Device.{WritesFront};
-ghost use Rattle.sgt_program.specs.Commands.{Answers, AnswersAudit, AnswersCheck, AsksKept, LeavesUnread, kept_of, options_of, outcome};
+ghost use Rattle.sgt_program.specs.Commands.{Answers, AnswersAudit, AnswersCheck, AnswersExplain, AsksKept, LeavesUnread, explained, kept_of, options_of, outcome};
 ghost use Rattle.sgt_program.specs.Ending.{LeavesDevices, ReadFailed, ReaderIsQuiet, ReadsOn, status_of};
-ghost use Rattle.sgt_command_line.specs.Words.{CanRun, command_of};
-ghost use Rattle.sgt_line.specs.declared.name.CommandName.TheVariants as command;
+ghost use Rattle.sgt_command_line.specs.Words.{CanRun, KeepsInput, command_of};
 ghost use Rattle.sgt_program.specs.declared.ending.Ending.TheVariants.{Ran};
 
 use sgt_audit::{Verdict, audit};
@@ -16,8 +15,9 @@ use sgt_check::{Options, check};
 use sgt_check_kept::check_kept;
 use sgt_command_line::{CheckWanted, Choice};
 use sgt_core::replay;
-use sgt_draw::{Wanted, draw};
-use sgt_explain::explain_topic;
+use sgt_draw::Wanted;
+use sgt_draw_logs::draw_either;
+use sgt_explain::{Asked, Explained, explain_topic};
 use sgt_explain_logs::explain_either;
 use sgt_history_text::Wanted as KeptWanted;
 use sgt_names::{EngineFail, Outcome, Sink, Source, write_all};
@@ -27,6 +27,12 @@ use sgt_workers::NoGate;
 use std::alloc::Global;
 use std::sync::Wait;
 use std::thread::Threads;
+
+// The picture of all, as SVG.
+const EVERY_ONE: Wanted = Wanted {
+    tx: None,
+    is_dot: false,
+};
 
 fn outcome_of(verdict: Verdict) -> Outcome
     ensures { result ≡ outcome verdict }
@@ -109,6 +115,39 @@ fn audit_by<H: Threads + Sync, R: Source, W: Sink>(
     }
 }
 
+// A no where the transaction that is asked for is nowhere, and else the outcome of the verdict.
+fn explained(told: Explained) -> Outcome
+    ensures { result ≡ explained told }
+{
+    if told.is_found {
+        return told.outcome;
+    }
+    Outcome::No
+}
+
+// Explains what is asked for.
+fn explain_by<R: Source, W: Sink>(
+    alloc: Global,
+    asked: Asked,
+    reader: &mut R,
+    writer: &mut W,
+) -> Result<Outcome, EngineFail>
+    ensures answers { AnswersExplain asked (status_of (Ran result)) (R.tells reader.old)
+        (W.holds writer.old) (W.holds writer.new) }
+    ensures ends { LeavesDevices (Ran result)
+        (ReaderIsQuiet ⊥ (Ran result) (R.failures reader.old) (R.failures reader.new)
+        × (W.failures writer.new ≡ W.failures writer.old))
+        (ReadFailed ⊤ (R.tells reader.old) (R.failures reader.old)
+        (R.failures reader.new) (R.asked reader.old) (R.asked reader.new))
+        (W.failures writer.old < W.failures writer.new)
+        (writer.new ≡ writer.old) }
+{
+    match explain_either(alloc, asked, reader, writer) {
+        Ok(told) => Ok(explained(told)),
+        Err(fail) => Err(fail),
+    }
+}
+
 /// Runs the engine of the command that was chosen.
 pub fn run_choice<H: Threads + Wait + Sync, R: Source, W: Sink>(
     rt: &H,
@@ -124,7 +163,7 @@ pub fn run_choice<H: Threads + Wait + Sync, R: Source, W: Sink>(
     ensures ends { LeavesDevices (Ran result)
         (ReaderIsQuiet (ReadsOn choice) (Ran result) (R.failures reader.old) (R.failures reader.new)
         × (W.failures writer.new ≡ W.failures writer.old))
-        (ReadFailed (command_of choice ≡ command.Explain) (R.tells reader.old)
+        (ReadFailed (KeepsInput (command_of choice)) (R.tells reader.old)
         (R.failures reader.old) (R.failures reader.new) (R.asked reader.old) (R.asked reader.new))
         (W.failures writer.old < W.failures writer.new)
         (writer.new ≡ writer.old) }
@@ -139,17 +178,12 @@ pub fn run_choice<H: Threads + Wait + Sync, R: Source, W: Sink>(
         Choice::Replay => replay(alloc, reader, writer),
         Choice::Certify => certify(alloc, reader, writer),
         Choice::Check(wanted) => check_by(alloc, wanted, reader, writer),
-        Choice::Explain => explain_either(alloc, None, reader, writer),
-        Choice::Transaction(tx) => explain_either(alloc, Some(tx), reader, writer),
+        Choice::Explain(asked) => explain_by(alloc, asked, reader, writer),
         Choice::Rule(topic) => explain_topic(topic, writer),
-        Choice::Draw => {
-            let wanted = Wanted {
-                tx: None,
-                is_dot: false,
-            };
-            draw(alloc, wanted, reader, writer)
+        Choice::Draw => draw_either(alloc, EVERY_ONE, reader, writer),
+        Choice::DrawWith { tx, is_dot } => {
+            draw_either(alloc, Wanted { tx, is_dot }, reader, writer)
         }
-        Choice::DrawWith { tx, is_dot } => draw(alloc, Wanted { tx, is_dot }, reader, writer),
         Choice::Run { workers, tries } => {
             run_scripts(rt, alloc, reader, writer, workers, tries, &NoGate)
         }

@@ -1,7 +1,7 @@
 use Rattle.std.proofs.Common.{◌≡◌, ◌<◌, ◌≤◌, ◌∙◌, Err, ap, arith, inl, length, map, refl, rules, string_bytes, subst}
 use Rattle.sgt_names.specs.declared.outcome.EngineFail.TheVariants.{Memory}
 use Rattle.sgt_program.proofs.Answered.{help-answers, help_four, memory-answers, run-memory, usage-answers}
-use Rattle.sgt_program.proofs.Chosen.{is_memory, left_unread, names_explain, no_refusal, of_a_run, same_asked}
+use Rattle.sgt_program.proofs.Chosen.{is_memory, left_unread, names_keeper, no_refusal, of_a_run, same_asked}
 use Rattle.sgt_program.proofs.Told.{asks_workers, failed_more, helped, leaves_more, quiet_more, tells-errors}
 use Rattle.sgt_program.specs.Commands as comes
 use Rattle.sgt_program.specs.Commands.{Answers, LeavesUnread}
@@ -44,7 +44,7 @@ returns-in-Ok-clause-ends g c =
           (quiet_more _ _ _ _ _ _
           (asks_workers (map string_bytes c.args.words.now) c.in-Ok.choice c.in-Ok.ensures.only))
           (failed_more _ _ _ _ _ _ _
-          (names_explain (map string_bytes c.args.words.now) c.in-Ok.choice c.in-Ok.ensures.only))
+          (names_keeper (map string_bytes c.args.words.now) c.in-Ok.choice c.in-Ok.ensures.only))
           c.run_choice.ensures.ends,
       tells-errors c.run_choice.result _ _ finished.silent finished.told,
     )

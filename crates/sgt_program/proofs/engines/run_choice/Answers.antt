@@ -1,16 +1,14 @@
-use Rattle.std.proofs.Common.{◌≡◌, None, Some, ap, inl, subst, sym}
+use Rattle.std.proofs.Common.{◌≡◌, inl, inr, refl, subst, sym}
 use Rattle.std.specs.Prelude.{⊤, IfOk, OnErr}
 use Rattle.sgt_audit.specs.declared.verdict.Verdict.{Verdict}
 use Rattle.sgt_certify.specs.Answer as certify
-use Rattle.sgt_draw.specs.Drawn as draw
-use Rattle.sgt_explain_logs.specs.Either as explain
+use Rattle.sgt_draw_logs.specs.Either as draw
 use Rattle.sgt_core.specs.Replay as replay
 use Rattle.sgt_service.specs.Report as run
 use Rattle.sgt_program.proofs.Answered.{audit-fails, rule-answers, serial-answers, status-answers, verdict-answers}
 use Rattle.sgt_program.specs.Ending.{ReadsOn}
 use Rattle.sgt_program.proofs.Told.{due, failed_more, kept, leaves, leaves_fail, leaves_more, leaves_topic, quiet_more}
-use Rattle.sgt_line.specs.declared.name.CommandName.TheVariants as command
-use Rattle.sgt_command_line.specs.Words.{command_of}
+use Rattle.sgt_command_line.specs.Words.{KeepsInput, command_of}
 use Rattle.sgt_program.proofs.engines.run_choice.Goals as goal
 
 pub returns-in-Ok-clause-answers : goal.returns-in-Ok-clause-answers
@@ -57,24 +55,7 @@ pub returns-in-Check-clause-answers : goal.returns-in-Check-clause-answers
 returns-in-Check-clause-answers g c = rw c.in-Check.is c.check_by.ensures.answers
 
 pub returns-in-Explain-clause-answers : goal.returns-in-Explain-clause-answers
-returns-in-Explain-clause-answers g c =
-    let told = g.R.Source.tells c.args.reader.now in
-    let old = g.W.Sink.holds c.args.writer.now in
-    let new = g.W.Sink.holds c.explain_either.new.writer in
-    rw c.in-Explain.is (status-answers (λ outcome. explain.WroteExplanation None told outcome old new)
-    (explain.WroteExplanationFront told old new)
-    c.explain_either.result c.explain_either.ensures.answer c.explain_either.ensures.front)
-
-pub returns-in-Transaction-clause-answers : goal.returns-in-Transaction-clause-answers
-returns-in-Transaction-clause-answers g c =
-    let told = g.R.Source.tells c.args.reader.now in
-    let old = g.W.Sink.holds c.args.writer.now in
-    let new = g.W.Sink.holds c.explain_either-in-Transaction.new.writer in
-    rw c.in-Transaction.is
-    (status-answers (λ outcome. explain.WroteExplanation (Some c.in-Transaction.tx) told outcome old new)
-    (explain.WroteExplanationFront told old new)
-    c.explain_either-in-Transaction.result c.explain_either-in-Transaction.ensures.answer
-    c.explain_either-in-Transaction.ensures.front)
+returns-in-Explain-clause-answers g c = rw c.in-Explain.is c.explain_by.ensures.answers
 
 pub returns-in-Rule-clause-answers : goal.returns-in-Rule-clause-answers
 returns-in-Rule-clause-answers g c =
@@ -87,19 +68,19 @@ pub returns-in-Draw-clause-answers : goal.returns-in-Draw-clause-answers
 returns-in-Draw-clause-answers g c =
     let told = g.R.Source.tells c.args.reader.now in
     let old = g.W.Sink.holds c.args.writer.now in
-    let new = g.W.Sink.holds c.draw.new.writer in
-    rw c.in-Draw.is (status-answers (λ outcome. draw.WroteDrawn told outcome old new)
-    (draw.WroteDrawnFront told old new)
-    c.draw.result c.draw.ensures.answer c.draw.ensures.front)
+    let new = g.W.Sink.holds c.draw_either.new.writer in
+    rw c.in-Draw.is (status-answers (λ outcome. draw.WroteEither told outcome old new)
+    (draw.WroteEitherFront told old new)
+    c.draw_either.result c.draw_either.ensures.answer c.draw_either.ensures.front)
 
 pub returns-in-DrawWith-clause-answers : goal.returns-in-DrawWith-clause-answers
 returns-in-DrawWith-clause-answers g c =
     let told = g.R.Source.tells c.args.reader.now in
     let old = g.W.Sink.holds c.args.writer.now in
-    let new = g.W.Sink.holds c.draw-in-DrawWith.new.writer in
-    rw c.in-DrawWith.is (status-answers (λ outcome. draw.WroteDrawn told outcome old new)
-    (draw.WroteDrawnFront told old new)
-    c.draw-in-DrawWith.result c.draw-in-DrawWith.ensures.answer c.draw-in-DrawWith.ensures.front)
+    let new = g.W.Sink.holds c.draw_either-in-DrawWith.new.writer in
+    rw c.in-DrawWith.is (status-answers (λ outcome. draw.WroteEither told outcome old new)
+    (draw.WroteEitherFront told old new)
+    c.draw_either-in-DrawWith.result c.draw_either-in-DrawWith.ensures.answer c.draw_either-in-DrawWith.ensures.front)
 
 pub returns-in-AuditWith-clause-answers : goal.returns-in-AuditWith-clause-answers
 returns-in-AuditWith-clause-answers g c = rw c.in-AuditWith.is c.audit_by.ensures.answers
@@ -129,14 +110,18 @@ returns-in-Check-clause-ends g c =
 
 pub returns-in-Draw-clause-ends : goal.returns-in-Draw-clause-ends
 returns-in-Draw-clause-ends g c =
-    let said = c.draw.ensures in
-    leaves c.draw.result _ _ _ _ _ _ (due _ _ _ _ _ _) (λ other. inl (said.quiet_reader other)) said.quiet_writer
-    said.read_fault said.write_fault said.unwritten said.untouched
+    let said = c.draw_either.ensures in
+    let is : KeepsInput (command_of c.args.choice) = subst (λ d. KeepsInput (command_of d)) (sym c.in-Draw.is) (inr refl) in
+    leaves c.draw_either.result _ _ _ _ _ _ (kept _ _ _ _ _ _ is) (λ other. inl (said.quiet_reader other))
+    said.quiet_writer said.read_fault said.write_fault said.unwritten said.untouched
 
 pub returns-in-DrawWith-clause-ends : goal.returns-in-DrawWith-clause-ends
 returns-in-DrawWith-clause-ends g c =
-    let said = c.draw-in-DrawWith.ensures in
-    leaves c.draw-in-DrawWith.result _ _ _ _ _ _ (due _ _ _ _ _ _) (λ other. inl (said.quiet_reader other))
+    let said = c.draw_either-in-DrawWith.ensures in
+    let is : KeepsInput (command_of c.args.choice) =
+    subst (λ d. KeepsInput (command_of d)) (sym c.in-DrawWith.is) (inr refl) in
+    leaves c.draw_either-in-DrawWith.result _ _ _ _ _ _ (kept _ _ _ _ _ _ is)
+    (λ other. inl (said.quiet_reader other))
     said.quiet_writer said.read_fault said.write_fault said.unwritten said.untouched
 
 pub returns-in-Run-clause-ends : goal.returns-in-Run-clause-ends
@@ -147,17 +132,10 @@ returns-in-Run-clause-ends g c =
 
 pub returns-in-Explain-clause-ends : goal.returns-in-Explain-clause-ends
 returns-in-Explain-clause-ends g c =
-    let said = c.explain_either.ensures in
-    let is : command_of c.args.choice ≡ command.Explain = ap command_of c.in-Explain.is in
-    leaves c.explain_either.result _ _ _ _ _ _ (kept _ _ _ _ _ _ is) (λ other. inl (said.quiet_reader other))
-    said.quiet_writer said.read_fault said.write_fault said.unwritten said.untouched
-
-pub returns-in-Transaction-clause-ends : goal.returns-in-Transaction-clause-ends
-returns-in-Transaction-clause-ends g c =
-    let said = c.explain_either-in-Transaction.ensures in
-    let is : command_of c.args.choice ≡ command.Explain = ap command_of c.in-Transaction.is in
-    leaves c.explain_either-in-Transaction.result _ _ _ _ _ _ (kept _ _ _ _ _ _ is) (λ other. inl (said.quiet_reader other))
-    said.quiet_writer said.read_fault said.write_fault said.unwritten said.untouched
+    let is : KeepsInput (command_of c.args.choice) =
+    subst (λ d. KeepsInput (command_of d)) (sym c.in-Explain.is) (inl refl) in
+    leaves_more c.explain_by.result _ _ _ _ _ _ (quiet_more ⊥ (ReadsOn c.args.choice) _ _ _ _ absurd)
+    (failed_more _ _ _ _ _ _ _ (λ _. is)) c.explain_by.ensures.ends
 
 pub returns-in-Err-clause-ends : goal.returns-in-Err-clause-ends
 returns-in-Err-clause-ends g c =
