@@ -4,14 +4,14 @@ use crate::devices::Held;
 use crate::host::{Host, over, write_file, writer};
 use crate::why::tell_refusal;
 use sgt_line::{Line, cut, shown, strict_status};
-use sgt_names::{EngineFail, MemSink, write_all};
+use sgt_names::{EngineFail, MemSink, Nowhere, write_all};
 use std::sync::Wait;
 use std::thread::Threads;
 
 // How much of a verdict's line is kept where it isn't written at once.
 const LINE: usize = 200;
 
-/// A line for each file, its name in front. The status is the greatest.
+/// A line for each file, its name in front; quietly for each that fails. The status is the greatest.
 pub(crate) fn audit_each<H: Threads + Wait + Sync>(
     host: &Host<'_, H>,
     line: &Line,
@@ -23,7 +23,7 @@ pub(crate) fn audit_each<H: Threads + Wait + Sync>(
         let mut verdict = MemSink::new(rt.alloc(), LINE)?;
         let found = over(host, line.words.as_slice(), name.as_str(), &mut verdict);
         status = status.max(found);
-        if found <= 1 && !line.is_quiet {
+        if found == 1 || (found == 0 && !line.is_quiet) {
             let head = format!(in rt.alloc(); "{name}: ")?;
             for text in [head.as_bytes(), verdict.bytes()] {
                 if write_all(&mut output, text).is_err() {
@@ -80,6 +80,5 @@ pub(crate) fn judge<H: Threads + Wait + Sync>(
     line: &Line,
     name: &str,
 ) -> Result<u8, EngineFail> {
-    let mut verdict = Held::new(host.rt.alloc());
-    Ok(over(host, line.words.as_slice(), name, &mut verdict))
+    Ok(over(host, line.words.as_slice(), name, &mut Nowhere))
 }

@@ -39,7 +39,7 @@ const AUDIT_USAGE: &str =
     "sgt audit [-q] [--workers N] [--expect-committed N] [--json] [--why] [--progress] [-o FILE] [FILE]...\n       sgt audit --chain [-q] [--expect-committed N] [--json] [--why] [--progress] [-o FILE] FILE...\n  e.g. sgt audit bundle.txt";
 
 const SERIAL_USAGE: &str =
-    "sgt serial [--why] [--progress] [-o FILE] [FILE]\n  e.g. sgt serial bundle.txt";
+    "sgt serial [-q] [--why] [--progress] [-o FILE] [FILE]\n  e.g. sgt serial bundle.txt";
 
 const REPLAY_USAGE: &str =
     "sgt replay [--strict] [--why] [--progress] [--bundle FILE] [-o FILE] [FILE]\n  e.g. sgt replay --bundle bundle.txt events.txt";
@@ -50,7 +50,7 @@ const CHECK_USAGE: &str =
     "sgt check [--order] [--real-time] [--sessions] [--svg FILE] [-q] [--json | --html] [--why] [--progress] [-o FILE] [FILE]\n       sgt check --against ORDER [--real-time] [--sessions] [-q] [--json | --html] [--why] [-o FILE] [FILE]\n  e.g. sgt check history.jsonl";
 
 const CERTIFY_USAGE: &str =
-    "sgt certify [--json] [--why] [-o FILE] [FILE]\n  e.g. sgt certify -o bundle.txt logs.txt";
+    "sgt certify [-q] [--json] [--why] [-o FILE] [FILE]\n  e.g. sgt certify -o bundle.txt logs.txt";
 
 const EXPLAIN_USAGE: &str =
     "sgt explain [--tx N | --all] [--json | --html] [--why] [-o FILE] [FILE]\n       sgt explain RULE\n  e.g. sgt explain bundle.txt";
@@ -100,7 +100,11 @@ const PROGRESS: Taken = Taken::Flag(
     "Tells standard error of each million lines read",
 );
 
-const QUIET: Taken = Taken::Letter('q', "quiet", "Answers by the status alone");
+const QUIET: Taken = Taken::Letter(
+    'q',
+    "quiet",
+    "Answers by the status alone; of several files, with a line for each that fails",
+);
 
 const OUTPUT: Taken = Taken::LetterValue(
     'o',
@@ -188,7 +192,7 @@ const AUDIT_TAKEN: [Taken; 8] = [
     OUTPUT,
 ];
 
-const SERIAL_TAKEN: [Taken; 4] = [FILE, WHY, PROGRESS, OUTPUT];
+const SERIAL_TAKEN: [Taken; 5] = [FILE, QUIET, WHY, PROGRESS, OUTPUT];
 
 const REPLAY_TAKEN: [Taken; 6] = [
     FILE,
@@ -230,7 +234,7 @@ const CHECK_TAKEN: [Taken; 9] = [
     OUTPUT,
 ];
 
-const CERTIFY_TAKEN: [Taken; 4] = [FILE, JSON, WHY, OUTPUT];
+const CERTIFY_TAKEN: [Taken; 5] = [FILE, QUIET, JSON, WHY, OUTPUT];
 
 const EXPLAIN_TAKEN: [Taken; 5] = [FILE, JSON, PAGE, WHY, OUTPUT];
 

@@ -24,7 +24,7 @@ JoinsPlace command word file = (((command ≡ Replay) ⊎ (command ≡ Run)) × 
 -- what the word is, but Plain: a switch of the command, `--`, an option of it with what stands behind
 -- it, a rule's name, or a file
 abbrev pub IsNoted : CommandName → List ℕ → Kind → Type 0
-IsNoted command word Quiet = ((command ≡ Audit) ⊎ (command ≡ Check))
+IsNoted command word Quiet = (((command ≡ Audit) ⊎ (command ≡ Check)) ⊎ ((command ≡ Certify) ⊎ (command ≡ Serial)))
     × ((word ≡ codes "-q") ⊎ (word ≡ codes "--quiet"))
 IsNoted command word Strict = (command ≡ Replay) × (word ≡ codes "--strict")
 IsNoted command word Chain = (command ≡ Audit) × (word ≡ codes "--chain")

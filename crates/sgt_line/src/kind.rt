@@ -70,8 +70,11 @@ fn is_file(command: CommandName, word: &str) -> bool
 fn is_quiet(command: CommandName, word: &str) -> bool
     ensures { IsTrue result ↔ IsNoted command word.now kind.Quiet }
 {
-    (command == CommandName::Audit || command == CommandName::Check)
-        && (word == "-q" || word == "--quiet")
+    match command {
+        CommandName::Audit | CommandName::Check => word == "-q" || word == "--quiet",
+        CommandName::Certify | CommandName::Serial => word == "-q" || word == "--quiet",
+        _ => false,
+    }
 }
 
 fn is_strict(command: CommandName, word: &str) -> bool

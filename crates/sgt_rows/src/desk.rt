@@ -77,7 +77,7 @@ fn told_of(alloc: Global, line: &Line, name: &str, answer: &[u8]) -> Result<Vec<
     Ok(text)
 }
 
-/// A line for each file, its name in front, or its object. The status is the greatest.
+/// A line for each file, its name in front, or its object; quietly for each that fails. The status is the greatest.
 fn audit_each<H: Threads + Wait + Sync>(
     rt: &H,
     alloc: Global,
@@ -93,7 +93,8 @@ fn audit_each<H: Threads + Wait + Sync>(
         let source = MemSource::new(text.as_bytes(), per_read, None);
         let found = run(rt, alloc, given.line.words.as_slice(), source)?;
         status = status.max(found.status);
-        if found.status <= 1 {
+        let is_told = found.status == 1 || (found.status == 0 && !given.line.is_quiet);
+        if is_told {
             let told = told_of(alloc, &given.line, name.as_str(), found.output.bytes())?;
             let _ = write_all(&mut output, told.as_slice());
         }
@@ -249,7 +250,7 @@ pub(crate) fn answer_to<H: Threads + Wait + Sync>(
             answer.output = sink_of(alloc, text.as_slice())?;
         }
     }
-    if line.is_quiet {
+    if line.is_quiet && (line.is_chain || line.files.len() < 2) {
         answer.output = MemSink::new(alloc, 0)?;
     }
     Ok(answer)
