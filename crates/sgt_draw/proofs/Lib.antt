@@ -1,3 +1,1 @@
 mod Begun
-mod Clean
-mod Mended

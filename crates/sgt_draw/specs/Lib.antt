@@ -1,4 +1,3 @@
 pub mod Drawn
-pub mod Escaped
 pub mod Parts
 pub mod Picture

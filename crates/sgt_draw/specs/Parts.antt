@@ -3,7 +3,7 @@ use Rattle.std.specs.Prelude.{List, ◌++◌, ℕ, codes, decimal, flat_map}
 use Rattle.sgt_names.specs.Name.{Name}
 use Rattle.sgt_names.specs.declared.entry.Kind.{Kind}
 use Rattle.sgt_names.specs.declared.entry.Kind.TheVariants.{Wr, Rw, Ww}
-use Rattle.sgt_draw.specs.Escaped.{escaped}
+use Rattle.sgt_markup.specs.Escaped.{escaped}
 use Rattle.sgt_draw.specs.declared.canvas.Part.{Part}
 use Rattle.sgt_draw.specs.declared.canvas.Part.TheVariants as part
 

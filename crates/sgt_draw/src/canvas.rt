@@ -1,10 +1,11 @@
 //! The text of a picture: markup, and names and numbers between it.
 
-ghost use Rattle.std.specs.Prelude.{◌≡◌, ◌++◌, ◌∷◌, [], decimal, IfNone, IfOk, IfSome, OnOk};
-ghost use Rattle.sgt_draw.specs.Escaped.{IsClean, escaped, mended, mended_byte, written, written_byte};
+ghost use Rattle.std.specs.Prelude.{◌≡◌, ◌++◌, decimal, IfOk, OnOk};
+ghost use Rattle.sgt_markup.specs.Escaped.{escaped};
 ghost use Rattle.sgt_draw.specs.Parts.{part_text, parts_text};
 ghost use Rattle.sgt_draw.specs.Picture.{IsPicture, foot_of, head_of};
 
+use sgt_markup::escaped_text;
 use sgt_notation::push_number;
 use std::alloc::{AllocError, Global};
 use std::marker::Model;
@@ -20,96 +21,13 @@ pub enum Part<'a> {
     Name(&'a [u8]),
 }
 
-/// What stands for a byte of markup.
-fn entity_of(byte: u8) -> Option<&'static str>
-    ensures some { IfSome result (λ entity. entity.now ≡ written_byte byte) }
-    ensures none { IfNone result (written_byte byte ≡ byte ∷ []) }
-{
-    if byte == b'<' {
-        return Some("&lt;");
-    }
-    if byte == b'>' {
-        return Some("&gt;");
-    }
-    if byte == b'&' {
-        return Some("&amp;");
-    }
-    if byte == b'"' {
-        return Some("&quot;");
-    }
-    if byte == b'\'' {
-        return Some("&#39;");
-    }
-    None
-}
-
-/// Writes a byte, by its entity where it has one.
-fn push_byte(out: &mut Vec<u8>, byte: u8) -> Result<(), AllocError>
-    ensures { OnOk result (out.new.items ≡ out.old.items ++ written_byte byte) }
-{
-    match entity_of(byte) {
-        Some(entity) => out.extend_from_slice(entity.as_bytes()),
-        None => Ok(out.push(byte)?),
-    }
-}
-
-/// What stands for a byte behind these two: U+FFFD for a control byte, and for U+FFFE and U+FFFF, which XML does not
-/// have.
-fn push_mended(out: &mut Vec<u8>, before: u8, last: u8, byte: u8) -> Result<(), AllocError>
-    ensures { OnOk result (out.new.items ≡ out.old.items ++ mended_byte before last byte) }
-{
-    if byte < 32 {
-        return out.extend_from_slice(b"\xef\xbf\xbd");
-    }
-    if before == 0xef && last == 0xbf && byte >= 0xbe {
-        return Ok(out.push(0xbd)?);
-    }
-    Ok(out.push(byte)?)
-}
-
-/// A text of characters that XML has.
-fn mended_text(alloc: Global, text: &[u8]) -> Result<Vec<u8>, AllocError>
-    ensures { IfOk result (λ r. r.items ≡ mended text.now) }
-{
-    let mut out = Vec::new(alloc);
-    let mut before = 0u8;
-    let mut last = 0u8;
-    for byte in text {
-        push_mended(&mut out, before, last, *byte)?;
-        before = last;
-        last = *byte;
-    }
-    Ok(out)
-}
-
-/// Writes a text: none of < > & " ' is written but as an entity.
-fn push_escaped(out: &mut Vec<u8>, text: &[u8]) -> Result<(), AllocError>
-    ensures written { OnOk result (out.new.items ≡ out.old.items ++ written text.now) }
-    ensures clean { IsClean (written text.now) }
-{
-    for byte in text {
-        push_byte(out, *byte)?;
-    }
-    Ok(())
-}
-
-/// A name as it is written.
-fn name_text(alloc: Global, name: &[u8]) -> Result<Vec<u8>, AllocError>
-    ensures { IfOk result (λ text. text.items ≡ escaped name.now) }
-{
-    let mended = mended_text(alloc, name)?;
-    let mut text = Vec::new(alloc);
-    push_escaped(&mut text, mended.as_slice())?;
-    Ok(text)
-}
-
 /// A number as it is written.
 fn number_text(alloc: Global, number: u64) -> Result<Vec<u8>, AllocError>
     ensures { IfOk result (λ text. text.items ≡ escaped (decimal number)) }
 {
     let mut digits = Vec::new(alloc);
     push_number(&mut digits, number)?;
-    name_text(alloc, digits.as_slice())
+    escaped_text(alloc, digits.as_slice())
 }
 
 /// What a picture begins with.
@@ -166,7 +84,7 @@ impl Canvas {
         match *part {
             Part::Markup(text) => self.text.extend_from_slice(text.as_bytes()),
             Part::Name(name) => {
-                let text = name_text(self.alloc, name)?;
+                let text = escaped_text(self.alloc, name)?;
                 self.text.extend_from_slice(text.as_slice())
             }
             Part::Number(number) => {

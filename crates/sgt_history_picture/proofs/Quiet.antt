@@ -1,7 +1,9 @@
 -- Texts in which no title begins.
 use Rattle.std.proofs.Common.{◌≡◌, ℕ, Bool, true, false, List, [], ◌∷◌, ◌++◌, codes, inl, inr, refl, sym, ap, ◌∙◌, append_assoc}
-use Rattle.std.proofs.lemmas.Bool.Decides.{eqb_tells}
-use Rattle.sgt_draw.specs.Escaped.{escaped, mended, written, written_byte}
+use Rattle.std.proofs.lemmas.Bool.{ne_eqb}
+use Rattle.sgt_markup.specs.Escaped.{escaped, mended}
+use Rattle.sgt_markup.specs.Written.{IsEntity, written, written_byte}
+use Rattle.sgt_markup.proofs.Clean.{as-it-is, forms}
 use Rattle.sgt_draw.specs.Picture.{foot_of}
 use Rattle.sgt_history_picture.specs.Drawn.{HasNoTitle}
 use Rattle.sgt_history_picture.specs.Private.{Bracket, Elsewhere, Found, IsQuiet, Letter, Seen, seen, sees}
@@ -35,25 +37,20 @@ quiet-append a b first second = sees-append Elsewhere a b ∙ ap (λ (s : Seen).
 pub quiet-text : (text rest : List ℕ) → IsQuiet text → sees Elsewhere (text ++ rest) ≡ sees Elsewhere rest
 quiet-text text rest quiet = sees-append Elsewhere text rest ∙ ap (λ (s : Seen). sees s rest) quiet
 
+-- an entity, and what stands behind it
+entity : (text rest : List ℕ) → IsEntity text → sees Elsewhere (text ++ rest) ≡ sees Elsewhere rest
+entity text rest (inl is) = ap (λ (t : List ℕ). sees Elsewhere (t ++ rest)) is
+entity text rest (inr (inl is)) = ap (λ (t : List ℕ). sees Elsewhere (t ++ rest)) is
+entity text rest (inr (inr (inl is))) = ap (λ (t : List ℕ). sees Elsewhere (t ++ rest)) is
+entity text rest (inr (inr (inr (inl is)))) = ap (λ (t : List ℕ). sees Elsewhere (t ++ rest)) is
+entity text rest (inr (inr (inr (inr is)))) = ap (λ (t : List ℕ). sees Elsewhere (t ++ rest)) is
+
 -- a byte as it is written
 byte : (b : ℕ) (rest : List ℕ) → sees Elsewhere (written_byte b ++ rest) ≡ sees Elsewhere rest
-byte b rest = elim (eqb_tells b 60) [
-  | inl is ↦ (let e : written_byte b ≡ codes "&lt;" = rw is.0 refl in ap (λ (t : List ℕ). sees Elsewhere (t ++ rest)) e)
-  | inr l ↦ elim (eqb_tells b 62) [
-    | inl is ↦ (let e : written_byte b ≡ codes "&gt;" = rw (l.0, is.0) refl in ap (λ (t : List ℕ). sees Elsewhere (t ++ rest)) e)
-    | inr g ↦ elim (eqb_tells b 38) [
-      | inl is ↦ (let e : written_byte b ≡ codes "&amp;" = rw (l.0, g.0, is.0) refl in ap (λ (t : List ℕ). sees Elsewhere (t ++ rest)) e)
-      | inr a ↦ elim (eqb_tells b 34) [
-        | inl is ↦ (let e : written_byte b ≡ codes "&quot;" = rw (l.0, g.0, a.0, is.0) refl in ap (λ (t : List ℕ). sees Elsewhere (t ++ rest)) e)
-        | inr q ↦ elim (eqb_tells b 39) [
-          | inl is ↦ (let e : written_byte b ≡ codes "&#39;" = rw (l.0, g.0, a.0, q.0, is.0) refl in ap (λ (t : List ℕ). sees Elsewhere (t ++ rest)) e)
-          | inr s ↦ (let e : written_byte b ≡ b ∷ [] = rw (l.0, g.0, a.0, q.0, s.0) refl in
-              let f : sees Elsewhere (b ∷ rest) ≡ sees Elsewhere rest = rw l.0 refl in
-              ap (λ (t : List ℕ). sees Elsewhere (t ++ rest)) e ∙ f)
-        ]
-      ]
-    ]
-  ]
+byte b rest = elim (forms b) [
+  | inl is ↦ entity (written_byte b) rest is
+  | inr is ↦ (let f : sees Elsewhere (b ∷ rest) ≡ sees Elsewhere rest = rw (ne_eqb b 60 is.0) refl in
+      ap (λ (t : List ℕ). sees Elsewhere (t ++ rest)) (as-it-is b is) ∙ f)
 ]
 
 bytes : (text rest : List ℕ) → sees Elsewhere (written text ++ rest) ≡ sees Elsewhere rest

@@ -1,6 +1,6 @@
 -- How a step of a cycle is written in a picture. What isn't markup is escaped.
 use Rattle.std.specs.Prelude.{ℕ, List, ◌++◌, codes}
-use Rattle.sgt_draw.specs.Escaped.{escaped}
+use Rattle.sgt_markup.specs.Escaped.{escaped}
 use Rattle.sgt_history_picture.specs.Short.{shown}
 use Rattle.sgt_history_picture.specs.Told.{Step, kind_text}
 

@@ -1,6 +1,6 @@
 -- How a long name is drawn: with its middle left out.
 use Rattle.std.specs.Prelude.{◌-◌, ◌+◌, ◌&&◌, ltb, leb, ℕ, zero, suc, Bool, List, ◌++◌, codes, drop, get_or, if◌then◌else◌, length, take}
-use Rattle.sgt_draw.specs.Escaped.{escaped}
+use Rattle.sgt_markup.specs.Escaped.{escaped}
 
 -- in UTF-8 a byte that goes on with a character
 abbrev pub goes_on : ℕ → Bool

@@ -1,7 +1,7 @@
 -- The pieces of a page, one behind the other.
 use Rattle.std.proofs.Common.{◌≡◌, ◌++◌, ℕ, List, [], append_assoc, refl}
 use Rattle.sgt_page.specs.Page.{Fixed, Shown, page_text}
-use Rattle.sgt_page.specs.Written.{written}
+use Rattle.sgt_markup.specs.Written.{written}
 
 pub joined : (f : Fixed) (s : Shown) (o a b c d : List ℕ) → o ≡ []
     → a ≡ o ++ (f.head ++ (written s.title ++ f.style))

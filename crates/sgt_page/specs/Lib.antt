@@ -1,3 +1,2 @@
 pub mod Answer
-pub mod Written
 pub mod Page

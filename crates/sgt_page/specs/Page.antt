@@ -1,6 +1,6 @@
 -- The text of a page: fixed markup, and between it what is shown, as text but for the picture.
 use Rattle.std.specs.Prelude.{ℕ, List, ◌++◌}
-use Rattle.sgt_page.specs.Written.{written}
+use Rattle.sgt_markup.specs.Written.{written}
 use Rattle.sgt_page.specs.declared.fixed.TheConstants.{FOOT, HEAD, HEADING, MEANING, NAME, PICTURE, SCRIPT, STYLE, TEXT, VERDICT}
 use Rattle.sgt_page.specs.declared.page.Page.{Page}
 

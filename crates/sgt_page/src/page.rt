@@ -1,7 +1,7 @@
 //! A page, of what it shows.
 
 ghost use Rattle.std.specs.Prelude.{◌≡◌, ◌++◌, IfOk, OnOk};
-ghost use Rattle.sgt_page.specs.Written.{written};
+ghost use Rattle.sgt_markup.specs.Written.{written};
 ghost use Rattle.sgt_page.specs.Page.{fixed, page_text, shown_of};
 
 use crate::fixed::{FOOT, HEAD, HEADING, MEANING, NAME, PICTURE, SCRIPT, STYLE, TEXT, VERDICT};

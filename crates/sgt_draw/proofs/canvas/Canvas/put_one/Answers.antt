@@ -9,7 +9,7 @@ invariant_of-self c =
 pub invariant_of-self-in-Name : goal.invariant_of-self-in-Name
 invariant_of-self-in-Name c =
     begun-more _ _ c.args.part.now _ _ _ c.self.invariant
-    (rw (c.in-Name.is, c.as_slice.ensures.value) c.in_ok-text-in-Name.ensures)
+    (rw (c.in-Name.is, c.as_slice.ensures.value) c.in_ok-text-in-Name.ensures.escaped)
     c.extend_from_slice-in-Name.ensures.items
 
 pub invariant_of-self-in-Number : goal.invariant_of-self-in-Number

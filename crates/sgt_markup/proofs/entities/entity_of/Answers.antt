@@ -1,6 +1,6 @@
 use Rattle.std.proofs.Common.{refl}
-use Rattle.sgt_draw.proofs.Clean.{as-it-is}
-use Rattle.sgt_draw.proofs.canvas.entity_of.Goals as goal
+use Rattle.sgt_markup.proofs.Clean.{as-it-is}
+use Rattle.sgt_markup.proofs.entities.entity_of.Goals as goal
 
 pub returns-then-byte-eq60-clause-some : goal.returns-then-byte-eq60-clause-some
 returns-then-byte-eq60-clause-some c = rw c.if-byte-eq60.true refl

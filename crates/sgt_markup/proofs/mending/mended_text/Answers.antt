@@ -1,7 +1,7 @@
 use Rattle.std.specs.Prelude.{get_or}
 use Rattle.std.proofs.lemmas.Option.{slice_get-get_or}
-use Rattle.sgt_draw.proofs.Mended.{mended-next}
-use Rattle.sgt_draw.proofs.canvas.mended_text.Goals as goal
+use Rattle.sgt_markup.proofs.Growing.{mended-next}
+use Rattle.sgt_markup.proofs.mending.mended_text.Goals as goal
 
 pub loop-byte-preserved : goal.loop-byte-preserved
 loop-byte-preserved c =

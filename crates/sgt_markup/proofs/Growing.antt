@@ -1,8 +1,14 @@
 -- A mended text that grows by a byte.
-use Rattle.std.proofs.Common.{◌≡◌, ◌+◌, ◌++◌, ℕ, List, [], ◌∷◌, Some, take, refl, sym, ap, ◌∙◌, append_assoc, append-nil}
+use Rattle.std.proofs.Common.{◌≡◌, ◌+◌, ◌++◌, ℕ, List, [], ◌∷◌, Some, take, add-one, refl, sym, ap, ◌∙◌, append_assoc, append-nil}
 use Rattle.std.specs.Prelude.{slice_get}
-use Rattle.sgt_names.proofs.Lists.{take_next}
-use Rattle.sgt_draw.specs.Escaped.{mended, mended_behind, mended_byte}
+use Rattle.std.proofs.Math.Seq.{take-suc}
+use Rattle.std.proofs.lemmas.Option.{get_or_from_slice_get, slice_get_within}
+use Rattle.sgt_markup.specs.Escaped.{mended, mended_behind, mended_byte}
+
+next : (text : List ℕ) (k b : ℕ) → slice_get text k ≡ Some b → take (k + 1) text ≡ take k text ++ b ∷ []
+next text k b at =
+    ap (λ n. take n text) (add-one k) ∙ take-suc text k b (slice_get_within text k b at)
+    ∙ ap (λ (n : ℕ). take k text ++ n ∷ []) (get_or_from_slice_get text k b b at)
 
 -- the last byte of a text behind these two, and the one before it
 abbrev pub last_of : (before last : ℕ) → List ℕ → ℕ
@@ -37,7 +43,7 @@ pub mended-next : (text : List ℕ) (k before last b : ℕ) (old new : List ℕ)
     → (new ≡ mended (take (k + 1) text)) × (last ≡ before_of 0 0 (take (k + 1) text))
     × (b ≡ last_of 0 0 (take (k + 1) text))
 mended-next text k before last b old new at so_far is_before is_last grown =
-    let more = sym (take_next text k b at) in (
+    let more = sym (next text k b at) in (
       grown ∙ ap (λ (t : List ℕ). t ++ mended_byte before last b) so_far
           ∙ ap (λ (n : ℕ). mended (take k text) ++ mended_byte n last b) is_before
           ∙ ap (λ (n : ℕ). mended (take k text) ++ mended_byte (before_of 0 0 (take k text)) n b) is_last

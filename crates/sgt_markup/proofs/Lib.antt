@@ -1,0 +1,3 @@
+pub mod Clean
+mod Controls
+mod Growing
