@@ -1,5 +1,5 @@
 -- What a replay writes: the replies to the events of its input, and how the run ends.
-use Rattle.std.specs.Prelude.{◌≡◌, ◌≢◌, ◌⊎◌, ◌↔◌, ℕ, List, [], ◌∷◌, ◌++◌, map, codes, decimal, Option, IfSome}
+use Rattle.std.specs.Prelude.{◌≡◌, ◌≢◌, ◌⊎◌, ◌↔◌, ℕ, List, [], ◌∷◌, ◌++◌, map, codes, Option, IfSome}
 use Rattle.std.specs.Io.KnownBytes.{Appends}
 use Rattle.sgt_names.specs.Device.{AppendsOrForgets, WritesFront}
 use Rattle.sgt_names.specs.declared.outcome.Outcome.{Outcome}
@@ -10,6 +10,7 @@ use Rattle.sgt_notation.specs.declared.event.EventLine.TheVariants.{One, ToDecid
 use Rattle.sgt_notation.specs.declared.fault.NotationFault.{NotationFault}
 use Rattle.sgt_notation.specs.declared.fault.NotationFault.TheVariants as fault
 use Rattle.sgt_bundle.specs.Text.{text_of}
+use Rattle.sgt_input.specs.Unreadable.{unreadable_text}
 use Rattle.sgt_bundle.specs.Valid.{IsValid}
 use Rattle.sgt_core_model.specs.Core.{CoreState, fresh, bundle_of}
 use Rattle.sgt_core_model.specs.Runs.{IsMemory}
@@ -51,16 +52,6 @@ pub record IsRunText (input : Input) (outcome : Outcome) (text : List ℕ) : Typ
   pub whole : text ≡ text_of_lines (reply_lines input.events replies) ++ ending
 
 -- ---- what an input is answered by
-
--- the number of a fault of lines
-abbrev pub line_fault_number : NotationFault → ℕ
-line_fault_number fault.NotALine = 1
-line_fault_number fault.TooLong = 2
-line_fault_number fault.Memory = 3
-
--- the line that says which line can't be read
-abbrev pub unreadable_text : ℕ → NotationFault → List ℕ
-unreadable_text line f = codes "! L" ++ (decimal (line_fault_number f) ++ (codes " line " ++ (decimal line ++ codes "\n")))
 
 -- the text of a run over what was read; or, where nothing was, the first line that can't be read
 abbrev pub IsAnswer : Option (List ℕ) → Outcome → List ℕ → Type 0

@@ -8,16 +8,16 @@ ghost use Rattle.sgt_core_model.specs.Core.{CoreState};
 ghost use Rattle.sgt_core_machine.specs.Machine.{StandsFor};
 ghost use Rattle.sgt_core.specs.declared.input.Input.{Input};
 ghost use Rattle.sgt_core.specs.Input.{IsInput};
-ghost use Rattle.sgt_core.specs.Replay.{EndsWith, IsAnswer, IsRunText, TellsUnreadable, WroteAnswer, WroteAnswerFront, unreadable_text};
+ghost use Rattle.sgt_core.specs.Replay.{EndsWith, IsAnswer, IsRunText, TellsUnreadable, WroteAnswer, WroteAnswerFront};
 ghost use Rattle.sgt_core.specs.private.Playing.{IsCoreAtEnd, IsOpening, IsPlayed};
 ghost use Rattle.sgt_core.specs.private.Stopping.{StopsPlayer};
 
 use crate::playing::{Player, core_of};
 use sgt_core_machine::Core;
 use sgt_core_model::CoreFault;
-use sgt_input::{Stop, read_lines};
+use sgt_input::{Stop, read_lines, unreadable_line};
 use sgt_names::{EngineFail, Failed, Outcome, Sink, Source, write_all};
-use sgt_notation::{NotationFault, SiteLine, push_number};
+use sgt_notation::SiteLine;
 use std::alloc::{AllocError, Global};
 
 /// How a run ended, and the text of its bundle: none where there is none.
@@ -94,22 +94,6 @@ fn run_text(alloc: Global, player: Player) -> Result<Answer, AllocError>
         text,
         bundle,
     })
-}
-
-fn unreadable_line(alloc: Global, line: u64, fault: NotationFault) -> Result<Vec<u8>, AllocError>
-    ensures { IfOk result (λ text. text.items ≡ unreadable_text line fault) }
-{
-    let number = match fault {
-        NotationFault::NotALine => 1,
-        NotationFault::TooLong => 2,
-        NotationFault::Memory => 3,
-    };
-    let mut text = Vec::from_slice(alloc, b"! L")?;
-    push_number(&mut text, number)?;
-    text.extend_from_slice(b" line ")?;
-    push_number(&mut text, line)?;
-    text.extend_from_slice(b"\n")?;
-    Ok(text)
 }
 
 /// The answer to an input that was read up to there.

@@ -12,8 +12,7 @@ ghost use Rattle.sgt_core.specs.private.Playing.{AnswersEvent, IsOpening, PlaysO
 use crate::reply::write_reply;
 use sgt_core_machine::Core;
 use sgt_core_model::{CoreFault, Reply};
-use sgt_input::{Taker, take_site};
-use sgt_names::{Holding, Listed};
+use sgt_input::{Taker, items_of, take_site};
 use sgt_notation::{EventLine, SiteLine, front_event, read_event};
 use sgt_site::SiteFault;
 use std::alloc::{AllocError, Global};
@@ -152,17 +151,6 @@ fn take_first(
     let answered = answer_line(&mut opened, line, text)?;
     *core = Some(opened);
     Ok(answered)
-}
-
-/// The items of the sites.
-fn items_of(alloc: Global, sites: Vec<SiteLine>) -> Result<Vec<Listed<Holding>>, AllocError>
-    ensures { IfOk result (λ items. items.items ≡ map (λ l. l.items) sites.items) }
-{
-    let mut items = Vec::new(alloc);
-    for site in sites {
-        items.push(site.items)?;
-    }
-    Ok(items)
 }
 
 /// A core over these sites. Err: memory ran out.

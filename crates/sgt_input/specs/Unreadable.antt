@@ -1,6 +1,6 @@
 -- The first line of an input that can't be read, where it is known which lines an input may begin
 -- with.
-use Rattle.std.specs.Prelude.{◌≡◌, ◌≤◌, ◌⊎◌, ℕ, ◌+◌, List, [], ◌∷◌, ◌++◌, length}
+use Rattle.std.specs.Prelude.{◌≡◌, ◌≤◌, ◌⊎◌, ℕ, ◌+◌, List, [], ◌∷◌, ◌++◌, codes, decimal, length}
 use Rattle.sgt_names.specs.Limits.{max_line}
 use Rattle.sgt_notation.specs.Lines.{IsLongerThan}
 use Rattle.sgt_notation.specs.Spelling.{HasNoLf, text_of_lines}
@@ -38,3 +38,16 @@ pub record IsFirstUnreadable (begins : List (List ℕ) → Type 0) (bytes : List
   pub begun : begins before
   pub number : n ≡ length before + 1
   pub blocks : Blocks begins before rest fault
+
+-- ---- how it is told
+
+-- the number of a fault of lines
+abbrev pub line_fault_number : NotationFault → ℕ
+line_fault_number NotALine = 1
+line_fault_number TooLong = 2
+line_fault_number Memory = 3
+
+-- the line that says which line can't be read
+abbrev pub unreadable_text : ℕ → NotationFault → List ℕ
+unreadable_text line fault =
+    codes "! L" ++ (decimal (line_fault_number fault) ++ (codes " line " ++ (decimal line ++ codes "\n")))

@@ -4,7 +4,9 @@
 mod reading;
 mod sites;
 mod taker;
+mod told;
 
 pub use reading::{Stop, read_lines};
-pub use sites::take_site;
+pub use sites::{items_of, take_site};
 pub use taker::Taker;
+pub use told::unreadable_line;

@@ -1,8 +1,9 @@
 //! The sites that an input begins with.
 
-ghost use Rattle.std.specs.Prelude.{IfOk};
+ghost use Rattle.std.specs.Prelude.{◌≡◌, map, IfOk};
 ghost use Rattle.sgt_input.specs.Sites.{TakesSite};
 
+use sgt_names::{Holding, Listed};
 use sgt_notation::{NotationFault, SiteLine, read_site};
 use std::alloc::{AllocError, Global};
 
@@ -20,4 +21,15 @@ pub fn take_site(alloc: Global, sites: &mut Vec<SiteLine>, line: &[u8]) -> Resul
     }
     sites.push(site)?;
     Ok(true)
+}
+
+/// The items of the sites, each with its first value.
+pub fn items_of(alloc: Global, sites: Vec<SiteLine>) -> Result<Vec<Listed<Holding>>, AllocError>
+    ensures { IfOk result (λ items. items.items ≡ map (λ l. l.items) sites.items) }
+{
+    let mut items = Vec::new(alloc);
+    for site in sites {
+        items.push(site.items)?;
+    }
+    Ok(items)
 }

@@ -6,7 +6,7 @@ use Rattle.sgt_names.specs.declared.outcome.Outcome.{Outcome}
 use Rattle.sgt_names.specs.declared.outcome.Outcome.TheVariants as outcome
 use Rattle.sgt_notation.specs.declared.event.SiteLine.{SiteLine}
 use Rattle.sgt_notation.specs.declared.fault.NotationFault.{NotationFault}
-use Rattle.sgt_core.specs.Replay.{unreadable_text}
+use Rattle.sgt_input.specs.Unreadable.{unreadable_text}
 use Rattle.sgt_core_model.specs.Core.{CoreState}
 use Rattle.sgt_core_machine.specs.Machine.{Parts, StandsFor}
 use Rattle.sgt_pipe.specs.Fronts.{IsPart}

@@ -16,7 +16,7 @@ use Rattle.sgt_notation.specs.declared.fault.NotationFault.TheVariants.{NotALine
 use Rattle.sgt_core_model.specs.Core.{CoreState, OpenStep, bundle_of}
 use Rattle.sgt_core_model.specs.Step.{Run}
 use Rattle.sgt_core_model.specs.declared.reply.Reply.{Reply}
-use Rattle.sgt_core.specs.Replay.{unreadable_text}
+use Rattle.sgt_input.specs.Unreadable.{unreadable_text}
 use Rattle.sgt_pipe.specs.Fronts.{IsLineOf, IsPart}
 use Rattle.sgt_serve.specs.declared.fail.ServeFail.{ServeFail}
 use Rattle.sgt_serve.specs.declared.fail.ServeFail.TheVariants as fail

@@ -17,7 +17,7 @@ use crate::last::Last;
 use crate::opening::{Opened, read_sites, server_of};
 use crate::stop::Stop;
 use crate::talking::{Server, talk};
-use crate::writing::unreadable_line;
+use sgt_input::unreadable_line;
 use sgt_names::{Outcome, Sink, Source};
 use sgt_notation::NotationFault;
 use sgt_pipe::{Inbox, Pipe};

@@ -1,6 +1,6 @@
 //! The sites that a talk begins with, and what answers over them.
 
-ghost use Rattle.std.specs.Prelude.{◌≡◌, ◌≢◌, ◌≤◌, ◌+◌, ◌*◌, [], None, Some, Ok, length, map, IfOk, MatchBool};
+ghost use Rattle.std.specs.Prelude.{◌≡◌, ◌≢◌, ◌≤◌, ◌+◌, ◌*◌, [], None, Some, Ok, length, IfOk, MatchBool};
 ghost use Rattle.std.specs.Io.KnownBytes.{IsAtEnd as NoneLeft};
 ghost use Rattle.sgt_names.specs.Limits.{buffer_size};
 ghost use Rattle.sgt_notation.specs.Events.{IsEventLine, event_text};
@@ -18,8 +18,8 @@ use crate::last::Last;
 use crate::talking::Server;
 use crate::turning::asks_cut;
 use sgt_core_machine::Core;
-use sgt_input::take_site;
-use sgt_names::{Holding, Listed, Sink, Source};
+use sgt_input::{items_of, take_site};
+use sgt_names::{Sink, Source};
 use sgt_notation::{NotationFault, SiteLine, read_event};
 use sgt_pipe::{Front, Inbox, Pipe};
 use sgt_site::SiteFault;
@@ -146,17 +146,6 @@ pub(crate) fn read_sites<R: Source, W: Sink>(
             return Ok(opened);
         }
     }
-}
-
-/// The items of the sites.
-fn items_of(alloc: Global, sites: Vec<SiteLine>) -> Result<Vec<Listed<Holding>>, AllocError>
-    ensures { IfOk result (λ items. items.items ≡ map (λ l. l.items) sites.items) }
-{
-    let mut items = Vec::new(alloc);
-    for site in sites {
-        items.push(site.items)?;
-    }
-    Ok(items)
 }
 
 /// A core over these sites. Err: memory ran out.

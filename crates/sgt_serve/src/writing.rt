@@ -1,13 +1,11 @@
 //! Answers, written.
 
-ghost use Rattle.std.specs.Prelude.{◌≡◌, ◌++◌, ◌∷◌, [], OnOk, OnErr, IfOk, take, vec_len};
-ghost use Rattle.sgt_core.specs.Replay.{unreadable_text};
+ghost use Rattle.std.specs.Prelude.{◌≡◌, ◌++◌, ◌∷◌, [], OnOk, OnErr, take, vec_len};
 ghost use Rattle.sgt_serve.specs.Talk.{answer_line};
 
 use sgt_core::write_reply;
 use sgt_courses::{Answer, CutFault};
-use sgt_notation::{NotationFault, push_number};
-use std::alloc::{AllocError, Global};
+use std::alloc::AllocError;
 
 fn push_answer(out: &mut Vec<u8>, line: &[u8], answer: &Answer) -> Result<(), AllocError>
     ensures ok { OnOk result (out.new.items ≡ out.old.items ++ answer_line line.now answer.now) }
@@ -52,25 +50,4 @@ fn push_all(out: &mut Vec<u8>, line: &[u8], answer: &Answer) -> Result<(), Alloc
     push_answer(out, line, answer)?;
     out.push(b'\n')?;
     Ok(())
-}
-
-/// The line that says which line in front of the talk can't be read.
-pub(crate) fn unreadable_line(
-    alloc: Global,
-    line: u64,
-    fault: NotationFault,
-) -> Result<Vec<u8>, AllocError>
-    ensures { IfOk result (λ text. text.items ≡ unreadable_text line fault) }
-{
-    let number = match fault {
-        NotationFault::NotALine => 1,
-        NotationFault::TooLong => 2,
-        NotationFault::Memory => 3,
-    };
-    let mut text = Vec::from_slice(alloc, b"! L")?;
-    push_number(&mut text, number)?;
-    text.extend_from_slice(b" line ")?;
-    push_number(&mut text, line)?;
-    text.extend_from_slice(b"\n")?;
-    Ok(text)
 }

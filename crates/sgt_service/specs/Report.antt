@@ -14,6 +14,7 @@ use Rattle.sgt_notation.specs.declared.fault.NotationFault.TheVariants as notati
 use Rattle.sgt_notation.specs.declared.script.Script.{Script}
 use Rattle.sgt_bundle.specs.Parts.{Parts}
 use Rattle.sgt_bundle.specs.Text.{text_of}
+use Rattle.sgt_input.specs.Unreadable.{unreadable_text}
 use Rattle.sgt_certifier.specs.History.{Replays}
 use Rattle.sgt_certifier.specs.Kept.{Kept}
 use Rattle.sgt_service_agreement.specs.declared.fault.ServiceFault.{ServiceFault}
@@ -168,15 +169,6 @@ IsRunAnswer input tries outcome.Yes text = IsRunText input tries outcome.Yes tex
 IsRunAnswer input tries outcome.No text = IsRunText input tries outcome.No text
     ⊎ IsFaultText input tries text
 IsRunAnswer input tries outcome.Unreadable text = ⊥
-
-abbrev pub line_fault_number : NotationFault → ℕ
-line_fault_number notation.NotALine = 1
-line_fault_number notation.TooLong = 2
-line_fault_number notation.Memory = 3
-
--- the line that says which line can't be read
-abbrev pub unreadable_text : ℕ → NotationFault → List ℕ
-unreadable_text line f = codes "! L" ++ (decimal (line_fault_number f) ++ (codes " line " ++ (decimal line ++ codes "\n")))
 
 -- what was told is answered: an input by its run, with so many tries for each script; other bytes
 -- by their first line that can't be

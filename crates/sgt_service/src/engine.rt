@@ -7,7 +7,7 @@ ghost use Rattle.sgt_site.specs.State.{AreItems};
 ghost use Rattle.sgt_service_locks.specs.Ledgers.{AreOf};
 ghost use Rattle.sgt_service_settle.specs.Settled.{IsSettled};
 ghost use Rattle.sgt_service.specs.Input.{IsInput, IsRead, IsUsable};
-ghost use Rattle.sgt_service.specs.Report.{EndsRun, IsAnswer, IsFaultLine, IsOutcome, IsRunAnswer, IsRunOf, IsTextOf, IsWant, TellsUnreadable, WroteAnswer, WroteAnswerFront, pool_fault_number, service_fault_number, site_items, unreadable_text};
+ghost use Rattle.sgt_service.specs.Report.{EndsRun, IsAnswer, IsFaultLine, IsOutcome, IsRunAnswer, IsRunOf, IsTextOf, IsWant, TellsUnreadable, WroteAnswer, WroteAnswerFront, pool_fault_number, service_fault_number, site_items};
 
 use crate::audited::verdict_on;
 use crate::begun::first_other;
@@ -17,8 +17,9 @@ use crate::report::{are_committed, push_dones};
 use crate::running::run;
 use crate::settled::{Settled, bundle, settle};
 use sgt_audit::Verdict;
+use sgt_input::{items_of, unreadable_line};
 use sgt_names::{EngineFail, Holding, Listed, Outcome, Sink, Source, write_all};
-use sgt_notation::{NotationFault, Script, SiteLine, push_number};
+use sgt_notation::{Script, SiteLine, push_number};
 use sgt_service_agreement::ServiceFault;
 use sgt_service_locks::{Blanks, Ledgers, Service};
 use sgt_workers::{Done, Gate, PoolFail, PoolFault};
@@ -86,33 +87,6 @@ fn fault_line(alloc: Global, fail: PoolFail<ServiceFault>) -> Result<Vec<u8>, Al
             _ => numbered_line(alloc, b"! P", pool_fault_number(fault)),
         },
     }
-}
-
-fn unreadable_line(alloc: Global, line: u64, fault: NotationFault) -> Result<Vec<u8>, AllocError>
-    ensures { IfOk result (λ text. text.items ≡ unreadable_text line fault) }
-{
-    let number = match fault {
-        NotationFault::NotALine => 1,
-        NotationFault::TooLong => 2,
-        NotationFault::Memory => 3,
-    };
-    let mut text = Vec::from_slice(alloc, b"! L")?;
-    push_number(&mut text, number)?;
-    text.extend_from_slice(b" line ")?;
-    push_number(&mut text, line)?;
-    text.extend_from_slice(b"\n")?;
-    Ok(text)
-}
-
-// The items of the sites.
-fn items_of(alloc: Global, sites: Vec<SiteLine>) -> Result<Vec<Listed<Holding>>, AllocError>
-    ensures { IfOk result (λ items. items.items ≡ map (λ l. l.items) sites.items) }
-{
-    let mut items = Vec::new(alloc);
-    for site in sites {
-        items.push(site.items)?;
-    }
-    Ok(items)
 }
 
 // Yes where each script was committed and the verdict is yes.

@@ -4,7 +4,7 @@ use Rattle.sgt_names.specs.declared.outcome.Outcome.{Outcome}
 use Rattle.sgt_names.specs.declared.outcome.Outcome.TheVariants as outcome
 use Rattle.sgt_notation.specs.declared.event.SiteLine.{SiteLine}
 use Rattle.sgt_notation.specs.declared.fault.NotationFault.{NotationFault}
-use Rattle.sgt_core.specs.Replay.{unreadable_text}
+use Rattle.sgt_input.specs.Unreadable.{unreadable_text}
 use Rattle.sgt_pipe.specs.declared.handed.Handed.{Handed}
 use Rattle.sgt_pipe.specs.declared.history.History.{History}
 use Rattle.sgt_serve.specs.declared.fail.ServeFail.{ServeFail}
