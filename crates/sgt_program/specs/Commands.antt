@@ -1,5 +1,5 @@
 -- What each command answers, by the exit status.
-use Rattle.std.specs.Prelude.{◌≡◌, ◌≢◌, ◌⊎◌, ◌<◌, ◌≤◌, ⊤, ℕ, if◌then◌else◌, IsTrue, List, Option, Some, None, length, IfSome}
+use Rattle.std.specs.Prelude.{◌≡◌, ◌≢◌, ◌⊎◌, ◌<◌, ◌≤◌, ⊤, ℕ, Bool, false, if◌then◌else◌, IsTrue, List, Option, Some, None, length, IfSome}
 use Rattle.std.specs.Io.KnownBytes.{Appends}
 use Rattle.sgt_names.specs.Device.{WritesFront}
 use Rattle.sgt_names.specs.declared.outcome.Outcome.{Outcome}
@@ -14,7 +14,7 @@ use Rattle.sgt_check.specs.Answer as check
 use Rattle.sgt_check.specs.declared.options.Options.{Options}
 use Rattle.sgt_check_kept.specs.Answer as keeping
 use Rattle.sgt_check_order.specs.Answer as against
-use Rattle.sgt_draw_logs.specs.Either as draw
+use Rattle.sgt_draw_logs.specs.Drawing as draw
 use Rattle.sgt_explain_logs.specs.Either as explain
 use Rattle.sgt_explain.specs.Topics.{IsRuleOf, topic_name}
 use Rattle.sgt_explain.specs.declared.asked.Asked.{Asked}
@@ -147,10 +147,10 @@ AnswersExplain asked status told written written' =
 
 -- at 0 the picture of a valid bundle, or of the one that `certify` makes of logs; at 1 the line of a no, or the picture
 -- of the cycle that shows that logs have no certificate
-abbrev pub AnswersDraw : (status : ℕ) (told written written' : Option (List ℕ)) → Type 0
-AnswersDraw status told written written' =
-    ByStatus (λ outcome. draw.WroteEither told outcome written written')
-    (draw.WroteEitherFront told written written') status
+abbrev pub AnswersDraw : (is_dot : Bool) (status : ℕ) (told written written' : Option (List ℕ)) → Type 0
+AnswersDraw is_dot status told written written' =
+    ByStatus (λ outcome. draw.WroteDrawing is_dot told outcome written written')
+    (draw.WroteDrawingFront is_dot told written written') status
 
 -- a rule: its text at 0, which begins with its name, and nothing else but a front at 3 and 4
 pub record AnswersRule (topic : Topic) (status : ℕ) (written written' : Option (List ℕ)) : Type 0 where
@@ -169,8 +169,8 @@ Answers Certify = AnswersCertify
 Answers (Check wanted) = AnswersCheck wanted
 Answers (Explain asked) = AnswersExplain asked
 Answers (Rule topic) = λ status told written written'. AnswersRule topic status written written'
-Answers Draw = AnswersDraw
-Answers (DrawWith tx is_dot) = AnswersDraw
+Answers Draw = AnswersDraw false
+Answers (DrawWith tx is_dot) = AnswersDraw is_dot
 Answers (Run workers tries) = AnswersRun tries
 
 -- a command that reads nothing: what a rule is
