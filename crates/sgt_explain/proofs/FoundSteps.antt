@@ -1,5 +1,5 @@
 -- Of a text whose first fault is a step of a walk: which step is found, and that the section of its site is.
-use Rattle.std.proofs.Common.{◌≡◌, ℕ, suc, ◌+◌, ◌-◌, ◌<◌, ◌≤◌, List, [], ◌∷◌, ◌++◌, length, length-append, map, take, Option, Some, None, inl, inr, refl, sym, ap, ap₂, ◌∙◌, subst, arith, append_assoc, append-nil, All, Contains}
+use Rattle.std.proofs.Common.{◌≡◌, ℕ, ◌+◌, ◌<◌, ◌≤◌, List, [], ◌∷◌, ◌++◌, length, length-append, map, take, Option, Some, None, inl, inr, refl, sym, ap, ap₂, ◌∙◌, subst, arith, append_assoc, append-nil, All}
 use Rattle.std.specs.Prelude.{slice_get, IfSome, IfNone, IsSome, IsSomeAnd}
 use Rattle.std.proofs.lemmas.Grind.{flat_map-append}
 use Rattle.std.proofs.lemmas.List.{length-map}
@@ -8,13 +8,12 @@ use Rattle.std.proofs.lemmas.Option.{same_Some, slice_get_within}
 use Rattle.sgt_names.proofs.Lists.{within_at}
 use Rattle.sgt_names.proofs.Places.{All_at, Contains_at, slice_get-take_at}
 use Rattle.sgt_names.specs.Log.{Conflicts}
-use Rattle.sgt_notation.specs.Spelling.{line_text, text_of_lines, HasNoLf, IsLine}
+use Rattle.sgt_notation.specs.Spelling.{line_text, text_of_lines, HasNoLf}
 use Rattle.sgt_notation.specs.declared.SectionLine.{SectionLine}
 use Rattle.sgt_notation.specs.declared.SectionLine.TheVariants.{End}
-use Rattle.sgt_bundle.specs.Certificate.{stops, IsCycle}
+use Rattle.sgt_bundle.specs.Certificate.{stops}
 use Rattle.sgt_bundle.specs.Text.{sections_from, IsStep, IsDecision}
-use Rattle.sgt_bundle.specs.Valid.{IsLogged, AreLogged}
-use Rattle.sgt_bundle.specs.declared.certificate.Certificate.{Certificate}
+use Rattle.sgt_bundle.specs.Valid.{IsLogged}
 use Rattle.sgt_bundle.specs.declared.certificate.Decision.{Decision}
 use Rattle.sgt_bundle.specs.declared.certificate.Decision.TheVariants.{Refuse}
 use Rattle.sgt_bundle.specs.declared.certificate.Step.{Step}
@@ -34,7 +33,7 @@ use Rattle.sgt_explain_steps.specs.Unmet.{IsStepAt, NoStepAt}
 use Rattle.sgt_explain_steps.specs.declared.unmet.Unmet.{Unmet}
 use Rattle.sgt_explain_steps.proofs.Meetings.{leads-on}
 use Rattle.sgt_explain.specs.Shown.{lines_before, decisions_before}
-use Rattle.sgt_explain.specs.Steps.{EndsSite, EndsNowhere, IsWhole, IsUnmetStep}
+use Rattle.sgt_explain.specs.Steps.{EndsNowhere, IsWhole, IsUnmetStep}
 use Rattle.sgt_explain.proofs.FaultyLine.{FaultyLine, entries-same}
 use Rattle.sgt_explain.proofs.ShownSteps.{faulty, open-up_to, ends-log, end-line}
 use Rattle.sgt_explain.proofs.UnmetSteps.{none-repeats, shown-logged, unshown-none, start-stop, walk-logged}

@@ -1,10 +1,10 @@
 -- What lines that keep the rules say of the decisions on the transactions of their entries.
-use Rattle.std.proofs.Common.{◌≡◌, ◌≢◌, Bool, ℕ, zero, suc, ◌+◌, ◌<◌, ◌≤◌, List, [], ◌∷◌, ◌++◌, length, map, take, drop, Option, Some, None, inl, inr, refl, sym, ap, ◌∙◌, subst, arith, All, Contains}
-use Rattle.std.specs.Prelude.{fold, slice_get, Any, AllPairs, ◌⊎◌}
+use Rattle.std.proofs.Common.{◌≡◌, ◌≢◌, Bool, ℕ, zero, suc, List, [], ◌∷◌, ◌++◌, take, drop, Some, inl, inr, sym, ap, ◌∙◌, subst, arith, All, Contains}
+use Rattle.std.specs.Prelude.{fold, slice_get, Any, ◌⊎◌}
 use Rattle.std.specs.List.{filter_map}
-use Rattle.std.proofs.lemmas.List.Elements.{Contains-append_cases, Contains-push_cases, All-from_recursion}
-use Rattle.std.proofs.lemmas.Option.{same_Some, none-some, slice_get_within}
-use Rattle.sgt_names.proofs.Lists.{drop_next, All_in, All-map, All-from_map, All-weaken, Any-from_at}
+use Rattle.std.proofs.lemmas.List.Elements.{Contains-push_cases}
+use Rattle.std.proofs.lemmas.Option.{same_Some, none-some}
+use Rattle.sgt_names.proofs.Lists.{All-map, All-from_map, All-weaken, Any-from_at}
 use Rattle.sgt_names.proofs.Places.{All_at, All-from_at, AllPairs_at, Contains_at, Contains-from_at, slice_get-take, split_at}
 use Rattle.sgt_names.specs.Entry.{tx_of, IsEnd}
 use Rattle.sgt_names.specs.Log.{AllEnded}
@@ -24,7 +24,7 @@ use Rattle.sgt_explain_lines.specs.declared.section.Logged.{Logged as LoggedEntr
 use Rattle.sgt_explain_decisions.specs.Placed.{IsFirstOn, IsUndecided}
 use Rattle.sgt_explain_decisions.specs.Decided.{IsNotLater, IsOvertaken}
 use Rattle.sgt_explain_decisions.specs.Ends.{HasEnd}
-use Rattle.sgt_explain_decisions.proofs.Besides.{first-unique, first-decided}
+use Rattle.sgt_explain_decisions.proofs.Besides.{first-unique}
 use Rattle.sgt_explain.proofs.FaultyLine.{entries-same}
 
 -- where each transaction has one decision, that of an entry is the first on its transaction

@@ -1,9 +1,11 @@
 pub mod EntryPlaces
 pub mod FaultyLine
 pub mod FaultyText
+pub mod Finding
 pub mod FoundSteps
 pub mod KeptDecisions
 pub mod ListedItems
+pub mod SecondLine
 pub mod SeenLines
 pub mod ShownDecisions
 pub mod ShownEntries

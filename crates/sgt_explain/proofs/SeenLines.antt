@@ -1,6 +1,5 @@
 -- The lines of sections that are looked at, by a verdict.
-use Rattle.std.proofs.Common.{◌≡◌, ◌≢◌, Bool, ℕ, suc, ◌+◌, ◌≤◌, ◌<◌, List, [], ◌∷◌, ◌++◌, ◌-◌, length, map, take, take_all, inl, inr, refl, sym, ap, ◌∙◌, subst, arith, append_assoc, append-nil, length-append, All}
-use Rattle.std.specs.Prelude.{◌⊎◌}
+use Rattle.std.proofs.Common.{◌≡◌, ◌≢◌, Bool, ℕ, suc, ◌+◌, ◌<◌, List, [], ◌∷◌, ◌++◌, ◌-◌, length, map, take, take_all, inl, inr, refl, sym, ap, ◌∙◌, subst, arith, append_assoc, append-nil, length-append, All}
 use Rattle.std.proofs.lemmas.Grind.{flat_map-append}
 use Rattle.std.proofs.lemmas.List.{length-map, take-append-le}
 use Rattle.std.proofs.lemmas.List.Elements.{All-from_recursion}
@@ -11,10 +10,9 @@ use Rattle.sgt_bundle.specs.Parts.{Parts}
 use Rattle.sgt_bundle.specs.declared.certificate.Certificate.{Certificate}
 use Rattle.sgt_bundle.proofs.OneLine.{certificate-one_line}
 use Rattle.sgt_bundle.proofs.OneText.{format-one_line, sections-lines}
-use Rattle.sgt_audit.specs.declared.faults.Fault.{Fault}
 use Rattle.sgt_audit.specs.declared.verdict.Verdict.{Verdict}
 use Rattle.sgt_audit.specs.declared.verdict.Verdict.TheVariants.{Yes, No}
-use Rattle.sgt_audit.specs.Faults.{Stage, start, headed, within, complete, lines_so_far, IsFaultless, AllKept, FirstFault}
+use Rattle.sgt_audit.specs.Faults.{Stage, start, headed, within, complete, lines_so_far, IsFaultless, AllKept}
 use Rattle.sgt_explain_lines.specs.Sited.{HasLines, HasBefore}
 use Rattle.sgt_explain.specs.Asked.{AreSeen, seen_before}
 use Rattle.sgt_explain.specs.Shown.{lines_before}

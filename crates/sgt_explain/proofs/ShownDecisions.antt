@@ -3,7 +3,7 @@ use Rattle.std.proofs.Common.{◌≡◌, ◌≢◌, ℕ, List, [], ◌∷◌, �
 use Rattle.std.specs.Prelude.{Result, Ok, Err, OnOk, unwrap_or}
 use Rattle.std.proofs.lemmas.List.Elements.{All-from_recursion}
 use Rattle.std.proofs.lemmas.Option.{same_Some, none-some, slice_get_within}
-use Rattle.sgt_notation.specs.Spelling.{line_text, text_of_lines, HasNoLf}
+use Rattle.sgt_notation.specs.Spelling.{line_text, text_of_lines}
 use Rattle.sgt_notation.specs.declared.SectionLine.{SectionLine}
 use Rattle.sgt_notation.specs.declared.SectionLine.TheVariants.{Logged}
 use Rattle.sgt_bundle.specs.Text.{certificate_text, format_line, IsCertificate}
@@ -29,18 +29,14 @@ use Rattle.sgt_explain.specs.Certified.{ShowsAgainstEnd, ShowsMisplaced, ShowsUn
 use Rattle.sgt_explain.specs.Shown.{lines_before, decisions_before}
 use Rattle.sgt_explain.proofs.FaultyLine.{FaultyLine, end-line, decision-line, left-line}
 use Rattle.sgt_explain.proofs.KeptDecisions.{overtaken-by, all-decided, ended-kept}
+use Rattle.sgt_explain.proofs.SecondLine.{held-line}
 use Rattle.sgt_explain.proofs.ShownValues.{logged-parts}
 use Rattle.sgt_explain.proofs.Telling.{on-ok}
 use Rattle.sgt_notation.proofs.Texts.{line_front}
 
 -- what was read there
 abbrev pub Reads : List ℕ → Option Certificate → Type 0
-Reads bytes found = (front : List ℕ) (c : Certificate) (rest : List ℕ) → HasNoLf front → IsCertificate c
-    → bytes ≡ front ++ 10 ∷ (certificate_text c ++ 10 ∷ rest) → found ≡ Some c
-
-pub read-held : (bytes : List ℕ) (found : Option Certificate) (c : Certificate) → Reads bytes found
-    → HoldsCertificate bytes c → found ≡ Some c
-read-held bytes found c reads held = reads held.0 c held.1 held.2 held.3 held.4
+Reads bytes found = (c : Certificate) → HoldsCertificate bytes c → found ≡ Some c
 
 -- ---- F4, F5, F6
 
@@ -48,14 +44,11 @@ module _ (bytes rest : List ℕ) where
   held : (second : Bool) (l : List ℕ) → ComesNext rest (whole l)
       → bytes ≡ text_of_lines (lines_so_far (headed second)) ++ rest
       → (c : Certificate) → IsCertificate c → l ≡ certificate_text c → HoldsCertificate bytes c
-  held second l comes text c is e = (
-    format_line second,
-    comes.0,
-    All-from_recursion (λ b. b ≢ 10) (format_line second) (format-one_line second),
-    is,
-    text ∙ line_front (format_line second) [] rest
-        ∙ ap (λ (r : List ℕ). format_line second ++ 10 ∷ r) (comes.1 ∙ ap (λ (m : List ℕ). m ++ 10 ∷ comes.0) e),
-  )
+  held second l comes text c is e =
+      held-line bytes (format_line second) comes.0 c
+      (All-from_recursion (λ b. b ≢ 10) (format_line second) (format-one_line second)) is
+      (text ∙ line_front (format_line second) [] rest
+      ∙ ap (λ (r : List ℕ). format_line second ++ 10 ∷ r) (comes.1 ∙ ap (λ (m : List ℕ). m ++ 10 ∷ comes.0) e))
 
   ranks-headed : (stage : Stage) (next : Piece) → ComesNext rest next
       → bytes ≡ text_of_lines (lines_so_far stage) ++ rest → (Rule stage next fault.Ranks → ⊥)
@@ -139,14 +132,14 @@ pub twice-broken : (bytes : List ℕ) (n : ℕ) (first : FirstFault bytes n faul
 twice-broken bytes n first d reads once =
     first.breaks.broken
     (twice-kept first.stage first.next d
-    (λ c is e. same_Some d c (read-held bytes (Some d) c reads (twice-held bytes n first c is e))) once)
+    (λ c is e. same_Some d c (reads c (twice-held bytes n first c is e))) once)
 
 pub walk-broken : (bytes : List ℕ) (n : ℕ) (first : FirstFault bytes n fault.WalkShape) (d : Certificate)
     → Reads bytes (Some d) → HaveCycles d.decisions (length d.decisions) → ⊥
 walk-broken bytes n first d reads have =
     first.breaks.broken
     (walk-kept first.stage first.next d
-    (λ c is e. same_Some d c (read-held bytes (Some d) c reads (walk-held bytes n first c is e))) have)
+    (λ c is e. same_Some d c (reads c (walk-held bytes n first c is e))) have)
 
 -- what is told of the certificate that was read
 pub tells-read_certificate : {T E : Type 0} (r : Result T E) (bytes line : List ℕ) (d : Certificate)
@@ -157,13 +150,13 @@ pub tells-read_certificate : {T E : Type 0} (r : Result T E) (bytes line : List 
 tells-read_certificate (Err e) bytes line d P reads holds told = tt
 tells-read_certificate (Ok t) bytes line d P reads holds told = λ c spells.
     subst (λ (k : Certificate). P k.decisions)
-    (same_Some d c (read-held bytes (Some d) c reads (holds c spells.0 spells.1))) told
+    (same_Some d c (reads c (holds c spells.0 spells.1))) told
 
 pub none-read : (bytes line : List ℕ) (P : List Decision → Type 0) → Reads bytes None
     → ((c : Certificate) → IsCertificate c → line ≡ certificate_text c → HoldsCertificate bytes c)
     → (c : Certificate) → IsCertificate c × (line ≡ certificate_text c) → P c.decisions
 none-read bytes line P reads holds c spells =
-    absurd (none-some c (read-held bytes None c reads (holds c spells.0 spells.1)))
+    absurd (none-some c (reads c (holds c spells.0 spells.1)))
 
 -- ---- F13, F14, F15
 
@@ -171,12 +164,12 @@ module _ (bytes : List ℕ) (n : ℕ) (f : Fault) (stage : Stage) (next : Piece)
   where
     no-certificate_of : Reads bytes None → ⊥
     no-certificate_of one = let cert = line.certified in
-        none-some line.c (one cert.0 line.c cert.1 cert.2 line.kept.spelled cert.3)
+        none-some line.c (one line.c (held-line bytes cert.0 cert.1 line.c cert.2 line.kept.spelled cert.3))
 
     same-decisions : (d : Certificate) → Reads bytes (Some d) → d.decisions ≡ line.c.decisions
     same-decisions d one = let cert = line.certified in
         ap (λ (k : Certificate). k.decisions)
-        (same_Some d line.c (one cert.0 line.c cert.1 cert.2 line.kept.spelled cert.3))
+        (same_Some d line.c (one line.c (held-line bytes cert.0 cert.1 line.c cert.2 line.kept.spelled cert.3)))
 
 no-end_line : (n : ℕ) (c : Certificate) (before : List SectionLine) (l : SectionLine) → None ≡ logged_in (n, l)
     → Keeps c before l fault.End

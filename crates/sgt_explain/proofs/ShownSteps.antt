@@ -1,7 +1,6 @@
 -- What is shown of a step of a walk, by the section of its site.
 use Rattle.std.proofs.Common.{◌≡◌, ◌≢◌, ℕ, zero, suc, ◌+◌, ◌-◌, ◌<◌, ◌≤◌, List, [], ◌∷◌, ◌++◌, length, map, take, drop, Option, Some, None, inl, inr, refl, sym, ap, ap₂, ◌∙◌, subst, arith, append_assoc, length-append, All}
-use Rattle.std.specs.Prelude.{fold, slice_get, IfSome, IsSome, IsSomeAnd}
-use Rattle.std.specs.List.{AllByRecursion}
+use Rattle.std.specs.Prelude.{slice_get, IfSome, IsSome, IsSomeAnd}
 use Rattle.std.proofs.lemmas.Grind.{flat_map-append}
 use Rattle.std.proofs.lemmas.Bool.{cases_order, false≢true}
 use Rattle.std.proofs.lemmas.List.{length-take-le, map-append, take-append-le, take_all}
@@ -13,11 +12,11 @@ use Rattle.sgt_names.proofs.Places.{All_at, All-from_at, slice_get-take, split_a
 use Rattle.sgt_names.specs.Log.{Conflicts}
 use Rattle.sgt_names.specs.declared.entry.Entry.{Entry}
 use Rattle.sgt_names.specs.declared.entry.Holding.{Holding}
-use Rattle.sgt_notation.specs.Spelling.{line_text, text_of_lines, HasNoLf, IsLine}
+use Rattle.sgt_notation.specs.Spelling.{line_text, text_of_lines, IsLine}
 use Rattle.sgt_notation.specs.declared.SectionLine.{SectionLine}
 use Rattle.sgt_notation.specs.declared.SectionLine.TheVariants.{Site, Initial, Logged, Final, End}
 use Rattle.sgt_bundle.specs.Certificate.{stops, IsCycle}
-use Rattle.sgt_bundle.specs.Text.{certificate_text, sections_from, IsCertificate}
+use Rattle.sgt_bundle.specs.Text.{sections_from}
 use Rattle.sgt_bundle.specs.declared.certificate.Certificate.{Certificate}
 use Rattle.sgt_bundle.specs.declared.certificate.Decision.TheVariants.{Refuse}
 use Rattle.sgt_bundle.specs.declared.certificate.Step.{Step}

@@ -1,6 +1,6 @@
 -- What holds of a call that went well, and of what it found.
-use Rattle.std.proofs.Common.{◌≡◌, ◌≢◌, ℕ, List, [], ◌++◌, inl, inr, codes, subst}
-use Rattle.std.specs.Prelude.{Result, Ok, Err, OnOk, Option, Some, None, IfOk, IfSome, IfNone, IsSomeAnd}
+use Rattle.std.proofs.Common.{◌≡◌, ◌≢◌, Bool, ℕ, List, [], ◌++◌, codes, subst}
+use Rattle.std.specs.Prelude.{Result, Ok, Err, OnOk, Option, Some, None, IfOk, IfSome, IsSomeAnd}
 use Rattle.sgt_audit.specs.declared.verdict.Verdict.{Verdict}
 use Rattle.sgt_audit.specs.declared.verdict.Verdict.TheVariants.{No}
 use Rattle.sgt_audit.specs.declared.faults.Fault.TheVariants as fault
@@ -11,10 +11,11 @@ use Rattle.sgt_explain_decisions.specs.Told.{rank_order_text}
 use Rattle.sgt_explain_decisions.specs.declared.order.RanksShown.{RanksShown}
 use Rattle.sgt_explain_steps.specs.Told.{walk_step_text}
 use Rattle.sgt_explain_steps.specs.declared.unmet.Unmet.{Unmet}
-use Rattle.sgt_names.specs.declared.outcome.Outcome.{Outcome}
 use Rattle.sgt_audit.specs.Verdict.{IsVerdict}
-use Rattle.sgt_explain.specs.Asked.{TellsAsked, TellsIfYes}
-use Rattle.sgt_explain.specs.Explained.{Tells, Means, MeansOf, IsExplained, IsExplainedOf, WroteExplained, WroteExplainedOf}
+use Rattle.sgt_explain.specs.Asked.{IsFound, TellsAsked, TellsIfYes}
+use Rattle.sgt_explain.specs.declared.asked.Asked.{Asked}
+use Rattle.sgt_explain.specs.declared.asked.Explained.{Explained}
+use Rattle.sgt_explain.specs.Explained.{Tells, Means, MeansOf, IsExplained, IsExplainedOf}
 use Rattle.sgt_explain.specs.Shown.{lines_before, decisions_before, ShowsRead, ShowsFinal, ShowsRanks}
 use Rattle.sgt_explain.specs.Steps.{ShowsStep}
 use Rattle.sgt_explain.specs.Lines.{ShowsEnd}
@@ -88,7 +89,7 @@ pub if-ok : {T E : Type 0} {P Q : T → Type 0} (r : Result T E) → ((t : T) �
 if-ok (Ok t) f p = f t p
 if-ok (Err e) f p = tt
 
-pub means-both : (bytes : List ℕ) (asked : Option ℕ) (v : Verdict) (told more meaning : List ℕ)
+pub means-both : (bytes : List ℕ) (asked : Asked) (v : Verdict) (told more meaning : List ℕ)
     → Tells bytes v [] told → TellsIfYes bytes asked v [] told → TellsAsked bytes v asked [] more
     → meaning ≡ told ++ more → MeansOf bytes asked v meaning
 means-both bytes asked v told more meaning tells each dealings text = record {
@@ -100,18 +101,13 @@ means-both bytes asked v told more meaning tells each dealings text = record {
   dealings = dealings;
 }
 
-explained : (asked : Option ℕ) (told : Option (List ℕ)) (v : Verdict) (meaning : List ℕ)
-    → IfSome told (λ bytes. IsVerdict bytes v × MeansOf bytes asked v meaning)
+explained : (asked : Asked) (told : Option (List ℕ)) (v : Verdict) (meaning : List ℕ) (found : Bool)
+    → IfSome told (λ bytes. IsVerdict bytes v × MeansOf bytes asked v meaning × IsFound bytes v asked found)
     → IfSome told (λ bytes. IsVerdict bytes v × Means bytes v meaning)
-explained asked None v meaning h = tt
-explained asked (Some bytes) v meaning h = (h.0, (asked, h.1))
+explained asked None v meaning found h = tt
+explained asked (Some bytes) v meaning found h = (h.0, (asked, h.1))
 
--- whether one was asked for or not
-pub is-explained : (asked : Option ℕ) (told : Option (List ℕ)) (ended : Outcome) (text : List ℕ)
-    → IsExplainedOf asked told ended text → IsExplained told ended text
-is-explained asked told ended text h = (h.0, h.1, explained asked told h.0 h.1 h.2, h.3, h.4)
-
-pub wrote-explained : {E : Type 0} (r : Result Outcome E) (asked : Option ℕ) (told old new : Option (List ℕ))
-    → IfOk r (λ ended. WroteExplainedOf asked told ended old new) → IfOk r (λ ended. WroteExplained told ended old new)
-wrote-explained (Ok ended) asked told old new h = (h.0, is-explained asked told ended h.0 h.1, h.2)
-wrote-explained (Err e) asked told old new h = tt
+-- whatever was asked for
+pub is-explained : (asked : Asked) (told : Option (List ℕ)) (ended : Explained) (text : List ℕ)
+    → IsExplainedOf asked told ended text → IsExplained told ended.outcome text
+is-explained asked told ended text h = (h.0, h.1, explained asked told h.0 h.1 ended.is_found h.2, h.3, h.4)

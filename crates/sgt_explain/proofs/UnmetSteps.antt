@@ -1,12 +1,11 @@
 -- Which steps of walks are conflicts of the logs, by what was found of their transactions.
-use Rattle.std.proofs.Common.{◌≡◌, ◌≢◌, ℕ, zero, suc, ◌+◌, ◌-◌, ◌<◌, ◌≤◌, Bool, true, false, List, [], ◌∷◌, ◌++◌, length, take, Option, Some, None, inl, inr, refl, sym, ap, ◌∙◌, subst, arith, append-nil, All, AllPairs, Contains}
-use Rattle.std.specs.Prelude.{slice_get, unwrap_or, IfSome, IsSome, IsSomeAnd, ◌⊎◌}
+use Rattle.std.proofs.Common.{◌≡◌, ◌≢◌, ℕ, zero, suc, ◌+◌, ◌<◌, ◌≤◌, Bool, true, false, List, [], ◌∷◌, ◌++◌, length, take, Option, Some, None, inl, inr, refl, sym, ap, ◌∙◌, subst, arith, All, AllPairs}
+use Rattle.std.specs.Prelude.{slice_get, unwrap_or, IfSome, IsSome, IsSomeAnd}
 use Rattle.std.proofs.lemmas.Bool.{cases_order, false≢true}
 use Rattle.std.proofs.lemmas.Option.{same_Some, none-some, slice_get_within}
-use Rattle.sgt_names.proofs.Places.{All_at, AllPairs_at, AllPairs-from_at, Contains_at, slice_get-take_at}
+use Rattle.sgt_names.proofs.Places.{All_at, AllPairs_at, AllPairs-from_at, slice_get-take_at}
 use Rattle.sgt_names.specs.Name.{Name}
-use Rattle.sgt_names.specs.Entry.{tx_of, is_increment, IsIncrement, Reads, Writes, Clash, Repeats}
-use Rattle.sgt_names.specs.Log.{Conflicts}
+use Rattle.sgt_names.specs.Entry.{tx_of, IsIncrement, Reads, Writes, Clash, Repeats}
 use Rattle.sgt_names.specs.declared.entry.Entry.{Entry}
 use Rattle.sgt_names.specs.declared.entry.Entry.TheVariants as entry
 use Rattle.sgt_names.specs.declared.entry.Kind.{Kind}
@@ -20,7 +19,7 @@ use Rattle.sgt_bundle.specs.declared.certificate.Certificate.{Certificate}
 use Rattle.sgt_bundle.specs.declared.certificate.Step.{Step}
 use Rattle.sgt_bundle.specs.declared.bundle.SiteLog.{SiteLog}
 use Rattle.sgt_audit.specs.declared.faults.Fault.TheVariants as fault
-use Rattle.sgt_audit.specs.Faults.{AllKept, entries_in}
+use Rattle.sgt_audit.specs.Faults.{AllKept}
 use Rattle.sgt_audit.proofs.SectionLines.{up_to, entries_in-is, around, at_logged}
 use Rattle.sgt_audit.proofs.LinePlaces.{cut_append, last_cut}
 use Rattle.sgt_explain_lines.specs.Sited.{StandsAt}
@@ -31,7 +30,7 @@ use Rattle.sgt_explain_decisions.specs.Sought.{Key, key_of, found_at, found_of, 
 use Rattle.sgt_explain_decisions.specs.Cycles.{IsShownStep, IsUnshown}
 use Rattle.sgt_explain_steps.specs.Told.{begins_with_read, ends_with_read}
 use Rattle.sgt_explain_steps.specs.Unmet.{Does}
-use Rattle.sgt_explain.proofs.EntryPlaces.{IsLogPlace, stands-in, log-stands, start}
+use Rattle.sgt_explain.proofs.EntryPlaces.{stands-in, log-stands, start}
 use Rattle.sgt_explain_steps.proofs.Meetings.{clash-second}
 
 -- ---- what was found of a transaction on an item

@@ -1,21 +1,26 @@
--- What is told of one transaction that is asked for.
-use Rattle.std.specs.Prelude.{◌≡◌, ◌≢◌, ◌⊎◌, ℕ, ◌+◌, List, ◌∷◌, ◌++◌, All, length, Option, Some, None, IsSome}
+-- What is told of what is asked for: of the refusals of a yes, and of one transaction.
+use Rattle.std.specs.Prelude.{◌≡◌, ◌≢◌, ◌⊎◌, ◌↔◌, Bool, IsTrue, ℕ, ◌+◌, List, [], ◌++◌, All, length, Option, Some, None}
 use Rattle.sgt_notation.specs.Spelling.{HasNoLf, text_of_lines}
+use Rattle.sgt_explain_lines.specs.Numbered.{IsLineAt}
 use Rattle.sgt_bundle.specs.Text.{certificate_text, sections_from, IsCertificate, Spells}
 use Rattle.sgt_bundle.specs.declared.certificate.Certificate.{Certificate}
-use Rattle.sgt_explain_decisions.specs.Fate.{TellsFate, TellsRefusals}
+use Rattle.sgt_bundle.specs.declared.certificate.Decision.{Decision}
+use Rattle.sgt_explain_decisions.specs.Fate.{TellsFate}
+use Rattle.sgt_explain_decisions.specs.Placed.{HasDecisionOn}
+use Rattle.sgt_explain_decisions.specs.Refusals.{TellsFirstRefusals, TellsRefusals}
 use Rattle.sgt_explain_transaction.specs.Dealings.{TellsDealings, TellsOwn, own_of}
 use Rattle.sgt_audit.specs.Faults.{FirstFault}
 use Rattle.sgt_audit.specs.declared.verdict.Verdict.{Verdict}
 use Rattle.sgt_audit.specs.declared.verdict.Verdict.TheVariants.{Yes, No}
 use Rattle.sgt_bundle.specs.Parts.{Parts}
 use Rattle.sgt_notation.specs.declared.SectionLine.{SectionLine}
+use Rattle.sgt_explain.specs.declared.asked.Asked.{Asked}
+use Rattle.sgt_explain.specs.declared.asked.Asked.TheVariants.{First, All as Each, Transaction}
 use Rattle.sgt_explain.specs.Shown.{lines_before}
 
 -- line 2 of the text is the certificate
 abbrev pub HoldsCertificate : List ℕ → Certificate → Type 0
-HoldsCertificate bytes c = (front : List ℕ) × (rest : List ℕ) × HasNoLf front × IsCertificate c
-    × (bytes ≡ front ++ 10 ∷ (certificate_text c ++ 10 ∷ rest))
+HoldsCertificate bytes c = IsCertificate c × IsLineAt bytes 2 (certificate_text c)
 
 -- the lines of sections that are looked at: those before the first fault, and of a valid bundle all
 abbrev pub AreSeen : List ℕ → Verdict → List SectionLine → Type 0
@@ -30,14 +35,25 @@ IsSeenText bytes (No line f) seen = (lines : List (List ℕ)) (rest : List ℕ) 
     → line ≡ length lines + 1 → bytes ≡ text_of_lines lines ++ rest → seen ≡ text_of_lines lines
 IsSeenText bytes (Yes committed refused withdrawn) seen = seen ≡ bytes
 
--- what a yes means: each refusal with its cycle; nothing where a transaction is asked for, or none
--- was refused
-abbrev pub TellsYes : List ℕ → Option ℕ → (refused : ℕ) → (old new : List ℕ) → Type 0
-TellsYes bytes asked refused old new = ((IsSome asked ⊎ (refused ≡ 0)) × (new ≡ old))
-    ⊎ ((asked ≡ None) × (refused ≢ 0)
-    × ((c : Certificate) → HoldsCertificate bytes c → TellsRefusals c.decisions bytes old new))
+-- the transaction that is asked for, if one is
+abbrev pub transaction_in : Asked → Option ℕ
+transaction_in First = None
+transaction_in Each = None
+transaction_in (Transaction tx) = Some tx
 
-abbrev pub TellsIfYes : List ℕ → Option ℕ → Verdict → (old new : List ℕ) → Type 0
+-- of these decisions each refusal is told with its cycle, or the first hundred; none where a transaction is asked for
+abbrev pub TellsRefused : Asked → List Decision → List ℕ → (old new : List ℕ) → Type 0
+TellsRefused First decisions bytes old new = TellsFirstRefusals decisions bytes old new
+TellsRefused Each decisions bytes old new = TellsRefusals decisions bytes old new
+TellsRefused (Transaction tx) decisions bytes old new = new ≡ old
+
+-- what a yes means: the refusals of its certificate; nothing where none was refused
+abbrev pub TellsYes : List ℕ → Asked → (refused : ℕ) → (old new : List ℕ) → Type 0
+TellsYes bytes asked refused old new = ((refused ≡ 0) × (new ≡ old))
+    ⊎ ((refused ≢ 0)
+    × ((c : Certificate) → HoldsCertificate bytes c → TellsRefused asked c.decisions bytes old new))
+
+abbrev pub TellsIfYes : List ℕ → Asked → Verdict → (old new : List ℕ) → Type 0
 TellsIfYes bytes asked (Yes committed refused withdrawn) old new = TellsYes bytes asked refused old new
 TellsIfYes bytes asked (No line f) old new = Unit {0}
 
@@ -52,9 +68,25 @@ pub record TellsTransaction (bytes : List ℕ) (v : Verdict) (tx : ℕ) (old new
       → TellsOwn lines tx (own_of tx lines) fate new
 
 -- nothing is told where none is asked for
-abbrev pub TellsAsked : List ℕ → Verdict → Option ℕ → (old new : List ℕ) → Type 0
-TellsAsked bytes v None old new = new ≡ old
-TellsAsked bytes v (Some tx) old new = TellsTransaction bytes v tx old new
+abbrev pub TellsAsked : List ℕ → Verdict → Asked → (old new : List ℕ) → Type 0
+TellsAsked bytes v First old new = new ≡ old
+TellsAsked bytes v Each old new = new ≡ old
+TellsAsked bytes v (Transaction tx) old new = TellsTransaction bytes v tx old new
+
+-- the certificate of line 2 has a decision on the transaction
+abbrev pub HasDecision : List ℕ → ℕ → Type 0
+HasDecision bytes tx = (c : Certificate) × HoldsCertificate bytes c × HasDecisionOn c.decisions tx
+
+-- the text has the transaction: a decision on it, or an entry of it in the lines that are looked at
+abbrev pub HasTransaction : List ℕ → Verdict → ℕ → Type 0
+HasTransaction bytes v tx = HasDecision bytes tx
+    ⊎ ((lines : List SectionLine) × AreSeen bytes v lines × (own_of tx lines ≢ []))
+
+-- whether the text has the transaction that is asked for; so it is where none is
+abbrev pub IsFound : List ℕ → Verdict → Asked → Bool → Type 0
+IsFound bytes v First found = IsTrue found
+IsFound bytes v Each found = IsTrue found
+IsFound bytes v (Transaction tx) found = IsTrue found ↔ HasTransaction bytes v tx
 
 -- ---- for private clauses
 

@@ -20,7 +20,9 @@ use Rattle.sgt_bundle.specs.declared.certificate.Certificate.{Certificate}
 use Rattle.sgt_explain_certificate.specs.Ranks.{TellsRanks}
 use Rattle.sgt_explain_decisions.specs.Twice.{TellsTwice}
 use Rattle.sgt_explain_decisions.specs.Walks.{TellsWalk}
-use Rattle.sgt_explain.specs.Asked.{TellsAsked, TellsIfYes}
+use Rattle.sgt_explain.specs.Asked.{IsFound, TellsAsked, TellsIfYes}
+use Rattle.sgt_explain.specs.declared.asked.Asked.{Asked}
+use Rattle.sgt_explain.specs.declared.asked.Explained.{Explained}
 use Rattle.sgt_explain.specs.Certified.{TellsNoCertificate, SpellsCertificate, ShowsAgainstEnd, ShowsMisplaced, ShowsUnended}
 use Rattle.sgt_explain.specs.Lines.{ShowsFaulty, ShowsUnspelled, ShowsUnallowed, ShowsEnd, ShowsUnlisted, ShowsRepeating, ShowsCut}
 use Rattle.sgt_explain.specs.Shown.{lines_before, decisions_before, ShowsRead, ShowsFinal, ShowsRanks}
@@ -96,7 +98,7 @@ Tells _ _ _ _ = Unit {0}
 
 -- what a verdict on the bytes means is that, and behind it what is told of the transaction, if one
 -- is asked for
-pub record MeansOf (bytes : List ℕ) (asked : Option ℕ) (v : Verdict) (meaning : List ℕ) : Type 0 where
+pub record MeansOf (bytes : List ℕ) (asked : Asked) (v : Verdict) (meaning : List ℕ) : Type 0 where
   pub said : List ℕ
   pub more : List ℕ
   pub text : meaning ≡ said ++ more
@@ -104,9 +106,9 @@ pub record MeansOf (bytes : List ℕ) (asked : Option ℕ) (v : Verdict) (meanin
   pub cycles : TellsIfYes bytes asked v [] said
   pub dealings : TellsAsked bytes v asked [] more
 
--- whether one is asked for or not
+-- whatever is asked for
 abbrev pub Means : List ℕ → Verdict → List ℕ → Type 0
-Means bytes v meaning = (asked : Option ℕ) × MeansOf bytes asked v meaning
+Means bytes v meaning = (asked : Asked) × MeansOf bytes asked v meaning
 
 -- the text that an input is explained by: the line of the verdict on its bytes, and what that means
 -- behind it
@@ -115,13 +117,13 @@ IsExplained told ended text = (v : Verdict) × (meaning : List ℕ)
     × IfSome told (λ bytes. IsVerdict bytes v × Means bytes v meaning)
     × (ended ≡ outcome_of v) × (text ≡ text_of v ++ meaning)
 
--- the same where this transaction is asked for, or none
-abbrev pub IsExplainedOf : Option ℕ → Option (List ℕ) → Outcome → List ℕ → Type 0
+-- the same where this is asked for, and whether the bytes have the transaction that is
+abbrev pub IsExplainedOf : Asked → Option (List ℕ) → Explained → List ℕ → Type 0
 IsExplainedOf asked told ended text = (v : Verdict) × (meaning : List ℕ)
-    × IfSome told (λ bytes. IsVerdict bytes v × MeansOf bytes asked v meaning)
-    × (ended ≡ outcome_of v) × (text ≡ text_of v ++ meaning)
+    × IfSome told (λ bytes. IsVerdict bytes v × MeansOf bytes asked v meaning × IsFound bytes v asked ended.is_found)
+    × (ended.outcome ≡ outcome_of v) × (text ≡ text_of v ++ meaning)
 
-abbrev pub WroteExplainedOf : Option ℕ → (told : Option (List ℕ)) → Outcome
+abbrev pub WroteExplainedOf : Asked → (told : Option (List ℕ)) → Explained
     → (old new : Option (List ℕ)) → Type 0
 WroteExplainedOf asked told ended old new = (text : List ℕ) × IsExplainedOf asked told ended text
     × Appends old new text

@@ -1,22 +1,30 @@
 //! What an input is explained by, before it is written.
 
 ghost use Rattle.std.specs.Prelude.{◌≡◌, ◌++◌, [], IfOk, OnOk, string_bytes};
-ghost use Rattle.sgt_audit.specs.Verdict.{text_of};
-ghost use Rattle.sgt_explain.specs.Asked.{TellsAsked, TellsIfYes};
+ghost use Rattle.sgt_audit.specs.Verdict.{IsVerdict, text_of};
+ghost use Rattle.sgt_explain.specs.Asked.{IsFound, TellsAsked, TellsIfYes};
 ghost use Rattle.sgt_explain.specs.Explained.{outcome_of, Tells, MeansOf};
 
+use crate::asked::{Asked, Explained};
 use crate::noes::push_no;
 use crate::yeses::{push_transaction, push_yes};
 use sgt_audit::Verdict;
-use sgt_names::{Outcome, Tx};
+use sgt_names::Outcome;
 use std::alloc::{AllocError, Global};
 
 /// The line of the verdict, and what it means.
 #[derive(Drop)]
 pub struct Answer {
-    pub outcome: Outcome,
+    pub explained: Explained,
     pub line: String,
     pub meaning: String,
+}
+
+/// A text, and whether the transaction that is asked for was found; so is none.
+#[derive(Drop)]
+struct Said {
+    text: String,
+    is_found: bool,
 }
 
 fn outcome(verdict: Verdict) -> Outcome
@@ -34,11 +42,11 @@ fn push_verdict(
     out: &mut String,
     bytes: &[u8],
     verdict: Verdict,
-    asked: &Option<Tx>,
+    asked: Asked,
 ) -> Result<(), AllocError>
     ensures told { OnOk result (Tells bytes.now verdict (string_bytes out.old) (string_bytes out.new)) }
     ensures cycles { OnOk result
-        (TellsIfYes bytes.now asked.now verdict (string_bytes out.old) (string_bytes out.new)) }
+        (TellsIfYes bytes.now asked verdict (string_bytes out.old) (string_bytes out.new)) }
 {
     match verdict {
         Verdict::No { line, fault } => push_no(alloc, out, bytes, line, fault),
@@ -51,30 +59,32 @@ fn told_of(
     alloc: Global,
     bytes: &[u8],
     verdict: Verdict,
-    asked: &Option<Tx>,
+    asked: Asked,
 ) -> Result<String, AllocError>
     ensures told { IfOk result (λ told. Tells bytes.now verdict [] (string_bytes told)) }
-    ensures cycles { IfOk result (λ told. TellsIfYes bytes.now asked.now verdict [] (string_bytes told)) }
+    ensures cycles { IfOk result (λ told. TellsIfYes bytes.now asked verdict [] (string_bytes told)) }
 {
     let mut told = String::new(alloc);
     push_verdict(alloc, &mut told, bytes, verdict, asked)?;
     Ok(told)
 }
 
-/// What is said of the transaction, if one is asked for.
+/// What is said of the transaction, if one is asked for. Ok: whether the text has it.
 fn push_asked(
     alloc: Global,
     out: &mut String,
     bytes: &[u8],
     verdict: Verdict,
-    asked: &Option<Tx>,
-) -> Result<(), AllocError>
-    ensures { OnOk result
-        (TellsAsked bytes.now verdict asked.now (string_bytes out.old) (string_bytes out.new)) }
+    asked: Asked,
+) -> Result<bool, AllocError>
+    ensures told { OnOk result
+        (TellsAsked bytes.now verdict asked (string_bytes out.old) (string_bytes out.new)) }
+    ensures found { IfOk result
+        (λ found. IsVerdict bytes.now verdict → IsFound bytes.now verdict asked found) }
 {
     match asked {
-        Some(tx) => push_transaction(alloc, out, bytes, verdict, *tx),
-        None => Ok(()),
+        Asked::Transaction(tx) => push_transaction(alloc, out, bytes, verdict, tx),
+        Asked::First | Asked::All => Ok(true),
     }
 }
 
@@ -83,13 +93,15 @@ fn dealings_of(
     alloc: Global,
     bytes: &[u8],
     verdict: Verdict,
-    asked: &Option<Tx>,
-) -> Result<String, AllocError>
-    ensures { IfOk result (λ told. TellsAsked bytes.now verdict asked.now [] (string_bytes told)) }
+    asked: Asked,
+) -> Result<Said, AllocError>
+    ensures told { IfOk result (λ said. TellsAsked bytes.now verdict asked [] (string_bytes said.text)) }
+    ensures found { IfOk result
+        (λ said. IsVerdict bytes.now verdict → IsFound bytes.now verdict asked said.is_found) }
 {
-    let mut dealings = String::new(alloc);
-    push_asked(alloc, &mut dealings, bytes, verdict, asked)?;
-    Ok(dealings)
+    let mut text = String::new(alloc);
+    let is_found = push_asked(alloc, &mut text, bytes, verdict, asked)?;
+    Ok(Said { text, is_found })
 }
 
 fn joined(alloc: Global, first: &str, second: &str) -> Result<String, AllocError>
@@ -106,13 +118,18 @@ fn meaning_of(
     alloc: Global,
     bytes: &[u8],
     verdict: Verdict,
-    asked: Option<Tx>,
-) -> Result<String, AllocError>
-    ensures { IfOk result (λ meaning. MeansOf bytes.now asked verdict (string_bytes meaning)) }
+    asked: Asked,
+) -> Result<Said, AllocError>
+    ensures means { IfOk result (λ said. MeansOf bytes.now asked verdict (string_bytes said.text)) }
+    ensures found { IfOk result
+        (λ said. IsVerdict bytes.now verdict → IsFound bytes.now verdict asked said.is_found) }
 {
-    let told = told_of(alloc, bytes, verdict, &asked)?;
-    let dealings = dealings_of(alloc, bytes, verdict, &asked)?;
-    joined(alloc, told.as_str(), dealings.as_str())
+    let told = told_of(alloc, bytes, verdict, asked)?;
+    let dealings = dealings_of(alloc, bytes, verdict, asked)?;
+    Ok(Said {
+        text: joined(alloc, told.as_str(), dealings.text.as_str())?,
+        is_found: dealings.is_found,
+    })
 }
 
 /// The answer to bytes with this verdict.
@@ -120,9 +137,11 @@ pub fn answer_to(
     alloc: Global,
     bytes: &[u8],
     verdict: Verdict,
-    asked: Option<Tx>,
+    asked: Asked,
 ) -> Result<Answer, AllocError>
-    ensures outcome { IfOk result (λ answer. answer.outcome ≡ outcome_of verdict) }
+    ensures outcome { IfOk result (λ answer. answer.explained.outcome ≡ outcome_of verdict) }
+    ensures found { IfOk result (λ answer. IsVerdict bytes.now verdict
+        → IsFound bytes.now verdict asked answer.explained.is_found) }
     ensures line { IfOk result (λ answer. string_bytes answer.line ≡ text_of verdict) }
     ensures meaning { IfOk result
         (λ answer. MeansOf bytes.now asked verdict (string_bytes answer.meaning)) }
@@ -130,8 +149,11 @@ pub fn answer_to(
     let line = verdict.to_line(alloc)?;
     let meaning = meaning_of(alloc, bytes, verdict, asked)?;
     Ok(Answer {
-        outcome: outcome(verdict),
+        explained: Explained {
+            outcome: outcome(verdict),
+            is_found: meaning.is_found,
+        },
         line,
-        meaning,
+        meaning: meaning.text,
     })
 }

@@ -1,6 +1,6 @@
 //! The explanation of all that a reader gives.
 
-ghost use Rattle.std.specs.Prelude.{◌≡◌, ◌≢◌, ◌⊎◌, ◌<◌, ◌≤◌, ◌++◌, [], ℕ, List, Some, None, Err, length, string_bytes, IfOk, OnOk, OnErr, IfSome, IsErrOf};
+ghost use Rattle.std.specs.Prelude.{◌≡◌, ◌≢◌, ◌⊎◌, ◌<◌, ◌≤◌, ◌++◌, ℕ, List, Err, length, string_bytes, IfOk, OnOk, OnErr, IfSome, IsErrOf};
 ghost use Rattle.std.specs.Io.KnownBytes.{Appends};
 ghost use Rattle.sgt_names.specs.Device.{CountsFailures, WritesFront};
 ghost use Rattle.sgt_names.specs.Limits.{most_reads};
@@ -8,16 +8,17 @@ ghost use Rattle.sgt_explain.specs.Explained.{IsExplainedOf, WroteExplained, Wro
 ghost use Rattle.sgt_explain.specs.Topics.{topic_name, IsRuleOf};
 
 use crate::answers::{Answer, answer_to};
+use crate::asked::{Asked, Explained};
 use crate::reading::read_all;
 use crate::rules::rule_of;
 use crate::topics::Topic;
 use sgt_audit::audit_bytes;
-use sgt_names::{EngineFail, Failed, Outcome, Sink, Source, Tx, write_all};
+use sgt_names::{EngineFail, Failed, Outcome, Sink, Source, write_all};
 use std::alloc::Global;
 
 /// The answer to all that the reader gives.
-fn answer<R: Source>(alloc: Global, reader: &mut R, asked: Option<Tx>) -> Result<Answer, EngineFail>
-    ensures answer { IfOk result (λ answer. IsExplainedOf asked (R.tells reader.old) answer.outcome
+fn answer<R: Source>(alloc: Global, reader: &mut R, asked: Asked) -> Result<Answer, EngineFail>
+    ensures answer { IfOk result (λ answer. IsExplainedOf asked (R.tells reader.old) answer.explained
         (string_bytes answer.line ++ string_bytes answer.meaning)) }
     ensures quiet { result ≢ Err EngineFail.ReadFault
         → R.failures reader.new ≡ R.failures reader.old }
@@ -48,20 +49,37 @@ fn write_both<W: Sink>(writer: &mut W, first: &[u8], second: &[u8]) -> Result<()
     }
 }
 
-/// Explains all that the reader gives, of which one transaction may be asked for.
-fn explain_asked<R: Source, W: Sink>(
+/// Explains all that the reader gives: first the verdict's line as `audit` writes it, and behind it what the verdict
+/// means. Of a no that are ten lines at most: the rule, the lines concerned, what was found and what is wanted. Of a
+/// yes refused transactions with their cycles, every step with its site, its item, its kind in words and its two
+/// lines: the first hundred, and how many more there are, or all. The input is read whole and kept in memory, also
+/// behind a fault.
+///
+/// Of a transaction that is asked for, in place of the cycles of a yes and behind what a no means, what it did: its
+/// decision and rank, or the cycle where it was refused, its entries at each site with their lines, and whom it is in
+/// conflict with, in which direction. Of a text with a fault by line 2 and the lines of logs before that.
+///
+/// ReadFault where the reader failed, or too many reads were needed (`MOST_READS` of sgt_names), and Memory where a
+/// growth was refused: nothing was written. WriteFault where the writer failed: a front of the answer may have been
+/// written.
+pub fn explain<R: Source, W: Sink>(
     alloc: Global,
-    asked: Option<Tx>,
+    asked: Asked,
     reader: &mut R,
     writer: &mut W,
-) -> Result<Outcome, EngineFail>
+) -> Result<Explained, EngineFail>
     ensures answer { IfOk result
-        (λ outcome. WroteExplainedOf asked (R.tells reader.old) outcome (W.holds writer.old)
+        (λ explained. WroteExplained (R.tells reader.old) explained.outcome (W.holds writer.old)
+        (W.holds writer.new)) }
+    ensures asked { IfOk result
+        (λ explained. WroteExplainedOf asked (R.tells reader.old) explained (W.holds writer.old)
         (W.holds writer.new)) }
     ensures front { OnErr result
         (WroteExplainedFront (R.tells reader.old) (W.holds writer.old) (W.holds writer.new)) }
     ensures unwritten { IsErrOf result EngineFail.ReadFault → writer.new ≡ writer.old }
     ensures untouched { IsErrOf result EngineFail.Memory → writer.new ≡ writer.old }
+
+    // A fault tells of its device, and no fault of a device is passed over.
     ensures read_fault { IsErrOf result EngineFail.ReadFault →
         ((R.failures reader.old < R.failures reader.new)
         ⊎ IfSome (R.tells reader.old) (λ bytes. most_reads ≤ length bytes)) }
@@ -74,81 +92,9 @@ fn explain_asked<R: Source, W: Sink>(
 {
     let answer = answer(alloc, reader, asked)?;
     match write_both(writer, answer.line.as_bytes(), answer.meaning.as_bytes()) {
-        Ok(()) => Ok(answer.outcome),
+        Ok(()) => Ok(answer.explained),
         Err(_) => Err(EngineFail::WriteFault),
     }
-}
-
-/// Explains all that the reader gives: first the verdict's line as `audit` writes it, and behind it what the verdict
-/// means. Of a no that are ten lines at most: the rule, the lines concerned, what was found and what is wanted. Of a
-/// yes each refused transaction with its cycle, every step with its site, its item, its kind in words and its two
-/// lines. The input is read whole and kept in memory, also behind a fault.
-///
-/// ReadFault where the reader failed, or too many reads were needed (`MOST_READS` of sgt_names), and Memory where a
-/// growth was refused: nothing was written. WriteFault where the writer failed: a front of the answer may have been
-/// written.
-pub fn explain<R: Source, W: Sink>(
-    alloc: Global,
-    reader: &mut R,
-    writer: &mut W,
-) -> Result<Outcome, EngineFail>
-    ensures answer { IfOk result
-        (λ outcome. WroteExplained (R.tells reader.old) outcome (W.holds writer.old)
-        (W.holds writer.new)) }
-    ensures asked { IfOk result
-        (λ outcome. WroteExplainedOf None (R.tells reader.old) outcome (W.holds writer.old)
-        (W.holds writer.new)) }
-    ensures front { OnErr result
-        (WroteExplainedFront (R.tells reader.old) (W.holds writer.old) (W.holds writer.new)) }
-    ensures unwritten { IsErrOf result EngineFail.ReadFault → writer.new ≡ writer.old }
-    ensures untouched { IsErrOf result EngineFail.Memory → writer.new ≡ writer.old }
-
-    // A fault tells of its device, and no fault of a device is passed over.
-    ensures read_fault { IsErrOf result EngineFail.ReadFault →
-        ((R.failures reader.old < R.failures reader.new)
-        ⊎ IfSome (R.tells reader.old) (λ bytes. most_reads ≤ length bytes)) }
-    ensures write_fault { IsErrOf result EngineFail.WriteFault
-        → W.failures writer.old < W.failures writer.new }
-    ensures quiet_reader { result ≢ Err EngineFail.ReadFault
-        → R.failures reader.new ≡ R.failures reader.old }
-    ensures quiet_writer { result ≢ Err EngineFail.WriteFault
-        → W.failures writer.new ≡ W.failures writer.old }
-{
-    explain_asked(alloc, None, reader, writer)
-}
-
-/// The same, and behind it what the transaction did: its decision and rank, or the cycle where it was refused, its
-/// entries at each site with their lines, and whom it is in conflict with, in which direction. Of a text with a fault
-/// by line 2 and the lines of logs before that. In place of the cycles of a yes: of this transaction alone.
-pub fn explain_transaction<R: Source, W: Sink>(
-    alloc: Global,
-    tx: Tx,
-    reader: &mut R,
-    writer: &mut W,
-) -> Result<Outcome, EngineFail>
-    ensures answer { IfOk result
-        (λ outcome. WroteExplained (R.tells reader.old) outcome (W.holds writer.old)
-        (W.holds writer.new)) }
-    ensures asked { IfOk result
-        (λ outcome. WroteExplainedOf (Some tx) (R.tells reader.old) outcome (W.holds writer.old)
-        (W.holds writer.new)) }
-    ensures front { OnErr result
-        (WroteExplainedFront (R.tells reader.old) (W.holds writer.old) (W.holds writer.new)) }
-    ensures unwritten { IsErrOf result EngineFail.ReadFault → writer.new ≡ writer.old }
-    ensures untouched { IsErrOf result EngineFail.Memory → writer.new ≡ writer.old }
-
-    // A fault tells of its device, and no fault of a device is passed over.
-    ensures read_fault { IsErrOf result EngineFail.ReadFault →
-        ((R.failures reader.old < R.failures reader.new)
-        ⊎ IfSome (R.tells reader.old) (λ bytes. most_reads ≤ length bytes)) }
-    ensures write_fault { IsErrOf result EngineFail.WriteFault
-        → W.failures writer.old < W.failures writer.new }
-    ensures quiet_reader { result ≢ Err EngineFail.ReadFault
-        → R.failures reader.new ≡ R.failures reader.old }
-    ensures quiet_writer { result ≢ Err EngineFail.WriteFault
-        → W.failures writer.new ≡ W.failures writer.old }
-{
-    explain_asked(alloc, Some(tx), reader, writer)
 }
 
 /// Writes the rule of the topic, with an example of a line that breaks it. WriteFault where the writer failed: a

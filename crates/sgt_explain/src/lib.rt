@@ -3,6 +3,7 @@
 
 mod anomalies;
 mod answers;
+mod asked;
 mod certified;
 mod engine;
 mod lines;
@@ -15,6 +16,7 @@ mod steps;
 mod topics;
 mod yeses;
 
-pub use engine::{explain, explain_topic, explain_transaction};
+pub use asked::{Asked, Explained};
+pub use engine::{explain, explain_topic};
 pub use reading::read_all;
 pub use topics::{Anomaly, Reply, Topic};

@@ -1,28 +1,28 @@
 //! What is shown of a line that gives an item another value than the item has there, and of one that stands against
 //! the ranks.
 
-ghost use Rattle.std.specs.Prelude.{◌≡◌, ◌≤◌, ◌+◌, ℕ, List, ◌∷◌, ◌++◌, All, Some, length, take, IfOk, OnOk, IfSome, IsSomeAnd, string_bytes};
+ghost use Rattle.std.specs.Prelude.{◌≡◌, ◌⊎◌, ◌≤◌, ◌+◌, [], ℕ, List, ◌++◌, All, Some, length, take, IfOk, OnOk, IfSome, IsSomeAnd, string_bytes};
 ghost use Rattle.sgt_notation.specs.Spelling.{HasNoLf, text_of_lines};
 ghost use Rattle.sgt_notation.specs.declared.SectionLine.{SectionLine};
-ghost use Rattle.sgt_bundle.specs.Text.{certificate_text, IsCertificate};
 ghost use Rattle.sgt_bundle.specs.declared.certificate.Certificate.{Certificate};
 ghost use Rattle.sgt_audit.specs.Faults.{FirstFault, bytes_of};
 ghost use Rattle.sgt_audit.specs.declared.faults.Fault.TheVariants.{ReadValue, Final, RankOrder};
 ghost use Rattle.sgt_audit.specs.declared.verdict.Verdict.TheVariants.{No};
-ghost use Rattle.sgt_explain_lines.specs.Numbered.{HasLine, logged_in};
+ghost use Rattle.sgt_explain_lines.specs.Numbered.{HasLine, IsLineAt, logged_in};
 ghost use Rattle.sgt_explain_lines.specs.Told.{read_text, final_text};
 ghost use Rattle.sgt_explain_decisions.specs.Told.{rank_order_text};
+ghost use Rattle.sgt_explain.specs.Asked.{HoldsCertificate};
 ghost use Rattle.sgt_explain.specs.Explained.{Tells};
 ghost use Rattle.sgt_explain.specs.Shown.{lines_before, decisions_before, ShowsRead, ShowsFinal, ShowsRanks, read_in, final_in};
 
 use sgt_bundle::{CertFault, Certificate, from_line};
 use sgt_explain_decisions::{RanksShown, against_ranks, placed_in, push_rank_order};
 use sgt_explain_lines::{
-    Logged, Misvalued, after_line, cut_line, push_final, push_read, section_before,
-    section_line_at, value_against,
+    Logged, Misvalued, after_line, push_final, push_read, section_before, section_line_at,
+    value_against,
 };
 use sgt_names::{Entry, Item, Tx, Value};
-use sgt_notation::SectionLine;
+use sgt_notation::{SectionLine, split_line};
 use std::alloc::{AllocError, Global};
 
 /// The first bytes, so many of them, or all where there are fewer.
@@ -45,15 +45,26 @@ pub(crate) fn text_before(bytes: &[u8], number: u64) -> &[u8]
     front_of(bytes, bytes.len().saturating_sub(rest.len()))
 }
 
+/// Line 2 without its LF, of which it has none where it is the last; nothing where the text ends before it.
+fn second_line(bytes: &[u8]) -> &[u8]
+    ensures only { (line : List ℕ) → IsLineAt bytes.now 2 line → result.now ≡ line }
+    ensures there { (result.now ≡ []) ⊎ IsLineAt bytes.now 2 result.now }
+{
+    let Some((_, behind)) = split_line(bytes) else {
+        return &bytes[..0];
+    };
+    match split_line(behind) {
+        Some((line, _)) => line,
+        None => behind,
+    }
+}
+
 /// The certificate of line 2, if it is one. Err: memory ran out.
 pub fn certificate_of(alloc: Global, bytes: &[u8]) -> Result<Option<Certificate>, AllocError>
-    ensures { (first : List ℕ) (c : Certificate) (rest : List ℕ) → HasNoLf first → IsCertificate c
-        → bytes.now ≡ first ++ 10 ∷ (certificate_text c ++ 10 ∷ rest)
-        → IfOk result (λ found. found ≡ Some c) }
+    ensures only { (c : Certificate) → HoldsCertificate bytes.now c → IfOk result (λ found. found ≡ Some c) }
+    ensures some { IfOk result (λ found. IfSome found (HoldsCertificate bytes.now)) }
 {
-    let (_, behind) = cut_line(bytes);
-    let (line, _) = cut_line(behind);
-    match from_line(alloc, line) {
+    match from_line(alloc, second_line(bytes)) {
         Ok(certificate) => Ok(Some(certificate)),
         Err(fault) => match fault {
             CertFault::Memory => Err(AllocError),

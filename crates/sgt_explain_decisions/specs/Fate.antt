@@ -6,7 +6,7 @@ use Rattle.sgt_bundle.specs.declared.certificate.Decision.TheVariants.{Commit, R
 use Rattle.sgt_bundle.specs.declared.certificate.Step.{Step}
 use Rattle.sgt_explain_lines.specs.Sited.{HasBefore}
 use Rattle.sgt_explain_decisions.specs.declared.sought.Sought.{Sought}
-use Rattle.sgt_explain_decisions.specs.Cycles.{TellsCycle, TellsCycles}
+use Rattle.sgt_explain_decisions.specs.Cycles.{TellsCycle}
 use Rattle.sgt_explain_decisions.specs.Placed.{IsDecisionOn, IsFirstOn, IsUndecided}
 use Rattle.sgt_explain_decisions.specs.Sought.{AreFound, AreFoundIn, WalksAreSought}
 use Rattle.sgt_explain_decisions.specs.Told.{decision_text, no_decision_text}
@@ -38,8 +38,3 @@ TellsFate decisions bytes tx old new = (IsUndecided decisions tx × (new ≡ old
     ⊎ ((number : ℕ) × (decision : Decision) × (cause : List ℕ)
     × IsDecisionOn decisions tx number decision × IsFirstOn decisions tx number × IsCause decisions bytes decision cause
     × (new ≡ old ++ (decision_text number decision ++ cause)))
-
--- each refusal is told with its cycle, by what the text has
-abbrev pub TellsRefusals : List Decision → List ℕ → (old new : List ℕ) → Type 0
-TellsRefusals decisions bytes old new = (sought : Sought) × AreSoughtIn decisions bytes sought
-    × ((told : List ℕ) × TellsCycles sought 0 decisions told × (new ≡ old ++ told))

@@ -4,6 +4,7 @@ pub mod Decided
 pub mod Ends
 pub mod Fate
 pub mod Placed
+pub mod Refusals
 pub mod Sought
 pub mod Told
 pub mod Twice

@@ -44,6 +44,10 @@ pub record IsFirstOn (decisions : List Decision) (tx number : ℕ) : Type 0 wher
   pub on : IsDecisionOn decisions tx number decision
   pub before : IsUndecided (take number decisions) tx
 
+-- a decision is on the transaction
+abbrev pub HasDecisionOn : List Decision → ℕ → Type 0
+HasDecisionOn decisions tx = (number : ℕ) × IsFirstOn decisions tx number
+
 -- no decision commits it
 abbrev pub IsUncommitted : List Decision → ℕ → Type 0
 IsUncommitted decisions tx = (number rank : ℕ) → IsCommitted decisions number tx rank → ⊥

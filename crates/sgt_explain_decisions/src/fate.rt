@@ -1,10 +1,10 @@
 //! What was decided of one transaction.
 
-ghost use Rattle.std.specs.Prelude.{◌≡◌, ◌++◌, ℕ, List, IfOk, IfSome, IfNone, OnOk, codes, string_bytes};
-ghost use Rattle.sgt_explain_decisions.specs.Fate.{AreSoughtIn, IsCause, IsClosing, TellsFate, TellsRefusals};
-ghost use Rattle.sgt_explain_decisions.specs.Placed.{IsDecisionOn, IsFirstOn, IsUndecided};
+ghost use Rattle.std.specs.Prelude.{◌≡◌, ◌↔◌, ◌++◌, ℕ, List, IfOk, IfSome, IfNone, IsTrue, OnOk, codes, string_bytes};
+ghost use Rattle.sgt_explain_decisions.specs.Fate.{AreSoughtIn, IsCause, IsClosing, TellsFate};
+ghost use Rattle.sgt_explain_decisions.specs.Placed.{HasDecisionOn, IsDecisionOn, IsFirstOn, IsUndecided};
 
-use crate::cycles::{push_cycle, push_cycles};
+use crate::cycles::push_cycle;
 use crate::placed::{decision_on, placed_in};
 use crate::sought::{Sought, sought_in};
 use crate::words::{push_decision, push_no_decision};
@@ -28,7 +28,11 @@ fn fate_of(
 }
 
 /// What the walks of the decisions are about, found in the text.
-fn all_sought(alloc: Global, decisions: &[Decision], bytes: &[u8]) -> Result<Sought, AllocError>
+pub(crate) fn all_sought(
+    alloc: Global,
+    decisions: &[Decision],
+    bytes: &[u8],
+) -> Result<Sought, AllocError>
     ensures { IfOk result (AreSoughtIn decisions.now bytes.now) }
 {
     sought_in(alloc, decisions, bytes)
@@ -69,35 +73,24 @@ fn push_cause(
     }
 }
 
-/// The decision on the transaction with its rank, and the cycle where it was refused.
+/// The decision on the transaction with its rank, and the cycle where it was refused. Ok: whether there is one.
 pub fn push_fate(
     alloc: Global,
     out: &mut String,
     decisions: &[Decision],
     bytes: &[u8],
     tx: Tx,
-) -> Result<(), AllocError>
-    ensures { OnOk result (TellsFate decisions.now bytes.now tx
+) -> Result<bool, AllocError>
+    ensures told { OnOk result (TellsFate decisions.now bytes.now tx
         (string_bytes out.old) (string_bytes out.new)) }
+    ensures decided { IfOk result (λ decided. IsTrue decided ↔ HasDecisionOn decisions.now tx) }
 {
     let found = fate_of(alloc, decisions, tx)?;
     let Some((number, decision)) = found else {
-        return push_no_decision(out, tx);
+        push_no_decision(out, tx)?;
+        return Ok(false);
     };
     push_decision(out, number, decision)?;
-    push_cause(alloc, out, decisions, bytes, decision)
-}
-
-/// Each refused transaction with its cycle, by what the text has.
-pub fn push_refusals(
-    alloc: Global,
-    out: &mut String,
-    decisions: &[Decision],
-    bytes: &[u8],
-) -> Result<(), AllocError>
-    ensures { OnOk result (TellsRefusals decisions.now bytes.now
-        (string_bytes out.old) (string_bytes out.new)) }
-{
-    let sought = all_sought(alloc, decisions, bytes)?;
-    push_cycles(out, decisions, &sought)
+    push_cause(alloc, out, decisions, bytes, decision)?;
+    Ok(true)
 }

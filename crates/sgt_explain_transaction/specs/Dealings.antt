@@ -1,5 +1,5 @@
 -- What is said of one transaction's entries, site by site.
-use Rattle.std.specs.Prelude.{◌≡◌, ◌⊎◌, ℕ, ◌+◌, List, [], ◌∷◌, ◌++◌, All, codes, decimal, Option, Some, None, IfSome, if◌then◌else◌, ◌==◌}
+use Rattle.std.specs.Prelude.{◌≡◌, ◌≢◌, ◌⊎◌, ◌↔◌, Bool, IsTrue, ℕ, ◌+◌, List, [], ◌∷◌, ◌++◌, All, codes, decimal, Option, Some, None, IfSome, if◌then◌else◌, ◌==◌}
 use Rattle.std.specs.List.{filter_map, enumerate_from}
 use Rattle.sgt_names.specs.Entry.{tx_of}
 use Rattle.sgt_names.specs.declared.entry.Entry.{Entry}
@@ -62,7 +62,12 @@ TellsOwn lines tx [] old new = new ≡ old ++ codes "it has no entry\n"
 TellsOwn lines tx (one ∷ own) old new = (pairs : List Pair) × All (IsOwnConflict (Some lines) tx) pairs
     × Adds (old ++ (own_head (one ∷ own) ++ pairs_text pairs)) new
 
--- the same of the lines that a text has before the line of this number
+-- whether the transaction has any entry in the lines that a text has before the line of this number
+abbrev pub IsAnyOwn : (bytes : List ℕ) (number tx : ℕ) → Bool → Type 0
+IsAnyOwn bytes number tx any = (lines : List SectionLine) → HasBefore bytes number lines
+    → IsTrue any ↔ (own_of tx lines ≢ [])
+
+-- the same is told of the lines that a text has before the line of this number
 abbrev pub TellsAllOwn : (bytes : List ℕ) (number tx : ℕ) → (old new : List ℕ) → Type 0
 TellsAllOwn bytes number tx old new = (lines : List SectionLine) → HasBefore bytes number lines
     → TellsOwn lines tx (own_of tx lines) old new

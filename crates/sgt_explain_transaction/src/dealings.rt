@@ -6,7 +6,7 @@ ghost use Rattle.sgt_notation.specs.Spelling.{line_text, IsLine};
 ghost use Rattle.sgt_notation.specs.declared.SectionLine.{SectionLine};
 ghost use Rattle.sgt_explain_lines.specs.Numbered.{entry_in, site_behind};
 ghost use Rattle.sgt_explain_lines.specs.Sited.{HasBefore};
-ghost use Rattle.sgt_explain_transaction.specs.Dealings.{IsOwn, IsOwnIn, own_from, own_of, site_if_new, one_text, own_text, own_head, TellsDealings, TellsAllOwn};
+ghost use Rattle.sgt_explain_transaction.specs.Dealings.{IsOwn, IsOwnIn, own_from, own_of, site_if_new, one_text, own_text, own_head, IsAnyOwn, TellsDealings, TellsAllOwn};
 
 use crate::conflicts::{push_conflicts, push_count};
 use sgt_explain_lines::{Logged, cut_line, entry_of, push_logged};
@@ -137,24 +137,27 @@ fn has_none(own: &Vec<Own>) -> bool
 
 /// What the transaction did in the lines before this one: its entries at each site with their
 /// lines, and its conflicts with other transactions, each in its direction. Forty conflicts are
-/// shown, and the others counted.
+/// shown, and the others counted. Ok: whether it has an entry there.
 pub fn push_dealings(
     alloc: Global,
     out: &mut String,
     bytes: &[u8],
     end: u64,
     tx: Tx,
-) -> Result<(), AllocError>
+) -> Result<bool, AllocError>
     ensures told { OnOk result (TellsDealings tx (string_bytes out.old) (string_bytes out.new)) }
     ensures all { OnOk result (TellsAllOwn bytes.now end tx
         (string_bytes out.old) (string_bytes out.new)) }
+    ensures any { IfOk result (IsAnyOwn bytes.now end tx) }
 {
     let own = own_in(alloc, bytes, end, tx)?;
     if has_none(&own) {
-        return out.push_str("it has no entry\n");
+        out.push_str("it has no entry\n")?;
+        return Ok(false);
     }
     push_own_head(out, own.as_slice())?;
     let sorted = by_item(alloc, own.as_slice())?;
     let count = push_conflicts(out, sorted.as_slice(), bytes, end)?;
-    push_count(out, count)
+    push_count(out, count)?;
+    Ok(true)
 }

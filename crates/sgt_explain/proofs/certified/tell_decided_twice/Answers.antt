@@ -15,17 +15,17 @@ returns-in-Some c =
     (string_bytes c.push_decided_twice.new.out) in
     on-all _ c.push_decided_twice.result (λ first. tells-read_certificate c.push_decided_twice.result c.args.bytes.now
     (bytes_of first.next) c.in-Some.certificate told
-    (λ front d rest none is e. sym c.in-Some.is ∙ c.in_ok-certificate.ensures front d rest none is e)
+    (λ d held. sym c.in-Some.is ∙ c.in_ok-certificate.ensures.only d held)
     (twice-held c.args.bytes.now c.args.number first)
     (subst (λ ds. OnOk c.push_decided_twice.result (told ds)) c.decisions.ensures
     (c.push_decided_twice.ensures.twice
     (λ once. twice-broken c.args.bytes.now c.args.number first c.in-Some.certificate
-    (λ front d rest none is e. sym c.in-Some.is ∙ c.in_ok-certificate.ensures front d rest none is e)
+    (λ d held. sym c.in-Some.is ∙ c.in_ok-certificate.ensures.only d held)
     (subst IsDecidedOnce c.decisions.ensures once)))))
 
 pub returns-in-None : goal.returns-in-None
 returns-in-None c =
     λ first. none-read c.args.bytes.now (bytes_of first.next)
     (λ ds. TellsTwice ds (string_bytes c.args.out.now) (string_bytes c.args.out.now))
-    (λ front d rest none is e. sym c.in-None.is ∙ c.in_ok-certificate.ensures front d rest none is e)
+    (λ d held. sym c.in-None.is ∙ c.in_ok-certificate.ensures.only d held)
     (twice-held c.args.bytes.now c.args.number first)

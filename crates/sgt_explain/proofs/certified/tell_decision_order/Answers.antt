@@ -7,7 +7,7 @@ use Rattle.sgt_explain.proofs.certified.tell_decision_order.Goals as goal
 pub returns-in_default : goal.returns-in_default
 returns-in_default c =
     λ first. absurd (misplaced-certificate c.args.bytes.now c.args.number first
-    (λ front d rest none is e. sym c.in_default.is ∙ c.in_ok-certificate.ensures front d rest none is e))
+    (λ d held. sym c.in_default.is ∙ c.in_ok-certificate.ensures.only d held))
 
 pub returns-in_default-logged_at : goal.returns-in_default-logged_at
 returns-in_default-logged_at c =
@@ -19,7 +19,7 @@ returns c =
     (λ first. shows-misplaced c.args.bytes.now c.args.number first c.push_decision_order.result
     c.in_ok-section.section c.in-Some.certificate c.in-Some-logged_at.logged c.as_slice.result.now _ _
     c.in_ok-section.ensures
-    (λ front d rest none is e. sym c.in-Some.is ∙ c.in_ok-certificate.ensures front d rest none is e)
+    (λ d held. sym c.in-Some.is ∙ c.in_ok-certificate.ensures.only d held)
     c.in-Some-logged_at.ensures
     (subst (λ ds. ArePlaced ds c.as_slice.result.now) c.decisions-decisions.ensures
     (subst (λ ps. ArePlaced c.decisions-decisions.result.now ps) (sym c.as_slice.ensures.value)

@@ -12,7 +12,7 @@ use Rattle.sgt_explain.proofs.certified.tell_not_ended.Goals as goal
 pub returns-in_default : goal.returns-in_default
 returns-in_default c =
     λ first. absurd (left-certificate c.args.bytes.now c.args.number first
-    (λ front d rest none is e. sym c.in_default.is ∙ c.in_ok-certificate.ensures front d rest none is e))
+    (λ d held. sym c.in_default.is ∙ c.in_ok-certificate.ensures.only d held))
 
 pub returns : goal.returns
 returns c =
@@ -20,7 +20,7 @@ returns c =
     on-all _ c.push_not_ended.result (λ first. shows-left c.args.bytes.now c.args.number first c.push_not_ended.result
     c.in_ok-section.section c.in-Some.certificate c.as_slice.result.now _ _
     c.in_ok-section.ensures
-    (λ front d rest none is e. sym c.in-Some.is ∙ c.in_ok-certificate.ensures front d rest none is e)
+    (λ d held. sym c.in-Some.is ∙ c.in_ok-certificate.ensures.only d held)
     (subst (λ ds. ArePlaced ds c.as_slice.result.now) c.decisions-decisions.ensures
     (subst (λ ps. ArePlaced c.decisions-decisions.result.now ps) (sym c.as_slice.ensures.value)
     c.in_ok-placed.ensures))

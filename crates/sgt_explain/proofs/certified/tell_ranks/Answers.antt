@@ -13,7 +13,7 @@ returns-in-Some c =
     λ (ds : List Decision). TellsRanks ds (string_bytes c.args.out.now) (string_bytes c.push_ranks.new.out) in
     on-all _ c.push_ranks.result (λ first. tells-read_certificate c.push_ranks.result c.args.bytes.now
     (bytes_of first.next) c.in-Some.certificate told
-    (λ front d rest none is e. sym c.in-Some.is ∙ c.in_ok-certificate.ensures front d rest none is e)
+    (λ d held. sym c.in-Some.is ∙ c.in_ok-certificate.ensures.only d held)
     (ranks-held c.args.bytes.now c.args.number first)
     (subst (λ ds. OnOk c.push_ranks.result (told ds)) c.decisions.ensures c.push_ranks.ensures))
 
@@ -21,5 +21,5 @@ pub returns-in-None : goal.returns-in-None
 returns-in-None c =
     λ first. none-read c.args.bytes.now (bytes_of first.next)
     (λ ds. TellsRanks ds (string_bytes c.args.out.now) (string_bytes c.args.out.now))
-    (λ front d rest none is e. sym c.in-None.is ∙ c.in_ok-certificate.ensures front d rest none is e)
+    (λ d held. sym c.in-None.is ∙ c.in_ok-certificate.ensures.only d held)
     (ranks-held c.args.bytes.now c.args.number first)

@@ -13,16 +13,16 @@ returns-in-Some c =
     λ (ds : List Decision). TellsWalk ds (string_bytes c.args.out.now) (string_bytes c.push_walk_shape.new.out) in
     on-all _ c.push_walk_shape.result (λ first. tells-read_certificate c.push_walk_shape.result c.args.bytes.now
     (bytes_of first.next) c.in-Some.certificate told
-    (λ front d rest none is e. sym c.in-Some.is ∙ c.in_ok-certificate.ensures front d rest none is e)
+    (λ d held. sym c.in-Some.is ∙ c.in_ok-certificate.ensures.only d held)
     (walk-held c.args.bytes.now c.args.number first)
     (subst (λ ds. OnOk c.push_walk_shape.result (told ds)) c.decisions.ensures
     (c.push_walk_shape.ensures (λ have. walk-broken c.args.bytes.now c.args.number first c.in-Some.certificate
-    (λ front d rest none is e. sym c.in-Some.is ∙ c.in_ok-certificate.ensures front d rest none is e)
+    (λ d held. sym c.in-Some.is ∙ c.in_ok-certificate.ensures.only d held)
     (subst (λ (ds : List Decision). HaveCycles ds (length ds)) c.decisions.ensures have)))))
 
 pub returns-in-None : goal.returns-in-None
 returns-in-None c =
     λ first. none-read c.args.bytes.now (bytes_of first.next)
     (λ ds. TellsWalk ds (string_bytes c.args.out.now) (string_bytes c.args.out.now))
-    (λ front d rest none is e. sym c.in-None.is ∙ c.in_ok-certificate.ensures front d rest none is e)
+    (λ d held. sym c.in-None.is ∙ c.in_ok-certificate.ensures.only d held)
     (walk-held c.args.bytes.now c.args.number first)

@@ -5,13 +5,14 @@ use Rattle.sgt_bundle.specs.Certificate.{IsCommitted, IsDecidedOnce}
 use Rattle.sgt_bundle.specs.Valid.{RiseInRank}
 use Rattle.sgt_explain_decisions.specs.Against.{IsFirstAgainst}
 use Rattle.sgt_explain_decisions.specs.Placed.{ArePlaced}
+use Rattle.sgt_explain.proofs.SecondLine.{held-line}
 use Rattle.sgt_explain.proofs.ShownValues.{no-certificate, no-entry, shows-ranks-found}
 use Rattle.sgt_explain.proofs.shown.ranks_shown.Goals as goal
 
 pub returns-in_default : goal.returns-in_default
 returns-in_default c =
     λ first. no-certificate c.args.bytes.now c.args.number first (λ front d rest none is e. sym c.in_default.is
-    ∙ c.in_ok-certificate.ensures front d rest none is e)
+    ∙ c.in_ok-certificate.ensures.only d (held-line _ front rest d none is e))
 
 pub returns-in_default-logged_at : goal.returns-in_default-logged_at
 returns-in_default-logged_at c = λ first. no-entry c.args.bytes.now c.args.number first c.in_default-logged_at.ensures
@@ -25,7 +26,7 @@ returns c = λ first.
     shows-ranks-found c.args.bytes.now c.args.number first c.in_ok-section.section c.in-Some.certificate
     c.in-Some-logged_at.logged found
     c.in_ok-section.ensures
-    (λ front d rest none is e. sym c.in-Some.is ∙ c.in_ok-certificate.ensures front d rest none is e)
+    (λ front d rest none is e. sym c.in-Some.is ∙ c.in_ok-certificate.ensures.only d (held-line _ front rest d none is e))
     c.in-Some-logged_at.ensures r.site r.among r.same
     (subst (λ ds. IfSome found (λ s. IsCommitted ds s.first.number (tx_of s.first.logged.entry) s.first.rank))
     decisions r.first)

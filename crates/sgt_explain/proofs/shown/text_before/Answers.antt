@@ -1,4 +1,4 @@
-use Rattle.std.proofs.Common.{length, ap, arith, sym, ◌∙◌}
+use Rattle.std.proofs.Common.{length, ap, arith, ◌∙◌}
 use Rattle.sgt_explain.proofs.SeenLines.{front-is}
 use Rattle.sgt_explain.proofs.shown.text_before.Goals as goal
 

@@ -1,4 +1,4 @@
-use Rattle.std.proofs.Common.{◌∷◌, ◌++◌, [], sym, subst}
+use Rattle.std.proofs.Common.{◌∷◌, ◌++◌, [], subst}
 use Rattle.std.specs.Prelude.{IfSome, IfNone}
 use Rattle.sgt_names.specs.Log.{Conflicts}
 use Rattle.sgt_explain_lines.specs.Values.{entries_of}
