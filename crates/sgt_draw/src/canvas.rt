@@ -66,6 +66,7 @@ impl Model for Canvas {
 
 impl Canvas {
     ghost use Rattle.std.specs.Prelude.{Bool};
+    ghost use Rattle.sgt_draw.specs.Picture.{IsBegun};
 
     /// The head of Graphviz text, or of SVG.
     pub fn new(alloc: Global, is_dot: bool) -> Result<Canvas, AllocError>
@@ -107,7 +108,7 @@ impl Canvas {
     /// The text with its foot.
     pub fn into_text(self) -> Result<Vec<u8>, AllocError>
         ensures picture { IfOk result (λ text. IsPicture text.items) }
-        ensures whole { IfOk result (λ text. (is_dot : Bool) × (text.items ≡ self ++ foot_of is_dot)) }
+        ensures whole { IfOk result (λ text. (is_dot : Bool) × IsBegun is_dot self × (text.items ≡ self ++ foot_of is_dot)) }
     {
         let mut text = self.text;
         text.extend_from_slice(foot(self.is_dot).as_bytes())?;

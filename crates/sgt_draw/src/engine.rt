@@ -13,13 +13,13 @@ use std::alloc::{AllocError, Global};
 
 /// An outcome, and what is to be written.
 #[derive(Drop)]
-struct Answer {
-    outcome: Outcome,
-    text: Vec<u8>,
+pub struct Answer {
+    pub outcome: Outcome,
+    pub text: Vec<u8>,
 }
 
-/// The answer to what was audited.
-fn answer_to(alloc: Global, wanted: Wanted, audited: Audited) -> Result<Answer, AllocError>
+/// The answer to what was audited: of a valid bundle its picture, else the line of its first fault.
+pub fn answer_to(alloc: Global, wanted: Wanted, audited: Audited) -> Result<Answer, AllocError>
     requires { HandsOutValid audited }
     ensures { IfOk result
         (λ answer. (told : Option (List ℕ)) → IfSome told (λ bytes. IsAudited bytes audited)

@@ -17,5 +17,5 @@ mod task;
 mod ways;
 
 pub use canvas::{Canvas, Part};
-pub use engine::draw;
-pub use task::Wanted;
+pub use engine::{Answer, answer_to, draw};
+pub use task::{Wanted, picture};

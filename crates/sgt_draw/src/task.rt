@@ -141,8 +141,8 @@ impl Task<'_> {
     }
 }
 
-/// The picture of a bundle.
-pub(crate) fn picture(alloc: Global, wanted: Wanted, bundle: &Bundle) -> Result<Vec<u8>, AllocError>
+/// The picture of a bundle, which is to be valid: one that isn't is drawn, too, as far as its decisions and its logs go.
+pub fn picture(alloc: Global, wanted: Wanted, bundle: &Bundle) -> Result<Vec<u8>, AllocError>
     ensures { IfOk result (λ text. IsPicture text.items) }
 {
     let is_dot = wanted.is_dot;

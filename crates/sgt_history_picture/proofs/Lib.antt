@@ -1,4 +1,5 @@
 pub mod Cycles
+pub mod Graphs
 pub mod Growing
 pub mod Quiet
 pub mod Steps

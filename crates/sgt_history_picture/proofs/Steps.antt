@@ -3,7 +3,7 @@ use Rattle.std.proofs.Common.{◌≡◌, ◌==◌, ◌++◌, ℕ, List, ◌∷�
 use Rattle.sgt_history_picture.specs.Words.{IsWord}
 use Rattle.sgt_history_picture.specs.Told.{IsStep, Step, kind_text, step_text}
 use Rattle.sgt_history_picture.specs.declared.told.Kind.{Kind}
-use Rattle.sgt_history_picture.specs.declared.told.Kind.TheVariants.{WriteWrite, WriteRead, ReadWrite, Session, Moment}
+use Rattle.sgt_history_picture.specs.declared.told.Kind.TheVariants.{WriteWrite, WriteRead, ReadWrite, Session, Moment, End}
 use Rattle.sgt_history_picture.specs.declared.word.Place.TheVariants.{Outside}
 use Rattle.sgt_history_picture.proofs.Words.{one-word}
 
@@ -13,6 +13,7 @@ kind-word WriteRead = ((λ _ is. absurd (omega (arith, is)), (λ _ is. absurd (o
 kind-word ReadWrite = ((λ _ is. absurd (omega (arith, is)), (λ _ is. absurd (omega (arith, is)), tt)), refl)
 kind-word Session = ((λ _ is. absurd (omega (arith, is)), (λ _ is. absurd (omega (arith, is)), tt)), refl)
 kind-word Moment = ((λ _ is. absurd (omega (arith, is)), (λ _ is. absurd (omega (arith, is)), tt)), refl)
+kind-word End = ((λ _ is. absurd (omega (arith, is)), (λ _ is. absurd (omega (arith, is)), (λ _ is. absurd (omega (arith, is)), (λ _ is. absurd (omega (arith, is)), (λ _ is. absurd (omega (arith, is)), (λ _ is. absurd (omega (arith, is)), tt)))))), refl)
 
 -- behind its first word
 pub behind-from : (line from behind : List ℕ) (s : Step) → IsWord from → line ≡ from ++ 32 ∷ behind → IsStep s
@@ -36,6 +37,7 @@ kind_in : List ℕ → Kind
 kind_in word =
     if get_or word 0 0 == 119 then (if get_or word 1 0 == 119 then WriteWrite else WriteRead)
     else if get_or word 0 0 == 112 then Session
+    else if get_or word 0 0 == 98 then End
     else (if get_or word 1 0 == 119 then ReadWrite else Moment)
 
 kind-back : (kind : Kind) → kind_in (kind_text kind) ≡ kind
@@ -45,6 +47,7 @@ kind-back WriteRead = refl
 kind-back ReadWrite = refl
 kind-back Session = refl
 kind-back Moment = refl
+kind-back End = refl
 
 kind-one : (a b : Kind) → kind_text a ≡ kind_text b → a ≡ b
 kind-one a b same = sym (kind-back a) ∙ ap kind_in same ∙ kind-back b

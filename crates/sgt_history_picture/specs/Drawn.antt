@@ -1,6 +1,7 @@
 -- What is drawn of a cycle.
-use Rattle.std.specs.Prelude.{◌≡◌, ◌≢◌, ℕ, List, [], ◌∷◌, ◌++◌, codes}
+use Rattle.std.specs.Prelude.{◌≡◌, ◌≢◌, ℕ, Bool, true, false, List, [], ◌∷◌, ◌++◌, codes}
 use Rattle.sgt_draw.specs.Picture.{IsPicture}
+use Rattle.sgt_history_picture.specs.Graph.{graph_text}
 use Rattle.sgt_history_picture.specs.Label.{box_text, headline_text, name_text, title_text, words_text}
 use Rattle.sgt_history_picture.specs.Told.{IsCycleTold, Step}
 
@@ -21,12 +22,25 @@ AreDrawn text (s ∷ steps) = (front : List ℕ) × (frame : List ℕ) × (link 
 abbrev pub IsHeaded : (name text : List ℕ) → Type 0
 IsHeaded name text = (front : List ℕ) × (behind : List ℕ) × (text ≡ front ++ (headline_text name ++ behind))
 
--- a picture of the cycle that the answer tells: its name stands there, and each of its steps is drawn once, in this
--- order, and no other
+-- a picture of these steps under this headline: each step is drawn once, in this order, and no other
+pub record IsCyclePicture (headline : List ℕ) (steps : List Step) (text : List ℕ) : Type 0 where
+  pub picture : IsPicture text
+  pub headed : IsHeaded headline text
+  pub drawn : AreDrawn text steps
+
+-- a picture of the cycle that the answer tells, under its name
 pub record IsPictureOf (answer text : List ℕ) : Type 0 where
   pub name : List ℕ
   pub steps : List Step
   pub told : IsCycleTold answer name steps
-  pub picture : IsPicture text
-  pub headed : IsHeaded name text
-  pub drawn : AreDrawn text steps
+  pub shown : IsCyclePicture name steps text
+
+-- the steps of a refusal with this name: as Graphviz text their graph, else a picture under `no` and the name
+abbrev pub IsRefusalDrawn : Bool → (name : List ℕ) → List Step → (text : List ℕ) → Type 0
+IsRefusalDrawn true name steps text = text ≡ graph_text steps
+IsRefusalDrawn false name steps text = IsCyclePicture (codes "no " ++ name) steps text
+
+-- the cycle that the answer tells, drawn as that of a refusal
+abbrev pub IsRefusalPicture : Bool → (answer text : List ℕ) → Type 0
+IsRefusalPicture is_dot answer text = (name : List ℕ) × (steps : List Step) × IsCycleTold answer name steps
+    × IsRefusalDrawn is_dot name steps text

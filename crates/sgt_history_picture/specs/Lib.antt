@@ -1,4 +1,5 @@
 pub mod Drawn
+pub mod Graph
 pub mod Label
 pub mod Private
 pub mod Short

@@ -3,7 +3,7 @@ use Rattle.std.specs.Prelude.{◌≡◌, ℕ, List, [], ◌∷◌, ◌++◌, cod
 use Rattle.sgt_notation.specs.Spelling.{HasNoLf}
 use Rattle.sgt_history_picture.specs.Words.{IsWord}
 use Rattle.sgt_history_picture.specs.declared.told.Kind.{Kind}
-use Rattle.sgt_history_picture.specs.declared.told.Kind.TheVariants.{WriteWrite, WriteRead, ReadWrite, Session, Moment}
+use Rattle.sgt_history_picture.specs.declared.told.Kind.TheVariants.{WriteWrite, WriteRead, ReadWrite, Session, Moment, End}
 use Rattle.sgt_history_picture.specs.declared.told.Told.{Told}
 
 -- a step: the names of two transactions, why the first stands before the second, and what shows it
@@ -22,6 +22,7 @@ kind_text WriteRead = codes "wr"
 kind_text ReadWrite = codes "rw"
 kind_text Session = codes "po"
 kind_text Moment = codes "rt"
+kind_text End = codes "before"
 
 abbrev pub IsStep : Step → Type 0
 IsStep s = IsWord s.from × IsWord s.to

@@ -8,7 +8,7 @@ ghost use Rattle.sgt_history_picture.specs.Label.{box_text, headline_text, name_
 ghost use Rattle.sgt_history_picture.specs.Private.{ArePut, Grows, IsPut, IsQuiet};
 ghost use Rattle.sgt_history_picture.specs.Told.{IsCycleTold, Step, kind_text, step_of};
 
-use crate::cycle::{Cycle, cycle_in};
+use crate::cycle::cycle_in;
 use crate::places::{HIGH, WORDS, box_width, height, top_of, width};
 use crate::short::put_shown;
 use crate::told::{Kind, Told};
@@ -33,6 +33,7 @@ fn tip_of(kind: Kind) -> &'static str
         Kind::Moment => {
             "\" fill=\"none\" stroke=\"#555555\" stroke-dasharray=\"5 2\"/><path fill=\"#555555\" d=\"M"
         }
+        Kind::End => "\" fill=\"none\" stroke=\"#333333\"/><path fill=\"#333333\" d=\"M",
     }
 }
 
@@ -46,11 +47,12 @@ fn meaning_of(kind: Kind) -> &'static str
         Kind::ReadWrite => "\">rw: read, next write</text>\n",
         Kind::Session => "\">po: one session</text>\n",
         Kind::Moment => "\">rt: done before the other begins</text>",
+        Kind::End => "\">before: an end, and a later end</text>",
     }
 }
 
 /// A kind, as the answer names it.
-fn kind_word(kind: Kind) -> &'static str
+pub(crate) fn kind_word(kind: Kind) -> &'static str
     ensures { result.now ≡ kind_text kind }
 {
     match kind {
@@ -59,6 +61,7 @@ fn kind_word(kind: Kind) -> &'static str
         Kind::ReadWrite => "rw",
         Kind::Session => "po",
         Kind::Moment => "rt",
+        Kind::End => "before",
     }
 }
 
@@ -82,7 +85,7 @@ fn put_head(canvas: &mut Canvas, size: (u64, u64)) -> Result<(), AllocError>
     ])
 }
 
-/// The name of the cycle.
+/// The name of the cycle, or the refusal.
 fn put_headline(canvas: &mut Canvas, name: &[u8]) -> Result<(), AllocError>
     ensures { OnOk result (canvas.new ≡ canvas.old ++ headline_text name.now) }
 {
@@ -116,15 +119,36 @@ fn put_sample(canvas: &mut Canvas, at: (u64, u64), kind: Kind) -> Result<(), All
     ])
 }
 
+/// What else than conflicts stands in a cycle.
+#[derive(Clone, Copy, PartialEq, Eq)]
+pub(crate) enum Legend {
+    /// In one of a history: sessions and moments.
+    History,
+    /// In one of logs: ends.
+    Logs,
+}
+
+/// What the kinds look like, and mean, that are no conflicts.
+fn put_others(canvas: &mut Canvas, legend: Legend) -> Result<(), AllocError>
+    ensures { OnOk result (Grows canvas.old canvas.new) }
+{
+    match legend {
+        Legend::History => {
+            put_sample(canvas, (20, 62), Kind::Session)?;
+            put_sample(canvas, (236, 62), Kind::Moment)
+        }
+        Legend::Logs => put_sample(canvas, (20, 62), Kind::End),
+    }
+}
+
 /// What the kinds look like, and mean.
-fn put_kinds(canvas: &mut Canvas) -> Result<(), AllocError>
+fn put_kinds(canvas: &mut Canvas, legend: Legend) -> Result<(), AllocError>
     ensures { OnOk result (Grows canvas.old canvas.new) }
 {
     put_sample(canvas, (20, 42), Kind::WriteWrite)?;
     put_sample(canvas, (236, 42), Kind::WriteRead)?;
     put_sample(canvas, (420, 42), Kind::ReadWrite)?;
-    put_sample(canvas, (20, 62), Kind::Session)?;
-    put_sample(canvas, (236, 62), Kind::Moment)
+    put_others(canvas, legend)
 }
 
 /// Where a box or an arrow begins.
@@ -288,18 +312,22 @@ fn put_steps(canvas: &mut Canvas, steps: &[Told<'_>], boxes: u64) -> Result<(), 
     Ok(())
 }
 
-/// The picture of a cycle.
-fn picture(alloc: Global, cycle: &Cycle<'_>) -> Result<Vec<u8>, AllocError>
+/// The picture of a cycle's steps, under a headline.
+pub(crate) fn picture(
+    alloc: Global,
+    headline: &[u8],
+    steps: &[Told<'_>],
+    legend: Legend,
+) -> Result<Vec<u8>, AllocError>
     ensures picture { IfOk result (λ text. IsPicture text.items) }
-    ensures headed { IfOk result (λ text. IsHeaded cycle.now.name.now text.items) }
-    ensures drawn { IfOk result (λ text. AreDrawn text.items (map step_of cycle.now.steps.items)) }
+    ensures headed { IfOk result (λ text. IsHeaded headline.now text.items) }
+    ensures drawn { IfOk result (λ text. AreDrawn text.items (map step_of steps.now)) }
 {
     let mut canvas = Canvas::new(alloc, false)?;
-    let steps = cycle.steps.as_slice();
     let boxes = box_width(steps);
-    put_head(&mut canvas, (width(cycle, boxes), height(steps)))?;
-    put_headline(&mut canvas, cycle.name)?;
-    put_kinds(&mut canvas)?;
+    put_head(&mut canvas, (width(headline, steps, boxes), height(steps)))?;
+    put_headline(&mut canvas, headline)?;
+    put_kinds(&mut canvas, legend)?;
     put_steps(&mut canvas, steps, boxes)?;
     canvas.into_text()
 }
@@ -312,7 +340,10 @@ pub fn picture_of(alloc: Global, answer: &[u8]) -> Result<Option<Vec<u8>>, Alloc
         (λ r. IfNone r ((name : List ℕ) (steps : List Step) → IsCycleTold answer.now name steps → ⊥)) }
 {
     match cycle_in(alloc, answer)? {
-        Some(cycle) => Ok(Some(picture(alloc, &cycle)?)),
+        Some(cycle) => {
+            let steps = cycle.steps.as_slice();
+            Ok(Some(picture(alloc, cycle.name, steps, Legend::History)?))
+        }
         None => Ok(None),
     }
 }

@@ -1,6 +1,5 @@
 //! Where the transactions of a cycle stand: one below the other.
 
-use crate::cycle::Cycle;
 use crate::short::shown_len;
 use crate::told::Told;
 
@@ -37,13 +36,13 @@ pub(crate) fn box_width(steps: &[Told<'_>]) -> u64 {
 }
 
 /// How wide the picture is: the headline fits, the boxes, and the longest of the texts beside the steps.
-pub(crate) fn width(cycle: &Cycle<'_>, boxes: u64) -> u64 {
+pub(crate) fn width(headline: &[u8], steps: &[Told<'_>], boxes: u64) -> u64 {
     let mut most = boxes;
-    for step in cycle.steps.as_slice() {
+    for step in steps {
         most = most.max(wide(shown_len(step.about, 104)).saturating_add(21));
     }
-    let headline = wide(cycle.name.len().saturating_add(BEHIND_NAME));
-    most.saturating_add(WORDS).max(LEAST_WIDTH).max(headline)
+    let above = wide(headline.len().saturating_add(BEHIND_NAME));
+    most.saturating_add(WORDS).max(LEAST_WIDTH).max(above)
 }
 
 /// How high the picture is.

@@ -15,6 +15,8 @@ pub(crate) enum Kind {
     Session,
     /// It was done before the other one began.
     Moment,
+    /// It ended before the other one, in a log.
+    End,
 }
 
 /// A step of a cycle: from a transaction to one behind it.
@@ -23,7 +25,7 @@ pub(crate) struct Told<'a> {
     pub from: &'a [u8],
     pub kind: Kind,
     pub to: &'a [u8],
-    /// The item and its versions, the session or the moments, and the lines.
+    /// The item and its versions, the session, the moments or the site, and the lines.
     pub about: &'a [u8],
 }
 
@@ -46,6 +48,9 @@ fn kind_of(word: &[u8]) -> Option<Kind>
     }
     if word == b"rt".as_slice() {
         return Some(Kind::Moment);
+    }
+    if word == b"before".as_slice() {
+        return Some(Kind::End);
     }
     None
 }

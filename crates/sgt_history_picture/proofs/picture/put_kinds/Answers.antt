@@ -3,6 +3,6 @@ use Rattle.sgt_history_picture.proofs.Growing.{grows-on}
 use Rattle.sgt_history_picture.proofs.picture.put_kinds.Goals as goal
 
 pub returns : goal.returns
-returns c = on_ok_weaker c.put_sample-5.result (λ last.
+returns c = on_ok_weaker c.put_others.result (λ last.
     grows-on _ _ _ c.in_ok-put_sample.ensures (grows-on _ _ _ c.in_ok-put_sample-2.ensures
-    (grows-on _ _ _ c.in_ok-put_sample-3.ensures (grows-on _ _ _ c.in_ok-put_sample-4.ensures last)))) c.put_sample-5.ensures
+    (grows-on _ _ _ c.in_ok-put_sample-3.ensures last))) c.put_others.ensures
