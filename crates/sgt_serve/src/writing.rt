@@ -5,6 +5,7 @@ ghost use Rattle.sgt_serve.specs.Talk.{answer_line};
 
 use sgt_core::write_reply;
 use sgt_courses::{Answer, CutFault};
+use sgt_notation::push_number;
 use std::alloc::AllocError;
 
 fn push_answer(out: &mut Vec<u8>, line: &[u8], answer: &Answer) -> Result<(), AllocError>
