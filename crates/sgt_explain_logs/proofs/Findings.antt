@@ -1,5 +1,6 @@
 -- Whether logs have a transaction: where the lines end that are looked at.
-use Rattle.std.proofs.Common.{◌≡◌, ◌≢◌, Bool, ℕ, List, ◌++◌, codes, Option, Some, None, inl, inr, refl, subst}
+use Rattle.std.proofs.Common.{◌≡◌, ◌≢◌, Bool, ℕ, List, ◌++◌, codes, Option, Some, None, inl, inr, refl, subst, ap, arith}
+use Rattle.std.specs.Prelude.{get_or}
 use Rattle.sgt_names.specs.declared.outcome.Outcome.{Outcome}
 use Rattle.sgt_names.specs.declared.outcome.Outcome.TheVariants.{Yes, No, Unreadable}
 use Rattle.sgt_certify.specs.Answer.{IsAnswer, refusal_text}
@@ -11,9 +12,9 @@ use Rattle.sgt_explain_logs.specs.Explained.{IsFound, IsFoundBefore}
 
 -- the line of a refusal is no fault's
 pub no-fault_line : (r : Refusal) (lines rest : List ℕ) → refusal_text r ++ lines ≡ codes "no line " ++ rest → ⊥
-no-fault_line Order lines rest e = cc
-no-fault_line Ranks lines rest e = cc
-no-fault_line Walk lines rest e = cc
+no-fault_line Order lines rest e = absurd (omega (arith, ap (λ (l : List ℕ). get_or l 3 0) e))
+no-fault_line Ranks lines rest e = absurd (omega (arith, ap (λ (l : List ℕ). get_or l 3 0) e))
+no-fault_line Walk lines rest e = absurd (omega (arith, ap (λ (l : List ℕ). get_or l 3 0) e))
 
 -- of a text without a fault all lines are looked at
 pub behind-all : (bytes : List ℕ) (outcome : Outcome) (text : List ℕ) (end : ℕ) → outcome ≢ Yes
