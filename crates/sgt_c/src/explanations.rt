@@ -6,7 +6,7 @@ ghost use Rattle.sgt_c.specs.Answers.{IsAnswered, IsExplainText, IsLong, IsNumbe
 
 use crate::answers::NoAnswer;
 use crate::texts::{Answered, measure, no_answer, number_of_answer, put};
-use sgt_explain::explain;
+use sgt_explain::{Asked, explain};
 use sgt_names::{Asks, Bytes, Written};
 use std::alloc::Global;
 
@@ -21,9 +21,9 @@ fn explain_text(alloc: Global, bytes: &[u8]) -> Result<Answered, NoAnswer>
         last: 0,
     };
     let mut writer = Written::new(alloc);
-    match explain(alloc, &mut reader, &mut writer) {
-        Ok(outcome) => Ok(Answered {
-            number: number_of_answer(outcome),
+    match explain(alloc, Asked::All, &mut reader, &mut writer) {
+        Ok(explained) => Ok(Answered {
+            number: number_of_answer(explained.outcome),
             text: writer.bytes,
         }),
         Err(fail) => Err(no_answer(fail)),

@@ -1,3 +1,4 @@
 pub mod Explanations
+pub mod Findings
 pub mod Firsts
 pub mod Wrote

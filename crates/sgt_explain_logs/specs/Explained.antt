@@ -1,11 +1,13 @@
 -- What an explanation of logs writes.
-use Rattle.std.specs.Prelude.{◌≡◌, ◌⊎◌, ℕ, List, [], ◌∷◌, ◌++◌, codes, Option, IfSome}
+use Rattle.std.specs.Prelude.{◌≡◌, ◌⊎◌, ℕ, Bool, IsTrue, List, [], ◌∷◌, ◌++◌, codes, Option, Some, None, IfSome}
 use Rattle.std.specs.Io.KnownBytes.{Appends}
 use Rattle.sgt_names.specs.Device.{AppendsOrForgets, WritesFront}
 use Rattle.sgt_names.specs.declared.outcome.Outcome.{Outcome}
 use Rattle.sgt_names.specs.declared.outcome.Outcome.TheVariants.{Yes, No, Unreadable}
 use Rattle.sgt_notation.specs.Spelling.{HasNoLf}
 use Rattle.sgt_certify.specs.Answer.{IsAnswer}
+use Rattle.sgt_certify_faults.specs.Faults.{IsFaultless}
+use Rattle.sgt_explain_transaction.specs.Dealings.{IsAnyOwn}
 
 -- the text begins the section of site 0
 abbrev pub BeginsSite : List ℕ → Type 0
@@ -46,3 +48,15 @@ WroteExplained told outcome old new = (text : List ℕ) × IsExplained told outc
 abbrev pub WroteExplainedFront : (told old new : Option (List ℕ)) → Type 0
 WroteExplainedFront told old new = AppendsOrForgets old new []
     ⊎ ((outcome : Outcome) × (text : List ℕ) × IsExplained told outcome text × WritesFront old new text)
+
+-- ---- a transaction that is asked for
+
+-- whether it has an entry in the lines before this one; where none is asked for, that is so
+abbrev pub IsFoundBefore : List ℕ → (number : ℕ) → Option ℕ → Bool → Type 0
+IsFoundBefore bytes number None found = IsTrue found
+IsFoundBefore bytes number (Some tx) found = IsAnyOwn bytes number tx found
+
+-- whether it has an entry in logs without a fault
+abbrev pub IsFound : List ℕ → Option ℕ → Bool → Type 0
+IsFound bytes None found = IsTrue found
+IsFound bytes (Some tx) found = IsFaultless bytes → IsAnyOwn bytes 18446744073709551615 tx found

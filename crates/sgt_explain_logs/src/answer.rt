@@ -18,7 +18,7 @@ pub struct Answer {
 }
 
 /// What stands behind this word at the front.
-fn behind<'a>(text: &'a [u8], word: &[u8]) -> Option<&'a [u8]>
+pub(crate) fn behind<'a>(text: &'a [u8], word: &[u8]) -> Option<&'a [u8]>
     ensures { MatchOption result ((rest : List ℕ) → text.entry.now ≢ word.now ++ rest)
         (λ rest. text.entry.now ≡ word.now ++ rest.now) }
 {

@@ -26,7 +26,7 @@ pub(crate) fn entries_of(
 /// The conflicts of the cycle that these lines tell of the logs: `1 rw 2 site 0 item x lines 4 8`, a line each. Each
 /// leads from the transaction of its first entry to that of its second, and the last one back to where the first
 /// began.
-pub fn cycle_in(alloc: Global, bytes: &[u8], lines: &str) -> Result<Vec<Pair>, AllocError> {
+fn cycle_in(alloc: Global, bytes: &[u8], lines: &str) -> Result<Vec<Pair>, AllocError> {
     let steps = steps_in(alloc, lines)?;
     let found = entries_of(alloc, bytes, steps.as_slice())?;
     let mut pairs = Vec::new(alloc);

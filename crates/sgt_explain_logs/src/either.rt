@@ -6,19 +6,19 @@ ghost use Rattle.sgt_explain_logs.specs.Either.{WroteExplanation, WroteExplanati
 
 use crate::answer::are_logs;
 use crate::engine::explain_logs;
-use sgt_explain::{explain, explain_transaction, read_all};
-use sgt_names::{Asks, Bytes, EngineFail, Outcome, Sink, Source, Tx};
+use sgt_explain::{Asked, Explained, explain, read_all};
+use sgt_names::{Asks, Bytes, EngineFail, Sink, Source};
 use std::alloc::Global;
 
-/// Explains bytes that are held, of which one transaction may be asked for.
+/// Explains bytes that are held.
 fn explain_held<W: Sink>(
     alloc: Global,
-    asked: Option<Tx>,
+    asked: Asked,
     bytes: &[u8],
     writer: &mut W,
-) -> Result<Outcome, EngineFail>
+) -> Result<Explained, EngineFail>
     ensures answer { IfOk result
-        (λ outcome. WroteExplanation asked (Some bytes.now) outcome (W.holds writer.old)
+        (λ explained. WroteExplanation asked (Some bytes.now) explained (W.holds writer.old)
         (W.holds writer.new)) }
     ensures front { OnErr result
         (WroteExplanationFront (Some bytes.now) (W.holds writer.old) (W.holds writer.new)) }
@@ -36,25 +36,23 @@ fn explain_held<W: Sink>(
         last: 0,
     };
     if are_logs(bytes) {
-        return explain_logs(alloc, asked, &mut reader, writer);
-    }
-    match asked {
-        None => explain(alloc, &mut reader, writer),
-        Some(tx) => explain_transaction(alloc, tx, &mut reader, writer),
+        explain_logs(alloc, asked.transaction(), &mut reader, writer)
+    } else {
+        explain(alloc, asked, &mut reader, writer)
     }
 }
 
 /// Explains what the reader gives: logs without a certificate, whose line 2 begins the section of site 0, by what
-/// `certify` answers of them (`explain_logs`), and all else by the auditor's verdict (`explain` of sgt_explain). One
-/// transaction may be asked for besides. The input is read whole and kept in memory, twice.
+/// `certify` answers of them (`explain_logs`), and all else by the auditor's verdict (`explain` of sgt_explain). The
+/// input is read whole and kept in memory, twice.
 pub fn explain_either<R: Source, W: Sink>(
     alloc: Global,
-    asked: Option<Tx>,
+    asked: Asked,
     reader: &mut R,
     writer: &mut W,
-) -> Result<Outcome, EngineFail>
+) -> Result<Explained, EngineFail>
     ensures answer { IfOk result
-        (λ outcome. WroteExplanation asked (R.tells reader.old) outcome (W.holds writer.old)
+        (λ explained. WroteExplanation asked (R.tells reader.old) explained (W.holds writer.old)
         (W.holds writer.new)) }
     ensures front { OnErr result
         (WroteExplanationFront (R.tells reader.old) (W.holds writer.old) (W.holds writer.new)) }

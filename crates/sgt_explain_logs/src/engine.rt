@@ -1,18 +1,20 @@
 //! The explanation of all that a reader gives.
 
-ghost use Rattle.std.specs.Prelude.{◌≡◌, ◌≢◌, ◌⊎◌, ◌<◌, ◌≤◌, ◌↔◌, ℕ, Some, Err, length, IfErr, IfOk, OnErr, IfSome, IsErrOf};
+ghost use Rattle.std.specs.Prelude.{◌≡◌, ◌≢◌, ◌⊎◌, ◌<◌, ◌≤◌, ◌↔◌, ◌++◌, ℕ, List, Err, length, IfOk, OnErr, IfSome, IsErrOf};
 ghost use Rattle.sgt_names.specs.Limits.{most_reads};
-ghost use Rattle.sgt_certify.specs.Answer.{HasCertificate, IsAnswer};
-ghost use Rattle.sgt_explain_logs.specs.Explained.{Begins, IsExplained, WroteExplained, WroteExplainedFront};
+ghost use Rattle.sgt_certify.specs.Answer.{HasCertificate, IsAnswer, refusal_text};
+ghost use Rattle.sgt_certify.specs.declared.refuting.Refusal.{Refusal};
+ghost use Rattle.sgt_certify_faults.specs.Faults.{IsFaultless};
+ghost use Rattle.sgt_explain_logs.specs.Explained.{Begins, IsExplained, IsFound, IsFoundBefore, WroteExplained, WroteExplainedFront};
 
-use crate::answer::{Answer, certified, head_of};
+use crate::answer::{Answer, behind, certified, head_of};
 use crate::cycles::push_ranks;
 use crate::faults::push_fault;
 use crate::order::push_order;
 use crate::steps::{Reason, reason_of};
 use crate::walk::push_walk;
 use crate::yes::push_yes;
-use sgt_explain::read_all;
+use sgt_explain::{Explained, read_all};
 use sgt_explain_transaction::push_dealings;
 use sgt_names::{EngineFail, Outcome, Sink, Source, Tx, write_all};
 use std::alloc::{AllocError, Global};
@@ -41,12 +43,74 @@ fn told_in(text: &[u8]) -> Option<(Reason, &str)> {
     Some((reason_of(first)?, lines))
 }
 
-/// The line behind the last that may be shown of a transaction: that of a fault, else behind all.
-fn end_of(answer: &Answer) -> u64 {
-    match told_in(answer.text.as_slice()) {
+/// The line that a fault names.
+fn fault_line(text: &[u8]) -> u64 {
+    match told_in(text) {
         Some((Reason::Fault { line, .. }, _)) => line,
         _ => u64::MAX,
     }
+}
+
+/// The line behind the last that may be shown of a transaction: that of a fault, else behind all.
+fn end_of_no(text: &[u8]) -> u64
+    ensures { (refusal : Refusal) (lines : List ℕ) → text.now ≡ refusal_text refusal ++ lines
+        → result ≡ 18446744073709551615 }
+{
+    match behind(text, b"no line ") {
+        Some(_) => fault_line(text),
+        None => u64::MAX,
+    }
+}
+
+/// The same of any answer.
+fn end_of(answer: &Answer) -> u64
+    ensures { (bytes : List ℕ) → IsAnswer bytes answer.now.outcome answer.now.text.items → IsFaultless bytes
+        → result ≡ 18446744073709551615 }
+{
+    match answer.outcome {
+        Outcome::Yes => u64::MAX,
+        _ => end_of_no(answer.text.as_slice()),
+    }
+}
+
+/// What the answer means.
+fn push_meaning(
+    alloc: Global,
+    out: &mut String,
+    bytes: &[u8],
+    answer: &Answer,
+) -> Result<(), AllocError> {
+    match answer.outcome {
+        Outcome::Yes => push_yes(alloc, out, answer.text.as_slice()),
+        _ => match told_in(answer.text.as_slice()) {
+            Some((reason, lines)) => push_no(alloc, out, bytes, reason, lines),
+            None => Ok(()),
+        },
+    }
+}
+
+/// What the transaction did in the lines before this one, if one is asked for. Ok: whether it has an entry there.
+fn push_asked(
+    alloc: Global,
+    out: &mut String,
+    bytes: &[u8],
+    end: u64,
+    asked: Option<Tx>,
+) -> Result<bool, AllocError>
+    ensures { IfOk result (IsFoundBefore bytes.now end asked) }
+{
+    let Some(tx) = asked else {
+        return Ok(true);
+    };
+    write!(out, "transaction {tx}:\n")?;
+    push_dealings(alloc, out, bytes, end, tx)
+}
+
+/// The words behind the first line, and whether the transaction that is asked for was found; so is none.
+#[derive(Drop)]
+struct Meaning {
+    text: String,
+    is_found: bool,
 }
 
 /// What the answer means, and what the transaction did, if one is asked for.
@@ -55,45 +119,60 @@ fn meaning_of(
     bytes: &[u8],
     answer: &Answer,
     asked: Option<Tx>,
-) -> Result<String, AllocError> {
-    let mut out = String::new(alloc);
-    match answer.outcome {
-        Outcome::Yes => push_yes(alloc, &mut out, answer.text.as_slice())?,
-        _ => {
-            if let Some((reason, lines)) = told_in(answer.text.as_slice()) {
-                push_no(alloc, &mut out, bytes, reason, lines)?;
-            }
-        }
-    }
-    if let Some(tx) = asked {
-        write!(out, "transaction {tx}:\n")?;
-        push_dealings(alloc, &mut out, bytes, end_of(answer), tx)?;
-    }
-    Ok(out)
+) -> Result<Meaning, AllocError>
+    requires { IsAnswer bytes.now answer.now.outcome answer.now.text.items }
+    ensures { IfOk result (λ meaning. IsFound bytes.now asked meaning.is_found) }
+{
+    let end = end_of(answer);
+    let mut text = String::new(alloc);
+    push_meaning(alloc, &mut text, bytes, answer)?;
+    let is_found = push_asked(alloc, &mut text, bytes, end, asked)?;
+    Ok(Meaning { text, is_found })
+}
+
+/// What is written, and what it comes to.
+#[derive(Drop)]
+struct Explanation {
+    explained: Explained,
+    text: Vec<u8>,
 }
 
 /// The explanation of an answer to the bytes.
-fn explained(
+fn explanation_of(
     alloc: Global,
     bytes: &[u8],
     answer: &Answer,
     asked: Option<Tx>,
-) -> Result<Vec<u8>, AllocError>
+) -> Result<Explanation, AllocError>
     requires { IsAnswer bytes.now answer.now.outcome answer.now.text.items }
-    ensures { IfOk result (λ text. Begins answer.now.outcome answer.now.text.items text.items) }
+    ensures outcome { IfOk result (λ e. e.explained.outcome ≡ answer.now.outcome) }
+    ensures text { IfOk result (λ e. Begins answer.now.outcome answer.now.text.items e.text.items) }
+    ensures found { IfOk result (λ e. IsFound bytes.now asked e.explained.is_found) }
 {
     let meaning = meaning_of(alloc, bytes, answer, asked)?;
     let mut text = head_of(alloc, answer)?;
-    text.extend_from_slice(meaning.as_bytes())?;
-    Ok(text)
+    text.extend_from_slice(meaning.text.as_bytes())?;
+    Ok(Explanation {
+        explained: Explained {
+            outcome: answer.outcome,
+            is_found: meaning.is_found,
+        },
+        text,
+    })
 }
 
-/// The answer to all that the reader gives.
-fn answer<R: Source>(alloc: Global, reader: &mut R, asked: Option<Tx>) -> Result<Answer, EngineFail>
+/// The explanation of all that the reader gives.
+fn explain_read<R: Source>(
+    alloc: Global,
+    reader: &mut R,
+    asked: Option<Tx>,
+) -> Result<Explanation, EngineFail>
     ensures answer { IfOk result
-        (λ a. IsExplained (R.tells reader.old) a.outcome a.text.items) }
-    ensures exact { IfOk result (λ a. IfSome (R.tells reader.old)
-        (λ bytes. a.outcome ≡ Outcome.Yes ↔ HasCertificate bytes)) }
+        (λ e. IsExplained (R.tells reader.old) e.explained.outcome e.text.items) }
+    ensures exact { IfOk result (λ e. IfSome (R.tells reader.old)
+        (λ bytes. e.explained.outcome ≡ Outcome.Yes ↔ HasCertificate bytes)) }
+    ensures found { IfOk result (λ e. IfSome (R.tells reader.old)
+        (λ bytes. IsFound bytes asked e.explained.is_found)) }
     ensures quiet { result ≢ Err EngineFail.ReadFault
         → R.failures reader.new ≡ R.failures reader.old }
     ensures read_fault { IsErrOf result EngineFail.ReadFault →
@@ -102,12 +181,9 @@ fn answer<R: Source>(alloc: Global, reader: &mut R, asked: Option<Tx>) -> Result
     ensures write_fault { result ≢ Err EngineFail.WriteFault }
 {
     let bytes = read_all(alloc, reader)?;
-    let found = certified(alloc, bytes.as_slice())?;
-    let text = explained(alloc, bytes.as_slice(), &found, asked)?;
-    Ok(Answer {
-        outcome: found.outcome,
-        text,
-    })
+    let answer = certified(alloc, bytes.as_slice())?;
+    let explanation = explanation_of(alloc, bytes.as_slice(), &answer, asked)?;
+    Ok(explanation)
 }
 
 /// Explains the logs that the reader gives, a bundle's text without its line 2: what `certify` answers of them, and
@@ -126,12 +202,14 @@ pub fn explain_logs<R: Source, W: Sink>(
     asked: Option<Tx>,
     reader: &mut R,
     writer: &mut W,
-) -> Result<Outcome, EngineFail>
+) -> Result<Explained, EngineFail>
     ensures answer { IfOk result
-        (λ outcome. WroteExplained (R.tells reader.old) outcome (W.holds writer.old)
+        (λ explained. WroteExplained (R.tells reader.old) explained.outcome (W.holds writer.old)
         (W.holds writer.new)) }
-    ensures exact { IfOk result (λ outcome. IfSome (R.tells reader.old)
-        (λ bytes. outcome ≡ Outcome.Yes ↔ HasCertificate bytes)) }
+    ensures exact { IfOk result (λ explained. IfSome (R.tells reader.old)
+        (λ bytes. explained.outcome ≡ Outcome.Yes ↔ HasCertificate bytes)) }
+    ensures found { IfOk result (λ explained. IfSome (R.tells reader.old)
+        (λ bytes. IsFound bytes asked explained.is_found)) }
     ensures front { OnErr result
         (WroteExplainedFront (R.tells reader.old) (W.holds writer.old) (W.holds writer.new)) }
     ensures unwritten { IsErrOf result EngineFail.ReadFault → writer.new ≡ writer.old }
@@ -146,9 +224,9 @@ pub fn explain_logs<R: Source, W: Sink>(
     ensures quiet_writer { result ≢ Err EngineFail.WriteFault
         → W.failures writer.new ≡ W.failures writer.old }
 {
-    let answer = answer(alloc, reader, asked)?;
-    match write_all(writer, answer.text.as_slice()) {
-        Ok(()) => Ok(answer.outcome),
+    let explanation = explain_read(alloc, reader, asked)?;
+    match write_all(writer, explanation.text.as_slice()) {
+        Ok(()) => Ok(explanation.explained),
         Err(_) => Err(EngineFail::WriteFault),
     }
 }

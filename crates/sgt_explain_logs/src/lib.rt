@@ -15,6 +15,5 @@ mod walk;
 mod yes;
 
 pub use answer::{Answer, are_logs, certified};
-pub use cycles::cycle_in;
 pub use either::explain_either;
 pub use engine::explain_logs;

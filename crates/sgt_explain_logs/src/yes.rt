@@ -1,6 +1,7 @@
 //! A yes: the counts of the certificate, and what to type next.
 
 use sgt_bundle::{CertFault, Decision, from_line};
+use sgt_explain_decisions::MOST_REFUSALS;
 use sgt_explain_lines::text_at;
 use std::alloc::{AllocError, Global};
 use std::fmt::Write;
@@ -49,7 +50,15 @@ fn push_counted(out: &mut String, counts: Counts) -> Result<(), AllocError> {
     if counts.refused == 0 {
         return Ok(());
     }
-    out.push_str("`sgt explain BUNDLE` shows the cycle of each refused transaction\n")
+    let all = if counts.refused > MOST_REFUSALS as u64 {
+        "--all "
+    } else {
+        ""
+    };
+    write!(
+        out,
+        "`sgt explain {all}BUNDLE` shows the cycle of each refused transaction\n"
+    )
 }
 
 /// A yes, whose text is the whole bundle.
