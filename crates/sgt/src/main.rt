@@ -13,6 +13,7 @@ mod ordinary;
 mod output;
 mod page;
 mod progress;
+mod same;
 mod svg;
 mod talk;
 mod unreadable;
@@ -26,6 +27,7 @@ use crate::host::{Host, file_of, over, writer};
 use crate::object::{answer_objects, asks_object};
 use crate::ordinary::{audit_each, judge, run_held};
 use crate::page::{answer_page, asks_page};
+use crate::same::overwritten;
 use crate::svg::check_drawn;
 use crate::talk::serve_events;
 use crate::unreadable::Watched;
@@ -129,6 +131,10 @@ fn main(rt: HostRuntime) -> ExitCode {
         Ok(line) => line,
         Err(status) => return ExitCode::from(status),
     };
+    if let Some(name) = overwritten(&rt, &line) {
+        let _ = eprintln!(&rt; "sgt: {name} is to be written, and is read or written already");
+        return ExitCode::from(2);
+    }
     let expected = match expected_of(&rt, &line) {
         Ok(expected) => expected,
         Err(status) => return ExitCode::from(status),

@@ -66,7 +66,7 @@ L is the first line with a fault and FN the fault: docs/FORMAT.md has the faults
 
 Exit status:
   0  yes or done, or help was asked for
-  1  no: the bundle is not valid, no certificate was made, a history is not serializable, a replay ended with a transaction active or refused an event under --strict, a script was not committed, or a fault ended a run
+  1  no: the bundle is not valid, no certificate was made, a history is not serializable, a transaction that explain is asked for is nowhere, a replay ended with a transaction active or refused an event under --strict, a script was not committed, or a fault ended a run
   2  the words are no command and nothing was read, or `! LN line L`: line L of events, scripts or a history is the first that can't be read
   3  want of memory
   4  a read or a write failed";
@@ -100,7 +100,9 @@ const PROGRESS: Taken = Taken::Flag(
     "Tells standard error of each million lines read",
 );
 
-const QUIET: Taken = Taken::Letter(
+const QUIET: Taken = Taken::Letter('q', "quiet", "Answers by the status alone");
+
+const QUIET_EACH: Taken = Taken::Letter(
     'q',
     "quiet",
     "Answers by the status alone; of several files, with a line for each that fails",
@@ -113,7 +115,9 @@ const OUTPUT: Taken = Taken::LetterValue(
     "Writes the answer to this file in place of standard output",
 );
 
-const JSON: Taken = Taken::Flag(
+const JSON: Taken = Taken::Flag("json", "Writes the answer as an object of JSON");
+
+const JSON_EACH: Taken = Taken::Flag(
     "json",
     "Writes the answer as an object of JSON, a line for each file",
 );
@@ -176,7 +180,7 @@ const AUDIT_TAKEN: [Taken; 8] = [
         "FILE",
         "Are read in place of standard input; of several, a line each",
     ),
-    QUIET,
+    QUIET_EACH,
     Taken::Flag(
         "chain",
         "Takes the files for one system's bundles in a row: each begins where the one before ends",
@@ -186,7 +190,7 @@ const AUDIT_TAKEN: [Taken; 8] = [
         "N",
         "Ends a yes of another number of committed transactions with status 1",
     ),
-    JSON,
+    JSON_EACH,
     WHY,
     PROGRESS,
     OUTPUT,

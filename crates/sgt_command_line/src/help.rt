@@ -16,6 +16,8 @@ const NO_COMMAND: &str = "the words are no command";
 
 const NO_TX: &str = "transactions are numbered from 1 to 4294967295";
 
+const TOGETHER: &str = "--tx, --all and a rule don't go together";
+
 const NO_RULE: &str =
     "rules are F1 to F19, K1 to K4, E1 to E12, L1 to L3, C1, V1 to V10, P1 to P3, no-order, no-ranks, no-walk, and the names of anomalies, as G1a";
 
@@ -93,6 +95,9 @@ fn has_tx(words: &[String]) -> bool {
 
 // What is wrong with these words behind `explain`.
 fn wrong_explain(options: &[String]) -> &'static str {
+    if options.len() > 2 {
+        return TOGETHER;
+    }
     if has_tx(options) {
         return NO_TX;
     }

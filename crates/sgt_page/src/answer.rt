@@ -1,7 +1,7 @@
 //! What a page shows of an answer.
 
-ghost use Rattle.std.specs.Prelude.{◌≡◌, ◌≤◌, ◌++◌, ◌⊎◌, ℕ, List, [], IfOk, codes, length, string_bytes};
-ghost use Rattle.sgt_page.specs.Answer.{IsFrontOf, IsPageOf, title_of};
+ghost use Rattle.std.specs.Prelude.{◌≡◌, IfOk, string_bytes};
+ghost use Rattle.sgt_page.specs.Answer.{IsFrontOf, IsPageOf, IsSmall, title_of};
 
 use crate::page::{Page, page_of};
 use crate::sentence::sentence;
@@ -11,6 +11,10 @@ use std::alloc::{AllocError, Global};
 pub(crate) const MOST_TEXT: usize = 16_384;
 
 pub(crate) const MOST_PICTURE: usize = 131_072;
+
+// What stands in place of a larger picture.
+pub(crate) const LEFT_OUT: &str =
+    "The picture is too large for a page: sgt draw writes it alone, with --tx N of one transaction.";
 
 /// An answer that is to be shown.
 #[derive(Clone, Copy)]
@@ -56,14 +60,14 @@ fn front_of(text: &str) -> &str
     }
 }
 
-// The picture, if it isn't too large.
+// The picture, if it isn't too large, or what stands in its place.
 fn small(picture: &[u8]) -> &[u8]
-    ensures { ((length picture.now ≤ 131072) × (result.now ≡ picture.now)) ⊎ (result.now ≡ []) }
+    ensures { IsSmall picture.now result.now }
 {
     if picture.len() <= MOST_PICTURE {
         return picture;
     }
-    b""
+    LEFT_OUT.as_bytes()
 }
 
 fn title(alloc: Global, answer: Answered<'_>) -> Result<String, AllocError>
@@ -77,7 +81,7 @@ fn title(alloc: Global, answer: Answered<'_>) -> Result<String, AllocError>
 }
 
 /// The page of an answer: its verdict in a sentence, the rule that it names, the picture, and the answer's text up to
-/// 16,384 bytes in whole lines. A picture of more than 131,072 bytes is left out.
+/// 16,384 bytes in whole lines. In place of a picture of more than 131,072 bytes a line says that it is left out.
 pub fn page_of_answer(alloc: Global, answer: Answered<'_>) -> Result<Vec<u8>, AllocError>
     ensures { IfOk result (λ page. IsPageOf answer.entry page.items) }
 {
