@@ -1,0 +1,119 @@
+//! What is drawn of bytes in memory.
+
+ghost use Rattle.std.specs.Prelude.{◌≡◌, ◌≢◌, ◌≤◌, ◌↔◌, ℕ, List, Some, Err, IfErr, IfOk, length};
+ghost use Rattle.sgt_names.specs.Limits.{most_reads};
+ghost use Rattle.sgt_bundle.specs.Text.{Spells};
+ghost use Rattle.sgt_bundle.specs.Valid.{IsValid};
+ghost use Rattle.sgt_certify.specs.Answer.{HasCertificate, IsAnswer, SpellsValid};
+ghost use Rattle.sgt_explain_logs.specs.Explained.{AreLogs};
+ghost use Rattle.sgt_draw.specs.Drawn.{IsDrawn};
+ghost use Rattle.sgt_draw_logs.specs.Drawing.{IsDrawing, IsLogsDrawing, IsRefusalShown, IsShown};
+
+use sgt_audit::{audit_bundle, read_bundle};
+use sgt_bundle::Bundle;
+use sgt_draw::{Answer, Wanted, answer_to, picture};
+use sgt_explain_logs::{are_logs, certified};
+use sgt_history_picture::refusal_picture_of;
+use sgt_names::{Asks, Bytes, EngineFail, Outcome};
+use std::alloc::{AllocError, Global};
+
+/// The bundle that a text spells.
+fn bundle_in(alloc: Global, text: &[u8]) -> Result<Bundle, EngineFail>
+    requires { SpellsValid text.now }
+    ensures spelled { IfOk result (λ b. Spells text.now b) }
+    ensures valid { IfOk result (λ b. IsValid b) }
+    ensures err { IfErr result (λ e. e ≡ EngineFail.Memory) }
+{
+    let found = read_bundle(alloc, text)?;
+    match found {
+        Some(bundle) => Ok(bundle),
+        None => unreachable!(),
+    }
+}
+
+/// The picture of the bundle that a text spells.
+fn bundle_picture(alloc: Global, wanted: Wanted, text: &[u8]) -> Result<Vec<u8>, EngineFail>
+    requires { SpellsValid text.now }
+    ensures drawn { IfOk result (λ drawn. IsDrawn (Some text.now) Outcome.Yes drawn.items) }
+    ensures err { IfErr result (λ e. e ≡ EngineFail.Memory) }
+{
+    let bundle = bundle_in(alloc, text)?;
+    Ok(picture(alloc, wanted, &bundle)?)
+}
+
+/// The cycle that a refusal tells, drawn; of any other the refusal itself.
+fn refusal_shown(alloc: Global, is_dot: bool, refusal: &[u8]) -> Result<Vec<u8>, AllocError>
+    ensures { IfOk result (λ text. IsRefusalShown is_dot refusal.now text.items) }
+{
+    let found = refusal_picture_of(alloc, is_dot, refusal)?;
+    match found {
+        Some(drawn) => Ok(drawn),
+        None => Vec::from_slice(alloc, refusal),
+    }
+}
+
+/// What is written of an answer of `certify`.
+fn shown(
+    alloc: Global,
+    wanted: Wanted,
+    outcome: Outcome,
+    text: &[u8],
+) -> Result<Vec<u8>, EngineFail>
+    requires { (bytes : List ℕ) × IsAnswer bytes outcome text.now }
+    ensures shown { IfOk result (λ drawn. IsShown wanted.is_dot outcome text.now drawn.items) }
+    ensures err { IfErr result (λ e. e ≡ EngineFail.Memory) }
+{
+    match outcome {
+        Outcome::Yes => bundle_picture(alloc, wanted, text),
+        Outcome::No => Ok(refusal_shown(alloc, wanted.is_dot, text)?),
+        Outcome::Unreadable => unreachable!(),
+    }
+}
+
+/// The answer to logs without a certificate.
+fn logs_answer(alloc: Global, wanted: Wanted, bytes: &[u8]) -> Result<Answer, EngineFail>
+    ensures answer { IfOk result
+        (λ a. IsLogsDrawing wanted.is_dot (Some bytes.now) a.outcome a.text.items) }
+    ensures exact { IfOk result (λ a. a.outcome ≡ Outcome.Yes ↔ HasCertificate bytes.now) }
+    ensures long { result ≡ Err EngineFail.ReadFault → most_reads ≤ length bytes.now }
+    ensures write { result ≢ Err EngineFail.WriteFault }
+{
+    let found = certified(alloc, bytes)?;
+    let text = shown(alloc, wanted, found.outcome, found.text.as_slice())?;
+    Ok(Answer {
+        outcome: found.outcome,
+        text,
+    })
+}
+
+/// The answer to a bundle.
+fn bundle_answer(alloc: Global, wanted: Wanted, bytes: &[u8]) -> Result<Answer, EngineFail>
+    ensures answer { IfOk result (λ a. IsDrawn (Some bytes.now) a.outcome a.text.items) }
+    ensures long { result ≡ Err EngineFail.ReadFault → most_reads ≤ length bytes.now }
+    ensures write { result ≢ Err EngineFail.WriteFault }
+{
+    let mut reader = Bytes {
+        rest: bytes,
+        asks: Asks::none(),
+        last: 0,
+    };
+    let audited = audit_bundle(alloc, &mut reader)?;
+    let answer = answer_to(alloc, wanted, audited)?;
+    Ok(answer)
+}
+
+/// The answer to bytes: of logs without a certificate by what `certify` answers of them, of all else as `draw`
+/// answers it.
+pub(crate) fn answer_of(alloc: Global, wanted: Wanted, bytes: &[u8]) -> Result<Answer, EngineFail>
+    ensures answer { IfOk result
+        (λ a. IsDrawing wanted.is_dot (Some bytes.now) a.outcome a.text.items) }
+    ensures exact { IfOk result
+        (λ a. AreLogs bytes.now → (a.outcome ≡ Outcome.Yes ↔ HasCertificate bytes.now)) }
+    ensures long { result ≡ Err EngineFail.ReadFault → most_reads ≤ length bytes.now }
+    ensures write { result ≢ Err EngineFail.WriteFault }
+{
+    if are_logs(bytes) {
+        return logs_answer(alloc, wanted, bytes);
+    }
+    bundle_answer(alloc, wanted, bytes)
+}

@@ -1,0 +1,73 @@
+//! The picture of all that a reader gives.
+
+ghost use Rattle.std.specs.Prelude.{◌≡◌, ◌≢◌, ◌⊎◌, ◌<◌, ◌≤◌, ◌↔◌, Err, length, IfOk, OnErr, IfSome, IsErrOf};
+ghost use Rattle.sgt_names.specs.Limits.{most_reads};
+ghost use Rattle.sgt_certify.specs.Answer.{HasCertificate};
+ghost use Rattle.sgt_explain_logs.specs.Explained.{AreLogs};
+ghost use Rattle.sgt_draw_logs.specs.Drawing.{IsDrawing, WroteDrawing, WroteDrawingFront};
+
+use crate::answer::answer_of;
+use sgt_draw::{Answer, Wanted};
+use sgt_explain::read_all;
+use sgt_names::{EngineFail, Outcome, Sink, Source, write_all};
+use std::alloc::Global;
+
+/// The answer to all that the reader gives.
+fn answer<R: Source>(alloc: Global, wanted: Wanted, reader: &mut R) -> Result<Answer, EngineFail>
+    ensures answer { IfOk result
+        (λ a. IsDrawing wanted.is_dot (R.tells reader.old) a.outcome a.text.items) }
+    ensures exact { IfOk result (λ a. IfSome (R.tells reader.old)
+        (λ bytes. AreLogs bytes → (a.outcome ≡ Outcome.Yes ↔ HasCertificate bytes))) }
+    ensures quiet { result ≢ Err EngineFail.ReadFault
+        → R.failures reader.new ≡ R.failures reader.old }
+    ensures read_fault { IsErrOf result EngineFail.ReadFault →
+        ((R.failures reader.old < R.failures reader.new)
+        ⊎ IfSome (R.tells reader.old) (λ bytes. most_reads ≤ length bytes)) }
+    ensures write_fault { result ≢ Err EngineFail.WriteFault }
+{
+    let bytes = read_all(alloc, reader)?;
+    answer_of(alloc, wanted, bytes.as_slice())
+}
+
+/// Draws what the reader gives. Logs without a certificate, whose line 2 begins the section of site 0, are certified
+/// first: after a yes the picture is that of the certified bundle, as `draw` of sgt_draw has it; after a no it shows
+/// the cycle alone that the answer of `certify` tells, whatever transaction is wanted, and where it tells none
+/// (`no line L FN`, `no walk`) that answer is written. All else is answered as by `draw`. The input is read whole and
+/// kept in memory.
+///
+/// ReadFault where the reader failed, or too many reads were needed (`MOST_READS` of sgt_names), and Memory where a
+/// growth was refused: nothing was written. WriteFault where the writer failed: a front of the answer may have been
+/// written.
+pub fn draw_either<R: Source, W: Sink>(
+    alloc: Global,
+    wanted: Wanted,
+    reader: &mut R,
+    writer: &mut W,
+) -> Result<Outcome, EngineFail>
+    ensures answer { IfOk result
+        (λ outcome. WroteDrawing wanted.is_dot (R.tells reader.old) outcome (W.holds writer.old)
+        (W.holds writer.new)) }
+    ensures exact { IfOk result (λ outcome. IfSome (R.tells reader.old)
+        (λ bytes. AreLogs bytes → (outcome ≡ Outcome.Yes ↔ HasCertificate bytes))) }
+    ensures front { OnErr result (WroteDrawingFront wanted.is_dot (R.tells reader.old)
+        (W.holds writer.old) (W.holds writer.new)) }
+    ensures unwritten { IsErrOf result EngineFail.ReadFault → writer.new ≡ writer.old }
+    ensures untouched { IsErrOf result EngineFail.Memory → writer.new ≡ writer.old }
+
+    // A fault tells of its device, and no fault of a device is passed over.
+    ensures read_fault { IsErrOf result EngineFail.ReadFault →
+        ((R.failures reader.old < R.failures reader.new)
+        ⊎ IfSome (R.tells reader.old) (λ bytes. most_reads ≤ length bytes)) }
+    ensures write_fault { IsErrOf result EngineFail.WriteFault
+        → W.failures writer.old < W.failures writer.new }
+    ensures quiet_reader { result ≢ Err EngineFail.ReadFault
+        → R.failures reader.new ≡ R.failures reader.old }
+    ensures quiet_writer { result ≢ Err EngineFail.WriteFault
+        → W.failures writer.new ≡ W.failures writer.old }
+{
+    let answer = answer(alloc, wanted, reader)?;
+    match write_all(writer, answer.text.as_slice()) {
+        Ok(()) => Ok(answer.outcome),
+        Err(_) => Err(EngineFail::WriteFault),
+    }
+}
