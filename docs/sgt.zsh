@@ -8,7 +8,7 @@ _sgt() {
     local why='--why[tell standard error behind a no what to type to learn more]'
     local json='--json[write the answer as an object of JSON]'
     local -a output
-    output=('(-o --output)'{-o,--output=}'[write the answer to this file]:file:_files')
+    output=('(-o --output)'{-o,--output}'[write the answer to this file]:file:_files')
     local progress='--progress[tell standard error of each million lines read]'
     commands=(
         'audit:judge a bundle'
@@ -39,7 +39,7 @@ _sgt() {
     case $line[1] in
         audit) _arguments $help $json $why $output $progress $quiet \
             '(--chain)--workers=[how many sections are judged at once]:number:({1..16})' \
-            '--expect-committed=[how many transactions are to be committed]:number:' \
+            '--expect-committed[how many transactions are to be committed]:number:' \
             '(--workers)--chain[the files are the bundles of one system in a row]' '*:bundle:_files' ;;
         serial) _arguments $help $why $output $progress $quiet '1:bundle:_files' ;;
         replay) _arguments $help $why $output $progress '--strict[status 1 where an event was refused]' \
@@ -54,7 +54,7 @@ _sgt() {
             '(--json -q --quiet)--html[write the answer as a page of HTML]' $why $output $progress $quiet \
             '(--against)--order[write an order that serves]' '--real-time[the order has to keep real time]' \
             '--sessions[the order has to keep that of each session]' \
-            '(--order --svg)--against=[judge the order in this file]:order:_files' \
+            '(--order --svg)--against[judge the order in this file]:order:_files' \
             '(--against)--svg=[draw the circle of a no in this file]:file:_files' '1:history:_files' ;;
         explain) _arguments $help $why $output '(--html)--json[write the answer as an object of JSON]' \
             '(--json)--html[write the explanation as a page of HTML]' '(--all)--tx=[say what this transaction did]:transaction:' \

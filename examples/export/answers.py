@@ -224,6 +224,8 @@ def trace(path):
     said = sys.stdin.buffer.read().decode(errors="replace").removesuffix("\n").split("\n")
     if said[0] in ("sgt 1", "sgt 2"):
         raise ValueError("a bundle, and no answer: `sgt certify` found a certificate")
+    if not re.match(r"(yes|no) |a certificate exists: ", said[0]):
+        raise ValueError("no answer of `sgt certify`, `audit` or `explain` as text: its first line is no verdict")
     found = re.fullmatch(r"no line \d+ (F\d+)", said[0])
     is_of_logs = said[0] in ROUND or found and found[1] not in OF_AUDITS
     if is_of_logs and all(STEP.fullmatch(line) for line in said[1:]):

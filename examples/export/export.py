@@ -13,6 +13,7 @@ import contextlib
 import datetime
 import functools
 import json
+import os
 import re
 import sys
 from array import array
@@ -227,6 +228,7 @@ class Log:
                 found = f"not repeatable: {self.names[tx]} read {item.name} in lines {at} and {line}, "
                 part.flaw = part.flaw or found + self.writer_between(item, before, at)
             return
+        self.dirty_read(site, tx, number, value, line)
         item.is_used = True
         if item.is_open:
             item.learn(value, line)
@@ -235,6 +237,17 @@ class Log:
         site.read_items.append(number)
         site.read_values.append(value)
         site.read_lines.append(line)
+
+    def dirty_read(self, site, tx, number, value, line):
+        """Tells of a read of what another has written and not ended, where that isn't known to be the item's value."""
+        item = site.all_items[number]
+        if not item.is_open and same(value, item.now):
+            return
+        for other, at in item.writers.items():
+            if other != tx and same(value, site.part(other).asked[number][1]):
+                self.notes.add("a dirty read (G1a, where it was aborted)",
+                               f"{self.names[tx]} read {item.name} in line {line}, at site {site.name}: what "
+                               f"{self.names[other]} wrote in line {at} and had not ended")
 
     def own_read(self, part, tx, item, own, value, line):
         letter, change, at = own
@@ -647,6 +660,8 @@ def export(path, names_path):
     if not log.sites:
         raise Bad("no event")
     sections = sum(max(1, -(-len(told_items(site)) // MOST_ITEMS)) for site in log.sites.values())
+    if names_path and path != "-" and os.path.exists(names_path) and os.path.samefile(path, names_path):
+        raise Bad(f"{names_path} is the log: the names need a file of their own")
     if sections > MOST_SITES:
         raise Bad(f"{sections} sections, and at most {MOST_SITES} fit: a site is one for each {MOST_ITEMS} items")
     with open(names_path, "w", encoding="utf-8") if names_path else contextlib.nullcontext() as told:
