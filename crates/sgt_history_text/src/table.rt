@@ -2,7 +2,7 @@
 
 ghost use Rattle.std.specs.Prelude.{ℕ, [], ◌≡◌, ◌==◌, ◌+◌, ◌^◌, ◌<◌, ◌↔◌, List, IfOk, IfSome, OnOk, IsTrue, MatchOption, Some, length, slice_get, slice_set};
 ghost use Rattle.sgt_history.specs.Serial.{StandOnce};
-ghost use Rattle.sgt_history_text.specs.Table.{hash_of, AreFound, AreKnown, EndsAt, IsInterned, IsNew, IsTable, KeepsOthers, More, number_in};
+ghost use Rattle.sgt_history_text.specs.Table.{hash_of, mixed, AreFound, AreKnown, EndsAt, IsInterned, IsNew, IsTable, KeepsOthers, More, number_in};
 
 use crate::names::Names;
 use std::alloc::{AllocError, Global};
@@ -12,10 +12,13 @@ use std::marker::Model;
 /// The slots that are tried at most. Texts that are chosen so that more would be are kept in an ordered map.
 pub(crate) const TRIES: usize = 64;
 
-/// Where hashes begin, and by what they are multiplied.
+/// Where hashes begin, by what they are multiplied, and how far apart those of texts are whose last letters follow one
+/// another: so near that the slots of such texts lie together, which come together mostly.
 pub(crate) const SEED: u64 = 0xcbf2_9ce4_8422_2325;
 
 pub(crate) const MULTIPLIER: u64 = 0x9e37_79b9_7f4a_7c15;
+
+pub(crate) const STRIDE: u64 = 3;
 
 /// Where texts are found.
 #[derive(Drop)]
@@ -44,12 +47,26 @@ pub(crate) enum Place {
     Crowded,
 }
 
+/// The hash with a further byte.
+#[inline(always)]
+fn mix(hash: u64, byte: u8) -> u64
+    ensures { result ≡ mixed hash byte }
+{
+    hash.wrapping_mul(MULTIPLIER)
+        .wrapping_add(STRIDE * u64::from(byte))
+}
+
+/// The hash of a text. Its last byte, of strings a quotation mark, is the first that goes in.
 fn hash(text: &[u8]) -> u64
     ensures { result ≡ hash_of text.now }
 {
-    text.iter().fold(SEED, |hash, byte| {
-        (hash ^ *byte as u64).wrapping_mul(MULTIPLIER)
-    })
+    if text.is_empty() {
+        return mix(SEED, 0);
+    }
+    let last = text.len() - 1;
+    text[..last]
+        .iter()
+        .fold(mix(SEED, text[last]), |hash, byte| mix(hash, *byte))
 }
 
 fn is_at(names: &Names, number: u32, text: &[u8]) -> bool
@@ -65,7 +82,7 @@ fn place_of(names: &Names, slots: &[u32], text: &[u8]) -> Place
     requires known { AreKnown (length names.now) slots.now }
     ensures { EndsAt names.now slots.now text.now result }
 {
-    let start = (hash(text) >> 32) as usize;
+    let start = (hash(text) % 4_294_967_296) as usize;
     let last = slots.len() - 1;
     for tried in 0..TRIES {
         let slot = (start + tried) & last;
@@ -276,7 +293,7 @@ impl Table {
         ensures { self.new ≡ self.old }
     {
         let count = self.places.slots.len();
-        if self.names.len() >= count / 2 && count <= u32::MAX as usize {
+        if self.names.len() >= count / 4 && count <= u32::MAX as usize {
             self.places = place_all(alloc, &self.names, count * 2)?;
         }
         Ok(())
