@@ -1,8 +1,8 @@
 -- Where the number of a text is looked for: in slots, from a place on that its hash gives, a limited number of tries;
 -- texts that found no free slot there have theirs in a map besides.
-use Rattle.std.specs.Prelude.{◌≡◌, ◌⊎◌, ℕ, suc, ◌+◌, ◌-◌, ◌*◌, ◌%◌, ◌^◌, ◌<◌, List, [], ◌∷◌, ◌++◌, length, fold, Option, Some, slice_get, slice_index, take}
+use Rattle.std.specs.Prelude.{◌≡◌, ◌⊎◌, ℕ, suc, ◌+◌, ◌-◌, ◌*◌, ◌%◌, ◌^◌, ◌/◌, ◌<◌, List, [], ◌∷◌, ◌++◌, length, fold, Option, Some, slice_get, slice_index, take}
 use Rattle.std.specs.Global.{Vec}
-use Rattle.std.specs.Int.Bits.{bit_and}
+use Rattle.std.specs.Int.Bits.{bit_and, bit_xor}
 use Rattle.std.specs.BTreeMap.{BTreeMap, get_by}
 use Rattle.std.specs.Cmp.Lexicographic.{slice_cmp}
 use Rattle.std.specs.Ordering.{nat_cmp}
@@ -14,15 +14,22 @@ use Rattle.sgt_history_text.specs.declared.table.Interned.{Interned}
 use Rattle.sgt_history_text.specs.declared.table.Interned.TheVariants.{Old, New}
 
 abbrev pub mixed : ℕ → ℕ → ℕ
-mixed hash byte = ((hash * MULTIPLIER) % 2 ^ 64 + STRIDE * byte) % 2 ^ 64
+mixed hash byte = (bit_xor hash byte * MULTIPLIER) % 2 ^ 64
 
--- the last byte goes in first
-unfoldable pub hash_of : List ℕ → ℕ
-hash_of text = fold mixed (mixed SEED (slice_index text (length text - 1))) (take (length text - 1) text)
+-- the hash of all but the last two bytes, with the last one, and behind it so many for each step of the other
+abbrev pub hashed : List ℕ → ℕ
+hashed text = fold mixed (mixed SEED (slice_index text (length text - 1))) (take (length text - 2) text) / 2 ^ 32
+    + STRIDE * slice_index text (length text - 2)
+
+-- where the tries for a text begin
+unfoldable pub start_of : List ℕ → ℕ
+start_of [] = 0
+start_of (byte ∷ []) = 0
+start_of (first ∷ second ∷ more) = hashed (first ∷ second ∷ more)
 
 -- the slot of a text at this try
 abbrev pub probe : List ℕ → List ℕ → ℕ → ℕ
-probe slots text try = bit_and (hash_of text % 2 ^ 32 + try) (length slots - 1)
+probe slots text try = bit_and (start_of text + try) (length slots - 1)
 
 -- a slot has one more than the number of its text; 0 is free
 

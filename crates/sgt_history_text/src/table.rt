@@ -2,7 +2,7 @@
 
 ghost use Rattle.std.specs.Prelude.{ℕ, [], ◌≡◌, ◌==◌, ◌+◌, ◌^◌, ◌<◌, ◌↔◌, List, IfOk, IfSome, OnOk, IsTrue, MatchOption, Some, length, slice_get, slice_set};
 ghost use Rattle.sgt_history.specs.Serial.{StandOnce};
-ghost use Rattle.sgt_history_text.specs.Table.{hash_of, mixed, AreFound, AreKnown, EndsAt, IsInterned, IsNew, IsTable, KeepsOthers, More, number_in};
+ghost use Rattle.sgt_history_text.specs.Table.{mixed, start_of, AreFound, AreKnown, EndsAt, IsInterned, IsNew, IsTable, KeepsOthers, More, number_in};
 
 use crate::names::Names;
 use std::alloc::{AllocError, Global};
@@ -12,13 +12,14 @@ use std::marker::Model;
 /// The slots that are tried at most. Texts that are chosen so that more would be are kept in an ordered map.
 pub(crate) const TRIES: usize = 64;
 
-/// Where hashes begin, by what they are multiplied, and how far apart those of texts are whose last letters follow one
-/// another: so near that the slots of such texts lie together, which come together mostly.
+/// Where hashes begin, and by what they are multiplied.
 pub(crate) const SEED: u64 = 0xcbf2_9ce4_8422_2325;
 
 pub(crate) const MULTIPLIER: u64 = 0x9e37_79b9_7f4a_7c15;
 
-pub(crate) const STRIDE: u64 = 3;
+/// How many slots lie between the first ones of two texts whose last letters follow one another. Such texts often
+/// come together, and are found where the memory is near then.
+pub(crate) const STRIDE: usize = 5;
 
 /// Where texts are found.
 #[derive(Drop)]
@@ -52,21 +53,22 @@ pub(crate) enum Place {
 fn mix(hash: u64, byte: u8) -> u64
     ensures { result ≡ mixed hash byte }
 {
-    hash.wrapping_mul(MULTIPLIER)
-        .wrapping_add(STRIDE * u64::from(byte))
+    (hash ^ u64::from(byte)).wrapping_mul(MULTIPLIER)
 }
 
-/// The hash of a text. Its last byte, of strings a quotation mark, is the first that goes in.
-fn hash(text: &[u8]) -> u64
-    ensures { result ≡ hash_of text.now }
+/// Where the tries for a text begin.
+fn start_of(text: &[u8]) -> usize
+    ensures is { result ≡ start_of text.now }
+    ensures small { result < 2 ^ 33 }
 {
-    if text.is_empty() {
-        return mix(SEED, 0);
+    let size = text.len();
+    if size < 2 {
+        return 0;
     }
-    let last = text.len() - 1;
-    text[..last]
+    let hash = text[..size - 2]
         .iter()
-        .fold(mix(SEED, text[last]), |hash, byte| mix(hash, *byte))
+        .fold(mix(SEED, text[size - 1]), |hash, byte| mix(hash, *byte));
+    (hash >> 32) as usize + STRIDE * text[size - 2] as usize
 }
 
 fn is_at(names: &Names, number: u32, text: &[u8]) -> bool
@@ -82,7 +84,7 @@ fn place_of(names: &Names, slots: &[u32], text: &[u8]) -> Place
     requires known { AreKnown (length names.now) slots.now }
     ensures { EndsAt names.now slots.now text.now result }
 {
-    let start = (hash(text) % 4_294_967_296) as usize;
+    let start = start_of(text);
     let last = slots.len() - 1;
     for tried in 0..TRIES {
         let slot = (start + tried) & last;
