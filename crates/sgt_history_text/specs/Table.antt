@@ -16,7 +16,8 @@ use Rattle.sgt_history_text.specs.declared.table.Interned.TheVariants.{Old, New}
 abbrev pub mixed : ℕ → ℕ → ℕ
 mixed hash byte = (bit_xor hash byte * MULTIPLIER) % 2 ^ 64
 
--- the hash of all but the last two bytes, with the last one, and behind it so many for each step of the other
+-- a hash of all bytes but the last but one, and a stride behind it for each step of that one: texts that differ there
+-- alone, as names that count up and end in a quotation mark, begin near one another
 abbrev pub hashed : List ℕ → ℕ
 hashed text = fold mixed (mixed SEED (slice_index text (length text - 1))) (take (length text - 2) text) / 2 ^ 32
     + STRIDE * slice_index text (length text - 2)
