@@ -1,5 +1,5 @@
 -- Texts that are found stay found, where one more comes in.
-use Rattle.std.proofs.Common.{suc, zero, ◌≡◌, ◌⊎◌, inl, inr, ⊎_elim, ℕ, ◌+◌, ◌-◌, ◌/◌, ◌<◌, ◌≤◌, List, [], ◌∷◌, ◌++◌, length, slice_get, slice_set, Some, None, cond, Bool, true, false, refl, ap, sym, ◌∙◌, subst, arith, length-append}
+use Rattle.std.proofs.Common.{suc, zero, ◌≡◌, ◌⊎◌, inl, inr, ⊎_elim, ℕ, ◌+◌, ◌-◌, ◌<◌, ◌≤◌, List, [], ◌∷◌, ◌++◌, length, slice_get, slice_set, Some, None, cond, Bool, true, false, refl, ap, sym, ◌∙◌, subst, arith, length-append}
 use Rattle.std.specs.Int.Bits.{bit_and}
 use Rattle.std.specs.Ordering.{is_eq, match_ordering, nat_cmp}
 use Rattle.std.specs.declared.cmp.Ordering.{Ordering}
@@ -16,7 +16,7 @@ use Rattle.std.proofs.lemmas.Option.{slice_get_within}
 use Rattle.std.proofs.lemmas.Bool.{cases_lt}
 use Rattle.sgt_history.specs.Serial.{StandOnce}
 use Rattle.sgt_history_text.specs.declared.table.Place.TheVariants.{Free, Crowded}
-use Rattle.sgt_history_text.specs.Table.{hash_of, probe, More, number_in, AreKnown, AreFound, EndsAt, IsBesides, IsNew, IsPassed, IsPlaced, IsTable, IsTaken, KeepsOthers}
+use Rattle.sgt_history_text.specs.Table.{start_of, probe, More, number_in, AreKnown, AreFound, EndsAt, IsBesides, IsNew, IsPassed, IsPlaced, IsTable, IsTaken, KeepsOthers}
 use Rattle.sgt_names.proofs.Elements.{get-push_cases, get-push_last, get-slice_set_other, get-slice_set_same, length-slice_set}
 
 -- ---- lists
@@ -42,7 +42,7 @@ different n m e z = absurd cc
 
 module _ (slots : List ℕ) (slot value : ℕ) (free : slice_get slots slot ≡ Some 0) where
   pub probe-set : (text : List ℕ) (try : ℕ) → probe (slice_set slots slot value) text try ≡ probe slots text try
-  probe-set text try = ap (λ n. bit_and (hash_of text / 4294967296 + try) (n - 1)) (length-slice_set slots slot value)
+  probe-set text try = ap (λ n. bit_and (start_of text + try) (n - 1)) (length-slice_set slots slot value)
 
   -- a number stays where it is
   taken-set : (place n : ℕ) → slice_get slots place ≡ Some (suc n)

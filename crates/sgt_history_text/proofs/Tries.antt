@@ -1,13 +1,25 @@
 -- Tries for a text, one after another.
-use Rattle.std.proofs.Common.{suc, ◌≡◌, ℕ, ◌+◌, ◌-◌, ◌<◌, ◌/◌, List, length, get_or, slice_get, Some, ap, sym, ◌∙◌, arith}
+use Rattle.std.proofs.Common.{suc, ◌≡◌, ℕ, ◌+◌, ◌-◌, ◌<◌, ◌≤◌, List, [], ◌∷◌, length, get_or, slice_get, Some, ap, sym, refl, ◌∙◌, arith}
 use Rattle.std.specs.Int.Bits.{bit_and}
 use Rattle.std.proofs.lemmas.Nat.{and_le_r}
 use Rattle.std.proofs.lemmas.Option.{slice_get-get_or}
-use Rattle.sgt_history_text.specs.Table.{hash_of, probe, AreKnown, IsPassed, IsPlaced}
+use Rattle.sgt_history_text.specs.Table.{hashed, start_of, probe, AreKnown, IsPassed, IsPlaced}
 
-pub probe_is : (slots text : List ℕ) (hash try : ℕ) → hash ≡ hash_of text
-    → bit_and (hash / 4294967296 + try) (length slots - 1) ≡ probe slots text try
-probe_is slots text hash try e = ap (λ h. bit_and (h / 4294967296 + try) (length slots - 1)) e
+pub probe_is : (slots text : List ℕ) (start try : ℕ) → start ≡ start_of text
+    → bit_and (start + try) (length slots - 1) ≡ probe slots text try
+probe_is slots text start try e = ap (λ s. bit_and (s + try) (length slots - 1)) e
+
+pub start_short : (text : List ℕ) → length text < 2 → 0 ≡ start_of text
+unfolding start_of
+start_short [] h = refl
+start_short (byte ∷ []) h = refl
+start_short (first ∷ second ∷ more) h = absurd (omega arith)
+
+pub start_long : (text : List ℕ) (start : ℕ) → 2 ≤ length text → start ≡ hashed text → start ≡ start_of text
+unfolding start_of
+start_long [] start long e = absurd (omega arith)
+start_long (byte ∷ []) start long e = absurd (omega arith)
+start_long (first ∷ second ∷ more) start long e = e
 
 pub slot-within : (slots : List ℕ) (x : ℕ) → 0 < length slots → bit_and x (length slots - 1) < length slots
 slot-within slots x h = omega (arith, and_le_r x (length slots - 1))

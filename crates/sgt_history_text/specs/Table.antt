@@ -1,13 +1,13 @@
 -- Where the number of a text is looked for: in slots, from a place on that its hash gives, a limited number of tries;
 -- texts that found no free slot there have theirs in a map besides.
-use Rattle.std.specs.Prelude.{◌≡◌, ◌⊎◌, ℕ, suc, ◌+◌, ◌-◌, ◌*◌, ◌%◌, ◌^◌, ◌/◌, ◌<◌, List, [], ◌∷◌, ◌++◌, length, fold, Option, Some, slice_get}
+use Rattle.std.specs.Prelude.{◌≡◌, ◌⊎◌, ℕ, suc, ◌+◌, ◌-◌, ◌*◌, ◌%◌, ◌^◌, ◌/◌, ◌<◌, List, [], ◌∷◌, ◌++◌, length, fold, Option, Some, slice_get, slice_index, take}
 use Rattle.std.specs.Global.{Vec}
 use Rattle.std.specs.Int.Bits.{bit_and, bit_xor}
 use Rattle.std.specs.BTreeMap.{BTreeMap, get_by}
 use Rattle.std.specs.Cmp.Lexicographic.{slice_cmp}
 use Rattle.std.specs.Ordering.{nat_cmp}
 use Rattle.sgt_history.specs.Serial.{StandOnce}
-use Rattle.sgt_history_text.specs.declared.table.TheConstants.{TRIES, SEED, MULTIPLIER}
+use Rattle.sgt_history_text.specs.declared.table.TheConstants.{TRIES, SEED, MULTIPLIER, STRIDE}
 use Rattle.sgt_history_text.specs.declared.table.Place.{Place}
 use Rattle.sgt_history_text.specs.declared.table.Place.TheVariants.{At, Free, Crowded}
 use Rattle.sgt_history_text.specs.declared.table.Interned.{Interned}
@@ -16,12 +16,21 @@ use Rattle.sgt_history_text.specs.declared.table.Interned.TheVariants.{Old, New}
 abbrev pub mixed : ℕ → ℕ → ℕ
 mixed hash byte = (bit_xor hash byte * MULTIPLIER) % 2 ^ 64
 
-unfoldable pub hash_of : List ℕ → ℕ
-hash_of text = fold mixed SEED text
+-- a hash of all bytes but the last but one, and a stride behind it for each step of that one: texts that differ there
+-- alone, as names that count up and end in a quotation mark, begin near one another
+abbrev pub hashed : List ℕ → ℕ
+hashed text = fold mixed (mixed SEED (slice_index text (length text - 1))) (take (length text - 2) text) / 2 ^ 32
+    + STRIDE * slice_index text (length text - 2)
+
+-- where the tries for a text begin
+unfoldable pub start_of : List ℕ → ℕ
+start_of [] = 0
+start_of (byte ∷ []) = 0
+start_of (first ∷ second ∷ more) = hashed (first ∷ second ∷ more)
 
 -- the slot of a text at this try
 abbrev pub probe : List ℕ → List ℕ → ℕ → ℕ
-probe slots text try = bit_and (hash_of text / 2 ^ 32 + try) (length slots - 1)
+probe slots text try = bit_and (start_of text + try) (length slots - 1)
 
 -- a slot has one more than the number of its text; 0 is free
 

@@ -2,7 +2,7 @@
 
 ghost use Rattle.std.specs.Prelude.{ℕ, [], ◌≡◌, ◌==◌, ◌+◌, ◌^◌, ◌<◌, ◌↔◌, List, IfOk, IfSome, OnOk, IsTrue, MatchOption, Some, length, slice_get, slice_set};
 ghost use Rattle.sgt_history.specs.Serial.{StandOnce};
-ghost use Rattle.sgt_history_text.specs.Table.{hash_of, AreFound, AreKnown, EndsAt, IsInterned, IsNew, IsTable, KeepsOthers, More, number_in};
+ghost use Rattle.sgt_history_text.specs.Table.{mixed, start_of, AreFound, AreKnown, EndsAt, IsInterned, IsNew, IsTable, KeepsOthers, More, number_in};
 
 use crate::names::Names;
 use std::alloc::{AllocError, Global};
@@ -16,6 +16,10 @@ pub(crate) const TRIES: usize = 64;
 pub(crate) const SEED: u64 = 0xcbf2_9ce4_8422_2325;
 
 pub(crate) const MULTIPLIER: u64 = 0x9e37_79b9_7f4a_7c15;
+
+/// How many slots lie between the first ones of two texts whose last letters follow one another. Such texts often
+/// come together, and are found where the memory is near then.
+pub(crate) const STRIDE: usize = 5;
 
 /// Where texts are found.
 #[derive(Drop)]
@@ -44,12 +48,27 @@ pub(crate) enum Place {
     Crowded,
 }
 
-fn hash(text: &[u8]) -> u64
-    ensures { result ≡ hash_of text.now }
+/// The hash with a further byte.
+#[inline(always)]
+fn mix(hash: u64, byte: u8) -> u64
+    ensures { result ≡ mixed hash byte }
 {
-    text.iter().fold(SEED, |hash, byte| {
-        (hash ^ *byte as u64).wrapping_mul(MULTIPLIER)
-    })
+    (hash ^ u64::from(byte)).wrapping_mul(MULTIPLIER)
+}
+
+/// Where the tries for a text begin.
+fn start_of(text: &[u8]) -> usize
+    ensures is { result ≡ start_of text.now }
+    ensures small { result < 2 ^ 33 }
+{
+    let size = text.len();
+    if size < 2 {
+        return 0;
+    }
+    let hash = text[..size - 2]
+        .iter()
+        .fold(mix(SEED, text[size - 1]), |hash, byte| mix(hash, *byte));
+    (hash >> 32) as usize + STRIDE * text[size - 2] as usize
 }
 
 fn is_at(names: &Names, number: u32, text: &[u8]) -> bool
@@ -65,7 +84,7 @@ fn place_of(names: &Names, slots: &[u32], text: &[u8]) -> Place
     requires known { AreKnown (length names.now) slots.now }
     ensures { EndsAt names.now slots.now text.now result }
 {
-    let start = (hash(text) >> 32) as usize;
+    let start = start_of(text);
     let last = slots.len() - 1;
     for tried in 0..TRIES {
         let slot = (start + tried) & last;
@@ -276,7 +295,7 @@ impl Table {
         ensures { self.new ≡ self.old }
     {
         let count = self.places.slots.len();
-        if self.names.len() >= count / 2 && count <= u32::MAX as usize {
+        if self.names.len() >= count / 4 && count <= u32::MAX as usize {
             self.places = place_all(alloc, &self.names, count * 2)?;
         }
         Ok(())

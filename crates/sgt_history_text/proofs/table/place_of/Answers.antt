@@ -8,7 +8,7 @@ returns-then-taken-eq0 c =
     let slots = c.args.slots.now in (
       c.loop-tried.tried,
       c.loop-tried-test.true,
-      probe_is slots c.args.text.now c.hash.result c.loop-tried.tried c.hash.ensures,
+      probe_is slots c.args.text.now c.start_of-start.result c.loop-tried.tried c.start_of-start.ensures.is,
       free_here slots _ (slot-within slots _ c.requires.some) c.if-taken-eq0.true,
       c.loop-tried.invariant,
     )
@@ -23,7 +23,7 @@ returns-then-is_at c =
     let slots = c.args.slots.now in (
       c.is_at.ensures.0 c.if-is_at.true,
       met_here c.args.names.now slots c.args.text.now c.loop-tried.tried _
-          (probe_is slots c.args.text.now c.hash.result c.loop-tried.tried c.hash.ensures)
+          (probe_is slots c.args.text.now c.start_of-start.result c.loop-tried.tried c.start_of-start.ensures.is)
           c.loop-tried-test.true (slot-within slots _ c.requires.some) c.if-taken-eq0.false c.loop-tried.invariant,
     )
 
@@ -32,6 +32,6 @@ loop-tried-preserved c =
     let slots = c.args.slots.now in
     below_more _ _ c.loop-tried.invariant
     (passed_here c.args.names.now slots c.args.text.now c.loop-tried.tried _ c.requires.known
-    (probe_is slots c.args.text.now c.hash.result c.loop-tried.tried c.hash.ensures)
+    (probe_is slots c.args.text.now c.start_of-start.result c.loop-tried.tried c.start_of-start.ensures.is)
     (slot-within slots _ c.requires.some) c.if-taken-eq0.false (λ e. false≢true (sym c.if-is_at.false
     ∙ c.is_at.ensures.1 e)))
