@@ -13,7 +13,19 @@ kind-word WriteRead = ((λ _ is. absurd (omega (arith, is)), (λ _ is. absurd (o
 kind-word ReadWrite = ((λ _ is. absurd (omega (arith, is)), (λ _ is. absurd (omega (arith, is)), tt)), refl)
 kind-word Session = ((λ _ is. absurd (omega (arith, is)), (λ _ is. absurd (omega (arith, is)), tt)), refl)
 kind-word Moment = ((λ _ is. absurd (omega (arith, is)), (λ _ is. absurd (omega (arith, is)), tt)), refl)
-kind-word End = ((λ _ is. absurd (omega (arith, is)), (λ _ is. absurd (omega (arith, is)), (λ _ is. absurd (omega (arith, is)), (λ _ is. absurd (omega (arith, is)), (λ _ is. absurd (omega (arith, is)), (λ _ is. absurd (omega (arith, is)), tt)))))), refl)
+kind-word End = (
+  (
+    λ _ is. absurd (omega (arith, is)),
+    (
+      λ _ is. absurd (omega (arith, is)),
+      (
+        λ _ is. absurd (omega (arith, is)),
+        (λ _ is. absurd (omega (arith, is)), (λ _ is. absurd (omega (arith, is)), (λ _ is. absurd (omega (arith, is)), tt))),
+      ),
+    ),
+  ),
+  refl,
+)
 
 -- behind its first word
 pub behind-from : (line from behind : List ℕ) (s : Step) → IsWord from → line ≡ from ++ 32 ∷ behind → IsStep s

@@ -22,4 +22,5 @@ edge_text s = codes "  \"" ++ (escaped s.from ++ (codes "\" -> \"" ++ (escaped s
 
 -- an edge for each step, in this order, and nothing else
 abbrev pub graph_text : List Step → List ℕ
-graph_text steps = head_of true ++ (codes "  rankdir=LR;\n  node [shape=box];\n" ++ (flat_map edge_text steps ++ foot_of true))
+graph_text steps =
+    head_of true ++ (codes "  rankdir=LR;\n  node [shape=box];\n" ++ (flat_map edge_text steps ++ foot_of true))
