@@ -108,8 +108,7 @@ impl Canvas {
     /// The text with its foot.
     pub fn into_text(self) -> Result<Vec<u8>, AllocError>
         ensures picture { IfOk result (λ text. IsPicture text.items) }
-        ensures whole { IfOk result
-            (λ text. (is_dot : Bool) × IsBegun is_dot self × (text.items ≡ self ++ foot_of is_dot)) }
+        ensures whole { IfOk result (λ text. (is_dot : Bool) × IsBegun is_dot self × (text.items ≡ self ++ foot_of is_dot)) }
     {
         let mut text = self.text;
         text.extend_from_slice(foot(self.is_dot).as_bytes())?;

@@ -141,7 +141,7 @@ impl Task<'_> {
     }
 }
 
-/// The picture of a bundle, which is to be valid: of one that isn't, its decisions and its logs are drawn all the same.
+/// The picture of a bundle, which is to be valid: one that isn't is drawn, too, as far as its decisions and its logs go.
 pub fn picture(alloc: Global, wanted: Wanted, bundle: &Bundle) -> Result<Vec<u8>, AllocError>
     ensures { IfOk result (λ text. IsPicture text.items) }
 {
