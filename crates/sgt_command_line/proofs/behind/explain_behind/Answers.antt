@@ -9,7 +9,7 @@ returns-in_err-tx_told-in-None-clause-all c = λ choice is says.
     absurd (no_explained (map string_bytes c.args.options.now)
     (mapped_some string_bytes c.args.options.now
     (filled c.args.options.now c.is_empty.result c.is_empty.ensures c.if-is_empty.false))
-    (λ told. c.if-asks_all.false told) c.in-None.ensures.none
+    (λ told. absurd (cc (c.asks_all.ensures.1 told, c.if-asks_all.false))) c.in-None.ensures.none
     (none_told c.tx_told.result (TellsTx (map string_bytes c.args.options.now)) c.in_err-tx_told-in-None.was
     c.tx_told.ensures.all) choice is says)
 
