@@ -68,7 +68,7 @@ names_keeper words choice (inl none) is =
       | inl e ↦ cc
       | inr e ↦ cc
     ]
-names_keeper words choice (inr (options, named, says)) is = (command_of choice, is, options, named)
+names_keeper words choice (inr (options, named, says)) is = (command_of choice, is, (options, named))
 
 -- where nothing is read for any words, nothing is for these
 pub left_unread : (choice : Choice) (Unread : Type 0) → Unread → LeavesUnread choice Unread

@@ -1,4 +1,4 @@
-use Rattle.std.proofs.Common.{◌≡◌, ◌×◌, Err, Ok, Result, inl}
+use Rattle.std.proofs.Common.{◌≡◌, Err, Ok, Result, inl}
 use Rattle.sgt_names.specs.declared.outcome.EngineFail.{EngineFail}
 use Rattle.sgt_names.specs.declared.outcome.Outcome.{Outcome}
 use Rattle.sgt_explain.specs.declared.asked.Explained.{Explained}
