@@ -49,7 +49,7 @@ _sgt() {
             '--bundle=[write the bundle to this file]:file:_files' '1:scripts:_files' ;;
         serve) _arguments $help '--bundles=[write each bundle into this folder]:folder:_path_files -/' \
             '1:events:_files' ;;
-        certify) _arguments $help $json $why $output $quiet '1:logs:_files' ;;
+        certify) _arguments $help $json $why $output $progress $quiet '1:logs:_files' ;;
         check) _arguments $help '(--html -q --quiet)--json[write the answer as an object of JSON]' \
             '(--json -q --quiet)--html[write the answer as a page of HTML]' $why $output $progress $quiet \
             '(--against)--order[write an order that serves]' '--real-time[the order has to keep real time]' \

@@ -81,7 +81,7 @@ fn line_of(rt: &HostRuntime, hush: &Hush) -> Result<Line, u8> {
 fn tells_terminal(choice: &Result<Choice, NoChoice>) -> bool {
     match choice {
         Ok(Choice::Audit | Choice::AuditWith { .. } | Choice::Serial) => true,
-        Ok(Choice::Replay | Choice::Check(_)) => true,
+        Ok(Choice::Replay | Choice::Check(_) | Choice::Certify) => true,
         _ => false,
     }
 }

@@ -50,7 +50,7 @@ const CHECK_USAGE: &str =
     "sgt check [--order] [--real-time] [--sessions] [--svg FILE] [-q] [--json | --html] [--why] [--progress] [-o FILE] [FILE]\n       sgt check --against ORDER [--real-time] [--sessions] [-q] [--json | --html] [--why] [-o FILE] [FILE]\n  e.g. sgt check history.jsonl";
 
 const CERTIFY_USAGE: &str =
-    "sgt certify [-q] [--json] [--why] [-o FILE] [FILE]\n  e.g. sgt certify -o bundle.txt logs.txt";
+    "sgt certify [-q] [--json] [--why] [--progress] [-o FILE] [FILE]\n  e.g. sgt certify -o bundle.txt logs.txt";
 
 const EXPLAIN_USAGE: &str =
     "sgt explain [--tx N | --all] [--json | --html] [--why] [-o FILE] [FILE]\n       sgt explain RULE\n  e.g. sgt explain bundle.txt";
@@ -60,7 +60,7 @@ const DRAW_USAGE: &str =
 
 /// What the help of each command ends with.
 pub const MORE: &str =
-    "Behind each command a FILE may stand; with none, or -, standard input is read. Where standard error is a terminal, audit, serial, replay and check tell it of each million lines read, as with --progress; and behind a no it is told what to type to learn more, as with --why. sgt COMMAND --help lists all options of a command.
+    "Behind each command a FILE may stand; with none, or -, standard input is read. Where standard error is a terminal, audit, serial, replay, certify and check tell it of each million lines read, as with --progress; and behind a no it is told what to type to learn more, as with --why. sgt COMMAND --help lists all options of a command.
 
 L is the first line with a fault and FN the fault: docs/FORMAT.md has the faults and the formats of a bundle, a replay and scripts.
 
@@ -238,7 +238,7 @@ const CHECK_TAKEN: [Taken; 9] = [
     OUTPUT,
 ];
 
-const CERTIFY_TAKEN: [Taken; 5] = [FILE, QUIET, JSON, WHY, OUTPUT];
+const CERTIFY_TAKEN: [Taken; 6] = [FILE, QUIET, JSON, WHY, PROGRESS, OUTPUT];
 
 const EXPLAIN_TAKEN: [Taken; 5] = [FILE, JSON, PAGE, WHY, OUTPUT];
 

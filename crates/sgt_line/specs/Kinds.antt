@@ -13,7 +13,7 @@ IsDashed word = (rest : List ℕ) × (word ≡ codes "-" ++ rest)
 -- the command tells of the lines that it reads
 abbrev pub TellsLines : CommandName → Type 0
 TellsLines command = ((command ≡ Audit) ⊎ (command ≡ Check))
-    ⊎ ((command ≡ Serial) ⊎ (command ≡ Replay))
+    ⊎ (((command ≡ Serial) ⊎ (command ≡ Replay)) ⊎ (command ≡ Certify))
 
 -- the word is the option of a place with the file or folder in itself
 abbrev pub JoinsPlace : CommandName → (word file : List ℕ) → Type 0

@@ -96,6 +96,7 @@ pub fn tells_lines(command: CommandName) -> bool
     match command {
         CommandName::Audit | CommandName::Check => true,
         CommandName::Serial | CommandName::Replay => true,
+        CommandName::Certify => true,
         _ => false,
     }
 }
