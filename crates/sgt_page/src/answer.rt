@@ -1,7 +1,7 @@
 //! What a page shows of an answer.
 
-ghost use Rattle.std.specs.Prelude.{◌≡◌, IfOk, string_bytes};
-ghost use Rattle.sgt_page.specs.Answer.{IsFrontOf, IsPageOf, IsSmall, title_of};
+ghost use Rattle.std.specs.Prelude.{◌≡◌, ◌≤◌, ◌-◌, ◌⊎◌, IfOk, Some, slice_get, string_bytes};
+ghost use Rattle.sgt_page.specs.Answer.{IsCutAtLine, IsFrontOf, IsPageOf, IsSmall, title_of};
 
 use crate::page::{Page, page_of};
 use crate::sentence::sentence;
@@ -32,18 +32,18 @@ pub struct Answered<'a> {
     pub picture: &'a [u8],
 }
 
-// How much of the text stands in whole lines within what is shown.
-fn whole_lines(text: &[u8]) -> usize {
-    let mut end = 0;
-    for (place, byte) in text.iter().enumerate() {
-        if place >= MOST_TEXT {
-            break;
-        }
-        if *byte == b'\n' {
-            end = place + 1;
+// The end of the last line that ends within what is shown; 0 where none does.
+fn whole_lines(text: &[u8]) -> usize
+    ensures bound { result ≤ 16384 }
+    ensures line { (result ≡ 0) ⊎ ((1 ≤ result) × (slice_get text.now (result - 1) ≡ Some 10)) }
+{
+    for left_out in 0..MOST_TEXT {
+        let end = MOST_TEXT - left_out;
+        if text.get(end - 1) == Some(&b'\n') {
+            return end;
         }
     }
-    end
+    0
 }
 
 // The answer, in whole lines, as much of it as is shown.
@@ -70,6 +70,16 @@ fn small(picture: &[u8]) -> &[u8]
     LEFT_OUT.as_bytes()
 }
 
+// The name of a rule, and what it means.
+fn cut_rule(rule: &str) -> (&str, &str)
+    ensures { IsCutAtLine rule.now result.0.now result.1.now }
+{
+    match rule.split_once('\n') {
+        Some(cut) => cut,
+        None => (rule, ""),
+    }
+}
+
 fn title(alloc: Global, answer: Answered<'_>) -> Result<String, AllocError>
     ensures { IfOk result (λ title. string_bytes title ≡ title_of answer.entry) }
 {
@@ -88,7 +98,7 @@ pub fn page_of_answer(alloc: Global, answer: Answered<'_>) -> Result<Vec<u8>, Al
     let title = title(alloc, answer)?;
     let (first, _) = answer.text.split_once('\n').unwrap_or((answer.text, ""));
     let verdict = sentence(alloc, answer.command, first)?;
-    let (name, meaning) = answer.rule.split_once('\n').unwrap_or((answer.rule, ""));
+    let (name, meaning) = cut_rule(answer.rule);
     page_of(
         alloc,
         Page {

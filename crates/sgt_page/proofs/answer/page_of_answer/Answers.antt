@@ -1,6 +1,6 @@
 use Rattle.std.proofs.lemmas.Result.{IfOk-weaker}
 use Rattle.std.proofs.Common.{◌∙◌, List, subst, sym, ℕ}
-use Rattle.sgt_page.specs.Answer.{IsFrontOf}
+use Rattle.sgt_page.specs.Answer.{IsCutAtLine, IsFrontOf}
 use Rattle.sgt_page.specs.Page.{shown_of}
 use Rattle.sgt_page.proofs.answer.page_of_answer.Goals as goal
 
@@ -17,6 +17,10 @@ returns c =
       };
       title = c.as_bytes.ensures.value ∙ c.in_ok-title.ensures;
       picture = c.small.ensures;
+      rule = subst (λ (n : List ℕ). IsCutAtLine c.args.answer.rule.now n c.as_bytes-4.result.now)
+          (sym c.as_bytes-3.ensures.value)
+          (subst (λ (m : List ℕ). IsCutAtLine c.args.answer.rule.now c.cut_rule.result.0.now m)
+          (sym c.as_bytes-4.ensures.value) c.cut_rule.ensures);
       text = subst (λ (t : List ℕ). IsFrontOf t c.args.answer.text.now) (sym c.as_bytes-5.ensures.value) c.front_of.ensures;
       is = is;
     }) c.page_of.ensures
