@@ -3,9 +3,11 @@
 
 usage: fuzz_logs.py PROGRAM SEED COUNT       (PROGRAM is a built `sgt`)
 
-The status has to be that of `certify`, and the first line its first line, or of a yes `a certificate exists: `.
+The status has to be that of `certify`, or 1 where a transaction is asked for that is nowhere, and the first line its
+first line, or of a yes `a certificate exists: `.
 """
 import random
+import re
 import subprocess
 import sys
 
@@ -36,9 +38,10 @@ def differs(program, text, tx):
     said = run(program, ["certify"], text)
     first = said.stdout.split(b"\n")[0]
     wanted = b"a certificate exists: " if said.returncode == 0 else first + b"\n"
-    for words in (["explain"], ["explain", "--tx", str(tx)]):
+    is_there = re.search(rb"^[a-z]%d(\[|$)" % tx, text, re.M)
+    for words, status in ((["explain"], said.returncode), (["explain", "--tx", str(tx)], said.returncode if is_there else 1)):
         told = run(program, words, text)
-        if told.returncode != said.returncode or not told.stdout.startswith(wanted):
+        if told.returncode != status or not told.stdout.startswith(wanted):
             return True
     return False
 
