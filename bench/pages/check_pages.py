@@ -44,7 +44,7 @@ def options():
     lines = text_of(f"{LINE}/kind.rt").splitlines()
     of_others = {line for line in lines if (names := set(re.findall(r"CommandName::(\w+)", line))) and names <= missing()}
     named += [name for line in lines if line not in of_others for name in re.findall(r'"--(\w+)"', line)]
-    refused = re.findall(r'"(--[\w-]+) \(not in this version\)"', text_of("crates/sgt/src/main.rt"))
+    refused = re.findall(r'"(--[\w-]+) \(not in this version\)"', text_of("crates/sgt_driver/src/driver.rt"))
     return sorted({*(f"--{name}" for name in named), "--help", "--version"} - set(refused))
 
 

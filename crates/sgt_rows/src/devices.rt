@@ -62,7 +62,7 @@ fn gives_up<H: Threads + Wait + Sync>(
     let mut input = MemSource::new(text.as_bytes(), 1, fail_at);
     let mut output = MemSink::new(alloc, takes)?;
     let mut errors = MemSink::new(alloc, 100)?;
-    let words = row.given.line.words.as_slice();
+    let words = row.given.words.as_slice();
     let status = program(rt, alloc, words, &mut input, &mut output, &mut errors);
     let (told, length) = match fail_at {
         Some(_) => ("sgt: read fault\n", 0),

@@ -1,11 +1,11 @@
-//! Runs the program over memory on the worked rows, on words that are no command, and on devices that fail, and says
-//! of how many rows the answer differs.
+//! Runs the program on the worked rows, each in its folder and with streams in memory, on words that are no command,
+//! and on devices that fail, and says of how many rows the answer differs.
 #![tactic(auto)]
 
-mod desk;
+mod answer;
 mod devices;
-mod forms;
 mod row;
+mod streams;
 mod trial;
 
 use crate::devices::{are_no_command, devices_tell, faults_are_told};
@@ -19,7 +19,7 @@ fn main(rt: HostRuntime) -> io::Result<()> {
         let entry = entry?;
         let row = Row::read(&rt, entry.file_name())?;
         rows = rows.saturating_add(1);
-        if !holds(&rt, rt.alloc(), &row)? {
+        if !holds(&rt, &rt, &row)? {
             differ = differ.saturating_add(1);
             println!(rt; "{} differs", entry.file_name())?;
         }

@@ -1,21 +1,24 @@
 //! Worked rows, read from their folders.
 
-use sgt_line::Line;
 use std::alloc::{AllocError, Global};
 use std::rt::Files;
 use std::{fs, io};
 
-/// What the program is given.
+/// What the program is given; the files that its words name lie in the row's folder.
 #[derive(Drop)]
 pub struct Given {
-    /// The command line.
-    pub line: Line,
+    /// The words, the program's name first.
+    pub words: Vec<String>,
     /// Standard input. None: nothing is read, so each read would fail.
     pub input: Option<String>,
-    /// The texts of the files that the line names, in their order.
-    pub files: Vec<String>,
-    /// The order that a history is held against.
-    pub order: Option<String>,
+}
+
+/// A file that must be written.
+#[derive(Drop)]
+pub struct WantedFile {
+    /// Its name, as it is called from the row's folder.
+    pub name: String,
+    pub text: String,
 }
 
 /// What the program must answer.
@@ -28,15 +31,15 @@ pub struct Wanted {
     /// What the error stream must be told, where the row says so.
     pub errors: Option<String>,
     pub status: u8,
-    /// The bundle that goes to a file.
-    pub bundle: Option<String>,
-    /// The bundles that a talk hands out.
-    pub cut: Vec<String>,
+    /// The files that must be written.
+    pub files: Vec<WantedFile>,
 }
 
 /// A worked row of the program.
 #[derive(Drop)]
 pub struct Row {
+    /// The folder of the row, where it is run.
+    pub folder: String,
     pub given: Given,
     pub wanted: Wanted,
 }
@@ -51,9 +54,13 @@ pub(crate) fn words_of(alloc: Global, line: &str) -> Result<Vec<String>, AllocEr
     Ok(words)
 }
 
-/// The text of a file of the row's folder, if it is there.
-fn text_of<R: Files + AllocGlobal>(rt: &R, name: &str, file: &str) -> io::Result<Option<String>> {
-    let path = format!(in rt.alloc(); "rows/{name}/{file}")?;
+/// The text of a file of the folder, if it is there.
+pub(crate) fn text_of<R: Files + AllocGlobal>(
+    rt: &R,
+    folder: &str,
+    file: &str,
+) -> io::Result<Option<String>> {
+    let path = format!(in rt.alloc(); "{folder}/{file}")?;
     if !fs::exists(rt, path.as_str())? {
         return Ok(None);
     }
@@ -61,83 +68,62 @@ fn text_of<R: Files + AllocGlobal>(rt: &R, name: &str, file: &str) -> io::Result
 }
 
 /// The same, and no text where there is no such file.
-fn text_or_none<R: Files + AllocGlobal>(rt: &R, name: &str, file: &str) -> io::Result<String> {
-    match text_of(rt, name, file)? {
+fn text_or_none<R: Files + AllocGlobal>(rt: &R, folder: &str, file: &str) -> io::Result<String> {
+    match text_of(rt, folder, file)? {
         Some(text) => Ok(text),
         None => Ok(String::new(rt.alloc())),
     }
 }
 
-/// The texts of the files that the line names.
-fn files_of<R: Files + AllocGlobal>(rt: &R, name: &str, line: &Line) -> io::Result<Vec<String>> {
+fn given_of<R: Files + AllocGlobal>(rt: &R, folder: &str) -> io::Result<Given> {
+    let args = text_or_none(rt, folder, "args")?;
+    Ok(Given {
+        words: words_of(rt.alloc(), args.as_str())?,
+        input: text_of(rt, folder, "stdin")?,
+    })
+}
+
+fn status_of<R: Files + AllocGlobal>(rt: &R, folder: &str) -> io::Result<u8> {
+    let status = text_or_none(rt, folder, "status")?;
+    Ok(status.trim().parse::<u8>().unwrap_or(0))
+}
+
+/// The files that must be written, a name each line of `written`: under `written.N` lies the text of the N-th.
+fn files_of<R: Files + AllocGlobal>(rt: &R, folder: &str) -> io::Result<Vec<WantedFile>> {
     let mut files = Vec::new(rt.alloc());
-    for file in &line.files {
-        files.push(text_or_none(rt, name, file.as_str())?)?;
+    let names = text_or_none(rt, folder, "written")?;
+    for name in names.lines() {
+        let number = files.len().saturating_add(1);
+        let file = format!(in rt.alloc(); "written.{number}")?;
+        files.push(WantedFile {
+            name: String::from_str(rt.alloc(), name)?,
+            text: text_or_none(rt, folder, file.as_str())?,
+        })?;
     }
     Ok(files)
 }
 
-fn given_of<R: Files + AllocGlobal>(rt: &R, name: &str) -> io::Result<Given> {
-    let args = text_or_none(rt, name, "args")?;
-    let words = words_of(rt.alloc(), args.as_str())?;
-    let line = Line::of(rt.alloc(), words.as_slice())?.settled(rt.alloc())?;
-    let files = files_of(rt, name, &line)?;
-    let order = match &line.against {
-        Some(file) => text_of(rt, name, file.as_str())?,
-        None => None,
-    };
-    Ok(Given {
-        line,
-        input: text_of(rt, name, "stdin")?,
-        files,
-        order,
-    })
-}
-
-fn status_of<R: Files + AllocGlobal>(rt: &R, name: &str) -> io::Result<u8> {
-    let status = text_or_none(rt, name, "status")?;
-    Ok(status.trim().parse::<u8>().unwrap_or(0))
-}
-
-/// The bundles that a talk hands out: `1.sgt`, `2.sgt` and so on.
-fn cut_of<R: Files + AllocGlobal>(rt: &R, name: &str) -> io::Result<Vec<String>> {
-    let mut cut = Vec::new(rt.alloc());
-    for number in 1..1_000u64 {
-        let file = format!(in rt.alloc(); "{number}.sgt")?;
-        match text_of(rt, name, file.as_str())? {
-            Some(text) => cut.push(text)?,
-            None => return Ok(cut),
-        }
-    }
-    Ok(cut)
-}
-
-fn wanted_of<R: Files + AllocGlobal>(rt: &R, name: &str, line: &Line) -> io::Result<Wanted> {
-    let status = status_of(rt, name)?;
-    let output = match &line.output {
-        Some(file) => text_of(rt, name, file.as_str())?,
-        None => text_of(rt, name, "stdout")?,
-    };
-    let bundle = match &line.place {
-        Some(file) => text_of(rt, name, file.as_str())?,
-        None => None,
-    };
+fn wanted_of<R: Files + AllocGlobal>(rt: &R, folder: &str) -> io::Result<Wanted> {
     Ok(Wanted {
-        output,
-        must: text_or_none(rt, name, "must")?,
-        errors: text_of(rt, name, "stderr")?,
-        status,
-        bundle,
-        cut: cut_of(rt, name)?,
+        output: text_of(rt, folder, "stdout")?,
+        must: text_or_none(rt, folder, "must")?,
+        errors: text_of(rt, folder, "stderr")?,
+        status: status_of(rt, folder)?,
+        files: files_of(rt, folder)?,
     })
 }
 
 impl Row {
-    /// The row in the folder of this name, with the files `args` (none: no words), `stdin`, `stdout`, `status` (none:
-    /// 0), `must` and `stderr`, and those that `args` names: to be read, or as they must be written.
+    /// The row of this name: of its folder the files `args` (none: no words), `stdin`, `stdout`, `status` (none: 0),
+    /// `must`, `stderr`, and `written` with the texts of the files that it names.
     pub(crate) fn read<R: Files + AllocGlobal>(rt: &R, name: &str) -> io::Result<Row> {
-        let given = given_of(rt, name)?;
-        let wanted = wanted_of(rt, name, &given.line)?;
-        Ok(Row { given, wanted })
+        let folder = format!(in rt.alloc(); "rows/{name}")?;
+        let given = given_of(rt, folder.as_str())?;
+        let wanted = wanted_of(rt, folder.as_str())?;
+        Ok(Row {
+            folder,
+            given,
+            wanted,
+        })
     }
 }

@@ -1,0 +1,169 @@
+//! The program over files, standard streams and threads.
+
+use crate::against::judge_order;
+use crate::chain::audit_chain;
+use crate::devices::{Hush, LastWords};
+use crate::expected::expected_of;
+use crate::host::{Host, file_of, over, writer};
+use crate::object::{answer_objects, asks_object};
+use crate::ordinary::{audit_each, judge, run_held};
+use crate::page::{answer_page, asks_page};
+use crate::same::overwritten;
+use crate::streams::Streams;
+use crate::svg::check_drawn;
+use crate::talk::serve_events;
+use crate::unreadable::Watched;
+use sgt_command_line::{Choice, NoChoice, Way, awaited, choose, wanted_by, way_of};
+use sgt_line::{CommandName, Line, named};
+use sgt_names::{EngineFail, ToWrite};
+use sgt_program::{give_up, refuse_words};
+use std::alloc::AllocError;
+use std::fs;
+use std::sync::Wait;
+use std::thread::Threads;
+
+/// Why the words of the command line can't be had.
+#[derive(Clone, Copy, Debug, PartialEq, Eq)]
+pub enum NoWords {
+    /// A growth was refused.
+    Memory,
+    /// One of them is no UTF-8.
+    NotText,
+}
+
+// Whether a word stands in a command's place that is none, and names a file.
+fn names_file(rt: &HostRuntime, given: &[String]) -> bool {
+    match given.get(1) {
+        Some(word) => {
+            let is_command = named(word.as_str()).is_some() || word.as_str() == "help";
+            let may_be_file = !is_command && !word.starts_with('-');
+            may_be_file && fs::exists(rt, word.as_str()).unwrap_or(false)
+        }
+        None => false,
+    }
+}
+
+// The command line of these words; a file in a command's place is audited.
+fn line_with(rt: &HostRuntime, given: Vec<String>) -> Result<Line, AllocError> {
+    let mut given = given;
+    if given.len() > 1 && names_file(rt, given.as_slice()) {
+        given.insert(1, String::from_str(rt.alloc(), "audit")?)?;
+    }
+    Line::of(rt.alloc(), given.as_slice())?.settled(rt.alloc())
+}
+
+// The status where words or memory are wanting.
+fn refuse<S: Streams>(streams: &S, hush: &Hush, why: NoWords) -> u8 {
+    let mut errors = ToWrite::new(LastWords::new(streams.errors(), hush));
+    match why {
+        NoWords::Memory => give_up(&mut errors, EngineFail::Memory),
+        NoWords::NotText => refuse_words(&mut errors),
+    }
+}
+
+// Whether lines are told as they are read also where nobody asks for it, on a terminal.
+fn tells_terminal(choice: &Result<Choice, NoChoice>) -> bool {
+    match choice {
+        Ok(Choice::Audit | Choice::AuditWith { .. } | Choice::Serial) => true,
+        Ok(Choice::Replay | Choice::Check(_) | Choice::Certify) => true,
+        _ => false,
+    }
+}
+
+// The command that the words name.
+fn command_of(line: &Line) -> CommandName {
+    match line.words.get(1) {
+        Some(word) => named(word.as_str()).unwrap_or(CommandName::Audit),
+        None => CommandName::Audit,
+    }
+}
+
+// Answers as the line says.
+fn answer<S: Streams, H: Threads + Wait + Sync>(
+    host: &Host<'_, S, H>,
+    line: &Line,
+    choice: &Result<Choice, NoChoice>,
+) -> Result<u8, EngineFail> {
+    if asks_object(line, choice) {
+        return answer_objects(host, line, choice);
+    }
+    if asks_page(line, choice) {
+        return answer_page(host, line, choice);
+    }
+    let name = file_of(line.files.first());
+    match way_of(line, choice) {
+        Way::Talk => Ok(serve_events(host, line, name)),
+        Way::Against => {
+            let order = file_of(line.against.as_ref());
+            Ok(judge_order(host, line, wanted_by(choice), order, name))
+        }
+        Way::Drawn => check_drawn(host, line, name, file_of(line.place.as_ref())),
+        Way::Chain => Ok(audit_chain(host, line)),
+        Way::Each => audit_each(host, line),
+        Way::Held => run_held(host, line, name),
+        Way::Quiet => judge(host, line, name),
+        Way::Plain => {
+            let mut output = writer(host);
+            Ok(over(host, line.words.as_slice(), name, &mut output))
+        }
+    }
+}
+
+// The status of what the line asks for.
+fn run<S: Streams, H: Threads + Wait + Sync>(
+    rt: &HostRuntime,
+    streams: &S,
+    threads: &H,
+    hush: &Hush,
+    line: &Line,
+) -> u8 {
+    if let Some(name) = overwritten(rt, line) {
+        let _ = eprintln!(streams; "sgt: {name} is to be written, and is read or written already");
+        return 2;
+    }
+    let expected = match expected_of(streams, line) {
+        Ok(expected) => expected,
+        Err(status) => return status,
+    };
+    let choice = choose(rt.alloc(), line.words.as_slice());
+    let is_shown = !line.is_quiet && streams.is_shown();
+    let host = Host {
+        rt,
+        streams,
+        threads,
+        awaits: awaited(line, &choice),
+        watched: Watched::of(&choice),
+        tells_lines: line.tells_lines || (is_shown && tells_terminal(&choice)),
+        tells_why: line.tells_why || is_shown,
+        command: command_of(line),
+        hush,
+        output: line.output.as_ref(),
+        expected,
+    };
+    match answer(&host, line, &choice) {
+        Ok(status) => status,
+        Err(fail) => give_up(
+            &mut ToWrite::new(LastWords::new(streams.errors(), hush)),
+            fail,
+        ),
+    }
+}
+
+/// Does what the words ask for, the program's name first among them, and gives the exit status: files are read and
+/// written by their names, and the rest goes by the streams. It errs by a status and a line on standard error alone.
+pub fn drive<S: Streams, H: Threads + Wait + Sync>(
+    rt: &HostRuntime,
+    streams: &S,
+    threads: &H,
+    given: Result<Vec<String>, NoWords>,
+) -> u8 {
+    let hush = Hush::new();
+    let words = match given {
+        Ok(words) => words,
+        Err(why) => return refuse(streams, &hush, why),
+    };
+    match line_with(rt, words) {
+        Ok(line) => run(rt, streams, threads, &hush, &line),
+        Err(_) => refuse(streams, &hush, NoWords::Memory),
+    }
+}

@@ -1,0 +1,42 @@
+//! How many transactions are to be committed.
+
+use crate::host::Host;
+use crate::streams::Streams;
+use sgt_line::Line;
+
+/// What the line says of it; the status, where that is no number.
+pub(crate) fn expected_of<S: Streams>(streams: &S, line: &Line) -> Result<Option<u64>, u8> {
+    let Some(text) = &line.expected else {
+        return Ok(None);
+    };
+    match text.parse::<u64>() {
+        Ok(number) => Ok(Some(number)),
+        Err(_) => {
+            let _ = eprintln!(streams; "sgt: --expect-committed {text}: that is no number");
+            Err(2)
+        }
+    }
+}
+
+// How many were committed, as a yes says of which this is the front.
+fn committed_of(answer: &[u8]) -> Option<u64> {
+    let text = str::from_utf8(answer).ok()?;
+    let (count, _) = text.strip_prefix("yes ")?.split_once(' ')?;
+    count.parse::<u64>().ok()
+}
+
+/// The status of an audit, of whose answer this is the front: a no, where it is a yes of another number of committed
+/// transactions than is expected.
+pub(crate) fn expected_status<S: Streams, H>(
+    host: &Host<'_, S, H>,
+    answer: &[u8],
+    status: u8,
+) -> u8 {
+    match (host.expected, committed_of(answer)) {
+        (Some(expected), Some(count)) if status == 0 && count != expected => {
+            let _ = eprintln!(host.streams; "sgt: {count} committed, {expected} expected");
+            1
+        }
+        _ => status,
+    }
+}

@@ -1,0 +1,219 @@
+//! An answer as a page of HTML.
+
+use crate::devices::{Held, LastWords};
+use crate::host::{Host, ended, file_of, open, word_of, writer};
+use crate::object::answer_into;
+use crate::streams::Streams;
+use sgt_command_line::{Choice, NoChoice};
+use sgt_history_picture::picture_of;
+use sgt_line::{CommandName, Line};
+use sgt_names::{Asks, Bytes, EngineFail, Nowhere, ToWrite, write_all};
+use sgt_page::{Answered, page_of_answer, rule_in};
+use sgt_program::program;
+use std::alloc::{AllocError, Global};
+use std::io::Read;
+use std::sync::Wait;
+use std::thread::Threads;
+
+// How much is read at a time.
+const PIECE: usize = 65_536;
+
+/// Whether the answer is to be written as a page.
+pub(crate) fn asks_page(line: &Line, choice: &Result<Choice, NoChoice>) -> bool {
+    match choice {
+        Ok(Choice::Explain(_) | Choice::Check(_)) => line.is_page,
+        _ => false,
+    }
+}
+
+// All that is read under this name; the status, where a read failed.
+fn whole<S: Streams, H>(
+    host: &Host<'_, S, H>,
+    name: &str,
+) -> Result<Result<Vec<u8>, u8>, AllocError> {
+    let alloc = host.rt.alloc();
+    let mut steady = match open(host, name) {
+        Ok(steady) => steady,
+        Err(status) => return Ok(Err(status)),
+    };
+    let mut text = Vec::new(alloc);
+    let mut piece = Vec::from_elem(alloc, 0u8, PIECE)?;
+    for _ in 0..u64::MAX {
+        match (&mut steady).read(piece.as_mut_slice()) {
+            Ok(0) => break,
+            Ok(n) => text.extend_from_slice(piece.as_slice().get(..n).unwrap_or(&[]))?,
+            Err(_) => return Ok(Err(ended(host, &steady, name, 4))),
+        }
+    }
+    Ok(Ok(text))
+}
+
+// What the program writes for these words over the text, and its status.
+fn told<S: Streams, H: Threads + Wait + Sync>(
+    host: &Host<'_, S, H>,
+    words: &[String],
+    text: &[u8],
+    is_quiet: bool,
+) -> (u8, Held) {
+    let alloc = host.rt.alloc();
+    let mut held = Held::new(alloc);
+    let mut reader = Bytes {
+        rest: text,
+        asks: Asks::none(),
+        last: 0,
+    };
+    let status = if is_quiet {
+        program(
+            host.threads,
+            alloc,
+            words,
+            &mut reader,
+            &mut held,
+            &mut Nowhere,
+        )
+    } else {
+        let mut errors = ToWrite::new(LastWords::new(host.streams.errors(), host.hush));
+        program(
+            host.threads,
+            alloc,
+            words,
+            &mut reader,
+            &mut held,
+            &mut errors,
+        )
+    };
+    (status, held)
+}
+
+// The words of an explanation, for a picture of the same.
+fn drawing(alloc: Global, words: &[String]) -> Result<Vec<String>, AllocError> {
+    let mut given = Vec::new(alloc);
+    for word in words {
+        let same = match word.as_str() {
+            "--all" => continue,
+            _ if given.len() == 1 => "draw",
+            same => same,
+        };
+        given.push(String::from_str(alloc, same)?)?;
+    }
+    Ok(given)
+}
+
+// The picture of the same text, where there is one.
+fn picture<S: Streams, H: Threads + Wait + Sync>(
+    host: &Host<'_, S, H>,
+    line: &Line,
+    text: &[u8],
+) -> Result<Held, EngineFail> {
+    let alloc = host.rt.alloc();
+    let words = drawing(alloc, line.words.as_slice())?;
+    let (status, held) = told(host, words.as_slice(), text, true);
+    if status <= 1 && held.bytes().starts_with(b"<svg ") {
+        return Ok(held);
+    }
+    Ok(Held::new(alloc))
+}
+
+// The words that ask what a rule is.
+fn asking(alloc: Global, rule: &str) -> Result<Vec<String>, AllocError> {
+    let mut words = Vec::new(alloc);
+    for word in ["sgt", "explain", rule] {
+        words.push(String::from_str(alloc, word)?)?;
+    }
+    Ok(words)
+}
+
+// What `sgt explain` says of a rule.
+fn meaning<S: Streams, H: Threads + Wait + Sync>(
+    host: &Host<'_, S, H>,
+    rule: Option<&str>,
+) -> Result<Held, EngineFail> {
+    let alloc = host.rt.alloc();
+    let Some(rule) = rule else {
+        return Ok(Held::new(alloc));
+    };
+    let words = asking(alloc, rule)?;
+    Ok(told(host, words.as_slice(), &[], true).1)
+}
+
+// Writes the page of the answer that was held, with this picture.
+fn write_page<S: Streams, H: Threads + Wait + Sync>(
+    host: &Host<'_, S, H>,
+    line: &Line,
+    held: &Held,
+    picture: &[u8],
+) -> Result<(), EngineFail> {
+    let command = word_of(line);
+    let text = str::from_utf8(held.bytes()).unwrap_or("");
+    let rule = meaning(host, rule_in(command, text))?;
+    let made = page_of_answer(
+        host.rt.alloc(),
+        Answered {
+            command,
+            file: file_of(line.files.first()),
+            text,
+            rule: str::from_utf8(rule.bytes()).unwrap_or(""),
+            picture,
+        },
+    )?;
+    let mut output = writer(host);
+    match write_all(&mut output, made.as_slice()) {
+        Ok(()) => Ok(()),
+        Err(_) => Err(EngineFail::WriteFault),
+    }
+}
+
+// Writes the explanation of a file as a page.
+fn explain_page<S: Streams, H: Threads + Wait + Sync>(
+    host: &Host<'_, S, H>,
+    line: &Line,
+) -> Result<u8, EngineFail> {
+    let text = match whole(host, file_of(line.files.first()))? {
+        Ok(text) => text,
+        Err(status) => return Ok(status),
+    };
+    let (status, held) = told(host, line.words.as_slice(), text.as_slice(), false);
+    if held.refused > 0 {
+        return Err(EngineFail::Memory);
+    }
+    if status > 1 {
+        return Ok(status);
+    }
+    let drawn = picture(host, line, text.as_slice())?;
+    write_page(host, line, &held, drawn.bytes())?;
+    Ok(status)
+}
+
+// Writes the verdict on a history as a page.
+fn check_page<S: Streams, H: Threads + Wait + Sync>(
+    host: &Host<'_, S, H>,
+    line: &Line,
+    choice: &Result<Choice, NoChoice>,
+) -> Result<u8, EngineFail> {
+    let alloc = host.rt.alloc();
+    let mut held = Held::new(alloc);
+    let status = answer_into(host, line, choice, file_of(line.files.first()), &mut held)?;
+    if held.refused > 0 {
+        return Err(EngineFail::Memory);
+    }
+    if held.bytes().is_empty() {
+        return Ok(status);
+    }
+    match picture_of(alloc, held.bytes())? {
+        Some(drawn) => write_page(host, line, &held, drawn.as_slice())?,
+        None => write_page(host, line, &held, b"")?,
+    }
+    Ok(status)
+}
+
+/// Writes the answer on a file as a page.
+pub(crate) fn answer_page<S: Streams, H: Threads + Wait + Sync>(
+    host: &Host<'_, S, H>,
+    line: &Line,
+    choice: &Result<Choice, NoChoice>,
+) -> Result<u8, EngineFail> {
+    match host.command {
+        CommandName::Check => check_page(host, line, choice),
+        _ => explain_page(host, line),
+    }
+}

@@ -1,0 +1,73 @@
+//! Events served one by one.
+
+use crate::devices::{LastWords, Retrying};
+use crate::folder::{FolderBundles, is_growth};
+use crate::host::{Host, ended, open, refuse_file};
+use crate::streams::Streams;
+use sgt_line::Line;
+use sgt_names::{EngineFail, FromRead, Outcome, ToWrite};
+use sgt_program::give_up;
+use sgt_serve::{Bundles, Last, NoBundles, Pipe, ServeFail, serve};
+
+// Tells where a device failed and there was no memory for the last bundle, too. Of a place that refused it the place
+// has told.
+fn tell_lost<S: Streams, H>(host: &Host<'_, S, H>, last: Last) {
+    if let Last::Memory = last {
+        let _ = eprintln!(host.streams; "sgt: no memory for the last bundle");
+    }
+}
+
+// The status; where there is no answer, standard error is told why.
+fn status_of<S: Streams, H>(host: &Host<'_, S, H>, told: Result<Outcome, ServeFail>) -> u8 {
+    let fail = match told {
+        Ok(Outcome::Yes) => return 0,
+        Ok(Outcome::No) => return 1,
+        Ok(Outcome::Unreadable) => return 2,
+        Err(ServeFail::Memory) => EngineFail::Memory,
+        Err(ServeFail::ReadFault(last)) => {
+            tell_lost(host, last);
+            EngineFail::ReadFault
+        }
+        Err(ServeFail::WriteFault(last)) => {
+            tell_lost(host, last);
+            EngineFail::WriteFault
+        }
+        Err(ServeFail::BundleFault) => {
+            let _ = eprintln!(host.streams; "sgt: the last bundle can't be written");
+            return 4;
+        }
+    };
+    let mut errors = ToWrite::new(LastWords::new(host.streams.errors(), host.hush));
+    give_up(&mut errors, fail)
+}
+
+// Talks over standard input or a file and standard output, and gives the status.
+fn talk<S: Streams, H, B: Bundles>(host: &Host<'_, S, H>, name: &str, bundles: &mut B) -> u8 {
+    let mut steady = match open(host, name) {
+        Ok(steady) => steady,
+        Err(status) => return status,
+    };
+    let told = {
+        let reader = FromRead::new(&mut steady);
+        let writer = ToWrite::new(Retrying::new(host.streams.output(), host.hush));
+        let mut pipe = Pipe::new(reader, writer);
+        serve(host.rt.alloc(), &mut pipe, bundles)
+    };
+    let status = status_of(host, told);
+    ended(host, &steady, name, status)
+}
+
+/// Serves events, and keeps their bundles in the folder that the line names, if it names one.
+pub(crate) fn serve_events<S: Streams, H>(host: &Host<'_, S, H>, line: &Line, name: &str) -> u8 {
+    match &line.place {
+        Some(folder) => match FolderBundles::open(host.rt, host.streams, folder.as_str()) {
+            Ok(mut bundles) => talk(host, name, &mut bundles),
+            Err(why) if is_growth(&why) => {
+                let mut errors = ToWrite::new(LastWords::new(host.streams.errors(), host.hush));
+                give_up(&mut errors, EngineFail::Memory)
+            }
+            Err(why) => refuse_file(host.streams, folder.as_str(), &why),
+        },
+        None => talk(host, name, &mut NoBundles::new()),
+    }
+}
