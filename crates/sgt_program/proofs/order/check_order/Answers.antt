@@ -44,6 +44,6 @@ returns-clause-ends g c =
       finished.status,
       leaves c.check_against-told.result _ _ _ _ _ _ (due_of_two _ _ _ _ _ _ _ _ _ _)
           (λ other. (said.quiet_reader other, said.quiet_order other))
-          said.quiet_writer said.read_fault said.write_fault said.unwritten said.untouched,
+          said.writer.quiet said.read_fault said.writer.failed said.writer.unwritten said.writer.untouched,
       tells-errors c.check_against-told.result _ _ finished.silent finished.told,
     )
