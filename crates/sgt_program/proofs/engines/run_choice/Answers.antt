@@ -113,8 +113,8 @@ pub returns-in-Draw-clause-ends : goal.returns-in-Draw-clause-ends
 returns-in-Draw-clause-ends g c =
     let said = c.draw_either.ensures in
     let is : KeepsInput (command_of c.args.choice) = subst (λ d. KeepsInput (command_of d)) (sym c.in-Draw.is) (inr refl) in
-    leaves c.draw_either.result _ _ _ _ _ _ (kept _ _ _ _ _ _ is) (λ other. inl (said.quiet_reader other))
-    said.quiet_writer said.read_fault said.write_fault said.unwritten said.untouched
+    leaves c.draw_either.result _ _ _ _ _ _ (kept _ _ _ _ _ _ is) (λ other. inl (said.reader.quiet other))
+    said.writer.quiet said.reader.due said.writer.failed said.writer.unwritten said.writer.untouched
 
 pub returns-in-DrawWith-clause-ends : goal.returns-in-DrawWith-clause-ends
 returns-in-DrawWith-clause-ends g c =
@@ -122,8 +122,8 @@ returns-in-DrawWith-clause-ends g c =
     let is : KeepsInput (command_of c.args.choice) =
     subst (λ d. KeepsInput (command_of d)) (sym c.in-DrawWith.is) (inr refl) in
     leaves c.draw_either-in-DrawWith.result _ _ _ _ _ _ (kept _ _ _ _ _ _ is)
-    (λ other. inl (said.quiet_reader other))
-    said.quiet_writer said.read_fault said.write_fault said.unwritten said.untouched
+    (λ other. inl (said.reader.quiet other))
+    said.writer.quiet said.reader.due said.writer.failed said.writer.unwritten said.writer.untouched
 
 pub returns-in-Run-clause-ends : goal.returns-in-Run-clause-ends
 returns-in-Run-clause-ends g c =
