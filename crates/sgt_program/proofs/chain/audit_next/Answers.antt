@@ -25,9 +25,9 @@ returns-in-Ok-Some-clause-ends g c =
     let quiet = c.in-Ok-Some.ensures.quiet (λ e. cc) in (
       Ran c.tell_broken-told.result,
       finished.status,
-      leaves c.tell_broken-told.result _ _ _ _ _ _ absurd (λ e. quiet) said.quiet_writer said.read_fault
-          said.write_fault
-          (λ e. absurd (said.read_fault e)) said.untouched,
+      leaves c.tell_broken-told.result _ _ _ _ _ _ absurd (λ e. quiet) said.writer.quiet said.read_fault
+          said.writer.failed
+          (λ e. absurd (said.read_fault e)) said.writer.untouched,
       tells-errors c.tell_broken-told.result _ _ finished.silent finished.told,
     )
 
