@@ -89,8 +89,8 @@ returns-in-AuditWith-clause-answers g c = rw c.in-AuditWith.is c.audit_by.ensure
 pub returns-in-Serial-clause-ends : goal.returns-in-Serial-clause-ends
 returns-in-Serial-clause-ends g c =
     let said = c.serial.ensures in
-    leaves c.serial.result _ _ _ _ _ _ (due _ _ _ _ _ _) (λ other. inl (said.quiet_reader other)) said.quiet_writer
-    said.read_fault said.write_fault said.unwritten said.untouched
+    leaves c.serial.result _ _ _ _ _ _ (due _ _ _ _ _ _) (λ other. inl (said.reader.quiet other)) said.writer.quiet
+    said.reader.due said.writer.failed said.writer.unwritten said.writer.untouched
 
 pub returns-in-Replay-clause-ends : goal.returns-in-Replay-clause-ends
 returns-in-Replay-clause-ends g c =
@@ -128,8 +128,8 @@ returns-in-DrawWith-clause-ends g c =
 pub returns-in-Run-clause-ends : goal.returns-in-Run-clause-ends
 returns-in-Run-clause-ends g c =
     let said = c.run_scripts.ensures in
-    leaves c.run_scripts.result _ _ _ _ _ _ (due _ _ _ _ _ _) (λ other. inl (said.quiet_reader other))
-    said.quiet_writer said.read_fault said.write_fault said.unwritten said.untouched
+    leaves c.run_scripts.result _ _ _ _ _ _ (due _ _ _ _ _ _) (λ other. inl (said.reader.quiet other))
+    said.writer.quiet said.reader.due said.writer.failed said.writer.unwritten said.writer.untouched
 
 pub returns-in-Explain-clause-ends : goal.returns-in-Explain-clause-ends
 returns-in-Explain-clause-ends g c =
