@@ -5,18 +5,15 @@ use crate::host::{Host, ended, file_of, open, word_of, writer};
 use crate::object::answer_into;
 use crate::streams::Streams;
 use sgt_command_line::{Choice, NoChoice};
+use sgt_explain::read_all;
 use sgt_history_picture::picture_of;
 use sgt_line::{CommandName, Line};
-use sgt_names::{Asks, Bytes, EngineFail, Nowhere, ToWrite, write_all};
+use sgt_names::{Asks, Bytes, EngineFail, FromRead, Nowhere, ToWrite, write_all};
 use sgt_page::{Answered, page_of_answer, rule_in};
 use sgt_program::program;
 use std::alloc::{AllocError, Global};
-use std::io::Read;
 use std::sync::Wait;
 use std::thread::Threads;
-
-// How much is read at a time.
-const PIECE: usize = 65_536;
 
 /// Whether the answer is to be written as a page.
 pub(crate) fn asks_page(line: &Line, choice: &Result<Choice, NoChoice>) -> bool {
@@ -26,26 +23,26 @@ pub(crate) fn asks_page(line: &Line, choice: &Result<Choice, NoChoice>) -> bool 
     }
 }
 
-// All that is read under this name; the status, where a read failed.
+// All that is read under this name; the status, where it can't be opened or a read failed.
 fn whole<S: Streams, H>(
     host: &Host<'_, S, H>,
     name: &str,
-) -> Result<Result<Vec<u8>, u8>, AllocError> {
-    let alloc = host.rt.alloc();
+) -> Result<Result<Vec<u8>, u8>, EngineFail> {
     let mut steady = match open(host, name) {
         Ok(steady) => steady,
         Err(status) => return Ok(Err(status)),
     };
-    let mut text = Vec::new(alloc);
-    let mut piece = Vec::from_elem(alloc, 0u8, PIECE)?;
-    for _ in 0..u64::MAX {
-        match (&mut steady).read(piece.as_mut_slice()) {
-            Ok(0) => break,
-            Ok(n) => text.extend_from_slice(piece.as_slice().get(..n).unwrap_or(&[]))?,
-            Err(_) => return Ok(Err(ended(host, &steady, name, 4))),
+    let read = {
+        let mut reader = FromRead::new(&mut steady);
+        read_all(host.rt.alloc(), &mut reader)
+    };
+    match read {
+        Ok(text) => Ok(Ok(text)),
+        Err(EngineFail::ReadFault) if steady.why.is_some() => {
+            Ok(Err(ended(host, &steady, name, 4)))
         }
+        Err(fail) => Err(fail),
     }
-    Ok(Ok(text))
 }
 
 // What the program writes for these words over the text, and its status.
