@@ -184,14 +184,13 @@ impl Alone {
             → IfOk result (FollowsAlone certificate.now edges.now b (line_text line) self.new) }
         ensures second { self.new.second ≡ self.old.second }
     {
-        let line = SectionLine::Logged(*entry);
         let found = judge_next_entry(Rules::Certified, &self.state, &self.place, known, entry);
         if let Some(fault) = found {
             return Ok(Some(fault));
         }
-        self.met = meets_steps(certificate, &self.state, edges, &line);
-        self.place.enter(&line)?;
         enter(&mut self.state, known, entry)?;
+        self.place.enter_entry(entry);
+        self.met = true;
         Ok(None)
     }
 

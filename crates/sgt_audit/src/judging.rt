@@ -210,7 +210,7 @@ pub(crate) fn judge_next_entry(
         → JudgedLine (KeepsBy rules c (lines_read b) (Logged entry.now)) result
         × (result ≢ Some Fault.WalkStep) }
 {
-    if !place.may_go_on(&SectionLine::Logged(*entry)) {
+    if !place.takes_entries() {
         return Some(Fault::Section);
     }
     match &place.current {

@@ -11,11 +11,11 @@ use Rattle.sgt_audit.proofs.SiteStates.{open-tracked}
 use Rattle.sgt_audit_decisions.proofs.Loops.{refuted}
 use Rattle.sgt_audit.proofs.judging.judge_next_entry.Goals as goal
 
-pub returns-then-not-may_go_on : goal.returns-then-not-may_go_on
-returns-then-not-may_go_on k c b once ranked sites begun place t known =
+pub returns-then-not-takes_entries : goal.returns-then-not-takes_entries
+returns-then-not-takes_entries k c b once ranked sites begun place t known =
     let line : SectionLine = Logged k.args.entry.now in (
       section-breaks k.args.rules c (lines_read b) line
-          (λ begins. refuted k.may_go_on.result (k.may_go_on.ensures b begun place) k.if-not-may_go_on.true
+          (λ begins. refuted k.takes_entries.result (k.takes_entries.ensures b k.args.entry.now begun place) k.if-not-takes_entries.true
           (subst (λ n. Begins n (lines_read b ++ line ∷ [])) (sym sites) begins)),
       λ same. cc,
     )
@@ -24,7 +24,7 @@ pub returns-in-Some : goal.returns-in-Some
 returns-in-Some k c b once ranked sites begun place t known =
     let rules = k.args.rules in
     let line : SectionLine = Logged k.args.entry.now in
-    let begins = (k.may_go_on.ensures b begun place).0 k.if-not-may_go_on.false in
+    let begins = (k.takes_entries.ensures b k.args.entry.now begun place).0 k.if-not-takes_entries.false in
     let at = open-log b k.args.place.now begun place _ k.in-Some.is in
     let is = (subst (HasRoomFor b) at.1 begun.room).1 in
     let fits = fits-open b at.0 _ at.1 begins in
@@ -41,6 +41,6 @@ returns-in-None k c b once ranked sites begun place t known =
     let line : SectionLine = Logged k.args.entry.now in (
       below-any k.args.rules c (lines_read b) line 17
           (kept-between c b _ (sym sites) (no-open b k.args.place.now begun place k.in-None.is)
-          ((k.may_go_on.ensures b begun place).0 k.if-not-may_go_on.false)),
+          ((k.takes_entries.ensures b k.args.entry.now begun place).0 k.if-not-takes_entries.false)),
       λ same. cc,
     )

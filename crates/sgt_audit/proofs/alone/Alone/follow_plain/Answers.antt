@@ -1,10 +1,10 @@
-use Rattle.std.proofs.Common.{None, Some, refl, ap}
+use Rattle.std.proofs.Common.{None, Some, refl, ap, true}
 use Rattle.sgt_notation.specs.declared.SectionLine.{SectionLine}
 use Rattle.sgt_notation.specs.declared.SectionLine.TheVariants.{Logged}
 use Rattle.sgt_audit.specs.Reading.{lines_read}
 use Rattle.sgt_audit.specs.declared.alone.Alone.{Alone}
 use Rattle.sgt_audit.proofs.Least.{judged-all}
-use Rattle.sgt_audit.proofs.Lone.{next-stands}
+use Rattle.sgt_audit.proofs.Lone.{next-stands, open-meets}
 use Rattle.sgt_audit.proofs.NextLine.{within-breaks}
 use Rattle.sgt_audit.proofs.SiteStates.{entry-entered}
 use Rattle.sgt_audit.proofs.alone.Alone.follow_plain.Goals as goal
@@ -28,10 +28,9 @@ returns-clause-follows c known is b s =
     let old = c.args.self.now in
     let new : Alone = record {
       second = old.second;
-      place = c.enter.new.self;
-      state = c.enter-2.new.state;
-      met =
-          c.meets_steps-self.result;
+      place = c.enter_entry.new.self;
+      state = c.enter.new.state;
+      met = true;
     } in
     let judged = c.judge_next_entry-found.ensures cert b s.once s.ranked s.sites s.begun s.place s.open_site known in
     let kept = judged-all cert (lines_read b) line None (rw c.in_default.is at judged).0 in (
@@ -39,9 +38,9 @@ returns-clause-follows c known is b s =
       is,
       refl,
       kept,
-      next-stands cert b line old new s kept c.in_ok-enter.ensures
-          (λ a once begun fits admits t. entry-entered cert.decisions a old.state c.enter-2.new.state a.current e
-          c.enter-2.ensures.section (λ items entries. c.in_ok-enter-2.ensures.tracks cert.decisions items entries known once)
+      next-stands cert b line old new s kept c.enter_entry.ensures
+          (λ a once begun fits admits t. entry-entered cert.decisions a old.state c.enter.new.state a.current e
+          c.enter.ensures.section (λ items entries. c.in_ok-enter.ensures.tracks cert.decisions items entries known once)
           begun.room fits admits t),
-      c.meets_steps-self.ensures b s.open_site,
+      open-meets c.args.edges.now b.current e true,
     )
