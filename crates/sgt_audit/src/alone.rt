@@ -161,35 +161,16 @@ impl Alone {
             → IfOk result (FollowsAlone certificate.now edges.now b (line_text line) self.new) }
         ensures second { self.new.second ≡ self.old.second }
     {
-        match look_up_at_hand(certificate, &self.state, &entry) {
-            Some(known) if self.is_plain(&known) => {
-                self.follow_plain(certificate, edges, &entry, &known)
-            }
-            _ => self.follow_far(certificate, edges, &SectionLine::Logged(entry)),
-        }
-    }
-
-    /// The next line, which is this entry, of which this is known. No other kind of line is asked for.
-    #[inline(always)]
-    fn follow_plain(
-        &mut self,
-        certificate: &Decided,
-        edges: &[Edge],
-        entry: &Entry,
-        known: &Known,
-    ) -> Result<Option<Fault>, AllocError>
-        ensures follows { let line = Logged entry.now in
-            IsKnownOf certificate.now.decisions self.old.state entry.now known.now
-            → IsLineIn self.old.second line → (b : Begun) → StandsAlone certificate.now b self.old
-            → IfOk result (FollowsAlone certificate.now edges.now b (line_text line) self.new) }
-        ensures second { self.new.second ≡ self.old.second }
-    {
-        let found = judge_next_entry(Rules::Certified, &self.state, &self.place, known, entry);
+        let known = match look_up_at_hand(certificate, &self.state, &entry) {
+            Some(known) if self.is_plain(&known) => known,
+            _ => return self.follow_far(certificate, edges, &SectionLine::Logged(entry)),
+        };
+        let found = judge_next_entry(Rules::Certified, &self.state, &self.place, &known, &entry);
         if let Some(fault) = found {
             return Ok(Some(fault));
         }
-        enter(&mut self.state, known, entry)?;
-        self.place.enter_entry(entry);
+        enter(&mut self.state, &known, &entry)?;
+        self.place.enter_entry(&entry);
         self.met = true;
         Ok(None)
     }

@@ -2,7 +2,7 @@ use Rattle.std.proofs.Common.{refl, subst}
 use Rattle.sgt_notation.specs.declared.SectionLine.TheVariants.{Logged}
 use Rattle.sgt_audit.specs.Kept.{IsCurrentPlace}
 use Rattle.sgt_audit.specs.declared.place.OpenPlace.{OpenPlace}
-use Rattle.sgt_audit.proofs.Places.{logged-entered, longer, no-open}
+use Rattle.sgt_audit.proofs.Places.{logged-entered, longer}
 use Rattle.sgt_audit.proofs.place.Place.enter_entry.Goals as goal
 
 pub returns-in-Some : goal.returns-in-Some
