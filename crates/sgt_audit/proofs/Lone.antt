@@ -1,6 +1,7 @@
 -- One section judged by itself.
 use Rattle.std.proofs.Common.{◌≡◌, ◌≢◌, Bool, true, List, [], ◌∷◌, ◌++◌, length, Option, Some, None, IsTrue, refl, sym, ap, ◌∙◌, subst, arith, All}
 use Rattle.std.specs.Prelude.{◌↔◌}
+use Rattle.sgt_names.specs.declared.entry.Entry.{Entry}
 use Rattle.sgt_names.specs.declared.entry.Holding.{Holding}
 use Rattle.sgt_notation.specs.Spelling.{IsLine, line_text}
 use Rattle.sgt_notation.specs.declared.SectionLine.{SectionLine}
@@ -86,6 +87,11 @@ pub last-meets : (edges : List Edge) (o : Option SiteLog) (met : Bool)
     → ((log : SiteLog) → o ≡ Some log → IsTrue met ↔ All (IsMet log.entries) edges) → MeetsSteps edges o End met
 last-meets edges (Some log) met h = h log refl
 last-meets edges None met h = tt
+
+-- nothing is asked of it with an entry
+pub open-meets : (edges : List Edge) (o : Option SiteLog) (e : Entry) (met : Bool) → MeetsSteps edges o (Logged e) met
+open-meets edges (Some log) e met = tt
+open-meets edges None e met = tt
 
 -- what it is to have taken in a line that was read
 pub alone-follows : (c : Certificate) (edges : List Edge) (b : Begun) (line : SectionLine) (new : Alone) → IsLine line

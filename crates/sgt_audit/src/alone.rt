@@ -9,11 +9,11 @@ ghost use Rattle.sgt_audit.specs.Reading.{Begun};
 
 use crate::faults::Fault;
 use crate::format::{is_allowed, read_line};
-use crate::judging::judge_line;
+use crate::judging::{judge_line, judge_next_entry};
 use crate::known::{Known, look_up, look_up_at_hand};
 use crate::place::Place;
 use crate::rules::Rules;
-use crate::tracked::enter_line;
+use crate::tracked::{enter, enter_line};
 use crate::walks::are_met;
 use sgt_audit_cells::SiteState;
 use sgt_audit_decisions::{Decided, Edge};
@@ -51,7 +51,7 @@ impl Alone {
     ghost use Rattle.sgt_notation.specs.declared.SectionLine.TheVariants.{Logged};
     ghost use Rattle.sgt_audit.specs.Faults.{IsLineIn};
     ghost use Rattle.sgt_audit.specs.Reading.{IsBegun};
-    ghost use Rattle.sgt_audit.specs.private.Known.{IsKnownLine};
+    ghost use Rattle.sgt_audit.specs.private.Known.{IsKnownOf};
 
     /// Before the section of the first of so many sites.
     pub fn new(
@@ -150,7 +150,7 @@ impl Alone {
 
     /// The next line, which is this entry: at once, if that can be.
     #[inline(always)]
-    fn follow_entry(
+    pub(crate) fn follow_entry(
         &mut self,
         certificate: &Decided,
         edges: &[Edge],
@@ -161,13 +161,36 @@ impl Alone {
             → IfOk result (FollowsAlone certificate.now edges.now b (line_text line) self.new) }
         ensures second { self.new.second ≡ self.old.second }
     {
-        let line = SectionLine::Logged(entry);
-        match look_up_at_hand(certificate, &self.state, &entry) {
-            Some(known) if self.is_plain(&known) => {
-                self.follow_known(certificate, edges, &line, &Some(known))
-            }
-            _ => self.follow(certificate, edges, &line),
+        let known = match look_up_at_hand(certificate, &self.state, &entry) {
+            Some(known) if self.is_plain(&known) => known,
+            _ => return self.follow_far(certificate, edges, &SectionLine::Logged(entry)),
+        };
+        let found = judge_next_entry(Rules::Certified, &self.state, &self.place, &known, &entry);
+        if let Some(fault) = found {
+            return Ok(Some(fault));
         }
+        enter(&mut self.state, &known, &entry)?;
+        self.place.enter_entry(&entry);
+        self.met = true;
+        Ok(None)
+    }
+
+    /// The next line, which is one of the format, by way of memory that only this way touches.
+    #[inline(always)]
+    fn follow_far(
+        &mut self,
+        certificate: &Decided,
+        edges: &[Edge],
+        line: &SectionLine,
+    ) -> Result<Option<Fault>, AllocError>
+        ensures follows { IsLineIn self.old.second line.now → (b : Begun)
+            → StandsAlone certificate.now b self.old
+            → IfOk result (FollowsAlone certificate.now edges.now b (line_text line.now) self.new) }
+        ensures second { self.new.second ≡ self.old.second }
+    {
+        let copy = *line;
+        let found = self.follow(certificate, edges, &copy)?;
+        Ok(found)
     }
 
     /// An entry of a kind that is less frequent, by way of memory that only this way touches.
@@ -256,30 +279,12 @@ impl Alone {
         ensures second { self.new.second ≡ self.old.second }
     {
         let known = look_up(certificate, &self.state, line);
-        self.follow_known(certificate, edges, line, &known)
-    }
-
-    /// The same, where this is known of the line.
-    #[inline(always)]
-    fn follow_known(
-        &mut self,
-        certificate: &Decided,
-        edges: &[Edge],
-        line: &SectionLine,
-        known: &Option<Known>,
-    ) -> Result<Option<Fault>, AllocError>
-        ensures follows { IsKnownLine certificate.now.decisions self.old.state line.now known.now
-            → IsLineIn self.old.second line.now → (b : Begun)
-            → StandsAlone certificate.now b self.old
-            → IfOk result (FollowsAlone certificate.now edges.now b (line_text line.now) self.new) }
-        ensures second { self.new.second ≡ self.old.second }
-    {
-        if let Some(fault) = judge_line(Rules::Certified, &self.state, &self.place, line, known) {
+        if let Some(fault) = judge_line(Rules::Certified, &self.state, &self.place, line, &known) {
             return Ok(Some(fault));
         }
         self.met = meets_steps(certificate, &self.state, edges, line);
         self.place.enter(line)?;
-        enter_line(&mut self.state, line, known)?;
+        enter_line(&mut self.state, line, &known)?;
         Ok(None)
     }
 }

@@ -194,6 +194,31 @@ pub fn judge_line(
     }
 }
 
+/// The same of a line that is this entry, of which this is known.
+#[inline(always)]
+pub(crate) fn judge_next_entry(
+    rules: Rules,
+    state: &SiteState,
+    place: &Place,
+    known: &Known,
+    entry: &Entry,
+) -> Option<Fault>
+    ensures { (c : Certificate) (b : Begun) → IsDecidedOnce c.decisions
+        → OfCertificate rules (AreRanks (ranks c.decisions))
+        → b.sites ≡ c.sites → IsBegun b → IsPlace b place.now → Tracks c.decisions b state.now
+        → IsKnownOf c.decisions state.now entry.now known.now
+        → JudgedLine (KeepsBy rules c (lines_read b) (Logged entry.now)) result
+        × (result ≢ Some Fault.WalkStep) }
+{
+    if !place.takes_entries() {
+        return Some(Fault::Section);
+    }
+    match &place.current {
+        Some(here) => judge_entry(rules, state, here, known, entry),
+        None => None,
+    }
+}
+
 /// The certificate with its decisions by transaction, or its least fault by itself.
 pub(crate) fn judge_certificate(
     alloc: Global,

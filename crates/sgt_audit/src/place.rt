@@ -118,6 +118,9 @@ pub struct Place {
 }
 
 impl Place {
+    ghost use Rattle.sgt_names.specs.declared.entry.Entry.{Entry as AnyEntry};
+    ghost use Rattle.sgt_notation.specs.declared.SectionLine.TheVariants.{Logged};
+
     /// Before the first section, of so many sites.
     pub fn new(alloc: Global, sites: u8) -> Place
         ensures { (b : Begun) → b ≡ record { sites = sites; whole = []; current = None }
@@ -157,6 +160,29 @@ impl Place {
                 }
                 _ => false,
             },
+        }
+    }
+
+    /// Whether some sections begin with the lines that were read and an entry.
+    #[inline(always)]
+    pub(crate) fn takes_entries(&self) -> bool
+        ensures { (b : Begun) (e : AnyEntry) → IsBegun b → IsPlace b self.now
+            → (IsTrue result ↔ Begins b.sites (lines_read b ++ Logged e ∷ [])) }
+    {
+        match &self.current {
+            Some(here) => here.finals == 0,
+            None => false,
+        }
+    }
+
+    /// One more line, which is this entry.
+    #[inline(always)]
+    pub(crate) fn enter_entry(&mut self, entry: &Entry)
+        ensures { (b : Begun) → IsBegun b → MayFollow b b.current (Logged entry.now)
+            → IsPlace b self.old → IsPlace (with_next b b.current (Logged entry.now)) self.new }
+    {
+        if let Some(here) = &mut self.current {
+            here.last = last_of(entry);
         }
     }
 

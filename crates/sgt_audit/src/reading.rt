@@ -1,8 +1,9 @@
 //! A text judged as its lines come from a reader.
 
-ghost use Rattle.std.specs.Prelude.{◌≡◌, ◌≢◌, ℕ, ◌+◌, ◌-◌, ◌^◌, ◌<◌, ◌≤◌, ◌⊎◌, List, [], Option, Err, length, Bool, IsTrue, IfOk, IfSome, IfNone, IsErrOf, IsSome, is_some};
+ghost use Rattle.std.specs.Prelude.{◌≡◌, ◌≢◌, ℕ, ◌+◌, ◌-◌, ◌^◌, ◌<◌, ◌≤◌, ◌⊎◌, List, [], Option, Err, length, Bool, IsTrue, IfOk, IfSome, IfNone, IsSome, is_some};
 ghost use Rattle.sgt_names.specs.Limits.{most_reads};
-ghost use Rattle.sgt_notation.specs.Lines.{ReadFaultIsDue, coming, most_left};
+ghost use Rattle.sgt_notation.specs.Lines.{coming, most_left};
+ghost use Rattle.sgt_devices.specs.Devices.{LeavesReader};
 ghost use Rattle.sgt_audit.specs.Faults.{BeginsNoneBehind, ReadsNoFurther, start};
 ghost use Rattle.sgt_audit.specs.private.Ending.{IsKeeping};
 ghost use Rattle.sgt_audit.specs.Progress.{Stands};
@@ -97,10 +98,7 @@ fn feed_lines<R: Source>(
         (R.asked reader.new - R.asked reader.old)) }
     ensures began { IfOk result (λ stop. BeganBefore (R.tells reader.old) (R.tells reader.new) (R.last reader.new)
         stop machine.new.progress line.new.items) }
-    ensures quiet { result ≢ Err EngineFail.ReadFault
-        → R.failures reader.new ≡ R.failures reader.old }
-    ensures read_fault { IsErrOf result EngineFail.ReadFault → ReadFaultIsDue (R.tells reader.old)
-        (R.failures reader.old) (R.failures reader.new) (R.asked reader.old) (R.asked reader.new) }
+    ensures reader { LeavesReader R.tells R.failures R.asked result reader.old reader.new }
     ensures write_fault { result ≢ Err EngineFail.WriteFault }
     ensures kept { (keeps : Bool) → IsKeeping keeps machine.old → IsKeeping keeps machine.new }
 {
@@ -151,10 +149,7 @@ pub(crate) fn judge<R: Source>(
     ensures none_behind { IfOk result (λ j. IfSome (R.tells reader.old) (λ bytes. IfSome (R.tells reader.new)
         (λ left. BeginsNoneBehind bytes (length left) (R.last reader.new)))) }
     ensures kept { IsTrue keeps → IfOk result (λ j. IfOk j (λ k. IsSome k.sections)) }
-    ensures quiet { result ≢ Err EngineFail.ReadFault
-        → R.failures reader.new ≡ R.failures reader.old }
-    ensures read_fault { IsErrOf result EngineFail.ReadFault → ReadFaultIsDue (R.tells reader.old)
-        (R.failures reader.old) (R.failures reader.new) (R.asked reader.old) (R.asked reader.new) }
+    ensures reader { LeavesReader R.tells R.failures R.asked result reader.old reader.new }
     ensures write_fault { result ≢ Err EngineFail.WriteFault }
 {
     let mut lines = Lines::new(alloc)?;

@@ -139,7 +139,7 @@ pub(crate) fn is_in_order(rules: Rules, state: &SiteState, known: &Known, entry:
 
 /// One more entry, of which this is known.
 #[inline(always)]
-fn enter(state: &mut SiteState, known: &Known, entry: &Entry) -> Result<(), AllocError>
+pub(crate) fn enter(state: &mut SiteState, known: &Known, entry: &Entry) -> Result<(), AllocError>
     ensures section { state.new.section ≡ state.old.section }
     ensures tracks { OnOk result ((ds : List Decision) (items : List Holding) (entries : List Entry)
         → IsKnownOf ds state.old entry.now known.now → IsDecidedOnce ds

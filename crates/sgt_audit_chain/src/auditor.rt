@@ -18,10 +18,10 @@ pub struct ChainAuditor {
 }
 
 impl ChainAuditor {
-    ghost use Rattle.std.specs.Prelude.{◌≡◌, ◌≢◌, ◌-◌, ◌<◌, ◌∷◌, ◌++◌, [], ℕ, List, Option, Err, IfOk, IfNone, IfSome, IsErrOf, OnErr, OnSome, length, string_bytes};
+    ghost use Rattle.std.specs.Prelude.{◌≡◌, ◌≢◌, ◌-◌, ◌<◌, ◌∷◌, ◌++◌, [], ℕ, List, Option, Err, IfOk, IfNone, IfSome, OnErr, OnSome, length, string_bytes};
     ghost use Rattle.sgt_bundle.specs.Parts.{FitTogether, Parts};
     ghost use Rattle.sgt_bundle.specs.Valid.{IsValid};
-    ghost use Rattle.sgt_notation.specs.Lines.{ReadFaultIsDue};
+    ghost use Rattle.sgt_devices.specs.Devices.{LeavesReader};
     ghost use Rattle.sgt_audit.specs.Faults.{BeginsNoneBehind, ReadsNoFurther};
     ghost use Rattle.sgt_audit_chain.specs.Audited.{FollowsIn, HasAudited, HasFault, HoldsHeadline, IsYes, KeepsOf};
 
@@ -78,11 +78,7 @@ impl ChainAuditor {
             ReadsNoFurther bytes (R.asked reader.new - R.asked reader.old))) }
         ensures none_behind { IfOk result (λ _. IfSome (R.tells reader.old) (λ bytes. IfSome (R.tells reader.new)
             (λ left. BeginsNoneBehind bytes (length left) (R.last reader.new)))) }
-        ensures quiet { result ≢ Err EngineFail.ReadFault
-            → R.failures reader.new ≡ R.failures reader.old }
-        ensures read_fault { IsErrOf result EngineFail.ReadFault
-            → ReadFaultIsDue (R.tells reader.old) (R.failures reader.old) (R.failures reader.new)
-            (R.asked reader.old) (R.asked reader.new) }
+        ensures reader { LeavesReader R.tells R.failures R.asked result reader.old reader.new }
         ensures write_fault { result ≢ Err EngineFail.WriteFault }
     {
         match audit_bundle(self.alloc, reader) {

@@ -5,6 +5,7 @@ ghost use Rattle.std.specs.Arc.{arc_value};
 ghost use Rattle.std.specs.Io.KnownBytes.{Appends};
 ghost use Rattle.sgt_names.specs.Limits.{max_line};
 ghost use Rattle.sgt_notation.specs.Lines.{ReadFaultIsDue};
+ghost use Rattle.sgt_devices.specs.Devices.{LeavesWriter};
 ghost use Rattle.sgt_audit.specs.Faults.{HasNoFault};
 ghost use Rattle.sgt_audit.specs.Verdict.{IsVerdict, SaysHeadline, WroteFront, text_of, yes_of};
 ghost use Rattle.sgt_audit_workers.specs.Cut.{longest};
@@ -435,16 +436,11 @@ pub fn audit_with<H: Threads + Sync, R: Source, W: Sink>(
         → result ≢ Err EngineFail.ReadFault → R.failures reader.new ≡ R.failures reader.old }
     ensures once { result ≢ Err EngineFail.ReadFault
         → R.failures reader.new ≤ R.failures reader.old + 1 }
-    ensures quiet_writer { result ≢ Err EngineFail.WriteFault
-        → W.failures writer.new ≡ W.failures writer.old }
     ensures front { OnErr result
         (WroteFront (R.tells reader.old) (W.holds writer.old) (W.holds writer.new)) }
-    ensures unwritten { IsErrOf result EngineFail.ReadFault → writer.new ≡ writer.old }
-    ensures untouched { IsErrOf result EngineFail.Memory → writer.new ≡ writer.old }
     ensures read_fault { IsErrOf result EngineFail.ReadFault → ReadFaultIsDue (R.tells reader.old)
         (R.failures reader.old) (R.failures reader.new) (R.asked reader.old) (R.asked reader.new) }
-    ensures write_fault { IsErrOf result EngineFail.WriteFault
-        → W.failures writer.old < W.failures writer.new }
+    ensures writer { LeavesWriter W.failures result writer.old writer.new }
 {
     if workers < 2 {
         return audit(alloc, reader, writer);

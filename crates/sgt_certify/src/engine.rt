@@ -1,7 +1,7 @@
 //! The certificate of all that a reader gives.
 
-ghost use Rattle.std.specs.Prelude.{◌≡◌, ◌≢◌, ◌-◌, ◌<◌, ◌++◌, ◌↔◌, ℕ, true, List, Option, Some, Err, length, IfErr, IfOk, IfSome, IsErrOf, OnErr};
-ghost use Rattle.sgt_notation.specs.Lines.{ReadFaultIsDue};
+ghost use Rattle.std.specs.Prelude.{◌≡◌, ◌-◌, ◌<◌, ◌++◌, ◌↔◌, ℕ, true, List, Option, Some, Err, length, IfErr, IfOk, IfSome, OnErr};
+ghost use Rattle.sgt_devices.specs.Devices.{LeavesReader, LeavesWriter};
 ghost use Rattle.sgt_audit.specs.Faults.{fault_number};
 ghost use Rattle.sgt_certify.specs.Answer.{HasCertificate, IsAnswer, IsTaken, fault_text, WroteAnswer, WroteAnswerFront};
 ghost use Rattle.sgt_certify.specs.Reach.{BeginsNoneBehind, ReadsAll, ReadsNoFurther};
@@ -162,18 +162,10 @@ pub fn certify<R: Source, W: Sink>(
         (ReadsAll bytes))) }
     ensures front { OnErr result
         (WroteAnswerFront (R.tells reader.old) (W.holds writer.old) (W.holds writer.new)) }
-    ensures unwritten { IsErrOf result EngineFail.ReadFault → writer.new ≡ writer.old }
-    ensures untouched { IsErrOf result EngineFail.Memory → writer.new ≡ writer.old }
 
     // A fault tells of its device, and no fault of a device is passed over.
-    ensures read_fault { IsErrOf result EngineFail.ReadFault → ReadFaultIsDue (R.tells reader.old)
-        (R.failures reader.old) (R.failures reader.new) (R.asked reader.old) (R.asked reader.new) }
-    ensures write_fault { IsErrOf result EngineFail.WriteFault
-        → W.failures writer.old < W.failures writer.new }
-    ensures quiet_reader { result ≢ Err EngineFail.ReadFault
-        → R.failures reader.new ≡ R.failures reader.old }
-    ensures quiet_writer { result ≢ Err EngineFail.WriteFault
-        → W.failures writer.new ≡ W.failures writer.old }
+    ensures reader { LeavesReader R.tells R.failures R.asked result reader.old reader.new }
+    ensures writer { LeavesWriter W.failures result writer.old writer.new }
 {
     let taken = take_text(alloc, reader)?;
     let answer = answer_to(alloc, taken)?;

@@ -1,8 +1,9 @@
 //! All that a reader gives.
 
-ghost use Rattle.std.specs.Prelude.{◌≡◌, ◌≢◌, ◌≤◌, ◌-◌, ◌∷◌, ◌++◌, ℕ, [], length, take, Err, IfOk, IfSome, IsErrOf, OnOk};
+ghost use Rattle.std.specs.Prelude.{◌≡◌, ◌≢◌, ◌≤◌, ◌-◌, ◌∷◌, ◌++◌, ℕ, [], length, take, Err, IfOk, IfSome, OnOk};
 ghost use Rattle.sgt_names.specs.Limits.{most_reads};
-ghost use Rattle.sgt_notation.specs.Lines.{ReadFaultIsDue, passed};
+ghost use Rattle.sgt_notation.specs.Lines.{passed};
+ghost use Rattle.sgt_devices.specs.Devices.{LeavesReader};
 ghost use Rattle.sgt_certify.specs.Answer.{IsTaken};
 ghost use Rattle.sgt_certify.specs.Reach.{AreShort, BeginsNoneBehind, ReadsAll, ReadsNoFurther};
 
@@ -60,10 +61,7 @@ fn take_lines<R: Source>(
         (λ left. BeginsNoneBehind bytes (length left) (R.last reader.new)))) }
     ensures reads_all { IfOk result (λ _. IfSome (R.tells reader.old) (λ bytes. IfSome (R.tells reader.new)
         (ReadsAll bytes))) }
-    ensures quiet { result ≢ Err EngineFail.ReadFault
-        → R.failures reader.new ≡ R.failures reader.old }
-    ensures read_fault { IsErrOf result EngineFail.ReadFault → ReadFaultIsDue (R.tells reader.old)
-        (R.failures reader.old) (R.failures reader.new) (R.asked reader.old) (R.asked reader.new) }
+    ensures reader { LeavesReader R.tells R.failures R.asked result reader.old reader.new }
     ensures write_fault { result ≢ Err EngineFail.WriteFault }
 {
     let mut line = Vec::new(alloc);
@@ -101,10 +99,7 @@ pub fn take_text<R: Source>(alloc: Global, reader: &mut R) -> Result<Taken, Engi
         (λ left. BeginsNoneBehind bytes (length left) (R.last reader.new)))) }
     ensures reads_all { IfOk result (λ _. IfSome (R.tells reader.old) (λ bytes. IfSome (R.tells reader.new)
         (ReadsAll bytes))) }
-    ensures quiet { result ≢ Err EngineFail.ReadFault
-        → R.failures reader.new ≡ R.failures reader.old }
-    ensures read_fault { IsErrOf result EngineFail.ReadFault → ReadFaultIsDue (R.tells reader.old)
-        (R.failures reader.old) (R.failures reader.new) (R.asked reader.old) (R.asked reader.new) }
+    ensures reader { LeavesReader R.tells R.failures R.asked result reader.old reader.new }
     ensures write_fault { result ≢ Err EngineFail.WriteFault }
 {
     let mut lines = Lines::new(alloc)?;

@@ -7,10 +7,11 @@ ghost use Rattle.sgt_certify_greedy.specs.Pairs.{Leads};
 ghost use Rattle.sgt_certify_greedy.specs.Decided.{AreCommitsWith, AreKnown, IsFitting, IsHopeless, IsSettled, IsUnpreceded};
 
 use crate::pairs::Pair;
-use crate::sets::{note_if, place_of, stands_in, take_out};
+use crate::sets::{note_if, place_of, take_out};
 use crate::sorting::predecessor;
 use crate::walks::walk_back;
 use sgt_bundle::{Decision, SiteLog};
+use sgt_certify_logs::stands_in;
 use sgt_names::{Entry, Tx};
 use std::alloc::{AllocError, Global};
 

@@ -7,6 +7,7 @@ ghost use Rattle.sgt_certify_greedy.specs.Decided.{HasEnders};
 ghost use Rattle.sgt_certify_greedy.specs.Sorted.{without};
 
 use sgt_bundle::SiteLog;
+use sgt_certify_logs::stands_in;
 use sgt_names::{Entry, Tx};
 use std::alloc::{AllocError, Global};
 
@@ -35,24 +36,6 @@ pub fn take_out(txs: &mut Vec<Tx>, tx: Tx)
     ensures { txs.new.items ≡ without tx txs.old.items }
 {
     txs.retain(|other| *other != tx);
-}
-
-fn has_entry(entries: &[Entry], entry: &Entry) -> bool
-    ensures { IsTrue result ↔ Contains entries.now entry.now }
-{
-    entries.contains(entry)
-}
-
-/// Whether the entry stands in one of the logs.
-pub fn stands_in(sites: &[SiteLog], entry: &Entry) -> bool
-    ensures { IsTrue result ↔ IsIn sites.now entry.now }
-{
-    for log in sites {
-        if has_entry(log.entries.as_slice(), entry) {
-            return true;
-        }
-    }
-    false
 }
 
 /// Adds the transaction, if it is noted.

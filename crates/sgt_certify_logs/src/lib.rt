@@ -3,6 +3,7 @@
 
 mod checks;
 mod laws;
+mod logs;
 
 pub use checks::{ConflictStep, EndStep, Spot, is_conflict_cycle, is_end_cycle};
 pub use laws::{
@@ -10,3 +11,4 @@ pub use laws::{
     logs_are_bundles_without_a_line, no_bytes_spell_two_logs, steps_show_cycles,
     stuck_logs_have_no_certificate,
 };
+pub use logs::stands_in;

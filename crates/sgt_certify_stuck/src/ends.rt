@@ -1,6 +1,6 @@
 //! Ends of logs against a set of decided transactions.
 
-ghost use Rattle.std.specs.Prelude.{◌≡◌, ◌↔◌, ℕ, false, Contains, IsTrue, IfSome, IfNone, length};
+ghost use Rattle.std.specs.Prelude.{◌≡◌, ◌↔◌, ℕ, false, IsTrue, IfSome, IfNone, length};
 ghost use Rattle.std.specs.BTreeSet.{contains};
 ghost use Rattle.std.specs.Ordering.{nat_cmp};
 ghost use Rattle.sgt_names.specs.declared.entry.Entry.TheVariants.{Commit as Committed, Refuse as Refused};
@@ -10,6 +10,7 @@ ghost use Rattle.sgt_certify_stuck.specs.Ends.{AllDecided, IsFirstLeft};
 ghost use Rattle.sgt_certify_stuck.specs.private.Ends.{AreUncommitted, EndsBehind, HasFree, HasNoCommit, IsBehind, IsFreeIn, IsNext, IsNextInAll};
 
 use sgt_bundle::SiteLog;
+use sgt_certify_logs::stands_in;
 use sgt_names::{Entry, Tx};
 use std::collections::BTreeSet;
 
@@ -89,24 +90,6 @@ pub fn has_free(sites: &[SiteLog], decided: &BTreeSet<Tx>) -> bool
 {
     for log in sites {
         if is_free_in(sites, decided, log) {
-            return true;
-        }
-    }
-    false
-}
-
-fn has_entry(entries: &[Entry], entry: &Entry) -> bool
-    ensures { IsTrue result ↔ Contains entries.now entry.now }
-{
-    entries.contains(entry)
-}
-
-/// Whether the entry stands in one of the logs.
-fn stands_in(sites: &[SiteLog], entry: &Entry) -> bool
-    ensures { IsTrue result ↔ IsIn sites.now entry.now }
-{
-    for log in sites {
-        if has_entry(log.entries.as_slice(), entry) {
             return true;
         }
     }

@@ -1,8 +1,7 @@
 //! The answer to an order and a history.
 
-ghost use Rattle.std.specs.Prelude.{◌≡◌, ◌≢◌, ℕ, List, Err, IfOk, IfSome, IsErrOf};
+ghost use Rattle.std.specs.Prelude.{◌≡◌, ◌≢◌, ℕ, List, Err, IfOk, IfSome};
 ghost use Rattle.json.specs.Json.{Json};
-ghost use Rattle.sgt_notation.specs.Lines.{ReadFaultIsDue};
 ghost use Rattle.sgt_history.specs.Flaws.{IsFaultless, IsFirstFault};
 ghost use Rattle.sgt_history.specs.History.{closed_of};
 ghost use Rattle.sgt_history.specs.Serial.{IsOrder};
@@ -15,6 +14,7 @@ ghost use Rattle.sgt_check_order.specs.Answer.{IsAnswer, IsJudged};
 ghost use Rattle.sgt_check_order.specs.Order.{NameEach, lines_of};
 ghost use Rattle.sgt_check_order.specs.Told.{AreRuns, IsNamed, IsTold, kept_of};
 ghost use Rattle.sgt_names.specs.declared.outcome.Outcome.TheVariants.{No, Yes};
+ghost use Rattle.sgt_devices.specs.Devices.{LeavesReader};
 
 use crate::breaking::first_break;
 use crate::order::{Named, read_order};
@@ -129,10 +129,7 @@ fn history_answer<R: Source>(
     ensures answer { IfOk result (λ a. (js : List Json) → AreIds ids.now js → AreRuns setting.now.asked.times.items
         → IfSome (R.tells reader.old)
         (λ lines. IsTold lines js setting.now (closed_of history.now) a.outcome a.text.items)) }
-    ensures quiet { result ≢ Err EngineFail.ReadFault
-        → R.failures reader.new ≡ R.failures reader.old }
-    ensures read_fault { IsErrOf result EngineFail.ReadFault → ReadFaultIsDue (R.tells reader.old)
-        (R.failures reader.old) (R.failures reader.new) (R.asked reader.old) (R.asked reader.new) }
+    ensures reader { LeavesReader R.tells R.failures R.asked result reader.old reader.new }
     ensures write_fault { result ≢ Err EngineFail.WriteFault }
 {
     let judged = judge(alloc, history)?;
@@ -158,10 +155,7 @@ fn reading_answer<R: Source>(
 ) -> Result<Answer, EngineFail>
     ensures answer { IfOk result (λ a. (wanted : Wanted) (bytes : List ℕ) → IsReading wanted bytes reading
         → IfSome (R.tells reader.old) (λ lines. IsAnswer wanted lines bytes a.outcome a.text.items)) }
-    ensures quiet { result ≢ Err EngineFail.ReadFault
-        → R.failures reader.new ≡ R.failures reader.old }
-    ensures read_fault { IsErrOf result EngineFail.ReadFault → ReadFaultIsDue (R.tells reader.old)
-        (R.failures reader.old) (R.failures reader.new) (R.asked reader.old) (R.asked reader.new) }
+    ensures reader { LeavesReader R.tells R.failures R.asked result reader.old reader.new }
     ensures write_fault { result ≢ Err EngineFail.WriteFault }
 {
     let Reading {
@@ -190,10 +184,7 @@ pub(crate) fn answer_against<R: Source>(
 ) -> Result<Answer, EngineFail>
     ensures answer { IfOk result (λ a. (wanted : Wanted) (bytes : List ℕ) → IsToldOf wanted bytes text
         → IfSome (R.tells reader.old) (λ lines. IsAnswer wanted lines bytes a.outcome a.text.items)) }
-    ensures quiet { result ≢ Err EngineFail.ReadFault
-        → R.failures reader.new ≡ R.failures reader.old }
-    ensures read_fault { IsErrOf result EngineFail.ReadFault → ReadFaultIsDue (R.tells reader.old)
-        (R.failures reader.old) (R.failures reader.new) (R.asked reader.old) (R.asked reader.new) }
+    ensures reader { LeavesReader R.tells R.failures R.asked result reader.old reader.new }
     ensures write_fault { result ≢ Err EngineFail.WriteFault }
 {
     match text {

@@ -2,6 +2,7 @@
 
 ghost use Rattle.std.specs.Prelude.{◌≡◌, ◌≢◌, ◌<◌, ◌⊎◌, ◌↔◌, Err, IfOk, IfSome, IsErrOf, OnErr};
 ghost use Rattle.sgt_notation.specs.Lines.{ReadFaultIsDue};
+ghost use Rattle.sgt_devices.specs.Devices.{LeavesWriter};
 ghost use Rattle.sgt_check_order.specs.Answer.{SpellsServed, WroteAnswer, WroteAnswerFront};
 
 use crate::answer::answer_against;
@@ -34,8 +35,6 @@ pub fn check_against<O: Source, R: Source, W: Sink>(
         (λ lines. outcome ≡ Outcome.Yes ↔ SpellsServed wanted lines bytes))) }
     ensures front { OnErr result
         (WroteAnswerFront wanted (O.tells order.old) (R.tells reader.old) (W.holds writer.old) (W.holds writer.new)) }
-    ensures unwritten { IsErrOf result EngineFail.ReadFault → writer.new ≡ writer.old }
-    ensures untouched { IsErrOf result EngineFail.Memory → writer.new ≡ writer.old }
 
     // A fault tells of its device, and no fault of a device is passed over.
     ensures read_fault { IsErrOf result EngineFail.ReadFault
@@ -43,14 +42,11 @@ pub fn check_against<O: Source, R: Source, W: Sink>(
         (R.asked reader.new)
         ⊎ ReadFaultIsDue (O.tells order.old) (O.failures order.old) (O.failures order.new) (O.asked order.old)
         (O.asked order.new) }
-    ensures write_fault { IsErrOf result EngineFail.WriteFault
-        → W.failures writer.old < W.failures writer.new }
+    ensures writer { LeavesWriter W.failures result writer.old writer.new }
     ensures quiet_order { result ≢ Err EngineFail.ReadFault
         → O.failures order.new ≡ O.failures order.old }
     ensures quiet_reader { result ≢ Err EngineFail.ReadFault
         → R.failures reader.new ≡ R.failures reader.old }
-    ensures quiet_writer { result ≢ Err EngineFail.WriteFault
-        → W.failures writer.new ≡ W.failures writer.old }
 {
     let text = read_history(alloc, reader, wanted)?;
     let answer = answer_against(alloc, order, text)?;

@@ -1,8 +1,8 @@
 //! The order that the lines of a reader name.
 
-ghost use Rattle.std.specs.Prelude.{◌≡◌, ◌≢◌, ◌+◌, [], List, None, Some, true, length, Err, IfOk, IfSome, IsErrOf, if◌then◌else◌};
+ghost use Rattle.std.specs.Prelude.{◌≡◌, ◌≢◌, ◌+◌, [], List, None, Some, true, length, Err, IfOk, IfSome, if◌then◌else◌};
 ghost use Rattle.json.specs.Json.{Json};
-ghost use Rattle.sgt_notation.specs.Lines.{ReadFaultIsDue};
+ghost use Rattle.sgt_devices.specs.Devices.{LeavesReader};
 ghost use Rattle.sgt_history.specs.History.{closed_of};
 ghost use Rattle.sgt_history_text.specs.Ids.{AreIds};
 ghost use Rattle.sgt_check_order.specs.Told.{IsNamed, IsRead, IsRoll, IsTaken};
@@ -70,10 +70,7 @@ fn read_lines<R: Source>(
     requires none { IsRoll (closed_of history.now) roll.old × (roll.old.order.items ≡ []) }
     ensures read { (js : List Json) → AreIds ids.now js → IfOk result
         (λ end. IfSome (R.tells reader.old) (λ bytes. IsRead (closed_of history.now) js bytes roll.new end)) }
-    ensures quiet { result ≢ Err EngineFail.ReadFault
-        → R.failures reader.new ≡ R.failures reader.old }
-    ensures read_fault { IsErrOf result EngineFail.ReadFault → ReadFaultIsDue (R.tells reader.old)
-        (R.failures reader.old) (R.failures reader.new) (R.asked reader.old) (R.asked reader.new) }
+    ensures reader { LeavesReader R.tells R.failures R.asked result reader.old reader.new }
     ensures write_fault { result ≢ Err EngineFail.WriteFault }
 {
     let mut lines = Lines::new(alloc)?;
@@ -112,10 +109,7 @@ pub(crate) fn read_order<R: Source>(
 ) -> Result<Named, EngineFail>
     ensures named { (js : List Json) → AreIds ids.now js → IfOk result
         (λ named. IfSome (R.tells reader.old) (λ bytes. IsNamed (closed_of history.now) js bytes named)) }
-    ensures quiet { result ≢ Err EngineFail.ReadFault
-        → R.failures reader.new ≡ R.failures reader.old }
-    ensures read_fault { IsErrOf result EngineFail.ReadFault → ReadFaultIsDue (R.tells reader.old)
-        (R.failures reader.old) (R.failures reader.new) (R.asked reader.old) (R.asked reader.new) }
+    ensures reader { LeavesReader R.tells R.failures R.asked result reader.old reader.new }
     ensures write_fault { result ≢ Err EngineFail.WriteFault }
 {
     let mut roll = empty(alloc, history)?;

@@ -1,7 +1,7 @@
 //! The picture of all that a reader gives.
 
-ghost use Rattle.std.specs.Prelude.{◌≡◌, ◌≢◌, ◌⊎◌, ◌<◌, ◌≤◌, ◌↔◌, Err, length, IfOk, OnErr, IfSome, IsErrOf};
-ghost use Rattle.sgt_names.specs.Limits.{most_reads};
+ghost use Rattle.std.specs.Prelude.{◌≡◌, ◌≢◌, ◌<◌, ◌↔◌, Err, IfOk, OnErr, IfSome};
+ghost use Rattle.sgt_devices.specs.Devices.{LeavesKeptReader, LeavesWriter};
 ghost use Rattle.sgt_certify.specs.Answer.{HasCertificate};
 ghost use Rattle.sgt_explain_logs.specs.Explained.{AreLogs};
 ghost use Rattle.sgt_draw_logs.specs.Drawing.{IsDrawing, WroteDrawing, WroteDrawingFront};
@@ -18,11 +18,7 @@ fn answer<R: Source>(alloc: Global, wanted: Wanted, reader: &mut R) -> Result<An
         (λ a. IsDrawing wanted.is_dot (R.tells reader.old) a.outcome a.text.items) }
     ensures exact { IfOk result (λ a. IfSome (R.tells reader.old)
         (λ bytes. AreLogs bytes → (a.outcome ≡ Outcome.Yes ↔ HasCertificate bytes))) }
-    ensures quiet { result ≢ Err EngineFail.ReadFault
-        → R.failures reader.new ≡ R.failures reader.old }
-    ensures read_fault { IsErrOf result EngineFail.ReadFault →
-        ((R.failures reader.old < R.failures reader.new)
-        ⊎ IfSome (R.tells reader.old) (λ bytes. most_reads ≤ length bytes)) }
+    ensures reader { LeavesKeptReader R.tells R.failures result reader.old reader.new }
     ensures write_fault { result ≢ Err EngineFail.WriteFault }
 {
     let bytes = read_all(alloc, reader)?;
@@ -51,19 +47,10 @@ pub fn draw_either<R: Source, W: Sink>(
         (λ bytes. AreLogs bytes → (outcome ≡ Outcome.Yes ↔ HasCertificate bytes))) }
     ensures front { OnErr result (WroteDrawingFront wanted.is_dot (R.tells reader.old)
         (W.holds writer.old) (W.holds writer.new)) }
-    ensures unwritten { IsErrOf result EngineFail.ReadFault → writer.new ≡ writer.old }
-    ensures untouched { IsErrOf result EngineFail.Memory → writer.new ≡ writer.old }
 
     // A fault tells of its device, and no fault of a device is passed over.
-    ensures read_fault { IsErrOf result EngineFail.ReadFault →
-        ((R.failures reader.old < R.failures reader.new)
-        ⊎ IfSome (R.tells reader.old) (λ bytes. most_reads ≤ length bytes)) }
-    ensures write_fault { IsErrOf result EngineFail.WriteFault
-        → W.failures writer.old < W.failures writer.new }
-    ensures quiet_reader { result ≢ Err EngineFail.ReadFault
-        → R.failures reader.new ≡ R.failures reader.old }
-    ensures quiet_writer { result ≢ Err EngineFail.WriteFault
-        → W.failures writer.new ≡ W.failures writer.old }
+    ensures reader { LeavesKeptReader R.tells R.failures result reader.old reader.new }
+    ensures writer { LeavesWriter W.failures result writer.old writer.new }
 {
     let answer = answer(alloc, wanted, reader)?;
     match write_all(writer, answer.text.as_slice()) {

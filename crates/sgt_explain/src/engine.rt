@@ -1,9 +1,9 @@
 //! The explanation of all that a reader gives.
 
-ghost use Rattle.std.specs.Prelude.{◌≡◌, ◌≢◌, ◌⊎◌, ◌<◌, ◌≤◌, ◌++◌, ℕ, List, Err, length, string_bytes, IfOk, OnOk, OnErr, IfSome, IsErrOf};
+ghost use Rattle.std.specs.Prelude.{◌≡◌, ◌≢◌, ◌<◌, ◌++◌, ℕ, List, Err, string_bytes, IfOk, OnOk, OnErr};
 ghost use Rattle.std.specs.Io.KnownBytes.{Appends};
 ghost use Rattle.sgt_names.specs.Device.{CountsFailures, WritesFront};
-ghost use Rattle.sgt_names.specs.Limits.{most_reads};
+ghost use Rattle.sgt_devices.specs.Devices.{LeavesKeptReader, LeavesWriter};
 ghost use Rattle.sgt_explain.specs.Explained.{IsExplainedOf, WroteExplained, WroteExplainedOf, WroteExplainedFront};
 ghost use Rattle.sgt_explain.specs.Topics.{topic_name, IsRuleOf};
 
@@ -20,11 +20,7 @@ use std::alloc::Global;
 fn answer<R: Source>(alloc: Global, reader: &mut R, asked: Asked) -> Result<Answer, EngineFail>
     ensures answer { IfOk result (λ answer. IsExplainedOf asked (R.tells reader.old) answer.explained
         (string_bytes answer.line ++ string_bytes answer.meaning)) }
-    ensures quiet { result ≢ Err EngineFail.ReadFault
-        → R.failures reader.new ≡ R.failures reader.old }
-    ensures read_fault { IsErrOf result EngineFail.ReadFault →
-        ((R.failures reader.old < R.failures reader.new)
-        ⊎ IfSome (R.tells reader.old) (λ bytes. most_reads ≤ length bytes)) }
+    ensures reader { LeavesKeptReader R.tells R.failures result reader.old reader.new }
     ensures write_fault { result ≢ Err EngineFail.WriteFault }
 {
     let text = read_all(alloc, reader)?;
@@ -76,19 +72,10 @@ pub fn explain<R: Source, W: Sink>(
         (W.holds writer.new)) }
     ensures front { OnErr result
         (WroteExplainedFront (R.tells reader.old) (W.holds writer.old) (W.holds writer.new)) }
-    ensures unwritten { IsErrOf result EngineFail.ReadFault → writer.new ≡ writer.old }
-    ensures untouched { IsErrOf result EngineFail.Memory → writer.new ≡ writer.old }
 
     // A fault tells of its device, and no fault of a device is passed over.
-    ensures read_fault { IsErrOf result EngineFail.ReadFault →
-        ((R.failures reader.old < R.failures reader.new)
-        ⊎ IfSome (R.tells reader.old) (λ bytes. most_reads ≤ length bytes)) }
-    ensures write_fault { IsErrOf result EngineFail.WriteFault
-        → W.failures writer.old < W.failures writer.new }
-    ensures quiet_reader { result ≢ Err EngineFail.ReadFault
-        → R.failures reader.new ≡ R.failures reader.old }
-    ensures quiet_writer { result ≢ Err EngineFail.WriteFault
-        → W.failures writer.new ≡ W.failures writer.old }
+    ensures reader { LeavesKeptReader R.tells R.failures result reader.old reader.new }
+    ensures writer { LeavesWriter W.failures result writer.old writer.new }
 {
     let answer = answer(alloc, reader, asked)?;
     match write_both(writer, answer.line.as_bytes(), answer.meaning.as_bytes()) {

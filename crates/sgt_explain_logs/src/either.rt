@@ -1,7 +1,8 @@
 //! The explanation of what is a bundle, or logs without a certificate.
 
-ghost use Rattle.std.specs.Prelude.{◌≡◌, ◌≢◌, ◌⊎◌, ◌<◌, ◌≤◌, Some, Err, length, IfOk, OnErr, IfSome, IsErrOf};
+ghost use Rattle.std.specs.Prelude.{◌<◌, ◌≤◌, Some, length, IfOk, OnErr, IsErrOf};
 ghost use Rattle.sgt_names.specs.Limits.{most_reads};
+ghost use Rattle.sgt_devices.specs.Devices.{LeavesKeptReader, LeavesWriter};
 ghost use Rattle.sgt_explain_logs.specs.Either.{WroteExplanation, WroteExplanationFront};
 
 use crate::answer::are_logs;
@@ -22,13 +23,8 @@ fn explain_held<W: Sink>(
         (W.holds writer.new)) }
     ensures front { OnErr result
         (WroteExplanationFront (Some bytes.now) (W.holds writer.old) (W.holds writer.new)) }
-    ensures unwritten { IsErrOf result EngineFail.ReadFault → writer.new ≡ writer.old }
-    ensures untouched { IsErrOf result EngineFail.Memory → writer.new ≡ writer.old }
     ensures read_fault { IsErrOf result EngineFail.ReadFault → most_reads ≤ length bytes.now }
-    ensures write_fault { IsErrOf result EngineFail.WriteFault
-        → W.failures writer.old < W.failures writer.new }
-    ensures quiet_writer { result ≢ Err EngineFail.WriteFault
-        → W.failures writer.new ≡ W.failures writer.old }
+    ensures writer { LeavesWriter W.failures result writer.old writer.new }
 {
     let mut reader = Bytes {
         rest: bytes,
@@ -56,17 +52,8 @@ pub fn explain_either<R: Source, W: Sink>(
         (W.holds writer.new)) }
     ensures front { OnErr result
         (WroteExplanationFront (R.tells reader.old) (W.holds writer.old) (W.holds writer.new)) }
-    ensures unwritten { IsErrOf result EngineFail.ReadFault → writer.new ≡ writer.old }
-    ensures untouched { IsErrOf result EngineFail.Memory → writer.new ≡ writer.old }
-    ensures read_fault { IsErrOf result EngineFail.ReadFault →
-        ((R.failures reader.old < R.failures reader.new)
-        ⊎ IfSome (R.tells reader.old) (λ bytes. most_reads ≤ length bytes)) }
-    ensures write_fault { IsErrOf result EngineFail.WriteFault
-        → W.failures writer.old < W.failures writer.new }
-    ensures quiet_reader { result ≢ Err EngineFail.ReadFault
-        → R.failures reader.new ≡ R.failures reader.old }
-    ensures quiet_writer { result ≢ Err EngineFail.WriteFault
-        → W.failures writer.new ≡ W.failures writer.old }
+    ensures reader { LeavesKeptReader R.tells R.failures result reader.old reader.new }
+    ensures writer { LeavesWriter W.failures result writer.old writer.new }
 {
     let bytes = read_all(alloc, reader)?;
     explain_held(alloc, asked, bytes.as_slice(), writer)

@@ -1,7 +1,7 @@
 //! The explanation of all that a reader gives.
 
-ghost use Rattle.std.specs.Prelude.{◌≡◌, ◌≢◌, ◌⊎◌, ◌<◌, ◌≤◌, ◌↔◌, ◌++◌, ℕ, List, Err, length, IfOk, OnErr, IfSome, IsErrOf};
-ghost use Rattle.sgt_names.specs.Limits.{most_reads};
+ghost use Rattle.std.specs.Prelude.{◌≡◌, ◌≢◌, ◌<◌, ◌↔◌, ◌++◌, ℕ, List, Err, IfOk, OnErr, IfSome};
+ghost use Rattle.sgt_devices.specs.Devices.{LeavesKeptReader, LeavesWriter};
 ghost use Rattle.sgt_certify.specs.Answer.{HasCertificate, IsAnswer, refusal_text};
 ghost use Rattle.sgt_certify.specs.declared.refuting.Refusal.{Refusal};
 ghost use Rattle.sgt_certify_faults.specs.Faults.{IsFaultless};
@@ -173,11 +173,7 @@ fn explain_read<R: Source>(
         (λ bytes. e.explained.outcome ≡ Outcome.Yes ↔ HasCertificate bytes)) }
     ensures found { IfOk result (λ e. IfSome (R.tells reader.old)
         (λ bytes. IsFound bytes asked e.explained.is_found)) }
-    ensures quiet { result ≢ Err EngineFail.ReadFault
-        → R.failures reader.new ≡ R.failures reader.old }
-    ensures read_fault { IsErrOf result EngineFail.ReadFault →
-        ((R.failures reader.old < R.failures reader.new)
-        ⊎ IfSome (R.tells reader.old) (λ bytes. most_reads ≤ length bytes)) }
+    ensures reader { LeavesKeptReader R.tells R.failures result reader.old reader.new }
     ensures write_fault { result ≢ Err EngineFail.WriteFault }
 {
     let bytes = read_all(alloc, reader)?;
@@ -212,17 +208,8 @@ pub fn explain_logs<R: Source, W: Sink>(
         (λ bytes. IsFound bytes asked explained.is_found)) }
     ensures front { OnErr result
         (WroteExplainedFront (R.tells reader.old) (W.holds writer.old) (W.holds writer.new)) }
-    ensures unwritten { IsErrOf result EngineFail.ReadFault → writer.new ≡ writer.old }
-    ensures untouched { IsErrOf result EngineFail.Memory → writer.new ≡ writer.old }
-    ensures read_fault { IsErrOf result EngineFail.ReadFault →
-        ((R.failures reader.old < R.failures reader.new)
-        ⊎ IfSome (R.tells reader.old) (λ bytes. most_reads ≤ length bytes)) }
-    ensures write_fault { IsErrOf result EngineFail.WriteFault
-        → W.failures writer.old < W.failures writer.new }
-    ensures quiet_reader { result ≢ Err EngineFail.ReadFault
-        → R.failures reader.new ≡ R.failures reader.old }
-    ensures quiet_writer { result ≢ Err EngineFail.WriteFault
-        → W.failures writer.new ≡ W.failures writer.old }
+    ensures reader { LeavesKeptReader R.tells R.failures result reader.old reader.new }
+    ensures writer { LeavesWriter W.failures result writer.old writer.new }
 {
     let explanation = explain_read(alloc, reader, asked)?;
     match write_all(writer, explanation.text.as_slice()) {

@@ -281,7 +281,7 @@ pub(crate) fn plain_line<'a>(alloc: Global, line: &'a [u8]) -> Result<Option<Pla
     ensures { IfOk result (λ found. IfSome found
         (λ p. (id : Json) × (t : Transaction Json Json) × IsLine line.entry.now id t × MeansLine p id t)) }
 {
-    let Ok(_) = std::str::from_utf8(line) else {
+    let Ok(_) = simdutf8::compat::from_utf8(line) else {
         return Ok(None);
     };
     let Some(((id, commits), at)) = head_at(line) else {

@@ -1,10 +1,10 @@
 //! The history that all lines of a reader spell.
 
-ghost use Rattle.std.specs.Prelude.{◌≡◌, ◌≢◌, ◌+◌, [], length, ℕ, List, Option, Err, IfOk, IfSome, IsErrOf, MatchOption};
+ghost use Rattle.std.specs.Prelude.{◌≡◌, ◌≢◌, ◌+◌, [], length, ℕ, List, Option, Err, IfOk, IfSome, MatchOption};
 ghost use Rattle.json.specs.Json.{Json};
 ghost use Rattle.sgt_history.specs.Transaction.{Transaction};
 ghost use Rattle.sgt_names.specs.Limits.{most_reads};
-ghost use Rattle.sgt_notation.specs.Lines.{ReadFaultIsDue};
+ghost use Rattle.sgt_devices.specs.Devices.{LeavesReader};
 ghost use Rattle.sgt_history_text.specs.Built.{AreMoments, IsBuilt, IsTaken};
 ghost use Rattle.sgt_history_text.specs.Reading.{IsReading, IsStop, IsToldOf, stop_of};
 ghost use Rattle.sgt_history_text.specs.Text.{Spells};
@@ -167,10 +167,7 @@ fn read_lines<R: Source>(
     requires none { IsBuilt builder.old [] [] [] }
     requires no_moments { AreMoments moments.old.wanted moments.old [] [] }
     ensures stops { IfOk result (IsStop moments.old.wanted (R.tells reader.old) builder.new moments.new) }
-    ensures quiet { result ≢ Err EngineFail.ReadFault
-        → R.failures reader.new ≡ R.failures reader.old }
-    ensures read_fault { IsErrOf result EngineFail.ReadFault → ReadFaultIsDue (R.tells reader.old)
-        (R.failures reader.old) (R.failures reader.new) (R.asked reader.old) (R.asked reader.new) }
+    ensures reader { LeavesReader R.tells R.failures R.asked result reader.old reader.new }
     ensures write_fault { result ≢ Err EngineFail.WriteFault }
 {
     let mut line = Vec::new(alloc);
@@ -248,10 +245,7 @@ pub fn read_history<R: Source>(
     wanted: Wanted,
 ) -> Result<HistoryText, EngineFail>
     ensures told { IfOk result (λ text. IfSome (R.tells reader.old) (λ bytes. IsToldOf wanted bytes text)) }
-    ensures quiet { result ≢ Err EngineFail.ReadFault
-        → R.failures reader.new ≡ R.failures reader.old }
-    ensures read_fault { IsErrOf result EngineFail.ReadFault → ReadFaultIsDue (R.tells reader.old)
-        (R.failures reader.old) (R.failures reader.new) (R.asked reader.old) (R.asked reader.new) }
+    ensures reader { LeavesReader R.tells R.failures R.asked result reader.old reader.new }
     ensures write_fault { result ≢ Err EngineFail.WriteFault }
 {
     let mut lines = Lines::new(alloc)?;

@@ -13,13 +13,23 @@ pub struct Tail {
     is_lost: bool,
 }
 
+// So many bytes are counted at once: their count fits a byte, and many are counted side by side.
+const PART: usize = 192;
+
+// How many LFs there are among so few bytes.
+fn count_part(bytes: &[u8]) -> u8 {
+    let mut count: u8 = 0;
+    for byte in bytes {
+        count = count.wrapping_add(u8::from(*byte == b'\n'));
+    }
+    count
+}
+
 // How many LFs there are.
 fn count(bytes: &[u8]) -> u64 {
     let mut count: u64 = 0;
-    for byte in bytes {
-        if *byte == b'\n' {
-            count = count.saturating_add(1);
-        }
+    for part in bytes.chunks(PART) {
+        count = count.saturating_add(u64::from(count_part(part)));
     }
     count
 }

@@ -1,7 +1,7 @@
 //! The lines of an input, read from a reader.
 
-ghost use Rattle.std.specs.Prelude.{◌≡◌, ◌≢◌, [], Err, IfOk, IsErrOf};
-ghost use Rattle.sgt_notation.specs.Lines.{ReadFaultIsDue};
+ghost use Rattle.std.specs.Prelude.{◌≡◌, ◌≢◌, [], Err, IfOk};
+ghost use Rattle.sgt_devices.specs.Devices.{LeavesReader};
 ghost use Rattle.sgt_input.specs.Stopping.{IsStop};
 
 use crate::taker::Taker;
@@ -41,10 +41,7 @@ pub fn read_lines<R: Source, T: Taker>(
     requires begins { T.begins [] }
     requires fresh { T.took taker.old [] }
     ensures stops { IfOk result (IsStop T.begins (T.took taker.new) (R.tells reader.old)) }
-    ensures quiet { result ≢ Err EngineFail.ReadFault
-        → R.failures reader.new ≡ R.failures reader.old }
-    ensures read_fault { IsErrOf result EngineFail.ReadFault → ReadFaultIsDue (R.tells reader.old)
-        (R.failures reader.old) (R.failures reader.new) (R.asked reader.old) (R.asked reader.new) }
+    ensures reader { LeavesReader R.tells R.failures R.asked result reader.old reader.new }
     ensures write_fault { result ≢ Err EngineFail.WriteFault }
 {
     let mut lines = Lines::new(alloc)?;

@@ -4,6 +4,7 @@ use Rattle.std.specs.Prelude.{⊤, IfErr, IfOk, IfSome, IsErrOf, IsOk, OnErr, On
 use Rattle.sgt_names.specs.Limits.{most_reads}
 use Rattle.sgt_notation.specs.Lines.{ReadFaultIsDue}
 use Rattle.sgt_names.specs.Device.{CountsFailures}
+use Rattle.sgt_devices.specs.Devices.{LeavesWriter}
 use Rattle.sgt_names.specs.declared.outcome.EngineFail.{EngineFail}
 use Rattle.sgt_names.specs.declared.outcome.EngineFail.TheVariants.{Memory, ReadFault, WriteFault}
 use Rattle.sgt_names.specs.declared.outcome.Outcome.{Outcome}
@@ -67,36 +68,37 @@ due_of_two told lines failures failures' asked asked' fails fails' calls calls' 
     inr (due ⊥ lines fails fails' calls calls' other)
 
 -- how the devices come out of an engine
-pub leaves : (r : Result Outcome EngineFail) (Reader Writer Due Read Wrote Unwritten : Type 0) → (Due → Read)
-    → (r ≢ Err ReadFault → Reader) → (r ≢ Err WriteFault → Writer)
-    → (IsErrOf r ReadFault → Due) → (IsErrOf r WriteFault → Wrote) → (IsErrOf r ReadFault → Unwritten)
-    → (IsErrOf r Memory → Unwritten)
-    → LeavesDevices (Ran r) (Reader × Writer) Read Wrote Unwritten
-leaves (Ok outcome) Reader Writer Due Read Wrote Unwritten so reader writer read write unwritten untouched =
-    (reader (λ e. cc), writer (λ e. cc))
-leaves (Err Memory) Reader Writer Due Read Wrote Unwritten so reader writer read write unwritten untouched =
-    ((reader (λ e. cc), writer (λ e. cc)), untouched refl)
-leaves (Err ReadFault) Reader Writer Due Read Wrote Unwritten so reader writer read write unwritten untouched =
-    (so (read refl), unwritten refl)
-leaves (Err WriteFault) Reader Writer Due Read Wrote Unwritten so reader writer read write unwritten untouched =
-    write refl
+pub leaves : {W : Type 0} {fails : W → ℕ} {old new : W} (r : Result Outcome EngineFail) (Reader Due Read : Type 0)
+    → (Due → Read) → (r ≢ Err ReadFault → Reader) → (IsErrOf r ReadFault → Due) → LeavesWriter fails r old new
+    → LeavesDevices (Ran r) (Reader × (fails new ≡ fails old)) Read (fails old < fails new) (new ≡ old)
+leaves (Ok outcome) Reader Due Read so reader read writer = (reader (λ e. cc), writer.quiet (λ e. cc))
+leaves (Err Memory) Reader Due Read so reader read writer =
+    ((reader (λ e. cc), writer.quiet (λ e. cc)), writer.untouched refl)
+leaves (Err ReadFault) Reader Due Read so reader read writer = (so (read refl), writer.unwritten refl)
+leaves (Err WriteFault) Reader Due Read so reader read writer = writer.failed refl
 
 abbrev pub failing : (T : Type 0) → EngineFail → Result T EngineFail
 failing T fail = Err fail
 
 -- and of one that failed with this fault, whatever it answers else
-pub leaves_fail : (T : Type 0) (fail : EngineFail) (Reader Writer Due Read Wrote Unwritten : Type 0) → (Due → Read)
-    → (failing T fail ≢ failing T ReadFault → Reader) → (failing T fail ≢ failing T WriteFault → Writer)
-    → (IsErrOf (failing T fail) ReadFault → Due)
-    → (IsErrOf (failing T fail) WriteFault → Wrote) → (IsErrOf (failing T fail) ReadFault → Unwritten)
-    → (IsErrOf (failing T fail) Memory → Unwritten)
-    → LeavesDevices (Ran (Err fail)) (Reader × Writer) Read Wrote Unwritten
-leaves_fail T Memory Reader Writer Due Read Wrote Unwritten so reader writer read write unwritten untouched =
-    ((reader (λ e. cc), writer (λ e. cc)), untouched refl)
-leaves_fail T ReadFault Reader Writer Due Read Wrote Unwritten so reader writer read write unwritten untouched =
-    (so (read refl), unwritten refl)
-leaves_fail T WriteFault Reader Writer Due Read Wrote Unwritten so reader writer read write unwritten untouched =
-    write refl
+pub leaves_fail : {W : Type 0} {fails : W → ℕ} {old new : W} (T : Type 0) (fail : EngineFail) (Reader Due Read : Type 0)
+    → (Due → Read) → (failing T fail ≢ failing T ReadFault → Reader) → (IsErrOf (failing T fail) ReadFault → Due)
+    → LeavesWriter fails (failing T fail) old new
+    → LeavesDevices (Ran (Err fail)) (Reader × (fails new ≡ fails old)) Read (fails old < fails new) (new ≡ old)
+leaves_fail T Memory Reader Due Read so reader read writer =
+    ((reader (λ e. cc), writer.quiet (λ e. cc)), writer.untouched refl)
+leaves_fail T ReadFault Reader Due Read so reader read writer = (so (read refl), writer.unwritten refl)
+leaves_fail T WriteFault Reader Due Read so reader read writer = writer.failed refl
+
+-- a writer that nothing was written to, by a call that tells no write fault
+pub left_alone : {A W : Type 0} (fails : W → ℕ) (r : Result A EngineFail) (w : W) → (r ≢ Err WriteFault)
+    → LeavesWriter fails r w w
+left_alone fails r w never = record {
+  failed = λ e. absurd (never e);
+  quiet = λ e. refl;
+  unwritten = λ e. refl;
+  untouched = λ e. refl;
+}
 
 -- and of one that reads nothing
 pub leaves_topic : (r : Result Outcome EngineFail) (On : Type 0) (n : ℕ) (Writer Read Wrote Unwritten : Type 0)
@@ -108,18 +110,14 @@ leaves_topic (Err ReadFault) On n Writer Read Wrote Unwritten only failed writer
 leaves_topic (Err WriteFault) On n Writer Read Wrote Unwritten only failed writer = failed
 
 -- and of one whose reader may have failed at an answer
-pub leaves_audit : (T : Type 0) (fail : EngineFail) (Reader Writer Due Read Wrote Unwritten : Type 0) → (Due → Read)
-    → (IsErrOf (failing T fail) Memory → Reader) → (failing T fail ≢ failing T WriteFault → Writer)
-    → (IsErrOf (failing T fail) ReadFault → Due)
-    → (IsErrOf (failing T fail) WriteFault → Wrote) → (IsErrOf (failing T fail) ReadFault → Unwritten)
-    → (IsErrOf (failing T fail) Memory → Unwritten)
-    → LeavesDevices (Ran (Err fail)) (Reader × Writer) Read Wrote Unwritten
-leaves_audit T Memory Reader Writer Due Read Wrote Unwritten so reader writer read write unwritten untouched =
-    ((reader refl, writer (λ e. cc)), untouched refl)
-leaves_audit T ReadFault Reader Writer Due Read Wrote Unwritten so reader writer read write unwritten untouched =
-    (so (read refl), unwritten refl)
-leaves_audit T WriteFault Reader Writer Due Read Wrote Unwritten so reader writer read write unwritten untouched =
-    write refl
+pub leaves_audit : {W : Type 0} {fails : W → ℕ} {old new : W} (T : Type 0) (fail : EngineFail) (Reader Due Read : Type 0)
+    → (Due → Read) → (IsErrOf (failing T fail) Memory → Reader) → (IsErrOf (failing T fail) ReadFault → Due)
+    → LeavesWriter fails (failing T fail) old new
+    → LeavesDevices (Ran (Err fail)) (Reader × (fails new ≡ fails old)) Read (fails old < fails new) (new ≡ old)
+leaves_audit T Memory Reader Due Read so reader read writer =
+    ((reader refl, writer.quiet (λ e. cc)), writer.untouched refl)
+leaves_audit T ReadFault Reader Due Read so reader read writer = (so (read refl), writer.unwritten refl)
+leaves_audit T WriteFault Reader Due Read so reader read writer = writer.failed refl
 
 pub verdict-quiet : (v : Verdict) (o : Outcome) (failures failures' : ℕ) → o ≡ outcome v
     → (IsYes v → failures' ≡ failures) → failures' ≤ failures + 1 → ReaderIsQuiet ⊤ (Ran (Ok o)) failures failures'
@@ -221,10 +219,10 @@ pub wrote_none : (name : List ℕ) (held : Option (List ℕ)) → WroteBrokenFro
 wrote_none name held = (0, Broken, (0, omega (arith, length-append (codes "no ") (name ++ (codes " line " ++ (decimal 0 ++ (codes " C1" ++ codes "\n"))))), wrote_nothing held))
 
 -- how the writer comes out of an engine that reads nothing
-pub writes : (r : Result Outcome EngineFail) (Writer Wrote Unwritten : Type 0) → (r ≢ Err ReadFault)
-    → (r ≢ Err WriteFault → Writer)
-    → (IsErrOf r WriteFault → Wrote) → (IsErrOf r Memory → Unwritten) → LeavesDevices (Ran r) Writer ⊥ Wrote Unwritten
-writes (Ok outcome) Writer Wrote Unwritten read writer write untouched = writer (λ e. cc)
-writes (Err Memory) Writer Wrote Unwritten read writer write untouched = (writer (λ e. cc), untouched refl)
-writes (Err ReadFault) Writer Wrote Unwritten read writer write untouched = absurd (read refl)
-writes (Err WriteFault) Writer Wrote Unwritten read writer write untouched = write refl
+pub writes : {W : Type 0} {fails : W → ℕ} {old new : W} (r : Result Outcome EngineFail) → (r ≢ Err ReadFault)
+    → LeavesWriter fails r old new
+    → LeavesDevices (Ran r) (fails new ≡ fails old) ⊥ (fails old < fails new) (new ≡ old)
+writes (Ok outcome) read writer = writer.quiet (λ e. cc)
+writes (Err Memory) read writer = (writer.quiet (λ e. cc), writer.untouched refl)
+writes (Err ReadFault) read writer = absurd (read refl)
+writes (Err WriteFault) read writer = writer.failed refl

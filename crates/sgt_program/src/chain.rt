@@ -2,6 +2,7 @@
 
 ghost use Rattle.std.specs.Prelude.{◌≡◌, ◌≢◌, ◌<◌, ◌≤◌, ◌∷◌, ◌++◌, [], ℕ, List, Option, Err, Some, IfOk, IfSome, IsErrOf, IsNone, OnErr};
 ghost use Rattle.std.specs.Io.KnownBytes.{Appends};
+ghost use Rattle.sgt_devices.specs.Devices.{LeavesWriter};
 ghost use Rattle.sgt_audit_chain.specs.Audited.{HasAudited, HoldsHeadline, IsYes, no_text};
 ghost use Rattle.sgt_program.specs.Chains.{SaysBroken, SaysChain, WroteBrokenFront, WroteChainFront};
 ghost use Rattle.sgt_program.specs.Ending.{LeavesDevices, ReadFailed, TellsErrors, WroteOrFailed, status_of};
@@ -24,12 +25,8 @@ fn tell_broken<W: Sink>(
         × Appends (W.holds writer.old) (W.holds writer.new) (no_text name.now line fault)) }
     ensures front { OnErr result
         (WroteBrokenFront name.now (W.holds writer.old) (W.holds writer.new)) }
-    ensures untouched { IsErrOf result EngineFail.Memory → writer.new ≡ writer.old }
     ensures read_fault { result ≢ Err EngineFail.ReadFault }
-    ensures write_fault { IsErrOf result EngineFail.WriteFault
-        → W.failures writer.old < W.failures writer.new }
-    ensures quiet_writer { result ≢ Err EngineFail.WriteFault
-        → W.failures writer.new ≡ W.failures writer.old }
+    ensures writer { LeavesWriter W.failures result writer.old writer.new }
 {
     let Ok(text) = fault.to_line(alloc, name, line) else {
         return Err(EngineFail::Memory);
@@ -92,12 +89,8 @@ fn tell_chain<W: Sink>(
         × SaysChain auditor.now (W.holds writer.old) (W.holds writer.new)) }
     ensures front { IsErrOf result EngineFail.WriteFault
         → WroteChainFront auditor.now (W.holds writer.old) (W.holds writer.new) }
-    ensures untouched { IsErrOf result EngineFail.Memory → writer.new ≡ writer.old }
     ensures read_fault { result ≢ Err EngineFail.ReadFault }
-    ensures write_fault { IsErrOf result EngineFail.WriteFault
-        → W.failures writer.old < W.failures writer.new }
-    ensures quiet_writer { result ≢ Err EngineFail.WriteFault
-        → W.failures writer.new ≡ W.failures writer.old }
+    ensures writer { LeavesWriter W.failures result writer.old writer.new }
 {
     let Ok(text) = auditor.to_line(alloc) else {
         return Err(EngineFail::Memory);

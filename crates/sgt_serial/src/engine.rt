@@ -1,9 +1,9 @@
 //! The serial run of all that a reader gives.
 
-ghost use Rattle.std.specs.Prelude.{◌≡◌, ◌≢◌, ◌-◌, ◌<◌, ◌≤◌, ℕ, List, Option, Err, length, OnOk, OnErr, IfOk, IfSome, IsErrOf};
+ghost use Rattle.std.specs.Prelude.{◌≢◌, ◌-◌, ◌<◌, ◌≤◌, ℕ, List, Option, Err, length, OnOk, OnErr, IfOk, IfSome, IsErrOf};
 ghost use Rattle.std.specs.Io.KnownBytes.{Appends};
 ghost use Rattle.sgt_names.specs.Device.{WritesFront};
-ghost use Rattle.sgt_notation.specs.Lines.{ReadFaultIsDue};
+ghost use Rattle.sgt_devices.specs.Devices.{LeavesReader, LeavesWriter};
 ghost use Rattle.sgt_audit.specs.Faults.{BeginsNoneBehind, ReadsNoFurther};
 ghost use Rattle.sgt_audit.specs.Verdict.{IsAudited, HandsOutValid, text_of};
 ghost use Rattle.sgt_audit.specs.declared.verdict.Verdict.TheVariants as verdict;
@@ -28,12 +28,8 @@ fn write_fault<W: Sink>(
         (Appends (W.holds writer.old) (W.holds writer.new) (text_of (verdict.No line fault))) }
     ensures front { IsErrOf result EngineFail.WriteFault
         → WritesFront (W.holds writer.old) (W.holds writer.new) (text_of (verdict.No line fault)) }
-    ensures untouched { IsErrOf result EngineFail.Memory → writer.new ≡ writer.old }
     ensures unread { result ≢ Err EngineFail.ReadFault }
-    ensures fault { IsErrOf result EngineFail.WriteFault
-        → W.failures writer.old < W.failures writer.new }
-    ensures quiet { result ≢ Err EngineFail.WriteFault
-        → W.failures writer.new ≡ W.failures writer.old }
+    ensures writer { LeavesWriter W.failures result writer.old writer.new }
 {
     let verdict = Verdict::No { line, fault }.to_line(alloc)?;
     match write_all(writer, verdict.as_bytes()) {
@@ -49,12 +45,8 @@ fn write_serial<W: Sink>(alloc: Global, writer: &mut W, bundle: Bundle) -> Resul
     ensures front { IsErrOf result EngineFail.WriteFault
         → WritesFront (W.holds writer.old) (W.holds writer.new)
         (report_text (report_of bundle)) }
-    ensures untouched { IsErrOf result EngineFail.Memory → writer.new ≡ writer.old }
     ensures unread { result ≢ Err EngineFail.ReadFault }
-    ensures fault { IsErrOf result EngineFail.WriteFault
-        → W.failures writer.old < W.failures writer.new }
-    ensures quiet { result ≢ Err EngineFail.WriteFault
-        → W.failures writer.new ≡ W.failures writer.old }
+    ensures writer { LeavesWriter W.failures result writer.old writer.new }
 {
     let plan = Plan::new(alloc, bundle)?;
     match plan.write(writer) {
@@ -75,12 +67,8 @@ fn write_answer<W: Sink>(
         (λ outcome. WroteAnswer told outcome (W.holds writer.old) (W.holds writer.new)) }
     ensures front { (told : Option (List ℕ)) → IfSome told (λ bytes. IsAudited bytes audited)
         → OnErr result (WroteAnswerFront told (W.holds writer.old) (W.holds writer.new)) }
-    ensures untouched { IsErrOf result EngineFail.Memory → writer.new ≡ writer.old }
     ensures unread { result ≢ Err EngineFail.ReadFault }
-    ensures fault { IsErrOf result EngineFail.WriteFault
-        → W.failures writer.old < W.failures writer.new }
-    ensures quiet { result ≢ Err EngineFail.WriteFault
-        → W.failures writer.new ≡ W.failures writer.old }
+    ensures writer { LeavesWriter W.failures result writer.old writer.new }
 {
     match audited {
         Audited::Valid(bundle) => {
@@ -115,18 +103,10 @@ pub fn serial<R: Source, W: Sink>(
         (λ left. BeginsNoneBehind bytes (length left) (R.last reader.new)))) }
     ensures front { OnErr result
         (WroteAnswerFront (R.tells reader.old) (W.holds writer.old) (W.holds writer.new)) }
-    ensures unwritten { IsErrOf result EngineFail.ReadFault → writer.new ≡ writer.old }
-    ensures untouched { IsErrOf result EngineFail.Memory → writer.new ≡ writer.old }
 
     // A fault tells of its device, and no fault of a device is passed over.
-    ensures read_fault { IsErrOf result EngineFail.ReadFault → ReadFaultIsDue (R.tells reader.old)
-        (R.failures reader.old) (R.failures reader.new) (R.asked reader.old) (R.asked reader.new) }
-    ensures write_fault { IsErrOf result EngineFail.WriteFault
-        → W.failures writer.old < W.failures writer.new }
-    ensures quiet_reader { result ≢ Err EngineFail.ReadFault
-        → R.failures reader.new ≡ R.failures reader.old }
-    ensures quiet_writer { result ≢ Err EngineFail.WriteFault
-        → W.failures writer.new ≡ W.failures writer.old }
+    ensures reader { LeavesReader R.tells R.failures R.asked result reader.old reader.new }
+    ensures writer { LeavesWriter W.failures result writer.old writer.new }
 {
     let audited = audit_bundle(alloc, reader)?;
     write_answer(alloc, writer, audited)

@@ -1,8 +1,8 @@
 //! The run of all scripts that a reader gives.
 
-ghost use Rattle.std.specs.Prelude.{◌≡◌, ◌≢◌, ◌⊎◌, ◌++◌, ◌<◌, ◌≤◌, ℕ, List, Option, All, Err, codes, decimal, length, map, IfOk, IfErr, IfSome, OnErr, IsErrOf};
+ghost use Rattle.std.specs.Prelude.{◌≡◌, ◌⊎◌, ◌++◌, ◌<◌, ◌≤◌, ℕ, List, Option, All, Err, codes, decimal, length, map, IfOk, IfErr, IfSome, OnErr};
 ghost use Rattle.sgt_names.specs.Limits.{max_sites};
-ghost use Rattle.sgt_notation.specs.Lines.{ReadFaultIsDue};
+ghost use Rattle.sgt_devices.specs.Devices.{LeavesReader, LeavesWriter};
 ghost use Rattle.sgt_site.specs.State.{AreItems};
 ghost use Rattle.sgt_service_locks.specs.Ledgers.{AreOf};
 ghost use Rattle.sgt_service_settle.specs.Settled.{IsSettled};
@@ -234,18 +234,10 @@ pub fn run_scripts<S: Source, W: Sink, G: Gate + Sync, R: Threads + Wait + Sync>
         (λ outcome. IfSome (S.tells reader.old) (λ bytes. TellsUnreadable bytes outcome)) }
     ensures front { OnErr result
         (WroteAnswerFront tries (S.tells reader.old) (W.holds writer.old) (W.holds writer.new)) }
-    ensures unwritten { IsErrOf result EngineFail.ReadFault → writer.new ≡ writer.old }
-    ensures untouched { IsErrOf result EngineFail.Memory → writer.new ≡ writer.old }
 
     // A fault tells of its device, and no fault of a device is passed over.
-    ensures read_fault { IsErrOf result EngineFail.ReadFault → ReadFaultIsDue (S.tells reader.old)
-        (S.failures reader.old) (S.failures reader.new) (S.asked reader.old) (S.asked reader.new) }
-    ensures write_fault { IsErrOf result EngineFail.WriteFault
-        → W.failures writer.old < W.failures writer.new }
-    ensures quiet_reader { result ≢ Err EngineFail.ReadFault
-        → S.failures reader.new ≡ S.failures reader.old }
-    ensures quiet_writer { result ≢ Err EngineFail.WriteFault
-        → W.failures writer.new ≡ W.failures writer.old }
+    ensures reader { LeavesReader S.tells S.failures S.asked result reader.old reader.new }
+    ensures writer { LeavesWriter W.failures result writer.old writer.new }
 {
     let reading = read_input(alloc, reader)?;
     let answer = answer_to(rt, alloc, reading, workers, tries, gate)?;

@@ -1,7 +1,7 @@
 //! The input of a run, read from a reader.
 
-ghost use Rattle.std.specs.Prelude.{◌≡◌, ◌≢◌, Err, IfOk, IfSome, IsErrOf};
-ghost use Rattle.sgt_notation.specs.Lines.{ReadFaultIsDue};
+ghost use Rattle.std.specs.Prelude.{◌≢◌, Err, IfOk, IfSome};
+ghost use Rattle.sgt_devices.specs.Devices.{LeavesReader};
 ghost use Rattle.sgt_service.specs.Input.{IsRead, IsUsable};
 
 use crate::input::{Input, Reading};
@@ -45,10 +45,7 @@ pub fn read_input<R: Source>(alloc: Global, reader: &mut R) -> Result<Reading, E
     ensures read { IfOk result
         (λ reading. IfSome (R.tells reader.old) (λ bytes. IsRead bytes reading)) }
     ensures usable { IfOk result IsUsable }
-    ensures quiet { result ≢ Err EngineFail.ReadFault
-        → R.failures reader.new ≡ R.failures reader.old }
-    ensures read_fault { IsErrOf result EngineFail.ReadFault → ReadFaultIsDue (R.tells reader.old)
-        (R.failures reader.old) (R.failures reader.new) (R.asked reader.old) (R.asked reader.new) }
+    ensures reader { LeavesReader R.tells R.failures R.asked result reader.old reader.new }
     ensures write_fault { result ≢ Err EngineFail.WriteFault }
 {
     let mut keeper = Keeper {

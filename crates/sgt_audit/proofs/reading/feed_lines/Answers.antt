@@ -88,11 +88,13 @@ lines-smaller g c =
     ) in
     less
 
-pub returns-in-Err-ReadFault-clause-read_fault : goal.returns-in-Err-ReadFault-clause-read_fault
-returns-in-Err-ReadFault-clause-read_fault g c same =
-    fault-met _ _ _ _ _ _ _ _ c.lines.invariant.1 c.lines.invariant.2 c.in_ok-fault.ensures.unread
-    (omega (arith, c.in_ok-fault.ensures.unread, c.in-Err-ReadFault.ensures.asks, c.lines.invariant.5))
-    (c.in-Err-ReadFault.ensures.read_fault (ap Err c.in-Err-ReadFault.field-0-is))
+pub returns-in-Err-ReadFault-clause-reader : goal.returns-in-Err-ReadFault-clause-reader
+returns-in-Err-ReadFault-clause-reader g c = record {
+  due = λ same. fault-met _ _ _ _ _ _ _ _ c.lines.invariant.1 c.lines.invariant.2 c.in_ok-fault.ensures.unread
+      (omega (arith, c.in_ok-fault.ensures.unread, c.in-Err-ReadFault.ensures.asks, c.lines.invariant.5))
+      (c.in-Err-ReadFault.ensures.read_fault (ap Err c.in-Err-ReadFault.field-0-is));
+  quiet = λ other. absurd (other refl);
+}
 
 pub returns-in_err-fault-clause-kept : goal.returns-in_err-fault-clause-kept
 returns-in_err-fault-clause-kept g c keeps kept = c.in_err-fault.ensures.kept keeps (c.lines.invariant.4 keeps kept)

@@ -154,9 +154,12 @@ returns-in-Ok-TooLong-clause-reads_all g c =
     let mid = held-taken _ _ held.0 _ _ _ _ c.lines.invariant.0 held.1 held.2 in
     long-all _ _ _ _ _ _ mid gave.gives
 
-pub returns-in-Err-ReadFault-clause-read_fault : goal.returns-in-Err-ReadFault-clause-read_fault
-returns-in-Err-ReadFault-clause-read_fault g c same =
+pub returns-in-Err-ReadFault-clause-reader : goal.returns-in-Err-ReadFault-clause-reader
+returns-in-Err-ReadFault-clause-reader g c =
     let reads = ap (λ (a : Ahead). a.reads) c.in_ok-take_held.ensures.1 in
-    fault-met _ _ _ _ _ _ _ _ c.lines.invariant.1 c.lines.invariant.2 reads
-    (omega (arith, c.in-Err-ReadFault.ensures.asks, c.lines.invariant.3, reads))
-    (c.in-Err-ReadFault.ensures.read_fault (ap Err c.in-Err-ReadFault.field-0-is))
+    record {
+      due = λ same. fault-met _ _ _ _ _ _ _ _ c.lines.invariant.1 c.lines.invariant.2 reads
+          (omega (arith, c.in-Err-ReadFault.ensures.asks, c.lines.invariant.3, reads))
+          (c.in-Err-ReadFault.ensures.read_fault (ap Err c.in-Err-ReadFault.field-0-is));
+      quiet = λ other. absurd (other refl);
+    }

@@ -1,6 +1,6 @@
 use Rattle.std.proofs.Common.{Err, Option, Ok, ℕ, Some, ap, refl, unwrap_or}
 use Rattle.sgt_audit_chain.specs.declared.faults.ChainFault.{ChainFault}
-use Rattle.sgt_program.proofs.Told.{due, front_at, leaves, leaves_fail, never_yes, tells-errors, told_no, wrote_none}
+use Rattle.sgt_program.proofs.Told.{due, failing, front_at, leaves, leaves_fail, left_alone, never_yes, tells-errors, told_no, wrote_none}
 use Rattle.sgt_program.specs.declared.ending.Ending.TheVariants.{Ran}
 use Rattle.sgt_program.proofs.chain.audit_next.Goals as goal
 
@@ -22,12 +22,10 @@ pub returns-in-Ok-Some-clause-ends : goal.returns-in-Ok-Some-clause-ends
 returns-in-Ok-Some-clause-ends g c =
     let said = c.tell_broken-told.ensures in
     let finished = c.finish.ensures in
-    let quiet = c.in-Ok-Some.ensures.quiet (λ e. cc) in (
+    let quiet = c.in-Ok-Some.ensures.reader.quiet (λ e. cc) in (
       Ran c.tell_broken-told.result,
       finished.status,
-      leaves c.tell_broken-told.result _ _ _ _ _ _ absurd (λ e. quiet) said.quiet_writer said.read_fault
-          said.write_fault
-          (λ e. absurd (said.read_fault e)) said.untouched,
+      leaves c.tell_broken-told.result _ _ _ absurd (λ e. quiet) said.read_fault said.writer,
       tells-errors c.tell_broken-told.result _ _ finished.silent finished.told,
     )
 
@@ -36,9 +34,9 @@ returns-in-Err-clause-ends g c =
     let said = c.in-Err.ensures in (
       Ran (Err c.in-Err.fail),
       c.give_up.ensures.status,
-      leaves_fail (Option (ℕ × ChainFault)) c.in-Err.fail _ _ _ _ _ _ (due _ _ _ _ _ _) said.quiet
-          (λ e. refl) said.read_fault
-          (λ e. absurd (said.write_fault e)) (λ e. refl) (λ e. refl),
+      leaves_fail (Option (ℕ × ChainFault)) c.in-Err.fail _ _ _ (due _ _ _ _ _ _) said.reader.quiet said.reader.due
+          (left_alone g.W.Sink.failures (failing (Option (ℕ × ChainFault)) c.in-Err.fail) c.args.writer.now
+          said.write_fault),
       c.give_up.ensures.told,
     )
 

@@ -13,7 +13,7 @@ returns-clause-ends g c =
     let finished = c.finish.ensures in (
       Ran c.tell_chain-told.result,
       finished.status,
-      writes c.tell_chain-told.result _ _ _ said.read_fault said.quiet_writer said.write_fault said.untouched,
+      writes c.tell_chain-told.result said.read_fault said.writer,
       tells-errors c.tell_chain-told.result _ _ finished.silent finished.told,
     )
 

@@ -16,11 +16,11 @@ pub returns-in-Ok-clause-ends : goal.returns-in-Ok-clause-ends
 returns-in-Ok-clause-ends g c =
     let said = c.in-Ok.ensures in (
       verdict-quiet c.in-Ok.verdict c.outcome_of.result _ _ c.outcome_of.ensures said.quiet_yes (said.once (λ e. cc)),
-      said.quiet_writer (λ e. cc),
+      said.writer.quiet (λ e. cc),
     )
 
 pub returns-in-Err-clause-ends : goal.returns-in-Err-clause-ends
 returns-in-Err-clause-ends g c =
     let said = c.in-Err.ensures in
-    leaves_audit Verdict c.in-Err.fail _ _ _ _ _ _ (due _ _ _ _ _ _) (λ e. inl (said.quiet_memory e))
-    said.quiet_writer said.read_fault said.write_fault said.unwritten said.untouched
+    leaves_audit Verdict c.in-Err.fail _ _ _ (due _ _ _ _ _ _) (λ e. inl (said.quiet_memory e))
+    said.read_fault said.writer

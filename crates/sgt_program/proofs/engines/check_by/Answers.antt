@@ -52,11 +52,11 @@ returns-else-asks_kept-clause-answers g c =
 pub returns-then-asks_kept-clause-ends : goal.returns-then-asks_kept-clause-ends
 returns-then-asks_kept-clause-ends g c =
     let said = c.check_kept.ensures in
-    leaves c.check_kept.result _ _ _ _ _ _ (due _ _ _ _ _ _) (λ other. inl (said.quiet_reader other))
-    said.quiet_writer said.read_fault said.write_fault said.unwritten said.untouched
+    leaves c.check_kept.result _ _ _ (due _ _ _ _ _ _) (λ other. inl (said.reader.quiet other))
+    said.reader.due said.writer
 
 pub returns-else-asks_kept-clause-ends : goal.returns-else-asks_kept-clause-ends
 returns-else-asks_kept-clause-ends g c =
     let said = c.check.ensures in
-    leaves c.check.result _ _ _ _ _ _ (due _ _ _ _ _ _) (λ other. inl (said.quiet_reader other)) said.quiet_writer
-    said.read_fault said.write_fault said.unwritten said.untouched
+    leaves c.check.result _ _ _ (due _ _ _ _ _ _) (λ other. inl (said.reader.quiet other))
+    said.reader.due said.writer

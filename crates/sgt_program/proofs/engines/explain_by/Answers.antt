@@ -30,5 +30,5 @@ returns-in-Err-clause-answers g c =
 pub returns-in-Err-clause-ends : goal.returns-in-Err-clause-ends
 returns-in-Err-clause-ends g c =
     let said = c.in-Err.ensures in
-    leaves_fail Explained c.in-Err.fail _ _ _ _ _ _ (kept _ _ _ _ _ _ tt) (λ other. inl (said.quiet_reader other))
-    said.quiet_writer said.read_fault said.write_fault said.unwritten said.untouched
+    leaves_fail Explained c.in-Err.fail _ _ _ (kept _ _ _ _ _ _ tt) (λ other. inl (said.reader.quiet other))
+    said.reader.due said.writer

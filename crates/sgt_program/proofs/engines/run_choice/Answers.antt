@@ -89,20 +89,20 @@ returns-in-AuditWith-clause-answers g c = rw c.in-AuditWith.is c.audit_by.ensure
 pub returns-in-Serial-clause-ends : goal.returns-in-Serial-clause-ends
 returns-in-Serial-clause-ends g c =
     let said = c.serial.ensures in
-    leaves c.serial.result _ _ _ _ _ _ (due _ _ _ _ _ _) (λ other. inl (said.quiet_reader other)) said.quiet_writer
-    said.read_fault said.write_fault said.unwritten said.untouched
+    leaves c.serial.result _ _ _ (due _ _ _ _ _ _) (λ other. inl (said.reader.quiet other))
+    said.reader.due said.writer
 
 pub returns-in-Replay-clause-ends : goal.returns-in-Replay-clause-ends
 returns-in-Replay-clause-ends g c =
     let said = c.replay.ensures in
-    leaves c.replay.result _ _ _ _ _ _ (due _ _ _ _ _ _) (λ other. inl (said.quiet_reader other)) said.quiet_writer
-    said.read_fault said.write_fault said.unwritten said.untouched
+    leaves c.replay.result _ _ _ (due _ _ _ _ _ _) (λ other. inl (said.reader.quiet other))
+    said.reader.due said.writer
 
 pub returns-in-Certify-clause-ends : goal.returns-in-Certify-clause-ends
 returns-in-Certify-clause-ends g c =
     let said = c.certify.ensures in
-    leaves c.certify.result _ _ _ _ _ _ (due _ _ _ _ _ _) (λ other. inl (said.quiet_reader other)) said.quiet_writer
-    said.read_fault said.write_fault said.unwritten said.untouched
+    leaves c.certify.result _ _ _ (due _ _ _ _ _ _) (λ other. inl (said.reader.quiet other))
+    said.reader.due said.writer
 
 pub returns-in-Check-clause-ends : goal.returns-in-Check-clause-ends
 returns-in-Check-clause-ends g c =
@@ -113,23 +113,23 @@ pub returns-in-Draw-clause-ends : goal.returns-in-Draw-clause-ends
 returns-in-Draw-clause-ends g c =
     let said = c.draw_either.ensures in
     let is : KeepsInput (command_of c.args.choice) = subst (λ d. KeepsInput (command_of d)) (sym c.in-Draw.is) (inr refl) in
-    leaves c.draw_either.result _ _ _ _ _ _ (kept _ _ _ _ _ _ is) (λ other. inl (said.quiet_reader other))
-    said.quiet_writer said.read_fault said.write_fault said.unwritten said.untouched
+    leaves c.draw_either.result _ _ _ (kept _ _ _ _ _ _ is) (λ other. inl (said.reader.quiet other))
+    said.reader.due said.writer
 
 pub returns-in-DrawWith-clause-ends : goal.returns-in-DrawWith-clause-ends
 returns-in-DrawWith-clause-ends g c =
     let said = c.draw_either-in-DrawWith.ensures in
     let is : KeepsInput (command_of c.args.choice) =
     subst (λ d. KeepsInput (command_of d)) (sym c.in-DrawWith.is) (inr refl) in
-    leaves c.draw_either-in-DrawWith.result _ _ _ _ _ _ (kept _ _ _ _ _ _ is)
-    (λ other. inl (said.quiet_reader other))
-    said.quiet_writer said.read_fault said.write_fault said.unwritten said.untouched
+    leaves c.draw_either-in-DrawWith.result _ _ _ (kept _ _ _ _ _ _ is)
+    (λ other. inl (said.reader.quiet other))
+    said.reader.due said.writer
 
 pub returns-in-Run-clause-ends : goal.returns-in-Run-clause-ends
 returns-in-Run-clause-ends g c =
     let said = c.run_scripts.ensures in
-    leaves c.run_scripts.result _ _ _ _ _ _ (due _ _ _ _ _ _) (λ other. inl (said.quiet_reader other))
-    said.quiet_writer said.read_fault said.write_fault said.unwritten said.untouched
+    leaves c.run_scripts.result _ _ _ (due _ _ _ _ _ _) (λ other. inl (said.reader.quiet other))
+    said.reader.due said.writer
 
 pub returns-in-Explain-clause-ends : goal.returns-in-Explain-clause-ends
 returns-in-Explain-clause-ends g c =
@@ -141,8 +141,8 @@ returns-in-Explain-clause-ends g c =
 pub returns-in-Err-clause-ends : goal.returns-in-Err-clause-ends
 returns-in-Err-clause-ends g c =
     let said = c.in-Err.ensures in
-    leaves_fail Verdict c.in-Err.fail _ _ _ _ _ _ (due _ _ _ _ _ _) (λ other. inl (said.quiet_reader other))
-    said.quiet_writer said.read_fault said.write_fault said.unwritten said.untouched
+    leaves_fail Verdict c.in-Err.fail _ _ _ (due _ _ _ _ _ _) (λ other. inl (said.reader.quiet other))
+    said.reader.due said.writer
 
 pub returns-in-AuditWith-clause-ends : goal.returns-in-AuditWith-clause-ends
 returns-in-AuditWith-clause-ends g c =

@@ -42,8 +42,8 @@ returns-clause-ends g c =
     let finished = c.finish.ensures in (
       Ran c.check_against-told.result,
       finished.status,
-      leaves c.check_against-told.result _ _ _ _ _ _ (due_of_two _ _ _ _ _ _ _ _ _ _)
+      leaves c.check_against-told.result _ _ _ (due_of_two _ _ _ _ _ _ _ _ _ _)
           (λ other. (said.quiet_reader other, said.quiet_order other))
-          said.quiet_writer said.read_fault said.write_fault said.unwritten said.untouched,
+          said.read_fault said.writer,
       tells-errors c.check_against-told.result _ _ finished.silent finished.told,
     )

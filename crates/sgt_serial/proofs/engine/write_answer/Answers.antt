@@ -16,4 +16,4 @@ returns-in_err-write_fault-in-No-clause-front g c told h =
     (answered-front c.in_err-write_fault-in-No.field-0.0 told (holds c.args.writer.now)
     (holds c.write_fault.new.writer) No (text_of (verdict.No line fault))
     (no-answer told c.args.audited line fault c.in-No.is h)
-    (λ is. ap holds (call.untouched (ap Err is))) (λ is. call.unread (ap Err is)) (λ is. call.front (ap Err is)))
+    (λ is. ap holds (call.writer.untouched (ap Err is))) (λ is. call.unread (ap Err is)) (λ is. call.front (ap Err is)))

@@ -1,25 +1,35 @@
 use Rattle.std.proofs.Common.{IfOk, sym, subst}
-use Rattle.sgt_notation.specs.Spelling.{line_text}
-use Rattle.sgt_audit_decisions.proofs.Loops.{refuted}
+use Rattle.std.proofs.lemmas.Bool.{false≢true}
+use Rattle.sgt_notation.specs.Spelling.{IsLine, line_text}
+use Rattle.sgt_notation.specs.declared.SectionLine.{SectionLine}
+use Rattle.sgt_notation.specs.declared.SectionLine.TheVariants.{Logged}
+use Rattle.sgt_names.specs.declared.entry.Entry.{Entry}
+use Rattle.sgt_audit.specs.Faults.{Stage}
+use Rattle.sgt_audit.specs.Held.{IsAt}
 use Rattle.sgt_audit.specs.declared.machine.Progress.TheVariants.{Reading}
 use Rattle.sgt_audit.specs.private.NextLine.{Follows}
-use Rattle.sgt_audit.proofs.NextStage.{complete-all, line-trails}
 use Rattle.sgt_audit.proofs.kept.Kept.next_read.Goals as goal
 
-pub returns-then-is_complete-clause-follows : goal.returns-then-is_complete-clause-follows
-returns-then-is_complete-clause-follows k is s (b, before, h, stage) =
-    let all = (k.is_complete.ensures b h.means.begun h.stands.place).0 k.if-is_complete.true in
-    line-trails (line_text k.args.line.now) s ((complete-all k.args.self.now b before s h.means stage).1 all)
+pub returns-in-Read-clause-follows : goal.returns-in-Read-clause-follows
+returns-in-Read-clause-follows c =
+    subst (λ (l : SectionLine). IsLine l → (s : Stage) → IsAt c.args.self.now s
+    → IfOk c.next_entry.result (Follows s (line_text l) (Reading c.next_entry.new.self))) (sym c.in-Logged.is)
+    (subst (λ (e : Entry). IsLine (Logged e) → (s : Stage) → IsAt c.args.self.now s
+    → IfOk c.next_entry.result (Follows s (line_text (Logged e)) (Reading c.next_entry.new.self))) (sym c.in-Read.is)
+    (λ is. c.next_entry.ensures.follows (is, λ no. absurd (false≢true no))))
 
-pub returns-in-End-clause-follows : goal.returns-in-End-clause-follows
-returns-in-End-clause-follows k is s (b, before, h, stage) =
-    let miss = refuted k.is_complete.result (k.is_complete.ensures b h.means.begun h.stands.place) k.if-is_complete.false in
-    subst (λ l. IfOk k.close.result (Follows s (line_text l) (Reading k.close.new.self))) (sym k.in-End.is)
-    (k.close.ensures.follows s (b, before, h, stage)
-    (λ done. miss ((complete-all k.args.self.now b before s h.means stage).0 done)))
+pub returns-in-Write-clause-follows : goal.returns-in-Write-clause-follows
+returns-in-Write-clause-follows c =
+    subst (λ (l : SectionLine). IsLine l → (s : Stage) → IsAt c.args.self.now s
+    → IfOk c.next_entry-in-Write.result (Follows s (line_text l) (Reading c.next_entry-in-Write.new.self))) (sym c.in-Logged.is)
+    (subst (λ (e : Entry). IsLine (Logged e) → (s : Stage) → IsAt c.args.self.now s
+    → IfOk c.next_entry-in-Write.result (Follows s (line_text (Logged e)) (Reading c.next_entry-in-Write.new.self))) (sym c.in-Write.is)
+    (λ is. c.next_entry-in-Write.ensures.follows (is, λ no. absurd (false≢true no))))
 
-pub returns-in_default-clause-follows : goal.returns-in_default-clause-follows
-returns-in_default-clause-follows k is s (b, before, h, stage) =
-    let miss = refuted k.is_complete.result (k.is_complete.ensures b h.means.begun h.stands.place) k.if-is_complete.false in
-    k.go_on.ensures.follows is k.in_default.not-End s (b, before, h, stage)
-    (λ done. miss ((complete-all k.args.self.now b before s h.means stage).0 done))
+pub returns-in-Commit-clause-follows : goal.returns-in-Commit-clause-follows
+returns-in-Commit-clause-follows c =
+    subst (λ (l : SectionLine). IsLine l → (s : Stage) → IsAt c.args.self.now s
+    → IfOk c.next_entry-in-Commit.result (Follows s (line_text l) (Reading c.next_entry-in-Commit.new.self))) (sym c.in-Logged.is)
+    (subst (λ (e : Entry). IsLine (Logged e) → (s : Stage) → IsAt c.args.self.now s
+    → IfOk c.next_entry-in-Commit.result (Follows s (line_text (Logged e)) (Reading c.next_entry-in-Commit.new.self))) (sym c.in-Commit.is)
+    (λ is. c.next_entry-in-Commit.ensures.follows (is, λ no. absurd (false≢true no))))

@@ -1,10 +1,10 @@
-use Rattle.std.proofs.Common.{◌≡◌, List, sym, refl, ◌∙◌, subst, Contains}
+use Rattle.std.proofs.Common.{List, sym, refl, ◌∙◌, subst, Contains}
 use Rattle.std.proofs.lemmas.Bool.{false≢true}
 use Rattle.sgt_names.specs.declared.entry.Entry.{Entry}
 use Rattle.sgt_names.proofs.Places.{Contains-from_at}
 use Rattle.sgt_names.proofs.Lists.{All_in, All-next, All-whole, element_at}
 use Rattle.sgt_bundle.specs.declared.bundle.SiteLog.{SiteLog}
-use Rattle.sgt_certify_greedy.proofs.sets.stands_in.Goals as goal
+use Rattle.sgt_certify_logs.proofs.logs.stands_in.Goals as goal
 
 pub returns-then-has_entry : goal.returns-then-has_entry
 returns-then-has_entry c =
