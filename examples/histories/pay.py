@@ -2,6 +2,9 @@
 
     python3 pay.py "dbname=bank" [FILE [CLIENTS [PAYMENTS [LEVEL]]]]     (it makes the table `account` anew)
     sgt check FILE
+
+LEVEL is "read committed", "repeatable read" or "serializable". It prints how many payments were committed; where a
+client failed the status is 1.
 """
 import random
 import sys
@@ -55,6 +58,7 @@ def main():
     where, path, clients, payments, level = sys.argv[1:] + ["pay.history", "4", "25", "SERIALIZABLE"][len(sys.argv) - 2:]
     make_table(where)
     history = History(path)
+    paid = []
 
     def run(number):
         rng = random.Random(number)
@@ -62,6 +66,7 @@ def main():
         connection.set_session(isolation_level=level)
         for _ in range(int(payments)):
             pay(history, f"client {number}", connection, rng.choice(["alice", "bob"]), rng.randrange(1, 10))
+            paid.append(number)
         connection.close()
 
     threads = [threading.Thread(target=run, args=(number,)) for number in range(int(clients))]
@@ -70,7 +75,9 @@ def main():
     for thread in threads:
         thread.join()
     history.close()
-    print(f"{int(clients) * int(payments)} payments, in {path}")
+    print(f"{len(paid)} payments, in {path}")
+    if len(paid) < int(clients) * int(payments):
+        sys.exit(f"{int(clients) * int(payments)} were wanted: a client failed")
 
 
 main() if __name__ == "__main__" else None
