@@ -56,7 +56,7 @@ pub(crate) fn audit_files<'f, S: Streams, H, W: Sink>(
     let mut errors = ToWrite::new(LastWords::new(host.streams.errors(), host.hush));
     let mut fronted = Fronted::new(writer);
     let status = end_chain(&auditor, host.rt.alloc(), &mut fronted, &mut errors);
-    (expected_status(host, fronted.front(), status), last)
+    (expected_status(host, last, fronted.front(), status), last)
 }
 
 /// Audits the files as a chain; quietly by the status alone.

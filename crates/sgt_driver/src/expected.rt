@@ -25,16 +25,17 @@ fn committed_of(answer: &[u8]) -> Option<u64> {
     count.parse::<u64>().ok()
 }
 
-/// The status of an audit, of whose answer this is the front: a no, where it is a yes of another number of committed
-/// transactions than is expected.
+/// The status of an audit, which is called so and of whose answer this is the front: a no, where it is a yes of another
+/// number of committed transactions than is expected.
 pub(crate) fn expected_status<S: Streams, H>(
     host: &Host<'_, S, H>,
+    title: &str,
     answer: &[u8],
     status: u8,
 ) -> u8 {
     match (host.expected, committed_of(answer)) {
         (Some(expected), Some(count)) if status == 0 && count != expected => {
-            let _ = eprintln!(host.streams; "sgt: {count} committed, {expected} expected");
+            let _ = eprintln!(host.streams; "sgt: {title}: {count} committed, {expected} expected");
             1
         }
         _ => status,

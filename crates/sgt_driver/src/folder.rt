@@ -78,7 +78,7 @@ pub(crate) fn is_growth(why: &io::Error) -> bool {
 }
 
 impl<'a, S: Streams> FolderBundles<'a, S> {
-    /// The folder, which is made where it isn't there, and can be written. The next number is the one behind the
+    /// The folder, which is made where it isn't there, and can be written, and has a number left. The next number is the one behind the
     /// greatest in it.
     pub(crate) fn open(
         rt: &'a HostRuntime,
@@ -87,6 +87,10 @@ impl<'a, S: Streams> FolderBundles<'a, S> {
     ) -> io::Result<FolderBundles<'a, S>> {
         fs::create_dir_all(rt, folder)?;
         let last = greatest(rt, folder)?;
+        if last >= MOST {
+            let message = "its numbers are used up";
+            return Err(io::Error::new(io::ErrorKind::AlreadyExists, message));
+        }
         let (trial, _) = new_beside(rt, folder, last.saturating_add(1))?;
         fs::remove_file(rt, trial.as_str())?;
         Ok(FolderBundles {

@@ -154,6 +154,6 @@ pub(crate) fn over<S: Streams, H: Threads + Wait + Sync, W: Sink>(
     };
     tell_unreadable(host, &steady, steady.name(name), fronted.front());
     tell_why(host, &steady, name, fronted.front(), status);
-    let status = expected_status(host, fronted.front(), status);
+    let status = expected_status(host, steady.name(name), fronted.front(), status);
     ended(host, &steady, name, status)
 }

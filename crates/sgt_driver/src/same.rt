@@ -4,8 +4,10 @@ use sgt_line::Line;
 use std::fs;
 use std::os::unix::fs::MetadataExt;
 
-// What standard input is under, as a file.
+// What standard input and output are under, as files.
 const STANDARD: &str = "/dev/stdin";
+
+const OUTPUT: &str = "/dev/stdout";
 
 // Whether the names are of one file, which is there.
 fn is_same(rt: &HostRuntime, one: &str, other: &str) -> bool {
@@ -15,8 +17,30 @@ fn is_same(rt: &HostRuntime, one: &str, other: &str) -> bool {
     first.is_file() && first.dev() == second.dev() && first.ino() == second.ino()
 }
 
-// Whether the file of this name is read.
-fn is_read(rt: &HostRuntime, line: &Line, name: &str) -> bool {
+// The folder that a file of this name is in, and what it is called there.
+fn parts_of(name: &str) -> (&str, &str) {
+    match name.rsplit_once('/') {
+        Some(("", inner)) => ("/", inner),
+        Some((folder, inner)) => (folder, inner),
+        None => (".", name),
+    }
+}
+
+// Whether the names are of one file, which may not be there yet.
+fn may_be_same(rt: &HostRuntime, one: &str, other: &str) -> bool {
+    let ((first, inner), (second, name)) = (parts_of(one), parts_of(other));
+    let (Ok(first), Ok(second)) = (fs::metadata(rt, first), fs::metadata(rt, second)) else {
+        return false;
+    };
+    let is_beside = first.dev() == second.dev() && first.ino() == second.ino();
+    is_same(rt, one, other) || (is_beside && inner == name)
+}
+
+// Whether the file of this name is read, or is standard output.
+fn is_taken(rt: &HostRuntime, line: &Line, name: &str) -> bool {
+    if is_same(rt, name, OUTPUT) {
+        return true;
+    }
     for file in &line.files {
         let read = if file.as_str() == "-" {
             STANDARD
@@ -38,16 +62,16 @@ fn is_read(rt: &HostRuntime, line: &Line, name: &str) -> bool {
 /// The file that would be written over what is read, or twice, if there is one.
 pub(crate) fn overwritten<'a>(rt: &HostRuntime, line: &'a Line) -> Option<&'a str> {
     if let Some(name) = &line.output {
-        if is_read(rt, line, name.as_str()) {
+        if is_taken(rt, line, name.as_str()) {
             return Some(name.as_str());
         }
     }
     let place = line.place.as_ref()?.as_str();
-    if is_read(rt, line, place) {
+    if is_taken(rt, line, place) {
         return Some(place);
     }
     let output = line.output.as_ref()?.as_str();
-    if output == place || is_same(rt, output, place) {
+    if output == place || may_be_same(rt, output, place) {
         return Some(place);
     }
     None

@@ -3,7 +3,8 @@
 use std::fmt;
 use std::fmt::{Display, Formatter, Write};
 
-/// The name of a file as a word that a shell reads as this name: as it is, or between quotes.
+/// The name of a file as a word that a shell reads as this name, and a program as no option: as it is, or between
+/// quotes.
 #[derive(Clone, Copy)]
 pub struct ShellWord<'a> {
     pub name: &'a str,
@@ -16,6 +17,9 @@ fn is_plain(byte: u8) -> bool {
 
 impl Display for ShellWord<'_> {
     fn fmt<W: Write>(&self, f: &mut Formatter<W>) -> fmt::Result {
+        if self.name.starts_with('-') {
+            f.write_str("./")?;
+        }
         if self.name.bytes().all(is_plain) {
             return f.write_str(self.name);
         }

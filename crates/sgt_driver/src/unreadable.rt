@@ -4,6 +4,7 @@ use crate::devices::{LastWords, Steady};
 use crate::front::Front;
 use crate::host::Host;
 use crate::streams::Streams;
+use crate::why::is_events;
 use sgt_command_line::{Choice, NoChoice};
 use sgt_history_words::{Asked, Tail, answered, unreadable};
 use sgt_names::{Failed, Sink, ToWrite, write_all};
@@ -112,9 +113,13 @@ pub(crate) fn tell_unreadable<S: Streams, H, R: Read>(
             if steady.front().bytes().starts_with(b"{")
                 && front.starts_with(b"no line 1 F1")
                 && !host.tells_why => {
-            let _ = eprintln!(host.streams;
-                "sgt: {name} looks like a history, which sgt check judges"
-            );
+            let _ = if is_events(steady.front().bytes()) {
+                eprintln!(host.streams;
+                    "sgt: {name} looks like events of sites: examples/export/export.py makes logs of them"
+                )
+            } else {
+                eprintln!(host.streams; "sgt: {name} looks like a history, which sgt check judges")
+            };
         }
         _ => {}
     }

@@ -16,9 +16,24 @@ enum Look {
     Compressed,
     Wide,
     History,
+    Events,
+    Answer,
     Bundle,
     Logs,
     BlankEnd,
+}
+
+// A member that events of sites have, and histories don't.
+const SITE: &[u8] = b"\"site\":";
+
+/// Whether the text, of which these are the first bytes, looks like events of sites.
+pub(crate) fn is_events(text: &[u8]) -> bool {
+    for at in 0..text.len() {
+        if text.get(at..).unwrap_or(&[]).starts_with(SITE) {
+            return text.starts_with(b"{");
+        }
+    }
+    false
 }
 
 // Whether it begins as a whole bundle does.
@@ -48,8 +63,12 @@ fn look_of(command: CommandName, text: &[u8], last: (u8, u8)) -> Option<Look> {
         CommandName::Replay | CommandName::Run | CommandName::Check => return None,
         _ => {}
     }
-    if text.starts_with(b"{") || text.starts_with(b"[") {
+    if is_events(text) {
+        Some(Look::Events)
+    } else if text.starts_with(b"{") || text.starts_with(b"[") {
         Some(Look::History)
+    } else if text.starts_with(b"no ") || text.starts_with(b"yes ") {
+        Some(Look::Answer)
     } else if is_certify && is_whole(text) {
         Some(Look::Bundle)
     } else if !takes_logs && is_bare(text) {
@@ -94,6 +113,12 @@ fn tell_look<S: Streams, H>(host: &Host<'_, S, H>, name: &str, look: Look) {
         Look::History => eprintln!(streams;
             "sgt: {title} looks like a history: sgt check{gap}{file}"
         ),
+        Look::Events => eprintln!(streams;
+            "sgt: {title} looks like events of sites: examples/export/export.py makes logs of them"
+        ),
+        Look::Answer => eprintln!(streams;
+            "sgt: {title} looks like an answer: give sgt {command} what it answers"
+        ),
         Look::Bundle => eprintln!(streams; "sgt: {title} has a certificate: sgt audit{gap}{file}"),
         Look::Logs => eprintln!(streams; "sgt: {title} has no certificate: sgt certify{gap}{file}"),
         Look::BlankEnd => eprintln!(streams;
@@ -115,8 +140,7 @@ fn reason_of(answer: &[u8]) -> Option<&str> {
 // Tells what to type to learn more of a no for this reason.
 fn tell_reason<S: Streams, H>(host: &Host<'_, S, H>, name: &str, reason: &str) {
     let streams = host.streams;
-    let is_misread = names_rule(name) || name.starts_with('-');
-    let (place, file) = (if is_misread { "./" } else { "" }, ShellWord { name });
+    let (place, file) = (if names_rule(name) { "./" } else { "" }, ShellWord { name });
     let is_explained = match host.command {
         CommandName::Audit | CommandName::Serial | CommandName::Draw => reason != "C1",
         CommandName::Certify => true,
