@@ -562,33 +562,6 @@ next_kept ts us k t rising at changes risen =
 
 -- ---- what a draft touches, in its list and in its parts
 
-front-All : (P : Touch → Type 0) (xs ys : List Touch) → All P (xs ++ ys) → All P xs
-front-All P xs ys all = All-from_at P xs (λ n t at. All_at P (xs ++ ys) n t all (front_at xs ys n t at))
-
-back-All : (P : Touch → Type 0) (xs ys : List Touch) → All P (xs ++ ys) → All P ys
-back-All P xs ys all = All-from_at P ys (λ n t at. All_at P (xs ++ ys) (length xs + n) t all (back_at xs ys n ∙ at))
-
-all_touched : (P : Touch → Type 0) (ps : List PartView) → AllByRecursion (λ p. All P p.touched) ps
-    → All P (touched_in ps)
-all_touched P [] all = λ n d within. absurd (omega arith)
-all_touched P (p ∷ ps) all = All-append P p.touched (touched_in ps) all.0 (all_touched P ps all.1)
-
-all_parts : (P : Touch → Type 0) (ps : List PartView) → All P (touched_in ps) → AllByRecursion (λ p. All P p.touched) ps
-all_parts P [] all = tt
-all_parts P (p ∷ ps) all =
-    (front-All P p.touched (touched_in ps) all, all_parts P ps (back-All P p.touched (touched_in ps) all))
-
-pub All-touched : (P : Touch → Type 0) (few : List Touch) (ps : List PartView)
-    → (All P few × All (λ p. All P p.touched) ps) ↔ All P (few ++ touched_in ps)
-All-touched P few ps = (
-  λ both. All-append P few (touched_in ps) both.0
-      (all_touched P ps (recursion_from_All (λ (p : PartView). All P p.touched) ps both.1)),
-  λ all. (
-    front-All P few (touched_in ps) all,
-    All-from_recursion (λ (p : PartView). All P p.touched) ps (all_parts P ps (back-All P few (touched_in ps) all)),
-  ),
-)
-
 any_split : (P : Touch → Type 0) (xs ys : List Touch) (n : ℕ) (t : Touch) → slice_get (xs ++ ys) n ≡ Some t → P t
     → Any P xs ⊎ Any P ys
 any_split P [] ys n t at is = inr (Any-from_at P ys n t at is)

@@ -7,18 +7,15 @@ use Rattle.std.proofs.lemmas.List.Elements.{filter_map-append}
 use Rattle.sgt_arena.specs.declared.handle.Handle.{Handle}
 use Rattle.sgt_names.specs.Entry.{change_of}
 use Rattle.sgt_names.specs.Name.{Name}
-use Rattle.sgt_names.specs.Draft.{at_site}
 use Rattle.sgt_names.specs.declared.draft.Touch.{Touch}
 use Rattle.sgt_names.specs.declared.entry.Entry.{Entry}
 use Rattle.sgt_names.specs.declared.entry.Kind.{Kind}
 use Rattle.sgt_names.proofs.Lists.{All-weaken}
-use Rattle.sgt_site.specs.State.{SiteState, Pledge, version_at, IsPledged, IsPledgedFor}
+use Rattle.sgt_site.specs.State.{SiteState, Pledge, version_at, IsPledged}
 use Rattle.sgt_site.specs.Refused.{IsSame}
 use Rattle.sgt_edges.specs.Edges.{IsGiven, StandsForAll, HaveOwnHandles, AreApart, SeesTooNew, Precedes, wrote_before, wrote_after, wrote_too, read_it, Walks, given, old, on}
 use Rattle.sgt_edges.specs.declared.edge.Edge.{Edge}
-use Rattle.sgt_step.specs.OneSite.{AreEdgesOf, IsPledgedTo}
-use Rattle.sgt_step.specs.declared.one_site.Ending.{Ending}
-use Rattle.sgt_step.specs.declared.one_site.Ending.TheVariants.{Committed, Refused, Withdrawn}
+use Rattle.sgt_step.specs.OneSite.{AreEdgesOf}
 
 -- a front of the log has no newer version
 front-version : (n : ℕ) (es : List Entry) (x : Name) → version_at (take n es) x ≤ version_at es x
@@ -46,13 +43,6 @@ pub given-back : (s mid new : SiteState) (tx : ℕ) (part : List Touch) → s.pl
 given-back s mid new tx part free is back =
     back (part, ap (λ (m : SiteState). m.pledge) is)
     ∙ (ap (λ (m : SiteState). record m { pledge = None }) is ∙ ap (λ p. record s { pledge = p }) (sym free))
-
--- a pledge for a draft is one under which its transaction may end in any way
-pub pledged_to : (ending : Ending) (s : SiteState) (tx : ℕ) (touched : List Touch) → IsPledgedFor s tx touched
-    → IsPledgedTo ending s tx touched
-pledged_to Committed s tx touched h = h
-pledged_to Refused s tx touched h = h
-pledged_to Withdrawn s tx touched h = (at_site s.number touched, h)
 
 -- ---- the edges don't look at the pledge
 
