@@ -220,7 +220,7 @@ pub(crate) fn judge_next_entry(
 }
 
 /// The certificate with its decisions by transaction, or its least fault by itself.
-pub(crate) fn judge_certificate(
+pub fn judge_certificate(
     alloc: Global,
     certificate: Certificate,
 ) -> Result<Result<Decided, Fault>, AllocError>

@@ -52,7 +52,7 @@ impl Machine {
     ghost use Rattle.sgt_audit.specs.private.NextLine.{AnswersCertificate, Follows};
 
     /// Before the first line. The sections are to be handed out, or only judged.
-    pub(crate) fn new(alloc: Global, keeps: bool) -> Machine
+    pub fn new(alloc: Global, keeps: bool) -> Machine
         ensures stands { Stands result.progress start }
         ensures kept { IsKeeping keeps result }
     {
@@ -64,7 +64,7 @@ impl Machine {
     }
 
     /// How long the next line may be.
-    pub(crate) fn limit(&self) -> usize
+    pub fn limit(&self) -> usize
         ensures { (s : Stage) → Stands self.now.progress s → result ≡ limit_of s }
     {
         match &self.progress {
@@ -110,7 +110,7 @@ impl Machine {
     }
 
     /// The next line, without its LF.
-    pub(crate) fn line(&mut self, line: &[u8]) -> Result<Option<Fault>, EngineFail>
+    pub fn line(&mut self, line: &[u8]) -> Result<Option<Fault>, EngineFail>
         ensures follows { (s : Stage) → Stands self.old.progress s
             → IfOk result (Follows s line.now self.new.progress) }
         ensures err { IfErr result (λ e. e ≡ EngineFail.Memory) }
@@ -168,7 +168,7 @@ impl Machine {
     }
 
     /// The fault of a line that is too long.
-    pub(crate) fn too_long(&self) -> Fault
+    pub fn too_long(&self) -> Fault
         ensures { (s : Stage) (p : Piece) → Stands self.now.progress s
             → ((second : Bool) → s ≢ headed second)
             → limit_of s < length (bytes_of p) → Breaks (Rule s p) result }
@@ -188,7 +188,7 @@ impl Machine {
 
     /// What was read, if all is there at the end of the input, in the line of this number, with these bytes behind
     /// the last LF; or the fault.
-    pub(crate) fn end(self, rest: &[u8], line: u64) -> Result<Kept, FirstFault>
+    pub fn end(self, rest: &[u8], line: u64) -> Result<Kept, FirstFault>
         ensures ends { (s : Stage) → Stands self.progress s → length rest.now ≤ limit_of s
             → EndsWith s rest.now line result }
         ensures kept { IsKeeping true self → IfOk result (λ k. IsSome k.sections) }
