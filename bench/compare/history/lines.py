@@ -87,7 +87,7 @@ def cases():
     words = "longer than 16777216 bytes, without its LF"
     yield words, ["check"], b" " * 16_777_217, (2, b"! L2 line 1\n", ("sgt: line 1: %s\n" % words).encode())
     yield "good", ["check"], many, (0, b"yes 2991 committed 0 aborted\n", b"")
-    hint = b"sgt: standard input looks like a history, which sgt check judges\n"
+    hint = b"sgt: standard input looks like a history: sgt check\n"
     for command in ("audit", "serial", "certify", "explain", "draw"):
         yield "a history", [command], two, (1, None, hint)
 

@@ -1,5 +1,8 @@
 //! The program over files, standard streams and threads.
 
+ghost use Rattle.std.specs.Prelude.{IfOk};
+ghost use Rattle.sgt_driver.specs.Status.{IsStatus};
+
 use crate::against::judge_order;
 use crate::chain::audit_chain;
 use crate::devices::{Hush, LastWords};
@@ -12,7 +15,7 @@ use crate::same::overwritten;
 use crate::streams::Streams;
 use crate::svg::check_drawn;
 use crate::talk::serve_events;
-use crate::unreadable::Watched;
+use crate::unreadable::asked_by;
 use sgt_command_line::{Choice, NoChoice, Way, awaited, choose, wanted_by, way_of};
 use sgt_line::{CommandName, Line, named};
 use sgt_names::{EngineFail, ToWrite};
@@ -53,7 +56,9 @@ fn line_with(rt: &HostRuntime, given: Vec<String>) -> Result<Line, AllocError> {
 }
 
 // The status where words or memory are wanting.
-fn refuse<S: Streams>(streams: &S, hush: &Hush, why: NoWords) -> u8 {
+fn refuse<S: Streams>(streams: &S, hush: &Hush, why: NoWords) -> u8
+    ensures { IsStatus result }
+{
     let mut errors = ToWrite::new(LastWords::new(streams.errors(), hush));
     match why {
         NoWords::Memory => give_up(&mut errors, EngineFail::Memory),
@@ -83,7 +88,9 @@ fn answer<S: Streams, H: Threads + Wait + Sync>(
     host: &Host<'_, S, H>,
     line: &Line,
     choice: &Result<Choice, NoChoice>,
-) -> Result<u8, EngineFail> {
+) -> Result<u8, EngineFail>
+    ensures { IfOk result IsStatus }
+{
     if asks_object(line, choice) {
         return answer_objects(host, line, choice);
     }
@@ -116,7 +123,9 @@ fn run<S: Streams, H: Threads + Wait + Sync>(
     threads: &H,
     hush: &Hush,
     line: &Line,
-) -> u8 {
+) -> u8
+    ensures { IsStatus result }
+{
     if let Some(name) = overwritten(rt, line) {
         let _ = eprintln!(streams; "sgt: {name} is to be written, and is read or written already");
         return 2;
@@ -132,7 +141,7 @@ fn run<S: Streams, H: Threads + Wait + Sync>(
         streams,
         threads,
         awaits: awaited(line, &choice),
-        watched: Watched::of(&choice),
+        asked: asked_by(&choice),
         tells_lines: line.tells_lines || (is_shown && tells_terminal(&choice)),
         tells_why: line.tells_why || is_shown,
         command: command_of(line),
@@ -156,7 +165,9 @@ pub fn drive<S: Streams, H: Threads + Wait + Sync>(
     streams: &S,
     threads: &H,
     given: Result<Vec<String>, NoWords>,
-) -> u8 {
+) -> u8
+    ensures { IsStatus result }
+{
     let hush = Hush::new();
     let words = match given {
         Ok(words) => words,

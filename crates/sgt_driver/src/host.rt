@@ -1,12 +1,16 @@
 //! The system, and what is read of it.
 
+ghost use Rattle.std.specs.Prelude.{IfErr, IfSome};
+ghost use Rattle.sgt_driver.specs.Status.{IsStatus};
+
 use crate::devices::{Hush, Input, LastWords, Steady};
 use crate::expected::expected_status;
 use crate::output::Output;
 use crate::progress::Progress;
 use crate::streams::Streams;
-use crate::unreadable::{Fronted, Watched, tell_unreadable};
+use crate::unreadable::{Fronted, tell_unreadable};
 use crate::why::tell_why;
+use sgt_history_words::{Asked, Tail};
 use sgt_line::{CommandName, Line};
 use sgt_names::{FromRead, Sink, ToWrite};
 use sgt_program::program;
@@ -17,7 +21,7 @@ use std::sync::Wait;
 use std::thread::Threads;
 
 /// The system: its files, its standard streams and its threads; what is awaited from a terminal, if something is read, and
-/// what words are of use where it can't be; whether lines are told as they are read, and behind a no what to type to
+/// what a history's transactions have to have, if one is; whether lines are told as they are read, and behind a no what to type to
 /// learn more; whether last words are wanted; the file that is written in place of standard
 /// output; and how many transactions are to be committed.
 #[derive(Drop)]
@@ -26,7 +30,7 @@ pub struct Host<'a, S, H> {
     pub streams: &'a S,
     pub threads: &'a H,
     pub awaits: Option<&'static str>,
-    pub watched: Watched,
+    pub asked: Option<Asked>,
     pub tells_lines: bool,
     pub tells_why: bool,
     pub command: CommandName,
@@ -57,7 +61,9 @@ pub(crate) fn writer<'a, S: Streams, H>(host: &Host<'a, S, H>) -> ToWrite<Output
 }
 
 /// Says why a file could not be read or written, if it isn't that its reader went away, and gives the status.
-pub(crate) fn refuse_file<S: Streams>(streams: &S, name: &str, why: &io::Error) -> u8 {
+pub(crate) fn refuse_file<S: Streams>(streams: &S, name: &str, why: &io::Error) -> u8
+    ensures { IsStatus result }
+{
     if why.kind() != io::ErrorKind::BrokenPipe {
         let _ = eprintln!(streams; "sgt: {name}: {why}");
     }
@@ -69,7 +75,9 @@ pub(crate) fn write_file<S: Streams, H>(
     host: &Host<'_, S, H>,
     name: &str,
     text: &[u8],
-) -> Option<u8> {
+) -> Option<u8>
+    ensures { IfSome result IsStatus }
+{
     let written = match File::create(host.rt, name) {
         Ok(mut file) => file.write_all(text),
         Err(why) => Err(why),
@@ -100,7 +108,9 @@ fn input_of<S: Streams, H>(host: &Host<'_, S, H>, name: &str) -> io::Result<Inpu
 pub(crate) fn open<'a, S: Streams, H>(
     host: &Host<'a, S, H>,
     name: &str,
-) -> Result<Steady<'a, S, Input<S::Input>>, u8> {
+) -> Result<Steady<'a, S, Input<S::Input>>, u8>
+    ensures { IfErr result IsStatus }
+{
     let input = match input_of(host, name) {
         Ok(input) => input,
         Err(why) => return Err(refuse_file(host.streams, name, &why)),
@@ -111,7 +121,10 @@ pub(crate) fn open<'a, S: Streams, H>(
         None
     };
     host.hush.lift();
-    let tail = host.watched.tail(host.rt.alloc());
+    let tail = match host.asked {
+        Some(_) => Some(Tail::new(host.rt.alloc())),
+        None => None,
+    };
     Ok(Steady::new(input, progress, tail, host.hush))
 }
 
@@ -121,7 +134,9 @@ pub(crate) fn ended<S: Streams, H>(
     steady: &Steady<'_, S, Input<S::Input>>,
     name: &str,
     status: u8,
-) -> u8 {
+) -> u8
+    ensures { IsStatus status → IsStatus result }
+{
     match &steady.why {
         Some(why) => refuse_file(host.streams, steady.name(name), why),
         None => status,
@@ -134,7 +149,9 @@ pub(crate) fn over<S: Streams, H: Threads + Wait + Sync, W: Sink>(
     words: &[String],
     name: &str,
     writer: &mut W,
-) -> u8 {
+) -> u8
+    ensures { IsStatus result }
+{
     let mut steady = match open(host, name) {
         Ok(steady) => steady,
         Err(status) => return status,
@@ -152,7 +169,7 @@ pub(crate) fn over<S: Streams, H: Threads + Wait + Sync, W: Sink>(
             &mut errors,
         )
     };
-    tell_unreadable(host, &steady, steady.name(name), fronted.front());
+    tell_unreadable(host, &steady, fronted.front());
     tell_why(host, &steady, name, fronted.front(), status);
     let status = expected_status(host, steady.name(name), fronted.front(), status);
     ended(host, &steady, name, status)

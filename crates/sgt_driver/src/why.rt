@@ -1,4 +1,4 @@
-//! What to type to learn more, told behind a no.
+//! What a text looks like that is not what was wanted, and what to type to learn more, told behind a no.
 
 use crate::devices::Steady;
 use crate::host::Host;
@@ -26,14 +26,20 @@ enum Look {
 // A member that events of sites have, and histories don't.
 const SITE: &[u8] = b"\"site\":";
 
-/// Whether the text, of which these are the first bytes, looks like events of sites.
-pub(crate) fn is_events(text: &[u8]) -> bool {
+// Whether the text, of which these are the first bytes, looks like events of sites.
+fn is_events(text: &[u8]) -> bool {
     for at in 0..text.len() {
         if text.get(at..).unwrap_or(&[]).starts_with(SITE) {
             return text.starts_with(b"{");
         }
     }
     false
+}
+
+// Whether it begins as an object or a list of JSON does, and not as a certificate.
+fn is_history(text: &[u8]) -> bool {
+    let is_json = text.starts_with(b"{") || text.starts_with(b"[");
+    is_json && !text.starts_with(b"{\"decisions\":")
 }
 
 // Whether it begins as a whole bundle does.
@@ -65,7 +71,7 @@ fn look_of(command: CommandName, text: &[u8], last: (u8, u8)) -> Option<Look> {
     }
     if is_events(text) {
         Some(Look::Events)
-    } else if text.starts_with(b"{") || text.starts_with(b"[") {
+    } else if is_history(text) {
         Some(Look::History)
     } else if text.starts_with(b"no ") || text.starts_with(b"yes ") {
         Some(Look::Answer)
@@ -198,7 +204,9 @@ fn tells_look<S: Streams, H, R: Read>(
 ) -> bool {
     let text = steady.front();
     match look_of(host.command, text.bytes(), text.last()) {
-        Some(look) if is_cause(look, host.command, reason_of(answer)) => {
+        Some(look)
+            if is_cause(look, host.command, reason_of(answer))
+                && (host.tells_why || is_always_told(look, answer)) => {
             tell_look(host, name, look);
             true
         }
@@ -206,8 +214,17 @@ fn tells_look<S: Streams, H, R: Read>(
     }
 }
 
-/// Tells standard error what to type to learn more of what was read under this name, where it is asked for and the
-/// answer, of which this is the front, is a no.
+// Whether the look is told also where nobody asks for more: that of a text which is of another kind, where the answer
+// is that its first line is none of a bundle.
+fn is_always_told(look: Look, answer: &[u8]) -> bool {
+    match look {
+        Look::History | Look::Events => answer.starts_with(b"no line 1 F1"),
+        _ => false,
+    }
+}
+
+/// Tells standard error what was read under this name, where it looks like a text of another kind, and what to type to
+/// learn more of it, where that is asked for; the answer, of which this is the front, is a no.
 pub(crate) fn tell_why<S: Streams, H, R: Read>(
     host: &Host<'_, S, H>,
     steady: &Steady<'_, S, R>,
@@ -216,7 +233,7 @@ pub(crate) fn tell_why<S: Streams, H, R: Read>(
     status: u8,
 ) {
     let is_told = status == 1 || (status == 2 && answer.starts_with(UNREADABLE));
-    if !host.tells_why || !is_told || tells_look(host, steady, name, answer) || status == 2 {
+    if !is_told || tells_look(host, steady, name, answer) || !host.tells_why || status == 2 {
         return;
     }
     match host.command {
