@@ -6,13 +6,14 @@ ghost use Rattle.sgt_driver.specs.Status.{IsStatus};
 use crate::devices::{Held, LastWords};
 use crate::expected::expected_status;
 use crate::host::{Host, ended, open, writer};
+use crate::shell::LineName;
 use crate::streams::Streams;
 use crate::unreadable::Fronted;
 use crate::why::tell_why;
 use sgt_audit_chain::ChainAuditor;
 use sgt_line::Line;
-use sgt_names::{FromRead, Sink, ToWrite};
-use sgt_program::{audit_next, end_chain};
+use sgt_names::{EngineFail, FromRead, Sink, ToWrite};
+use sgt_program::{audit_next, end_chain, give_up};
 
 // The status of the file as the next bundle, if the chain ends with it.
 fn next<S: Streams, H, W: Sink>(
@@ -28,13 +29,16 @@ fn next<S: Streams, H, W: Sink>(
         Err(status) => return Some(status),
     };
     let mut errors = ToWrite::new(LastWords::new(host.streams.errors(), host.hush));
+    let Ok(title) = format!(in host.rt.alloc(); "{}", LineName { name }) else {
+        return Some(give_up(&mut errors, EngineFail::Memory));
+    };
     let mut fronted = Fronted::new(writer);
     let status = {
         let mut reader = FromRead::new(&mut steady);
         audit_next(
             auditor,
             host.rt.alloc(),
-            name,
+            title.as_str(),
             &mut reader,
             &mut fronted,
             &mut errors,

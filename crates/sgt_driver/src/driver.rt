@@ -12,6 +12,7 @@ use crate::object::{answer_objects, asks_object};
 use crate::ordinary::{audit_each, judge, run_held};
 use crate::page::{answer_page, asks_page};
 use crate::same::overwritten;
+use crate::shell::LineName;
 use crate::streams::Streams;
 use crate::svg::check_drawn;
 use crate::talk::serve_events;
@@ -127,7 +128,10 @@ fn run<S: Streams, H: Threads + Wait + Sync>(
     ensures { IsStatus result }
 {
     if let Some(name) = overwritten(rt, line) {
-        let _ = eprintln!(streams; "sgt: {name} is to be written, and is read or written already");
+        let _ = eprintln!(streams;
+            "sgt: {} is to be written, and is read or written already",
+            LineName { name }
+        );
         return 2;
     }
     let expected = match expected_of(streams, line) {

@@ -4,6 +4,7 @@ ghost use Rattle.std.specs.Prelude.{IfErr};
 ghost use Rattle.sgt_driver.specs.Status.{IsStatus};
 
 use crate::host::Host;
+use crate::shell::LineName;
 use crate::streams::Streams;
 use sgt_line::Line;
 
@@ -17,7 +18,12 @@ pub(crate) fn expected_of<S: Streams>(streams: &S, line: &Line) -> Result<Option
     match text.parse::<u64>() {
         Ok(number) => Ok(Some(number)),
         Err(_) => {
-            let _ = eprintln!(streams; "sgt: --expect-committed {text}: that is no number");
+            let _ = eprintln!(streams;
+                "sgt: --expect-committed {}: that is no number",
+                LineName {
+                    name: text.as_str()
+                }
+            );
             Err(2)
         }
     }
@@ -42,7 +48,10 @@ pub(crate) fn expected_status<S: Streams, H>(
 {
     match (host.expected, committed_of(answer)) {
         (Some(expected), Some(count)) if status == 0 && count != expected => {
-            let _ = eprintln!(host.streams; "sgt: {title}: {count} committed, {expected} expected");
+            let _ = eprintln!(host.streams;
+                "sgt: {}: {count} committed, {expected} expected",
+                LineName { name: title }
+            );
             1
         }
         _ => status,

@@ -2,6 +2,7 @@
 
 ghost use Rattle.std.specs.Prelude.{◌≡◌};
 
+use crate::shell::LineName;
 use crate::streams::Streams;
 use sgt_serve::{Bundles, Handed, HandedBundle, KeepFault};
 use std::fs::File;
@@ -141,8 +142,8 @@ impl<'a, S: Streams> FolderBundles<'a, S> {
             Ok(number) => Ok(number),
             Err(why) if is_growth(&why) => Err(KeepFault::Memory),
             Err(why) => {
-                let folder = self.folder;
-                let _ = eprintln!(self.streams; "sgt: {folder}: a bundle can't be written: {why}");
+                let name = LineName { name: self.folder };
+                let _ = eprintln!(self.streams; "sgt: {name}: a bundle can't be written: {why}");
                 Err(KeepFault::Refused)
             }
         }

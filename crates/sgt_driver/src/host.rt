@@ -7,6 +7,7 @@ use crate::devices::{Hush, Input, LastWords, Steady};
 use crate::expected::expected_status;
 use crate::output::Output;
 use crate::progress::Progress;
+use crate::shell::LineName;
 use crate::streams::Streams;
 use crate::unreadable::{Fronted, tell_unreadable};
 use crate::why::tell_why;
@@ -65,7 +66,7 @@ pub(crate) fn refuse_file<S: Streams>(streams: &S, name: &str, why: &io::Error) 
     ensures { IsStatus result }
 {
     if why.kind() != io::ErrorKind::BrokenPipe {
-        let _ = eprintln!(streams; "sgt: {name}: {why}");
+        let _ = eprintln!(streams; "sgt: {}: {why}", LineName { name });
     }
     4
 }

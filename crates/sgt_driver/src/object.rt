@@ -7,6 +7,7 @@ use crate::against::judged;
 use crate::chain::audit_files;
 use crate::host::{Host, file_of, over, word_of, writer};
 use crate::output::Output;
+use crate::shell::LineName;
 use crate::streams::Streams;
 use crate::svg::drawn;
 use sgt_command_line::{Choice, NoChoice, Way, wanted_by, way_of};
@@ -186,7 +187,7 @@ fn answered<S: Streams, H: Threads + Wait + Sync, W: Sink>(
 
 // The answer on a chain, without the name of the file that is named behind `no`.
 fn unnamed(alloc: Global, answer: Vec<u8>, name: &str) -> Result<Vec<u8>, AllocError> {
-    let head = format!(in alloc; "no {name}")?;
+    let head = format!(in alloc; "no {}", LineName { name })?;
     let Some(behind) = answer.as_slice().strip_prefix(head.as_bytes()) else {
         return Ok(answer);
     };

@@ -5,6 +5,7 @@ ghost use Rattle.sgt_driver.specs.Status.{IsStatus};
 
 use crate::devices::Held;
 use crate::host::{Host, over, write_file, writer};
+use crate::shell::LineName;
 use crate::streams::Streams;
 use crate::why::tell_refusal;
 use sgt_line::{Line, cut, shown, strict_status};
@@ -30,7 +31,12 @@ pub(crate) fn audit_each<S: Streams, H: Threads + Wait + Sync>(
         let found = over(host, line.words.as_slice(), name.as_str(), &mut verdict);
         status = status.max(found);
         if found == 1 || (found == 0 && !line.is_quiet) {
-            let head = format!(in rt.alloc(); "{name}: ")?;
+            let head = format!(in rt.alloc();
+                "{}: ",
+                LineName {
+                    name: name.as_str()
+                }
+            )?;
             for text in [head.as_bytes(), verdict.bytes()] {
                 if write_all(&mut output, text).is_err() {
                     return Err(EngineFail::WriteFault);

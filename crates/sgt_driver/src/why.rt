@@ -2,7 +2,7 @@
 
 use crate::devices::Steady;
 use crate::host::Host;
-use crate::shell::ShellWord;
+use crate::shell::{LineName, ShellWord};
 use crate::streams::Streams;
 use sgt_line::{CommandName, names_rule};
 use std::io::Read;
@@ -109,6 +109,7 @@ fn tell_look<S: Streams, H>(host: &Host<'_, S, H>, name: &str, look: Look) {
     } else {
         (name, ShellWord { name }, " ")
     };
+    let title = LineName { name: title };
     let _ = match look {
         Look::Compressed => {
             eprintln!(streams; "sgt: {title} is compressed: gunzip -c{gap}{file} | sgt {command}")
