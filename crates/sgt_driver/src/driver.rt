@@ -1,8 +1,5 @@
 //! The program over files, standard streams and threads.
 
-ghost use Rattle.std.specs.Prelude.{IfOk};
-ghost use Rattle.sgt_driver.specs.Status.{IsStatus};
-
 use crate::against::judge_order;
 use crate::chain::audit_chain;
 use crate::devices::{Hush, LastWords};
@@ -57,9 +54,7 @@ fn line_with(rt: &HostRuntime, given: Vec<String>) -> Result<Line, AllocError> {
 }
 
 // The status where words or memory are wanting.
-fn refuse<S: Streams>(streams: &S, hush: &Hush, why: NoWords) -> u8
-    ensures { IsStatus result }
-{
+fn refuse<S: Streams>(streams: &S, hush: &Hush, why: NoWords) -> u8 {
     let mut errors = ToWrite::new(LastWords::new(streams.errors(), hush));
     match why {
         NoWords::Memory => give_up(&mut errors, EngineFail::Memory),
@@ -89,9 +84,7 @@ fn answer<S: Streams, H: Threads + Wait + Sync>(
     host: &Host<'_, S, H>,
     line: &Line,
     choice: &Result<Choice, NoChoice>,
-) -> Result<u8, EngineFail>
-    ensures { IfOk result IsStatus }
-{
+) -> Result<u8, EngineFail> {
     if asks_object(line, choice) {
         return answer_objects(host, line, choice);
     }
@@ -124,14 +117,10 @@ fn run<S: Streams, H: Threads + Wait + Sync>(
     threads: &H,
     hush: &Hush,
     line: &Line,
-) -> u8
-    ensures { IsStatus result }
-{
+) -> u8 {
     if let Some(name) = overwritten(rt, line) {
-        let _ = eprintln!(streams;
-            "sgt: {} is to be written, and is read or written already",
-            LineName { name }
-        );
+        let name = LineName { name };
+        let _ = eprintln!(streams; "sgt: {name} is to be written, and is read or written already");
         return 2;
     }
     let expected = match expected_of(streams, line) {
@@ -169,9 +158,7 @@ pub fn drive<S: Streams, H: Threads + Wait + Sync>(
     streams: &S,
     threads: &H,
     given: Result<Vec<String>, NoWords>,
-) -> u8
-    ensures { IsStatus result }
-{
+) -> u8 {
     let hush = Hush::new();
     let words = match given {
         Ok(words) => words,

@@ -1,29 +1,22 @@
 //! How many transactions are to be committed.
 
-ghost use Rattle.std.specs.Prelude.{IfErr};
-ghost use Rattle.sgt_driver.specs.Status.{IsStatus};
-
 use crate::host::Host;
 use crate::shell::LineName;
 use crate::streams::Streams;
 use sgt_line::Line;
 
 /// What the line says of it; the status, where that is no number.
-pub(crate) fn expected_of<S: Streams>(streams: &S, line: &Line) -> Result<Option<u64>, u8>
-    ensures { IfErr result IsStatus }
-{
+pub(crate) fn expected_of<S: Streams>(streams: &S, line: &Line) -> Result<Option<u64>, u8> {
     let Some(text) = &line.expected else {
         return Ok(None);
     };
     match text.parse::<u64>() {
         Ok(number) => Ok(Some(number)),
         Err(_) => {
-            let _ = eprintln!(streams;
-                "sgt: --expect-committed {}: that is no number",
-                LineName {
-                    name: text.as_str()
-                }
-            );
+            let text = LineName {
+                name: text.as_str(),
+            };
+            let _ = eprintln!(streams; "sgt: --expect-committed {text}: that is no number");
             Err(2)
         }
     }
@@ -43,15 +36,11 @@ pub(crate) fn expected_status<S: Streams, H>(
     title: &str,
     answer: &[u8],
     status: u8,
-) -> u8
-    ensures { IsStatus status → IsStatus result }
-{
+) -> u8 {
     match (host.expected, committed_of(answer)) {
         (Some(expected), Some(count)) if status == 0 && count != expected => {
-            let _ = eprintln!(host.streams;
-                "sgt: {}: {count} committed, {expected} expected",
-                LineName { name: title }
-            );
+            let title = LineName { name: title };
+            let _ = eprintln!(host.streams; "sgt: {title}: {count} committed, {expected} expected");
             1
         }
         _ => status,

@@ -1,8 +1,5 @@
 //! The system, and what is read of it.
 
-ghost use Rattle.std.specs.Prelude.{IfErr, IfSome};
-ghost use Rattle.sgt_driver.specs.Status.{IsStatus};
-
 use crate::devices::{Hush, Input, LastWords, Steady};
 use crate::expected::expected_status;
 use crate::output::Output;
@@ -22,9 +19,9 @@ use std::sync::Wait;
 use std::thread::Threads;
 
 /// The system: its files, its standard streams and its threads; what is awaited from a terminal, if something is read, and
-/// what a history's transactions have to have, if one is; whether lines are told as they are read, and behind a no what to type to
-/// learn more; whether last words are wanted; the file that is written in place of standard
-/// output; and how many transactions are to be committed.
+/// what a history's transactions have to have, if one is; whether lines are told as they are read, and behind a no what
+/// to type to learn more; whether last words are wanted; the file that is written in place of standard output; and how
+/// many transactions are to be committed.
 #[derive(Drop)]
 pub struct Host<'a, S, H> {
     pub rt: &'a HostRuntime,
@@ -62,9 +59,7 @@ pub(crate) fn writer<'a, S: Streams, H>(host: &Host<'a, S, H>) -> ToWrite<Output
 }
 
 /// Says why a file could not be read or written, if it isn't that its reader went away, and gives the status.
-pub(crate) fn refuse_file<S: Streams>(streams: &S, name: &str, why: &io::Error) -> u8
-    ensures { IsStatus result }
-{
+pub(crate) fn refuse_file<S: Streams>(streams: &S, name: &str, why: &io::Error) -> u8 {
     if why.kind() != io::ErrorKind::BrokenPipe {
         let _ = eprintln!(streams; "sgt: {}: {why}", LineName { name });
     }
@@ -76,9 +71,7 @@ pub(crate) fn write_file<S: Streams, H>(
     host: &Host<'_, S, H>,
     name: &str,
     text: &[u8],
-) -> Option<u8>
-    ensures { IfSome result IsStatus }
-{
+) -> Option<u8> {
     let written = match File::create(host.rt, name) {
         Ok(mut file) => file.write_all(text),
         Err(why) => Err(why),
@@ -109,9 +102,7 @@ fn input_of<S: Streams, H>(host: &Host<'_, S, H>, name: &str) -> io::Result<Inpu
 pub(crate) fn open<'a, S: Streams, H>(
     host: &Host<'a, S, H>,
     name: &str,
-) -> Result<Steady<'a, S, Input<S::Input>>, u8>
-    ensures { IfErr result IsStatus }
-{
+) -> Result<Steady<'a, S, Input<S::Input>>, u8> {
     let input = match input_of(host, name) {
         Ok(input) => input,
         Err(why) => return Err(refuse_file(host.streams, name, &why)),
@@ -135,9 +126,7 @@ pub(crate) fn ended<S: Streams, H>(
     steady: &Steady<'_, S, Input<S::Input>>,
     name: &str,
     status: u8,
-) -> u8
-    ensures { IsStatus status → IsStatus result }
-{
+) -> u8 {
     match &steady.why {
         Some(why) => refuse_file(host.streams, steady.name(name), why),
         None => status,
@@ -150,9 +139,7 @@ pub(crate) fn over<S: Streams, H: Threads + Wait + Sync, W: Sink>(
     words: &[String],
     name: &str,
     writer: &mut W,
-) -> u8
-    ensures { IsStatus result }
-{
+) -> u8 {
     let mut steady = match open(host, name) {
         Ok(steady) => steady,
         Err(status) => return status,

@@ -1,8 +1,5 @@
 //! Several files, a bundle that goes to a file, a strict replay, and a status alone.
 
-ghost use Rattle.std.specs.Prelude.{IfOk, IfSome};
-ghost use Rattle.sgt_driver.specs.Status.{IsStatus};
-
 use crate::devices::Held;
 use crate::host::{Host, over, write_file, writer};
 use crate::shell::LineName;
@@ -20,9 +17,7 @@ const LINE: usize = 200;
 pub(crate) fn audit_each<S: Streams, H: Threads + Wait + Sync>(
     host: &Host<'_, S, H>,
     line: &Line,
-) -> Result<u8, EngineFail>
-    ensures { IfOk result IsStatus }
-{
+) -> Result<u8, EngineFail> {
     let rt = host.rt;
     let mut status = 0;
     let mut output = writer(host);
@@ -31,12 +26,10 @@ pub(crate) fn audit_each<S: Streams, H: Threads + Wait + Sync>(
         let found = over(host, line.words.as_slice(), name.as_str(), &mut verdict);
         status = status.max(found);
         if found == 1 || (found == 0 && !line.is_quiet) {
-            let head = format!(in rt.alloc();
-                "{}: ",
-                LineName {
-                    name: name.as_str()
-                }
-            )?;
+            let title = LineName {
+                name: name.as_str(),
+            };
+            let head = format!(in rt.alloc(); "{title}: ")?;
             for text in [head.as_bytes(), verdict.bytes()] {
                 if write_all(&mut output, text).is_err() {
                     return Err(EngineFail::WriteFault);
@@ -52,9 +45,7 @@ fn deliver<S: Streams, H>(
     host: &Host<'_, S, H>,
     line: &Line,
     text: &[u8],
-) -> Result<Option<u8>, EngineFail>
-    ensures { IfOk result (λ r. IfSome r IsStatus) }
-{
+) -> Result<Option<u8>, EngineFail> {
     let mut output = writer(host);
     let (front, bundle) = shown(line, text);
     if write_all(&mut output, front).is_err() {
@@ -71,9 +62,7 @@ pub(crate) fn run_held<S: Streams, H: Threads + Wait + Sync>(
     host: &Host<'_, S, H>,
     line: &Line,
     name: &str,
-) -> Result<u8, EngineFail>
-    ensures { IfOk result IsStatus }
-{
+) -> Result<u8, EngineFail> {
     let mut held = Held::new(host.rt.alloc());
     let status = over(host, line.words.as_slice(), name, &mut held);
     if held.refused > 0 {
@@ -98,8 +87,6 @@ pub(crate) fn judge<S: Streams, H: Threads + Wait + Sync>(
     host: &Host<'_, S, H>,
     line: &Line,
     name: &str,
-) -> Result<u8, EngineFail>
-    ensures { IfOk result IsStatus }
-{
+) -> Result<u8, EngineFail> {
     Ok(over(host, line.words.as_slice(), name, &mut Nowhere))
 }

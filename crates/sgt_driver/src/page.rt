@@ -1,8 +1,5 @@
 //! An answer as a page of HTML.
 
-ghost use Rattle.std.specs.Prelude.{IfOk, IfErr};
-ghost use Rattle.sgt_driver.specs.Status.{IsStatus};
-
 use crate::devices::{Held, LastWords};
 use crate::host::{Host, ended, file_of, open, word_of, writer};
 use crate::object::answer_into;
@@ -30,9 +27,7 @@ pub(crate) fn asks_page(line: &Line, choice: &Result<Choice, NoChoice>) -> bool 
 fn whole<S: Streams, H>(
     host: &Host<'_, S, H>,
     name: &str,
-) -> Result<Result<Vec<u8>, u8>, EngineFail>
-    ensures { IfOk result (λ r. IfErr r IsStatus) }
-{
+) -> Result<Result<Vec<u8>, u8>, EngineFail> {
     let mut steady = match open(host, name) {
         Ok(steady) => steady,
         Err(status) => return Ok(Err(status)),
@@ -56,9 +51,7 @@ fn told<S: Streams, H: Threads + Wait + Sync>(
     words: &[String],
     text: &[u8],
     is_quiet: bool,
-) -> (u8, Held)
-    ensures { IsStatus result.0 }
-{
+) -> (u8, Held) {
     let alloc = host.rt.alloc();
     let mut held = Held::new(alloc);
     let mut reader = Bytes {
@@ -171,9 +164,7 @@ fn write_page<S: Streams, H: Threads + Wait + Sync>(
 fn explain_page<S: Streams, H: Threads + Wait + Sync>(
     host: &Host<'_, S, H>,
     line: &Line,
-) -> Result<u8, EngineFail>
-    ensures { IfOk result IsStatus }
-{
+) -> Result<u8, EngineFail> {
     let text = match whole(host, file_of(line.files.first()))? {
         Ok(text) => text,
         Err(status) => return Ok(status),
@@ -195,9 +186,7 @@ fn check_page<S: Streams, H: Threads + Wait + Sync>(
     host: &Host<'_, S, H>,
     line: &Line,
     choice: &Result<Choice, NoChoice>,
-) -> Result<u8, EngineFail>
-    ensures { IfOk result IsStatus }
-{
+) -> Result<u8, EngineFail> {
     let alloc = host.rt.alloc();
     let mut held = Held::new(alloc);
     let status = answer_into(host, line, choice, file_of(line.files.first()), &mut held)?;
@@ -219,9 +208,7 @@ pub(crate) fn answer_page<S: Streams, H: Threads + Wait + Sync>(
     host: &Host<'_, S, H>,
     line: &Line,
     choice: &Result<Choice, NoChoice>,
-) -> Result<u8, EngineFail>
-    ensures { IfOk result IsStatus }
-{
+) -> Result<u8, EngineFail> {
     match host.command {
         CommandName::Check => check_page(host, line, choice),
         _ => explain_page(host, line),
