@@ -10,6 +10,7 @@ mod lists;
 mod logs;
 mod numbers;
 mod ranks;
+mod ready;
 mod sides;
 mod sorting;
 mod targets;

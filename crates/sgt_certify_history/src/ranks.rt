@@ -2,8 +2,8 @@
 
 use crate::history::{Act, History, Operation};
 use crate::lists::{count_down, short};
+use crate::ready::Ready;
 use std::alloc::{AllocError, Global};
-use std::collections::BTreeSet;
 
 /// How far the committed operations on an item are ranked, run by run: reads in a row, increments in a row, and each
 /// other change alone.
@@ -27,7 +27,7 @@ struct Turns<'a> {
     turns: Vec<Turn>,
     /// Of each transaction, how many of its operations wait.
     waits: Vec<u32>,
-    ready: BTreeSet<u32>,
+    ready: Ready,
 }
 
 /// The first run of these operations: what it consists of, as far as it was read.
@@ -56,24 +56,25 @@ impl<'a> Turns<'a> {
             history,
             turns: Vec::with_capacity(alloc, history.items.len())?,
             waits: Vec::with_capacity(alloc, history.count())?,
-            ready: BTreeSet::new(alloc),
+            ready: Ready::new(alloc, history.count())?,
         };
         for (tx, life) in history.lives.as_slice().iter().enumerate() {
             turns.waits.push(life.operations)?;
             if life.operations == 0 && history.is_committed(short(tx)) {
-                turns.ready.insert(short(tx))?;
+                turns.ready.insert(short(tx));
             }
         }
         for item in 0..history.items.len() {
             let span = history.by_item.span(item);
-            turns.turns.push(Turn {
+            let turn = Turn {
                 behind: short(span.start),
                 end: short(span.end),
                 left: 0,
                 mixed: 0,
                 alone: None,
-            })?;
-            turns.open(item)?;
+            };
+            turns.turns.push(turn)?;
+            turns.open(item, turn);
         }
         Ok(turns)
     }
@@ -91,18 +92,15 @@ impl<'a> Turns<'a> {
     }
 
     /// One of the transaction's operations waits no longer.
-    fn lower(&mut self, tx: u32) -> Result<(), AllocError> {
+    fn lower(&mut self, tx: u32) {
         if count_down(self.waits.as_mut_slice(), tx as usize) == 0 {
-            self.ready.insert(tx)?;
+            self.ready.insert(tx);
         }
-        Ok(())
     }
 
-    /// The next run of the item has its turn.
-    fn open(&mut self, item: usize) -> Result<(), AllocError> {
-        let Some(mut turn) = self.turns.get(item).copied() else {
-            return Ok(());
-        };
+    /// The next run of the item has its turn, behind this one.
+    fn open(&mut self, item: usize, before: Turn) {
+        let mut turn = before;
         let mut run = Run { act: None };
         for operation in self.behind(&turn) {
             if operation.is_committed {
@@ -112,26 +110,25 @@ impl<'a> Turns<'a> {
                 turn.left = turn.left.saturating_add(1);
                 turn.mixed ^= operation.tx;
                 if turn.alone != Some(operation.tx) {
-                    self.lower(operation.tx)?;
+                    self.lower(operation.tx);
                 }
             }
             turn.behind = turn.behind.saturating_add(1);
         }
         turn.alone = None;
-        self.put(item, turn)
+        self.put(item, turn);
     }
 
     /// The item's run is this far. Where one is left alone, and stands in the next run too, it waits there no longer.
-    fn put(&mut self, item: usize, turn: Turn) -> Result<(), AllocError> {
+    fn put(&mut self, item: usize, turn: Turn) {
         let mut turn = turn;
         if turn.left == 1 && self.follows_itself(&turn) {
             turn.alone = Some(turn.mixed);
-            self.lower(turn.mixed)?;
+            self.lower(turn.mixed);
         }
         if let Some(old) = self.turns.get_mut(item) {
             *old = turn;
         }
-        Ok(())
     }
 
     /// Whether the one that is left stands in the next run too.
@@ -151,28 +148,26 @@ impl<'a> Turns<'a> {
     }
 
     /// The transaction is ranked, of which an operation is in the item's run.
-    fn leave(&mut self, item: usize, tx: u32) -> Result<(), AllocError> {
+    fn leave(&mut self, item: usize, tx: u32) {
         let Some(mut turn) = self.turns.get(item).copied() else {
-            return Ok(());
+            return;
         };
         turn.left = turn.left.saturating_sub(1);
         turn.mixed ^= tx;
-        self.put(item, turn)?;
         if turn.left == 0 {
-            self.open(item)?;
+            self.open(item, turn);
+        } else {
+            self.put(item, turn);
         }
-        Ok(())
     }
 
     /// The least transaction that is ready. It is ranked.
-    fn next(&mut self) -> Result<Option<u32>, AllocError> {
-        let Some(tx) = self.ready.pop_first() else {
-            return Ok(None);
-        };
+    fn next(&mut self) -> Option<u32> {
+        let tx = self.ready.pop_first()?;
         for place in self.history.places(tx) {
-            self.leave(usize::from(place.item), tx)?;
+            self.leave(usize::from(place.item), tx);
         }
-        Ok(Some(tx))
+        Some(tx)
     }
 }
 
@@ -181,7 +176,7 @@ pub fn rank_order(alloc: Global, history: &History) -> Result<Vec<u32>, AllocErr
     let mut turns = Turns::new(alloc, history)?;
     let mut order = Vec::new(alloc);
     for _ in 0..history.count() {
-        let Some(tx) = turns.next()? else {
+        let Some(tx) = turns.next() else {
             break;
         };
         order.push(tx)?;

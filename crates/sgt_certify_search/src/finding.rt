@@ -126,7 +126,7 @@ pub fn find(alloc: Global, text: &[u8]) -> Result<Found, AllocError> {
     let Some((_, sections)) = split_line(text) else {
         return Ok(Found::Nothing);
     };
-    let mut reader = Reader::new(alloc, text.len());
+    let mut reader = Reader::new(alloc, text.len())?;
     if !feed(&mut reader, sections)? {
         return Ok(Found::Nothing);
     }

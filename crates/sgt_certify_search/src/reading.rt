@@ -1,6 +1,6 @@
 //! The lines of logs without a certificate, kept for the search. They aren't judged.
 
-use sgt_certify_history::{History, Logs, act_of};
+use sgt_certify_history::{History, Logs, Named, act_of};
 use sgt_names::{Entry, Holding, Item, SiteNo};
 use sgt_notation::SectionLine;
 use std::alloc::{AllocError, Global};
@@ -13,22 +13,34 @@ struct Section {
     first: usize,
 }
 
+/// How many slots names have: twice as many as a section may have items.
+const SLOTS: usize = 2048;
+
+/// The slot of a name.
+fn slot_of(item: &Item) -> usize {
+    let spread = item.key().wrapping_mul(0x9E37_79B9_7F4A_7C15);
+    (spread >> 53) as usize
+}
+
 /// The lines so far.
 #[derive(Drop)]
 pub struct Reader {
     logs: Logs,
     open: Option<Section>,
+    /// In each slot which item of its section was listed last, of those whose names have it.
+    slots: Vec<u16>,
     line: usize,
 }
 
 impl Reader {
     /// Behind the first line of a text of so many bytes.
-    pub fn new(alloc: Global, bytes: usize) -> Reader {
-        Reader {
+    pub fn new(alloc: Global, bytes: usize) -> Result<Reader, AllocError> {
+        Ok(Reader {
             logs: Logs::new(alloc, bytes),
             open: None,
+            slots: vec![in alloc; 0u16; SLOTS]?,
             line: 1,
-        }
+        })
     }
 
     /// What the logs say.
@@ -70,13 +82,32 @@ impl Reader {
         let Some(section) = self.open else {
             return Ok(false);
         };
+        let place = self.logs.items.len().saturating_sub(section.first);
         self.logs.list(section.site, holding.item)?;
+        if let (Some(slot), Ok(place)) = (
+            self.slots.get_mut(slot_of(&holding.item)),
+            u16::try_from(place),
+        ) {
+            *slot = place;
+        }
         Ok(true)
+    }
+
+    /// The place of the item among these, if it is the one of its slot.
+    fn guess(&self, here: &[Named], item: &Item) -> Option<usize> {
+        let place = usize::from(*self.slots.get(slot_of(item))?);
+        match here.get(place) {
+            Some(named) if named.item == *item => Some(place),
+            _ => None,
+        }
     }
 
     /// The number of the item, if it is one of those of the section that begin here.
     fn find(&self, first: usize, item: &Item) -> Option<usize> {
         let here = self.logs.items.as_slice().get(first..)?;
+        if let Some(place) = self.guess(here, item) {
+            return Some(first.saturating_add(place));
+        }
         let at = here.partition_point(|other| other.item < *item);
         match here.get(at) {
             Some(other) if other.item == *item => Some(first.saturating_add(at)),

@@ -353,25 +353,45 @@ fn decide_all(alloc: Global, history: &History, order: &[u32]) -> Result<Greedy,
     Ok(greedy)
 }
 
-/// The decisions, or the first of the reasons why there are none.
+/// Why there are no ranks: a cycle of ends, or else one of committed conflicts, of which these are ranked.
+fn unranked_reason(alloc: Global, history: &History, order: &[u32]) -> Result<Finding, AllocError> {
+    match order_of_ends(alloc, history)? {
+        Ends::Order(ends) => {
+            let cycle = rank_cycle(alloc, history, order)?;
+            Ok(Finding::Ranks(cycle, ends))
+        }
+        Ends::Cycle(cycle) => Ok(Finding::Order(cycle)),
+    }
+}
+
+/// Why there are no more decisions than these: a cycle of ends, or else that only refused ones without a walk are free.
+fn stuck_reason(
+    alloc: Global,
+    history: &History,
+    greedy: Greedy,
+    order: Vec<u32>,
+) -> Result<Finding, AllocError> {
+    let mut greedy = greedy;
+    match order_of_ends(alloc, history)? {
+        Ends::Order(ends) => Ok(Finding::Walk(Stuck {
+            set: greedy.stuck_set(alloc, history)?,
+            ends,
+            ranks: order,
+        })),
+        Ends::Cycle(cycle) => Ok(Finding::Order(cycle)),
+    }
+}
+
+/// The decisions, or the first of the reasons why there are none. Where all are decided, no cycle of ends is looked for:
+/// there is none.
 pub fn search(alloc: Global, history: &History) -> Result<Finding, AllocError> {
-    let ends = match order_of_ends(alloc, history)? {
-        Ends::Order(ends) => ends,
-        Ends::Cycle(cycle) => return Ok(Finding::Order(cycle)),
-    };
     let order = rank_order(alloc, history)?;
     if order.len() < committed_count(history) {
-        let cycle = rank_cycle(alloc, history, order.as_slice())?;
-        return Ok(Finding::Ranks(cycle, ends));
+        return unranked_reason(alloc, history, order.as_slice());
     }
-    let mut greedy = decide_all(alloc, history, order.as_slice())?;
+    let greedy = decide_all(alloc, history, order.as_slice())?;
     if greedy.front.decided >= history.count() {
         return Ok(Finding::Decided(greedy.decisions));
     }
-    let set = greedy.stuck_set(alloc, history)?;
-    Ok(Finding::Walk(Stuck {
-        set,
-        ends,
-        ranks: order,
-    }))
+    stuck_reason(alloc, history, greedy, order)
 }
