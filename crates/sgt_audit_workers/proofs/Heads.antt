@@ -1,12 +1,9 @@
 -- The first two lines of a text.
 use Rattle.std.proofs.Common.{◌≡◌, ℕ, ◌+◌, ◌*◌, ◌/◌, ◌<◌, ◌≤◌, Bool, true, false, List, [], ◌∷◌, ◌++◌, length, Option, Some, None, IfSome, refl, sym, ap, ◌∙◌, subst, arith, append_assoc}
-use Rattle.std.specs.Prelude.{Result, Ok, Err, IfOk, IfErr}
 use Rattle.std.specs.Io.KnownBytes.{Consumes}
 use Rattle.std.proofs.KnownBytes.{Consumes-trans}
 use Rattle.std.proofs.Math.Nat.{mul-add, mul_comm, mul_assoc, mul-le-mul_left}
 use Rattle.std.proofs.lemmas.List.{append-nil, length-append}
-use Rattle.sgt_names.specs.declared.outcome.EngineFail.{EngineFail}
-use Rattle.sgt_names.specs.declared.outcome.EngineFail.TheVariants.{Memory}
 use Rattle.sgt_names.specs.Limits.{max_line, most_reads}
 use Rattle.sgt_notation.specs.Lines.{Ahead, Gives, IsNext, Spends, coming}
 use Rattle.sgt_notation.specs.Spelling.{HasNoLf, text_of_lines}
@@ -14,16 +11,15 @@ use Rattle.sgt_notation.specs.declared.lines.Next.{Next}
 use Rattle.sgt_notation.specs.declared.lines.Next.TheVariants.{Line, Cut, TooLong, End}
 use Rattle.sgt_bundle.specs.Text.{certificate_text, format_line}
 use Rattle.sgt_bundle.specs.declared.certificate.Certificate.{Certificate}
+use Rattle.sgt_bundle.specs.declared.certificate.Decision.{Decision}
 use Rattle.sgt_audit.specs.declared.faults.Fault.{Fault}
 use Rattle.sgt_audit.specs.declared.faults.Fault.TheVariants as fault
 use Rattle.sgt_audit.specs.declared.machine.Progress.TheVariants as at
-use Rattle.sgt_audit.specs.Faults.{fault_number, Stage, start, headed, lines_so_far, IsFaultless, Piece, whole, last, ComesNext, Rule, Breaks, FirstFault, bytes_of}
+use Rattle.sgt_audit.specs.Faults.{fault_number, Stage, start, headed, lines_so_far, IsFaultless, KeepsItself, Piece, whole, last, ComesNext, Rule, Breaks, FirstFault, bytes_of}
 use Rattle.sgt_audit.specs.declared.verdict.Verdict.TheVariants.{No}
 use Rattle.sgt_audit.proofs.OneFault.{reach-one}
 use Rattle.sgt_audit.proofs.ReaderAtStage.{at-long}
 use Rattle.sgt_audit_sections.specs.Sections.{front_text}
-use Rattle.sgt_audit_workers.specs.Head.{IsHead, IsHeadOf}
-use Rattle.sgt_audit_workers.specs.declared.head.Head.{Head}
 use Rattle.sgt_audit_workers.specs.Reads.{Reader}
 use Rattle.sgt_audit_workers.specs.Cut.{longest}
 use Rattle.sgt_audit_workers.specs.private.Begun.{IsFaultBefore, IsMost}
@@ -284,14 +280,14 @@ gives-read limit (Some xs) (Some ys) Cut l gives =
 gives-read limit (Some xs) (Some ys) TooLong l gives = (l, gives.1, omega arith)
 gives-read limit (Some xs) (Some ys) End l gives = ([], gives.0 ∙ sym gives.2, omega (arith, ap length gives.1))
 
--- what line 2 was found to say
-pub head-of : (second : Bool) (line : List ℕ) (r : Result (Result Head Fault) EngineFail)
-    → IfOk r (λ r. IfOk r (λ h. IsHead h × (h.second ≡ second) × (line ≡ certificate_text h.certificate)))
-    → IfOk r (λ r. IfErr r (Breaks (Rule (headed second) (whole line)))) → IfErr r (λ e. e ≡ Memory)
-    → IsHeadOf second line r
-head-of second line (Ok (Ok h)) head fault err = head
-head-of second line (Ok (Err f)) head fault err = fault
-head-of second line (Err e) head fault err = err
+-- the rules of a certificate by itself are three
+pub keeps-all : (decisions : List Decision) → KeepsItself decisions fault.Ranks
+    → KeepsItself decisions fault.DecidedTwice → KeepsItself decisions fault.WalkShape → (f : Fault)
+    → KeepsItself decisions f
+keeps-all decisions ranks once walks fault.Ranks = ranks
+keeps-all decisions ranks once walks fault.DecidedTwice = once
+keeps-all decisions ranks once walks fault.WalkShape = walks
+keeps-all decisions ranks once walks f = tt
 
 -- ---- how long a section may be
 

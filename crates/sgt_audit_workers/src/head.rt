@@ -6,8 +6,7 @@ ghost use Rattle.sgt_notation.specs.Lines.{IsNext};
 ghost use Rattle.sgt_notation.specs.Spelling.{text_of_lines};
 ghost use Rattle.sgt_bundle.specs.Text.{IsCertificate, certificate_text, format_line};
 ghost use Rattle.sgt_audit.specs.Faults.{Breaks, FirstFault, Rule, headed, whole};
-ghost use Rattle.sgt_audit.specs.private.Judging.{AnswersItself};
-ghost use Rattle.sgt_audit_workers.specs.Head.{IsHead};
+ghost use Rattle.sgt_audit_workers.specs.Head.{IsHead, IsHeadOf};
 ghost use Rattle.sgt_audit_workers.specs.Reads.{Reader, reader};
 ghost use Rattle.sgt_audit_workers.specs.declared.sections.Section.{Section};
 ghost use Rattle.sgt_audit_workers.specs.declared.sections.State.TheVariants.{Going};
@@ -18,12 +17,12 @@ ghost use Rattle.sgt_audit_workers.specs.private.Texts.{HasRead, IsAsked, IsLeft
 
 use crate::judging::{Judging, finish, start};
 use crate::sections::{Beside, Section, Text, read_ahead, read_line};
-use sgt_audit::{Fault, Verdict};
-use sgt_audit_decisions::{Decided, Steps, are_cycles, are_ranks};
+use sgt_audit::{Fault, Verdict, judge_certificate, read_format};
+use sgt_audit_decisions::{Decided, Steps};
 use sgt_bundle::{CertFault, Certificate, from_line};
 use sgt_names::{EngineFail, MAX_LINE, Source};
 use sgt_notation::Next;
-use std::alloc::{AllocError, Global};
+use std::alloc::Global;
 use std::thread::Threads;
 
 /// What the first two lines of a text say, which have no fault.
@@ -37,20 +36,6 @@ pub struct Head {
     pub steps: Steps,
 }
 
-/// Whether the line says the second format, if it says one of the two.
-fn format_of(line: &[u8]) -> Option<bool>
-    ensures some { IfSome result (λ second. line.now ≡ format_line second) }
-    ensures none { IfNone result ((second : Bool) → line.now ≡ format_line second → ⊥) }
-{
-    if line == b"sgt 1".as_slice() {
-        return Some(false);
-    }
-    if line == b"sgt 2".as_slice() {
-        return Some(true);
-    }
-    None
-}
-
 /// The format, by what comes first of the text; or the fault.
 fn first_line(next: Next, line: &[u8]) -> Result<bool, Fault>
     ensures format { IfOk result
@@ -59,33 +44,13 @@ fn first_line(next: Next, line: &[u8]) -> Result<bool, Fault>
         → IfErr result (FirstFault bytes 1) }
 {
     match next {
-        Next::Line => match format_of(line) {
+        Next::Line => match read_format(line) {
             Some(second) => Ok(second),
             None => Err(Fault::Format),
         },
         Next::TooLong => Err(Fault::Format),
         Next::Cut => Err(Fault::Truncated),
         Next::End => Err(Fault::Truncated),
-    }
-}
-
-/// The certificate with its decisions by transaction, or its least fault by itself.
-fn judge_certificate(
-    alloc: Global,
-    certificate: Certificate,
-) -> Result<Result<Decided, Fault>, AllocError>
-    ensures { IfOk result (AnswersItself certificate) }
-{
-    if !are_ranks(alloc, certificate.decisions())? {
-        return Ok(Err(Fault::Ranks));
-    }
-    let Some(decided) = Decided::new(alloc, certificate)? else {
-        return Ok(Err(Fault::DecidedTwice));
-    };
-    if are_cycles(alloc, &decided)? {
-        Ok(Ok(decided))
-    } else {
-        Ok(Err(Fault::WalkShape))
     }
 }
 
@@ -108,19 +73,14 @@ pub fn certificate_of(
     }
 }
 
-/// What the two lines say, by the second of them, which is this; or its fault.
-pub fn head_of(alloc: Global, second: bool, line: &[u8]) -> Result<Result<Head, Fault>, EngineFail>
-    ensures head { IfOk result (λ r. IfOk r (λ h. IsHead h × (h.second ≡ second)
-        × (line.now ≡ certificate_text h.certificate))) }
-    ensures fault { IfOk result
-        (λ r. IfErr r (Breaks (Rule (headed second) (whole line.now)))) }
-    ensures err { IfErr result (λ e. e ≡ EngineFail.Memory) }
+/// What the two lines say, with this certificate in the second of them; or its fault.
+pub fn head_with(
+    alloc: Global,
+    second: bool,
+    certificate: Certificate,
+) -> Result<Result<Head, Fault>, EngineFail>
+    ensures { IsCertificate certificate → IsHeadOf second (certificate_text certificate) result }
 {
-    let certificate = match from_line(alloc, line) {
-        Ok(certificate) => certificate,
-        Err(CertFault::Memory) => return Err(EngineFail::Memory),
-        Err(_) => return Ok(Err(Fault::Certificate)),
-    };
     let sites = certificate.sites;
     match judge_certificate(alloc, certificate)? {
         Ok(certificate) => {
@@ -132,6 +92,16 @@ pub fn head_of(alloc: Global, second: bool, line: &[u8]) -> Result<Result<Head, 
                 steps,
             }))
         }
+        Err(fault) => Ok(Err(fault)),
+    }
+}
+
+/// What the two lines say, by the second of them, which is this; or its fault.
+pub fn head_of(alloc: Global, second: bool, line: &[u8]) -> Result<Result<Head, Fault>, EngineFail>
+    ensures { IsHeadOf second line.now result }
+{
+    match certificate_of(alloc, second, line)? {
+        Ok(certificate) => head_with(alloc, second, certificate),
         Err(fault) => Ok(Err(fault)),
     }
 }

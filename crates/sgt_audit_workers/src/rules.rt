@@ -3,12 +3,13 @@
 ghost use Rattle.std.specs.Prelude.{◌↔◌, ℕ, List, IsTrue, IfOk};
 ghost use Rattle.sgt_audit_decisions.specs.Steps.{AreStepsOf};
 ghost use Rattle.sgt_audit.specs.Faults.{KeepsItself};
+ghost use Rattle.sgt_audit.specs.declared.faults.Fault.{Fault};
 ghost use Rattle.sgt_audit.specs.declared.faults.Fault.TheVariants as fault;
 ghost use Rattle.sgt_bundle.specs.Text.{IsCertificate};
 ghost use Rattle.sgt_audit_workers.specs.Head.{IsHeadOf};
-ghost use Rattle.sgt_audit_workers.specs.private.Judging.{IsLeast, IsOnceOf};
+ghost use Rattle.sgt_audit_workers.specs.private.Judging.{IsOnceOf};
 
-use crate::head::Head;
+use crate::head::{Head, head_with};
 use sgt_audit::Fault;
 use sgt_audit_decisions::{Decided, Steps, are_cycles, are_ranks};
 use sgt_names::EngineFail;
@@ -23,13 +24,10 @@ pub struct Once {
     pub certificate: Decided,
 }
 
-/// The least rule that the certificate, in which no transaction is decided twice, does not keep, if there is one.
-fn fault_of<H: Threads>(
-    rt: &H,
-    alloc: Global,
-    certificate: &Decided,
-) -> Result<Option<Fault>, AllocError>
-    ensures { IfOk result (IsLeast certificate.now.decisions) }
+/// Whether the certificate, in which no transaction is decided twice, keeps the other rules.
+fn keeps_rules<H: Threads>(rt: &H, alloc: Global, certificate: &Decided) -> Result<bool, AllocError>
+    ensures { IfOk result
+        (λ keeps. IsTrue keeps ↔ ((f : Fault) → KeepsItself certificate.now.decisions f)) }
 {
     let decisions = certificate.decisions();
     let of_ranks = move || -> Result<bool, AllocError>
@@ -40,13 +38,9 @@ fn fault_of<H: Threads>(
             (λ are. IsTrue are ↔ KeepsItself certificate.entry.now.decisions fault.WalkShape) }
     { are_cycles(alloc, certificate) };
     let (ranks, walks) = thread::join(rt, of_ranks, of_walks);
-    if !ranks? {
-        return Ok(Some(Fault::Ranks));
-    }
-    if !walks? {
-        return Ok(Some(Fault::WalkShape));
-    }
-    Ok(None)
+    let ranks = ranks?;
+    let walks = walks?;
+    Ok(ranks && walks)
 }
 
 /// The steps of the walks, by their sites. Then the bytes are let go, while other threads judge the rules.
@@ -60,7 +54,7 @@ fn steps_of(alloc: Global, certificate: &Decided, bytes: Vec<u8>) -> Result<Step
 }
 
 /// What the first two lines say, with this certificate in the second of them; or its fault. The second's bytes are
-/// let go.
+/// let go. Where a rule is broken, all of them are judged one after another, for the least.
 pub fn judge_once<H: Threads + Sync>(
     rt: &H,
     alloc: Global,
@@ -72,16 +66,17 @@ pub fn judge_once<H: Threads + Sync>(
 {
     let Once { sites, certificate } = once;
     let lent = &certificate;
-    let of_fault = move || -> Result<Option<Fault>, AllocError>
-        ensures { IfOk result (IsLeast lent.entry.now.decisions) }
-    { fault_of(rt, alloc, lent) };
+    let of_rules = move || -> Result<bool, AllocError>
+        ensures { IfOk result
+            (λ keeps. IsTrue keeps ↔ ((f : Fault) → KeepsItself lent.entry.now.decisions f)) }
+    { keeps_rules(rt, alloc, lent) };
     let of_steps = move || -> Result<Steps, AllocError>
         ensures { IfOk result (λ steps. IsCertificate lent.entry.now
             → AreStepsOf lent.entry.now.decisions steps) }
     { steps_of(alloc, lent, bytes) };
-    let (fault, steps) = thread::join(rt, of_fault, of_steps);
-    if let Some(fault) = fault? {
-        return Ok(Err(fault));
+    let (keeps, steps) = thread::join(rt, of_rules, of_steps);
+    if !keeps? {
+        return head_with(alloc, second, certificate.into_certificate());
     }
     let steps = steps?;
     Ok(Ok(Head {

@@ -1,11 +1,8 @@
 -- Line 2, read in a thread of its own.
-use Rattle.std.specs.Prelude.{◌≡◌, ℕ, Bool, List, Option, Some, None, Result, Ok, Err}
+use Rattle.std.specs.Prelude.{◌≡◌, ℕ, Bool, List, Result, Ok, Err}
 use Rattle.sgt_names.specs.declared.outcome.EngineFail.{EngineFail}
 use Rattle.sgt_names.specs.declared.outcome.EngineFail.TheVariants.{Memory}
 use Rattle.sgt_bundle.specs.Text.{IsCertificate, certificate_text}
-use Rattle.sgt_bundle.specs.declared.certificate.Decision.{Decision}
-use Rattle.sgt_audit.specs.Faults.{Breaks, KeepsItself}
-use Rattle.sgt_audit.specs.declared.faults.Fault.{Fault}
 use Rattle.sgt_audit_workers.specs.Head.{IsHeadOf}
 use Rattle.sgt_audit_workers.specs.declared.judging.Found.{Found}
 use Rattle.sgt_audit_workers.specs.declared.judging.Found.TheVariants as found
@@ -19,11 +16,6 @@ pub record IsOnceOf (bytes : List ℕ) (once : Once) : Type 0 where
   pub spelled : IsCertificate once.certificate
   pub line : bytes ≡ certificate_text once.certificate
   pub sites : once.sites ≡ once.certificate.sites
-
--- the least rule that the decisions do not keep, or there is none
-abbrev pub IsLeast : List Decision → Option Fault → Type 0
-IsLeast decisions None = (f : Fault) → KeepsItself decisions f
-IsLeast decisions (Some f) = Breaks (KeepsItself decisions) f
 
 -- the second line is this, behind a first line of this format
 abbrev pub IsFoundOf : (second : Bool) → (line : List ℕ) → Result Found EngineFail → Type 0
