@@ -31,8 +31,9 @@ use Rattle.sgt_audit_cells.specs.declared.state.SiteState.{SiteState}
 use Rattle.sgt_audit_cells.proofs.Tracking.{ready-next}
 use Rattle.sgt_bundle.specs.declared.certificate.Certificate.{Certificate}
 use Rattle.sgt_audit.specs.declared.faults.Fault.TheVariants as fault
-use Rattle.sgt_audit.specs.Faults.{Keeps}
-use Rattle.sgt_audit.specs.Kept.{TracksCurrent, Tracks}
+use Rattle.sgt_audit.specs.Faults.{Allows, Keeps}
+use Rattle.sgt_audit.specs.declared.place.OpenPlace.{OpenPlace}
+use Rattle.sgt_audit.specs.Kept.{IsOpenPlace, TracksCurrent, Tracks}
 use Rattle.sgt_audit.proofs.OpenLogs.{has_open}
 use Rattle.sgt_audit.specs.Reading.{Begun, HasRoomFor, lines_read}
 use Rattle.sgt_audit.specs.private.Following.{Fits, MayFollow, with_next}
@@ -144,8 +145,10 @@ pub suiting-none : (ds : List Decision) (e : Entry) (o : Option ℕ) → o ≡ N
     → IsDecided ds e n → ⊥
 suiting-none ds e o is found = subst (IsFound (IsDecided ds e)) is found
 
-pub final-listed : (log : SiteLog) (h : Holding) → Fits log (Final h) → Contains (names log.items) h.item
-final-listed log h fits = Contains-from_at (names log.items) (length log.finals) h.item fits
+-- a final value that fits is of the item at the place of the next
+pub at_finals : (log : SiteLog) (p : OpenPlace) (h : Holding) → IsOpenPlace log p → Fits log (Final h)
+    → slice_get (names log.items) p.finals ≡ Some h.item
+at_finals log p h is fits = subst (λ n. slice_get (names log.items) n ≡ Some h.item) (sym is.finals) fits
 
 pub open-tracked : (ds : List Decision) (b : Begun) (s : SiteState) (log : SiteLog) → b.current ≡ Some log
     → Tracks ds b s → TracksOpen ds log.items log.entries s
@@ -159,6 +162,14 @@ known-none ds s (Site k) not = tt
 known-none ds s (Initial h) not = tt
 known-none ds s (Final h) not = tt
 known-none ds s End not = tt
+
+-- a line that is no entry is one of each format
+pub allows-plain : (second : Bool) (line : SectionLine) → ((e : Entry) → line ≡ Logged e → ⊥) → Allows second line
+allows-plain second (Logged e) not = absurd (not e refl)
+allows-plain second (Site k) not = tt
+allows-plain second (Initial h) not = tt
+allows-plain second (Final h) not = tt
+allows-plain second End not = tt
 
 pub known-entry : (ds : List Decision) (s : SiteState) (line : SectionLine) (o : Option Known) (e : Entry) (k : Known)
     → line ≡ Logged e → o ≡ Some k → IsKnownLine ds s line o → IsKnownOf ds s e k

@@ -51,7 +51,7 @@ impl Alone {
     ghost use Rattle.sgt_notation.specs.declared.SectionLine.TheVariants.{Logged};
     ghost use Rattle.sgt_audit.specs.Faults.{IsLineIn};
     ghost use Rattle.sgt_audit.specs.Reading.{IsBegun};
-    ghost use Rattle.sgt_audit.specs.private.Known.{IsKnownOf};
+    ghost use Rattle.sgt_audit.specs.private.Known.{IsKnownLine, IsKnownOf};
 
     /// Before the section of the first of so many sites.
     pub fn new(
@@ -108,7 +108,11 @@ impl Alone {
     {
         match line {
             SectionLine::Logged(entry) => self.next_entry(certificate, edges, entry),
-            _ => self.next_far(certificate, edges, line),
+            _ => {
+                // by way of memory that only this way touches
+                let copy = *line;
+                self.next_other(certificate, edges, &copy)
+            }
         }
     }
 
@@ -213,22 +217,6 @@ impl Alone {
         }
     }
 
-    /// A line of another kind, by way of memory that only this way touches.
-    #[inline(always)]
-    fn next_far(
-        &mut self,
-        certificate: &Decided,
-        edges: &[Edge],
-        line: &SectionLine,
-    ) -> Result<Option<Fault>, AllocError>
-        ensures follows { IsLine line.now → (b : Begun) → StandsAlone certificate.now b self.old
-            → IfOk result (FollowsAlone certificate.now edges.now b (line_text line.now) self.new) }
-        ensures second { self.new.second ≡ self.old.second }
-    {
-        let copy = *line;
-        self.next_other(certificate, edges, &copy)
-    }
-
     /// The next line, of a kind that is less frequent.
     #[inline(never)]
     fn next_other(
@@ -241,10 +229,24 @@ impl Alone {
             → IfOk result (FollowsAlone certificate.now edges.now b (line_text line.now) self.new) }
         ensures second { self.new.second ≡ self.old.second }
     {
-        if is_allowed(self.second, line) {
-            self.follow(certificate, edges, line)
-        } else {
-            Ok(Some(Fault::Notation))
+        self.next_line(certificate, edges, line)
+    }
+
+    /// The next line. Nothing is looked up of one that is no entry.
+    #[inline(always)]
+    pub(crate) fn next_line(
+        &mut self,
+        certificate: &Decided,
+        edges: &[Edge],
+        line: &SectionLine,
+    ) -> Result<Option<Fault>, AllocError>
+        ensures follows { IsLine line.now → (b : Begun) → StandsAlone certificate.now b self.old
+            → IfOk result (FollowsAlone certificate.now edges.now b (line_text line.now) self.new) }
+        ensures second { self.new.second ≡ self.old.second }
+    {
+        match line {
+            SectionLine::Logged(entry) => self.next_far_entry(certificate, edges, entry),
+            _ => self.follow_known(certificate, edges, line, &None),
         }
     }
 
@@ -279,12 +281,30 @@ impl Alone {
         ensures second { self.new.second ≡ self.old.second }
     {
         let known = look_up(certificate, &self.state, line);
-        if let Some(fault) = judge_line(Rules::Certified, &self.state, &self.place, line, &known) {
+        self.follow_known(certificate, edges, line, &known)
+    }
+
+    /// The same, where this is known of it.
+    #[inline(always)]
+    fn follow_known(
+        &mut self,
+        certificate: &Decided,
+        edges: &[Edge],
+        line: &SectionLine,
+        known: &Option<Known>,
+    ) -> Result<Option<Fault>, AllocError>
+        ensures follows { IsLineIn self.old.second line.now
+            → IsKnownLine certificate.now.decisions self.old.state line.now known.now → (b : Begun)
+            → StandsAlone certificate.now b self.old
+            → IfOk result (FollowsAlone certificate.now edges.now b (line_text line.now) self.new) }
+        ensures second { self.new.second ≡ self.old.second }
+    {
+        if let Some(fault) = judge_line(Rules::Certified, &self.state, &self.place, line, known) {
             return Ok(Some(fault));
         }
         self.met = meets_steps(certificate, &self.state, edges, line);
         self.place.enter(line)?;
-        enter_line(&mut self.state, line, &known)?;
+        enter_line(&mut self.state, line, known)?;
         Ok(None)
     }
 }

@@ -1,9 +1,8 @@
 //! The least fault of a line, after lines with no fault.
 
-ghost use Rattle.std.specs.Prelude.{◌≡◌, ◌≢◌, ◌↔◌, ◌∷◌, ◌++◌, [], List, IsTrue, IfOk, Contains, Some};
+ghost use Rattle.std.specs.Prelude.{◌≡◌, ◌≢◌, ◌↔◌, ◌∷◌, ◌++◌, [], List, IsTrue, IfOk, Some};
 ghost use Rattle.sgt_notation.specs.declared.SectionLine.{SectionLine};
 ghost use Rattle.sgt_notation.specs.declared.SectionLine.TheVariants.{Logged, Final, End};
-ghost use Rattle.sgt_names.specs.Log.{names, value_at};
 ghost use Rattle.sgt_bundle.specs.Certificate.{IsDecidedOnce, AreRanks, ranks};
 ghost use Rattle.sgt_bundle.specs.declared.certificate.Decision.{Decision};
 ghost use Rattle.sgt_audit_cells.specs.Tracks.{TracksOpen};
@@ -22,9 +21,7 @@ use crate::faults::Fault;
 use crate::known::Known;
 use crate::place::{OpenPlace, Place};
 use crate::rules::Rules;
-use crate::tracked::{
-    holds_value, is_active, is_first, is_in_order, is_in_rank, is_legal, is_listed,
-};
+use crate::tracked::{is_active, is_first, is_in_order, is_in_rank, is_legal, is_listed};
 use sgt_audit_cells::SiteState;
 use sgt_audit_decisions::{Decided, are_cycles, are_ranks};
 use sgt_bundle::Certificate;
@@ -85,30 +82,13 @@ fn judge_entry(
     None
 }
 
-/// Whether the holding, of a listed item, has the value of its item. No search is needed where the item is the one
-/// whose final value comes next.
-#[inline(always)]
-fn holds_final(state: &SiteState, place: &OpenPlace, holding: &Holding) -> bool
-    ensures { (ds : List Decision) (log : SiteLog) → IsOpenPlace log place.now
-        → TracksOpen ds log.items log.entries state.now
-        → Contains (names log.items) holding.now.item
-        → (IsTrue result
-        ↔ (value_at log.items log.entries holding.now.item ≡ Some holding.now.value)) }
-{
-    if place.has_room_for(&SectionLine::Final(*holding)) {
-        state.has_value(place.finals, holding.value)
-    } else {
-        holds_value(state, holding)
-    }
-}
-
-/// The least fault of a final value.
+/// The least fault of a final value, which is of the item whose final value comes next.
 #[inline(always)]
 fn judge_final(state: &SiteState, place: &OpenPlace, holding: &Holding) -> Option<Fault>
     ensures { (rules : Rules) (c : Certificate) (before : List SectionLine) (log : SiteLog)
         → IsOpenPlace log place.now
         → TracksOpen c.decisions log.items log.entries state.now
-        → Contains (names log.items) holding.now.item → HasOpen before log
+        → Fits log (Final holding.now) → HasOpen before log
         → Begins c.sites (before ++ Final holding.now ∷ [])
         → JudgedLine (KeepsBy rules c before (Final holding.now)) result }
 {
@@ -118,7 +98,7 @@ fn judge_final(state: &SiteState, place: &OpenPlace, holding: &Holding) -> Optio
     if !state.have_all_ended() {
         return Some(Fault::NotEnded);
     }
-    if !holds_final(state, place, holding) {
+    if !state.has_value(place.finals, holding.value) {
         return Some(Fault::Final);
     }
     None

@@ -119,7 +119,8 @@ impl Kept {
         Ok(found)
     }
 
-    /// The next line, of a kind that is less frequent.
+    /// The next line, of a kind that is less frequent. That of an item or of a final value goes a way on which its kind
+    /// is not asked for again.
     #[inline(never)]
     fn next_other(&mut self, line: &SectionLine) -> Result<Option<Fault>, AllocError>
         ensures sections { is_some self.new.sections ≡ is_some self.old.sections }
@@ -131,6 +132,8 @@ impl Kept {
         }
         match line {
             SectionLine::End => self.close(),
+            SectionLine::Initial(holding) => self.go_on(&SectionLine::Initial(*holding)),
+            SectionLine::Final(holding) => self.go_on(&SectionLine::Final(*holding)),
             _ => self.go_on(line),
         }
     }
@@ -143,7 +146,7 @@ impl Kept {
         ensures follows { IsLine line.now → line.now ≢ End → (s : Stage) → IsAt self.old s → (IsComplete s → ⊥)
             → IfOk result (Follows s (line_text line.now) (Reading self.new)) }
     {
-        if let Some(fault) = self.alone.next_read(&self.certificate, &[], line)? {
+        if let Some(fault) = self.alone.next_line(&self.certificate, &[], line)? {
             return Ok(Some(fault));
         }
         add_to(&mut self.sections, line)?;
@@ -159,7 +162,7 @@ impl Kept {
     {
         let edges = self.walks.steps.at(self.alone.place.whole);
         let line = SectionLine::End;
-        if let Some(fault) = self.alone.next_read(&self.certificate, edges, &line)? {
+        if let Some(fault) = self.alone.next_line(&self.certificate, edges, &line)? {
             return Ok(Some(fault));
         }
         self.walks.pass(self.alone.met);

@@ -1,10 +1,10 @@
 //! The rules of a line, by what is kept of the open section.
 
-ghost use Rattle.std.specs.Prelude.{◌≡◌, ◌≢◌, ◌↔◌, ◌∷◌, ◌++◌, [], ℕ, List, IsTrue, OnOk, All, AllPairs, Contains, Some};
+ghost use Rattle.std.specs.Prelude.{◌≡◌, ◌≢◌, ◌↔◌, ◌∷◌, ◌++◌, [], ℕ, List, IsTrue, OnOk, All, AllPairs, Contains};
 ghost use Rattle.std.specs.Option.{ForSome};
 ghost use Rattle.sgt_names.specs.Name.{Name};
 ghost use Rattle.sgt_names.specs.Entry.{tx_of, item_of, IsEnd, Repeats};
-ghost use Rattle.sgt_names.specs.Log.{names, value_at};
+ghost use Rattle.sgt_names.specs.Log.{names};
 ghost use Rattle.sgt_names.specs.declared.entry.Entry.{Entry};
 ghost use Rattle.sgt_names.specs.declared.entry.Holding.{Holding};
 ghost use Rattle.sgt_bundle.specs.Certificate.{IsDecidedOnce, AreRanks, ranks};
@@ -22,7 +22,7 @@ ghost use Rattle.sgt_audit_cells.specs.declared.state.SiteState.{SiteState};
 use crate::known::Known;
 use crate::rules::Rules;
 use sgt_audit_cells::{SiteState, item_in};
-use sgt_names::{Entry, Holding};
+use sgt_names::Entry;
 use sgt_notation::SectionLine;
 use std::alloc::AllocError;
 
@@ -51,20 +51,6 @@ pub(crate) fn is_first(state: &SiteState, known: &Known, entry: &Entry) -> bool
     match known.place {
         Some(place) => state.is_first(place, entry, known.ruling.number),
         None => true,
-    }
-}
-
-/// Whether the holding, of a listed item, has the value of its item.
-#[inline(always)]
-pub(crate) fn holds_value(state: &SiteState, holding: &Holding) -> bool
-    ensures { (ds : List Decision) (items : List Holding) (entries : List Entry)
-        → TracksOpen ds items entries state.now
-        → Contains (names items) holding.now.item
-        → (IsTrue result ↔ (value_at items entries holding.now.item ≡ Some holding.now.value)) }
-{
-    match state.place_of(&holding.item) {
-        Some(place) => state.has_value(place, holding.value),
-        None => false,
     }
 }
 

@@ -3,7 +3,7 @@ use Rattle.sgt_notation.specs.declared.SectionLine.{SectionLine}
 use Rattle.sgt_bundle.specs.Text.{Begins}
 use Rattle.sgt_audit.specs.Rules.{KeepsBy}
 use Rattle.sgt_audit.specs.private.Following.{Fits}
-use Rattle.sgt_audit.proofs.SiteStates.{final-listed, known-entry, known-missing}
+use Rattle.sgt_audit.proofs.SiteStates.{known-entry, known-missing}
 use Rattle.sgt_audit.specs.private.Judging.{JudgedLine}
 use Rattle.sgt_audit.proofs.judging.judge_inside.Goals as goal
 
@@ -24,7 +24,7 @@ pub returns-in-Final : goal.returns-in-Final
 returns-in-Final j c before log once are p k t o fits begins =
     subst (λ (l : SectionLine). JudgedLine (KeepsBy j.args.rules c before l) j.judge_final.result) (sym j.in-Final.is)
     (j.judge_final.ensures j.args.rules c before log p t
-    (final-listed log j.in-Final.holding (subst (Fits log) j.in-Final.is fits)) o
+    (subst (Fits log) j.in-Final.is fits) o
     (subst (λ (l : SectionLine). Begins c.sites (before ++ l ∷ [])) j.in-Final.is begins))
 
 pub returns-in-End : goal.returns-in-End

@@ -20,19 +20,19 @@ use Rattle.sgt_audit.proofs.kept.Kept.close.Goals.{else-is_complete-via-then-is_
 pub returns-in-Some-clause-follows : goal.returns-in-Some-clause-follows
 returns-in-Some-clause-follows k s (b, before, h, stage) open_stage =
     let c = k.args.self.now.certificate in
-    let same = k.next_read.ensures.second in
+    let same = k.next_line.ensures.second in
     let open_yet : AreSections b.sites (lines_read b) → ⊥ =
     λ all. open_stage ((complete-all k.args.self.now b before s h.means stage).1 all) in
     let found = rw k.in-Some.is at k.in_ok-fault.ensures.follows tt b h.stands in
-    alone-breaks k.next_read.new.self.second c b before _ k.in-Some.fault
+    alone-breaks k.next_line.new.self.second c b before _ k.in-Some.fault
     (subst (λ n. Means n c b before) (sym same) h.means) open_yet found.0 s
     (subst (λ n. IsStageOf n c before s) (sym same) stage)
 
 pub returns-then-not-self-clause-follows : goal.returns-then-not-self-clause-follows
 returns-then-not-self-clause-follows k s (b, before, h, stage) open_stage =
     let c = k.args.self.now.certificate in
-    let alone = k.next_read.new.self in
-    let same = k.next_read.ensures.second in
+    let alone = k.next_line.new.self in
+    let same = k.next_line.ensures.second in
     let m = subst (λ n. Means n c b before) (sym same) h.means in
     let open_yet : AreSections b.sites (lines_read b) → ⊥ =
     λ all. open_stage ((complete-all k.args.self.now b before s h.means stage).1 all) in
@@ -57,8 +57,8 @@ returns-then-not-self-clause-follows k s (b, before, h, stage) open_stage =
 pub returns-clause-follows : goal.returns-clause-follows
 returns-clause-follows k s (b, before, h, stage) open_stage =
     let c = k.args.self.now.certificate in
-    let alone = k.next_read.new.self in
-    let same = k.next_read.ensures.second in
+    let alone = k.next_line.new.self in
+    let same = k.next_line.ensures.second in
     let m = subst (λ n. Means n c b before) (sym same) h.means in
     let stage_now = subst (λ n. IsStageOf n c before s) (sym same) stage in
     let (read, kept, stands, meets) =
