@@ -6,6 +6,7 @@ mod Counting
 mod Differences
 mod Either
 mod Examples
+mod Filling
 mod Grouping
 mod Items
 mod Lines
