@@ -12,8 +12,8 @@ ghost use Rattle.sgt_core.specs.private.Playing.{AnswersEvent, IsOpening, PlaysO
 use crate::reply::write_reply;
 use sgt_core_machine::Core;
 use sgt_core_model::{CoreFault, Reply};
-use sgt_input::{Taker, items_of, roomy_event, take_site};
-use sgt_notation::{EventLine, SiteLine, read_event};
+use sgt_input::{Taker, items_of, take_site};
+use sgt_notation::{EventLine, SiteLine, front_event, read_event};
 use sgt_site::SiteFault;
 use std::alloc::{AllocError, Global};
 use std::mem;
@@ -55,7 +55,7 @@ impl Taker for Player {
         let Some(core) = &mut self.core else {
             return Ok(None);
         };
-        let Some((event, n)) = roomy_event(held) else {
+        let Some((event, n)) = front_event(held) else {
             return Ok(None);
         };
         answer_event(core, &event, &held[..n - 1], &mut self.text)?;

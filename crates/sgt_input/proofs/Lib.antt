@@ -1,10 +1,9 @@
-pub mod Fronts
 pub mod Keeping
 pub mod Lines
 pub mod ReadOrNot
 pub mod Reader
 pub mod SearchedSites
-pub mod SiteLines
 pub mod Sited
 pub mod SitedLines
+pub mod SiteLines
 pub mod Unreadable
