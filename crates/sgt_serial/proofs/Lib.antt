@@ -6,7 +6,6 @@ mod Counting
 mod Differences
 mod Either
 mod Examples
-mod Filling
 mod Grouping
 mod Items
 mod Lines
