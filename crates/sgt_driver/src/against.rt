@@ -1,5 +1,8 @@
 //! An order in a file, judged by a history.
 
+ghost use Rattle.std.specs.Prelude.{IfErr};
+ghost use Rattle.sgt_driver.specs.Status.{IsStatus};
+
 use crate::devices::{Held, Input, LastWords, Steady};
 use crate::host::{Host, ended, open, refuse_file, writer};
 use crate::streams::Streams;
@@ -17,7 +20,9 @@ fn open_order<'a, S: Streams, H>(
     host: &Host<'a, S, H>,
     order: &str,
     name: &str,
-) -> Result<Steady<'a, S, Input<S::Input>>, u8> {
+) -> Result<Steady<'a, S, Input<S::Input>>, u8>
+    ensures { IfErr result IsStatus }
+{
     let streams = host.streams;
     if order == "-" && name == "-" {
         let _ = eprintln!(streams; "sgt: the order and the history can't both be standard input");
@@ -39,7 +44,9 @@ pub(crate) fn judged<S: Streams, H, W: Sink>(
     order: &str,
     name: &str,
     writer: &mut W,
-) -> u8 {
+) -> u8
+    ensures { IsStatus result }
+{
     let mut given = match open_order(host, order, name) {
         Ok(given) => given,
         Err(status) => return status,
@@ -75,7 +82,9 @@ pub(crate) fn judge_order<S: Streams, H>(
     wanted: CheckWanted,
     order: &str,
     name: &str,
-) -> u8 {
+) -> u8
+    ensures { IsStatus result }
+{
     if line.is_quiet {
         return judged(host, wanted, order, name, &mut Held::new(host.rt.alloc()));
     }

@@ -1,5 +1,8 @@
 //! An audit of one system's bundles in a row.
 
+ghost use Rattle.std.specs.Prelude.{IfSome};
+ghost use Rattle.sgt_driver.specs.Status.{IsStatus};
+
 use crate::devices::{Held, LastWords};
 use crate::expected::expected_status;
 use crate::host::{Host, ended, open, writer};
@@ -18,7 +21,9 @@ fn next<S: Streams, H, W: Sink>(
     auditor: &mut ChainAuditor,
     name: &str,
     writer: &mut W,
-) -> Option<u8> {
+) -> Option<u8>
+    ensures { IfSome result IsStatus }
+{
     let mut steady = match open(host, name) {
         Ok(steady) => steady,
         Err(status) => return Some(status),
@@ -48,7 +53,9 @@ pub(crate) fn audit_files<'f, S: Streams, H, W: Sink>(
     host: &Host<'_, S, H>,
     files: &'f [String],
     writer: &mut W,
-) -> (u8, &'f str) {
+) -> (u8, &'f str)
+    ensures { IsStatus result.0 }
+{
     let mut last = "-";
     let mut auditor = ChainAuditor::new(host.rt.alloc());
     for name in files {
@@ -64,7 +71,9 @@ pub(crate) fn audit_files<'f, S: Streams, H, W: Sink>(
 }
 
 /// Audits the files as a chain; quietly by the status alone.
-pub(crate) fn audit_chain<S: Streams, H>(host: &Host<'_, S, H>, line: &Line) -> u8 {
+pub(crate) fn audit_chain<S: Streams, H>(host: &Host<'_, S, H>, line: &Line) -> u8
+    ensures { IsStatus result }
+{
     let files = line.files.as_slice();
     if line.is_quiet {
         return audit_files(host, files, &mut Held::new(host.rt.alloc())).0;

@@ -1,5 +1,8 @@
 //! The program over files, standard streams and threads.
 
+ghost use Rattle.std.specs.Prelude.{IfOk};
+ghost use Rattle.sgt_driver.specs.Status.{IsStatus};
+
 use crate::against::judge_order;
 use crate::chain::audit_chain;
 use crate::devices::{Hush, LastWords};
@@ -54,7 +57,9 @@ fn line_with(rt: &HostRuntime, given: Vec<String>) -> Result<Line, AllocError> {
 }
 
 // The status where words or memory are wanting.
-fn refuse<S: Streams>(streams: &S, hush: &Hush, why: NoWords) -> u8 {
+fn refuse<S: Streams>(streams: &S, hush: &Hush, why: NoWords) -> u8
+    ensures { IsStatus result }
+{
     let mut errors = ToWrite::new(LastWords::new(streams.errors(), hush));
     match why {
         NoWords::Memory => give_up(&mut errors, EngineFail::Memory),
@@ -84,7 +89,9 @@ fn answer<S: Streams, H: Threads + Wait + Sync>(
     host: &Host<'_, S, H>,
     line: &Line,
     choice: &Result<Choice, NoChoice>,
-) -> Result<u8, EngineFail> {
+) -> Result<u8, EngineFail>
+    ensures { IfOk result IsStatus }
+{
     if asks_object(line, choice) {
         return answer_objects(host, line, choice);
     }
@@ -117,7 +124,9 @@ fn run<S: Streams, H: Threads + Wait + Sync>(
     threads: &H,
     hush: &Hush,
     line: &Line,
-) -> u8 {
+) -> u8
+    ensures { IsStatus result }
+{
     if let Some(name) = overwritten(rt, line) {
         let name = LineName { name };
         let _ = eprintln!(streams; "sgt: {name} is to be written, and is read or written already");
@@ -158,7 +167,9 @@ pub fn drive<S: Streams, H: Threads + Wait + Sync>(
     streams: &S,
     threads: &H,
     given: Result<Vec<String>, NoWords>,
-) -> u8 {
+) -> u8
+    ensures { IsStatus result }
+{
     let hush = Hush::new();
     let words = match given {
         Ok(words) => words,

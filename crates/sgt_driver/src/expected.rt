@@ -1,12 +1,17 @@
 //! How many transactions are to be committed.
 
+ghost use Rattle.std.specs.Prelude.{IfErr};
+ghost use Rattle.sgt_driver.specs.Status.{IsStatus};
+
 use crate::host::Host;
 use crate::shell::LineName;
 use crate::streams::Streams;
 use sgt_line::Line;
 
 /// What the line says of it; the status, where that is no number.
-pub(crate) fn expected_of<S: Streams>(streams: &S, line: &Line) -> Result<Option<u64>, u8> {
+pub(crate) fn expected_of<S: Streams>(streams: &S, line: &Line) -> Result<Option<u64>, u8>
+    ensures { IfErr result IsStatus }
+{
     let Some(text) = &line.expected else {
         return Ok(None);
     };
@@ -36,7 +41,9 @@ pub(crate) fn expected_status<S: Streams, H>(
     title: &str,
     answer: &[u8],
     status: u8,
-) -> u8 {
+) -> u8
+    ensures { IsStatus status → IsStatus result }
+{
     match (host.expected, committed_of(answer)) {
         (Some(expected), Some(count)) if status == 0 && count != expected => {
             let title = LineName { name: title };

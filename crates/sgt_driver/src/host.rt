@@ -1,5 +1,8 @@
 //! The system, and what is read of it.
 
+ghost use Rattle.std.specs.Prelude.{IfErr, IfSome};
+ghost use Rattle.sgt_driver.specs.Status.{IsStatus};
+
 use crate::devices::{Hush, Input, LastWords, Steady};
 use crate::expected::expected_status;
 use crate::output::Output;
@@ -59,7 +62,9 @@ pub(crate) fn writer<'a, S: Streams, H>(host: &Host<'a, S, H>) -> ToWrite<Output
 }
 
 /// Says why a file could not be read or written, if it isn't that its reader went away, and gives the status.
-pub(crate) fn refuse_file<S: Streams>(streams: &S, name: &str, why: &io::Error) -> u8 {
+pub(crate) fn refuse_file<S: Streams>(streams: &S, name: &str, why: &io::Error) -> u8
+    ensures { IsStatus result }
+{
     if why.kind() != io::ErrorKind::BrokenPipe {
         let _ = eprintln!(streams; "sgt: {}: {why}", LineName { name });
     }
@@ -71,7 +76,9 @@ pub(crate) fn write_file<S: Streams, H>(
     host: &Host<'_, S, H>,
     name: &str,
     text: &[u8],
-) -> Option<u8> {
+) -> Option<u8>
+    ensures { IfSome result IsStatus }
+{
     let written = match File::create(host.rt, name) {
         Ok(mut file) => file.write_all(text),
         Err(why) => Err(why),
@@ -102,7 +109,9 @@ fn input_of<S: Streams, H>(host: &Host<'_, S, H>, name: &str) -> io::Result<Inpu
 pub(crate) fn open<'a, S: Streams, H>(
     host: &Host<'a, S, H>,
     name: &str,
-) -> Result<Steady<'a, S, Input<S::Input>>, u8> {
+) -> Result<Steady<'a, S, Input<S::Input>>, u8>
+    ensures { IfErr result IsStatus }
+{
     let input = match input_of(host, name) {
         Ok(input) => input,
         Err(why) => return Err(refuse_file(host.streams, name, &why)),
@@ -126,7 +135,9 @@ pub(crate) fn ended<S: Streams, H>(
     steady: &Steady<'_, S, Input<S::Input>>,
     name: &str,
     status: u8,
-) -> u8 {
+) -> u8
+    ensures { IsStatus status → IsStatus result }
+{
     match &steady.why {
         Some(why) => refuse_file(host.streams, steady.name(name), why),
         None => status,
@@ -139,7 +150,9 @@ pub(crate) fn over<S: Streams, H: Threads + Wait + Sync, W: Sink>(
     words: &[String],
     name: &str,
     writer: &mut W,
-) -> u8 {
+) -> u8
+    ensures { IsStatus result }
+{
     let mut steady = match open(host, name) {
         Ok(steady) => steady,
         Err(status) => return status,

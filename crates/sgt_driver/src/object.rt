@@ -1,6 +1,7 @@
 //! Answers as objects of JSON.
 
-ghost use Rattle.std.specs.Prelude.{◌≡◌};
+ghost use Rattle.std.specs.Prelude.{◌≡◌, IfOk};
+ghost use Rattle.sgt_driver.specs.Status.{IsStatus};
 
 use crate::against::judged;
 use crate::chain::audit_files;
@@ -151,7 +152,9 @@ pub(crate) fn answer_into<S: Streams, H: Threads + Wait + Sync, W: Sink>(
     choice: &Result<Choice, NoChoice>,
     name: &str,
     output: &mut W,
-) -> Result<u8, EngineFail> {
+) -> Result<u8, EngineFail>
+    ensures { IfOk result IsStatus }
+{
     match way_of(line, choice) {
         Way::Against => {
             let order = file_of(line.against.as_ref());
@@ -172,7 +175,9 @@ fn answered<S: Streams, H: Threads + Wait + Sync, W: Sink>(
     choice: &Result<Choice, NoChoice>,
     name: &str,
     output: &mut W,
-) -> Result<u8, EngineFail> {
+) -> Result<u8, EngineFail>
+    ensures { IfOk result IsStatus }
+{
     let mut answer = Answer::new(host);
     let status = answer_into(host, line, choice, name, &mut answer)?;
     let text = whole(host.rt.alloc(), answer)?;
@@ -196,7 +201,9 @@ fn chained<S: Streams, H, W: Sink>(
     host: &Host<'_, S, H>,
     line: &Line,
     output: &mut W,
-) -> Result<u8, EngineFail> {
+) -> Result<u8, EngineFail>
+    ensures { IfOk result IsStatus }
+{
     let alloc = host.rt.alloc();
     let mut answer = Answer::new(host);
     let (status, name) = audit_files(host, line.files.as_slice(), &mut answer);
@@ -211,7 +218,9 @@ fn answered_each<S: Streams, H: Threads + Wait + Sync, W: Sink>(
     line: &Line,
     choice: &Result<Choice, NoChoice>,
     output: &mut W,
-) -> Result<u8, EngineFail> {
+) -> Result<u8, EngineFail>
+    ensures { IfOk result IsStatus }
+{
     let mut status = 0;
     for name in &line.files {
         status = status.max(answered(host, line, choice, name.as_str(), output)?);
@@ -234,7 +243,9 @@ pub(crate) fn answer_objects<S: Streams, H: Threads + Wait + Sync>(
     host: &Host<'_, S, H>,
     line: &Line,
     choice: &Result<Choice, NoChoice>,
-) -> Result<u8, EngineFail> {
+) -> Result<u8, EngineFail>
+    ensures { IfOk result IsStatus }
+{
     let mut output = match host.command {
         CommandName::Certify => ToWrite::new(Output::new(host, None)),
         _ => writer(host),

@@ -1,5 +1,8 @@
 //! Several files, a bundle that goes to a file, a strict replay, and a status alone.
 
+ghost use Rattle.std.specs.Prelude.{IfOk, IfSome};
+ghost use Rattle.sgt_driver.specs.Status.{IsStatus};
+
 use crate::devices::Held;
 use crate::host::{Host, over, write_file, writer};
 use crate::shell::LineName;
@@ -17,7 +20,9 @@ const LINE: usize = 200;
 pub(crate) fn audit_each<S: Streams, H: Threads + Wait + Sync>(
     host: &Host<'_, S, H>,
     line: &Line,
-) -> Result<u8, EngineFail> {
+) -> Result<u8, EngineFail>
+    ensures { IfOk result IsStatus }
+{
     let rt = host.rt;
     let mut status = 0;
     let mut output = writer(host);
@@ -45,7 +50,9 @@ fn deliver<S: Streams, H>(
     host: &Host<'_, S, H>,
     line: &Line,
     text: &[u8],
-) -> Result<Option<u8>, EngineFail> {
+) -> Result<Option<u8>, EngineFail>
+    ensures { IfOk result (λ r. IfSome r IsStatus) }
+{
     let mut output = writer(host);
     let (front, bundle) = shown(line, text);
     if write_all(&mut output, front).is_err() {
@@ -62,7 +69,9 @@ pub(crate) fn run_held<S: Streams, H: Threads + Wait + Sync>(
     host: &Host<'_, S, H>,
     line: &Line,
     name: &str,
-) -> Result<u8, EngineFail> {
+) -> Result<u8, EngineFail>
+    ensures { IfOk result IsStatus }
+{
     let mut held = Held::new(host.rt.alloc());
     let status = over(host, line.words.as_slice(), name, &mut held);
     if held.refused > 0 {
@@ -87,6 +96,8 @@ pub(crate) fn judge<S: Streams, H: Threads + Wait + Sync>(
     host: &Host<'_, S, H>,
     line: &Line,
     name: &str,
-) -> Result<u8, EngineFail> {
+) -> Result<u8, EngineFail>
+    ensures { IfOk result IsStatus }
+{
     Ok(over(host, line.words.as_slice(), name, &mut Nowhere))
 }

@@ -1,5 +1,8 @@
 //! An answer as a page of HTML.
 
+ghost use Rattle.std.specs.Prelude.{IfOk, IfErr};
+ghost use Rattle.sgt_driver.specs.Status.{IsStatus};
+
 use crate::devices::{Held, LastWords};
 use crate::host::{Host, ended, file_of, open, word_of, writer};
 use crate::object::answer_into;
@@ -27,7 +30,9 @@ pub(crate) fn asks_page(line: &Line, choice: &Result<Choice, NoChoice>) -> bool 
 fn whole<S: Streams, H>(
     host: &Host<'_, S, H>,
     name: &str,
-) -> Result<Result<Vec<u8>, u8>, EngineFail> {
+) -> Result<Result<Vec<u8>, u8>, EngineFail>
+    ensures { IfOk result (λ r. IfErr r IsStatus) }
+{
     let mut steady = match open(host, name) {
         Ok(steady) => steady,
         Err(status) => return Ok(Err(status)),
@@ -51,7 +56,9 @@ fn told<S: Streams, H: Threads + Wait + Sync>(
     words: &[String],
     text: &[u8],
     is_quiet: bool,
-) -> (u8, Held) {
+) -> (u8, Held)
+    ensures { IsStatus result.0 }
+{
     let alloc = host.rt.alloc();
     let mut held = Held::new(alloc);
     let mut reader = Bytes {
@@ -164,7 +171,9 @@ fn write_page<S: Streams, H: Threads + Wait + Sync>(
 fn explain_page<S: Streams, H: Threads + Wait + Sync>(
     host: &Host<'_, S, H>,
     line: &Line,
-) -> Result<u8, EngineFail> {
+) -> Result<u8, EngineFail>
+    ensures { IfOk result IsStatus }
+{
     let text = match whole(host, file_of(line.files.first()))? {
         Ok(text) => text,
         Err(status) => return Ok(status),
@@ -186,7 +195,9 @@ fn check_page<S: Streams, H: Threads + Wait + Sync>(
     host: &Host<'_, S, H>,
     line: &Line,
     choice: &Result<Choice, NoChoice>,
-) -> Result<u8, EngineFail> {
+) -> Result<u8, EngineFail>
+    ensures { IfOk result IsStatus }
+{
     let alloc = host.rt.alloc();
     let mut held = Held::new(alloc);
     let status = answer_into(host, line, choice, file_of(line.files.first()), &mut held)?;
@@ -208,7 +219,9 @@ pub(crate) fn answer_page<S: Streams, H: Threads + Wait + Sync>(
     host: &Host<'_, S, H>,
     line: &Line,
     choice: &Result<Choice, NoChoice>,
-) -> Result<u8, EngineFail> {
+) -> Result<u8, EngineFail>
+    ensures { IfOk result IsStatus }
+{
     match host.command {
         CommandName::Check => check_page(host, line, choice),
         _ => explain_page(host, line),

@@ -1,5 +1,8 @@
 //! A check whose cycle is drawn.
 
+ghost use Rattle.std.specs.Prelude.{IfOk};
+ghost use Rattle.sgt_driver.specs.Status.{IsStatus};
+
 use crate::devices::Held;
 use crate::host::{Host, over, write_file, writer};
 use crate::streams::Streams;
@@ -57,7 +60,9 @@ pub(crate) fn drawn<S: Streams, H: Threads + Wait + Sync, W: Sink>(
     line: &Line,
     names: (&str, &str),
     writer: &mut W,
-) -> Result<u8, EngineFail> {
+) -> Result<u8, EngineFail>
+    ensures { IfOk result IsStatus }
+{
     let (name, place) = names;
     let mut copied = Copied::new(host.rt.alloc(), writer);
     let status = over(host, line.words.as_slice(), name, &mut copied);
@@ -79,7 +84,9 @@ pub(crate) fn check_drawn<S: Streams, H: Threads + Wait + Sync>(
     line: &Line,
     name: &str,
     place: &str,
-) -> Result<u8, EngineFail> {
+) -> Result<u8, EngineFail>
+    ensures { IfOk result IsStatus }
+{
     let names = (name, place);
     if line.is_quiet {
         return drawn(host, line, names, &mut Held::new(host.rt.alloc()));

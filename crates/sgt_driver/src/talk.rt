@@ -1,5 +1,7 @@
 //! Events served one by one.
 
+ghost use Rattle.sgt_driver.specs.Status.{IsStatus};
+
 use crate::devices::{LastWords, Retrying};
 use crate::folder::{FolderBundles, is_growth};
 use crate::host::{Host, ended, open, refuse_file};
@@ -18,7 +20,9 @@ fn tell_lost<S: Streams, H>(host: &Host<'_, S, H>, last: Last) {
 }
 
 // The status; where there is no answer, standard error is told why.
-fn status_of<S: Streams, H>(host: &Host<'_, S, H>, told: Result<Outcome, ServeFail>) -> u8 {
+fn status_of<S: Streams, H>(host: &Host<'_, S, H>, told: Result<Outcome, ServeFail>) -> u8
+    ensures { IsStatus result }
+{
     let fail = match told {
         Ok(Outcome::Yes) => return 0,
         Ok(Outcome::No) => return 1,
@@ -42,7 +46,9 @@ fn status_of<S: Streams, H>(host: &Host<'_, S, H>, told: Result<Outcome, ServeFa
 }
 
 // Talks over standard input or a file and standard output, and gives the status.
-fn talk<S: Streams, H, B: Bundles>(host: &Host<'_, S, H>, name: &str, bundles: &mut B) -> u8 {
+fn talk<S: Streams, H, B: Bundles>(host: &Host<'_, S, H>, name: &str, bundles: &mut B) -> u8
+    ensures { IsStatus result }
+{
     let mut steady = match open(host, name) {
         Ok(steady) => steady,
         Err(status) => return status,
@@ -58,7 +64,9 @@ fn talk<S: Streams, H, B: Bundles>(host: &Host<'_, S, H>, name: &str, bundles: &
 }
 
 /// Serves events, and keeps their bundles in the folder that the line names, if it names one.
-pub(crate) fn serve_events<S: Streams, H>(host: &Host<'_, S, H>, line: &Line, name: &str) -> u8 {
+pub(crate) fn serve_events<S: Streams, H>(host: &Host<'_, S, H>, line: &Line, name: &str) -> u8
+    ensures { IsStatus result }
+{
     match &line.place {
         Some(folder) => match FolderBundles::open(host.rt, host.streams, folder.as_str()) {
             Ok(mut bundles) => talk(host, name, &mut bundles),
