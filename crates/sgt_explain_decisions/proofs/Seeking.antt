@@ -1,5 +1,5 @@
 -- A map of what is sought, with one entry more.
-use Rattle.std.proofs.Common.{◌≡◌, ◌≢◌, ℕ, ◌+◌, ◌-◌, ◌<◌, ◌≤◌, Bool, true, false, cond, List, [], ◌∷◌, ◌++◌, length, take, drop, take_all, Option, Some, None, inl, inr, refl, sym, ap, ap₂, ◌∙◌, subst, arith, All}
+use Rattle.std.proofs.Common.{◌≡◌, ◌≢◌, ℕ, ◌+◌, ◌-◌, ◌<◌, ◌≤◌, Bool, true, false, cond, List, [], ◌∷◌, ◌++◌, length, take, drop, take_all, append_assoc, Option, Some, None, inl, inr, refl, sym, ap, ap₂, ◌∙◌, subst, arith, All}
 use Rattle.std.specs.Prelude.{IfSome, IfNone, IsSome, IsSomeAnd, Result, Ok, Err, OnOk, slice_get, get_or, ◌⊎◌, ◌%◌, ◌==◌}
 use Rattle.std.specs.BTreeMap.{is_at}
 use Rattle.std.specs.Map.{lookup}
@@ -9,7 +9,7 @@ use Rattle.std.specs.Ordering.{nat_cmp, ordering_then, is_eq}
 use Rattle.std.specs.Cmp.{nat_cmp_is}
 use Rattle.std.specs.Cmp.Lexicographic.{slice_cmp}
 use Rattle.std.proofs.lemmas.Bool.{cases_order, cases_lt, false≢true, true≢false, eq-eqb, eqb-true}
-use Rattle.std.proofs.lemmas.List.{nil_from_length}
+use Rattle.std.proofs.lemmas.List.{nil_from_length, take-append-drop}
 use Rattle.std.proofs.lemmas.Map.Text.{is_eq-slice_cmp}
 use Rattle.std.proofs.lemmas.Slice.Eq.{bytes_eq-Decides}
 use Rattle.std.proofs.lemmas.Option.{same_Some, none-some, slice_get_within}
@@ -21,17 +21,20 @@ use Rattle.sgt_names.specs.declared.entry.Entry.TheVariants as entry
 use Rattle.sgt_notation.specs.Spelling.{line_text, text_of_lines, HasNoLf, IsLine}
 use Rattle.sgt_notation.specs.declared.SectionLine.{SectionLine}
 use Rattle.sgt_notation.specs.declared.SectionLine.TheVariants as Line
+use Rattle.sgt_notation.proofs.OneSpelling.{line-one}
+use Rattle.sgt_notation.proofs.Short.{line-no_lf}
 use Rattle.sgt_bundle.specs.declared.certificate.Step.{Step}
 use Rattle.sgt_bundle.specs.declared.certificate.Decision.{Decision}
 use Rattle.sgt_bundle.specs.declared.certificate.Decision.TheVariants.{Refuse}
 use Rattle.sgt_explain_lines.specs.Numbered.{site_behind, entry_in}
 use Rattle.sgt_explain_lines.specs.Sited.{HasLines, HasBefore, StandsAt, site_at}
 use Rattle.sgt_explain_lines.specs.declared.section.Logged.{Logged}
+use Rattle.sgt_explain_lines.proofs.Numbering.{line-cut}
 use Rattle.sgt_explain_lines.proofs.Siting.{all_lines, IsGone, IsHeadLine, IsSited, gone-step, gone-all, gone-end, site-next}
 use Rattle.sgt_explain_decisions.specs.declared.sought.Found.{Found}
 use Rattle.sgt_explain_decisions.specs.declared.sought.Sought.{Sought}
 use Rattle.sgt_explain_decisions.specs.Sought.{Key, key_cmp, key_of, found_at, nothing, ReadsAs, ChangesAs, IsLastAt, IsFoundIn, AreFoundIn, IsFound, AreFound, IsSoughtFor, last_stop, AreSoughtFor, WalksAreSought}
-use Rattle.sgt_explain_decisions.specs.Sought.{AreUnfound, KeepsKeys, PutsAt, TakesPlace, HasOneMore, IsNextOf, TakesOne, AreMarked, Seeks, FindsOne, FindsAny}
+use Rattle.sgt_explain_decisions.specs.Sought.{AreUnfound, KeepsKeys, PutsAt, TakesPlace, HasOneMore, IsNextOf, TakesOne, AreMarked, Seeks, FindsOne, FindsFirst, FindsAny}
 use Rattle.sgt_names.proofs.Elements.{nat_cmp-same}
 use Rattle.sgt_notation.proofs.DecidableEntries.{reads-item, writes-item}
 
@@ -494,6 +497,26 @@ in-next lines s n line (Line.Final h) old new at inside counted finds all =
 in-next lines s n line Line.End old new at inside counted finds all =
     subst (AreFoundIn lines (n + 1)) (sym finds) (λ k. in-other_is lines n Line.End k (found_at old k) at
     (λ e same. cc) (all k))
+
+-- ---- the first line
+
+-- the line that is found at the front of the bytes, with its LF, is their first
+pub front-first : (line site site' n : ℕ) (read : SectionLine) (bytes : List ℕ) (old new : Sought) → 2 < line
+    → IsLine read → take n bytes ≡ line_text read ++ 10 ∷ []
+    → (site' ≡ site_behind site read) × FindsOne site' line read old new
+    → FindsFirst line bytes (drop n bytes) site site' old new
+front-first line site site' n read bytes old new high is front finds = record {
+  text = line_text read;
+  cut = λ one more plain e.
+      line-cut (line_text read) one (drop n bytes) more bytes (line-no_lf read is) plain whole e;
+  head = λ low. absurd (omega (arith, low, high));
+  section = λ _ other is_other same. subst (λ (r : SectionLine). (site' ≡ site_behind site r)
+      × FindsOne site' line r old new) (line-one read other is is_other same) finds;
+}
+  where
+    whole : bytes ≡ line_text read ++ 10 ∷ drop n bytes
+    whole = sym (take-append-drop n bytes) ∙ ap (λ (t : List ℕ). t ++ drop n bytes) front
+        ∙ append_assoc (line_text read) (10 ∷ []) (drop n bytes)
 
 -- ---- the loop over the lines
 

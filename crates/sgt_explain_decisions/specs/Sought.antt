@@ -1,5 +1,5 @@
 -- The entries that walks are about.
-use Rattle.std.specs.Prelude.{◌≡◌, ℕ, ◌+◌, ◌<◌, ◌≤◌, Bool, true, false, List, [], ◌∷◌, length, take, slice_get, get_or, cond, Option, Some, None, IfSome, IfNone, IsSome, IsSomeAnd, unwrap_or, ◌⊎◌, ◌%◌}
+use Rattle.std.specs.Prelude.{◌≡◌, ℕ, ◌+◌, ◌<◌, ◌≤◌, Bool, true, false, List, [], ◌∷◌, ◌++◌, length, take, slice_get, get_or, cond, Option, Some, None, IfSome, IfNone, IsSome, IsSomeAnd, unwrap_or, ◌⊎◌, ◌%◌}
 use Rattle.std.specs.declared.cmp.Ordering.{Ordering}
 use Rattle.std.specs.Ordering.{nat_cmp, ordering_then, is_eq}
 use Rattle.std.specs.Cmp.Lexicographic.{slice_cmp}
@@ -9,12 +9,14 @@ use Rattle.sgt_names.specs.Entry.{tx_of, item_of, Reads, Writes}
 use Rattle.sgt_names.specs.declared.entry.Entry.{Entry}
 use Rattle.sgt_names.specs.declared.entry.Kind.{Kind}
 use Rattle.sgt_names.specs.declared.entry.Kind.TheVariants.{Wr, Rw, Ww}
+use Rattle.sgt_notation.specs.Spelling.{line_text, HasNoLf, IsLine}
 use Rattle.sgt_notation.specs.declared.SectionLine.{SectionLine}
 use Rattle.sgt_notation.specs.declared.SectionLine.TheVariants as Line
 use Rattle.sgt_bundle.specs.declared.certificate.Step.{Step}
 use Rattle.sgt_bundle.specs.declared.certificate.Decision.{Decision}
 use Rattle.sgt_bundle.specs.declared.certificate.Decision.TheVariants.{Refuse}
 use Rattle.sgt_explain_lines.specs.declared.section.Logged.{Logged}
+use Rattle.sgt_explain_lines.specs.Numbered.{site_behind}
 use Rattle.sgt_explain_lines.specs.Sited.{StandsAt}
 use Rattle.sgt_explain_decisions.specs.declared.sought.Found.{Found}
 use Rattle.sgt_explain_decisions.specs.declared.sought.Sought.{Sought}
@@ -162,6 +164,15 @@ pub record Seeks (old : Sought) (classes : List Bool) (new : Sought) (more : Lis
 abbrev pub FindsOne : (site line : ℕ) → SectionLine → Sought → Sought → Type 0
 FindsOne site line (Line.Logged e) old new = TakesOne site (record { line = line; entry = e }) old new
 FindsOne site line _ old new = new ≡ old
+
+-- the first line of the bytes is this text, and what stands behind it and the site are right, with what a line of a
+-- section adds; the first two lines add nothing
+pub record FindsFirst (line : ℕ) (bytes behind : List ℕ) (site site' : ℕ) (old new : Sought) : Type 0 where
+  pub text : List ℕ
+  pub cut : (one more : List ℕ) → HasNoLf one → bytes ≡ one ++ 10 ∷ more → (text ≡ one) × (behind ≡ more)
+  pub head : line ≤ 2 → (new ≡ old) × (site' ≡ site)
+  pub section : 2 < line → (read : SectionLine) → IsLine read → text ≡ line_text read
+      → (site' ≡ site_behind site read) × FindsOne site' line read old new
 
 -- what some line adds: an entry, or nothing
 abbrev pub FindsAny : Sought → Sought → Type 0

@@ -11,11 +11,12 @@ ghost use Rattle.sgt_explain_lines.specs.Numbered.{site_behind};
 ghost use Rattle.sgt_explain_lines.specs.Sited.{HasBefore};
 ghost use Rattle.sgt_explain_decisions.specs.declared.sought.Found.{Found};
 ghost use Rattle.sgt_explain_decisions.specs.Sought.{Key, found_at, AreFoundIn, AreFound, AreSoughtFor, WalksAreSought, IsSoughtFor, key_of, found_of, begun_by, ended_by, nothing};
-ghost use Rattle.sgt_explain_decisions.specs.Sought.{AreUnfound, IsUnfound, KeepsKeys, Seeks, PutsAt, IsWith, TakesPlace, TakesOne, FindsOne, FindsAny, AreMarked};
+ghost use Rattle.sgt_explain_decisions.specs.Sought.{AreUnfound, IsUnfound, KeepsKeys, Seeks, PutsAt, IsWith, TakesPlace, TakesOne, FindsOne, FindsFirst, FindsAny, AreMarked};
 
 use sgt_bundle::{Decision, Step};
 use sgt_explain_lines::{Logged, cut_line, entry_of};
 use sgt_names::{Entry, Item, Kind, Tx};
+use sgt_notation::{SectionLine, front_line};
 use std::alloc::{AllocError, Global};
 use std::collections::BTreeMap;
 
@@ -230,6 +231,64 @@ fn find_in(
     }
 }
 
+/// The same, of a line of a section that was read.
+fn find_read(
+    sought: &mut Sought,
+    classes: &[bool],
+    site: &mut u8,
+    line: u64,
+    read: &SectionLine,
+) -> Result<(), AllocError>
+    requires length { length classes.now ≡ 65536 }
+    requires marked { AreMarked sought.old classes.now }
+    ensures read { OnOk result ((site.new ≡ site_behind site.old read.now)
+        × FindsOne site.new line read.now sought.old sought.new) }
+    ensures any { OnOk result (FindsAny sought.old sought.new) }
+{
+    match read {
+        SectionLine::Site(begun) => {
+            *site = begun.number();
+            Ok(())
+        }
+        SectionLine::Logged(entry) => take(
+            sought,
+            classes,
+            *site,
+            Logged {
+                line,
+                entry: *entry,
+            },
+        ),
+        SectionLine::Initial(_) | SectionLine::Final(_) | SectionLine::End => Ok(()),
+    }
+}
+
+/// Finds in the first line what is sought: what stands behind it. A line of a section that is found at the front is
+/// read once, each other one is cut off first.
+fn find_first<'a>(
+    sought: &mut Sought,
+    classes: &[bool],
+    site: &mut u8,
+    line: u64,
+    bytes: &'a [u8],
+) -> Result<&'a [u8], AllocError>
+    requires length { length classes.now ≡ 65536 }
+    requires marked { AreMarked sought.old classes.now }
+    ensures first { IfOk result (λ behind. FindsFirst line bytes.now behind.now site.old site.new sought.old
+        sought.new) }
+    ensures any { IfOk result (λ _. FindsAny sought.old sought.new) }
+{
+    if line > 2 {
+        if let Some((read, n)) = front_line(bytes) {
+            find_read(sought, classes, site, line, &read)?;
+            return Ok(&bytes[n..]);
+        }
+    }
+    let (text, behind) = cut_line(bytes);
+    find_in(sought, classes, site, line, text)?;
+    Ok(behind)
+}
+
 /// Finds what is sought in the logs of the text.
 fn find_all(sought: &mut Sought, classes: &[bool], bytes: &[u8]) -> Result<(), AllocError>
     requires length { length classes.now ≡ 65536 }
@@ -243,9 +302,7 @@ fn find_all(sought: &mut Sought, classes: &[bool], bytes: &[u8]) -> Result<(), A
     let mut rest = bytes;
     let mut site = 0u8;
     for line in 1..u64::MAX {
-        let (text, behind) = cut_line(rest);
-        find_in(sought, classes, &mut site, line, text)?;
-        rest = behind;
+        rest = find_first(sought, classes, &mut site, line, rest)?;
         if rest.is_empty() {
             return Ok(());
         }

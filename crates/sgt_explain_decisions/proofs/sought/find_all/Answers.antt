@@ -17,21 +17,22 @@ loop-line-init c = record {
 pub loop-line-preserved : goal.loop-line-preserved
 loop-line-preserved c =
     let bytes = c.args.bytes.now in
-    let behind = c.cut_line.result.1.now in
+    let first = c.in_ok-rest.ensures.first in
+    let behind = c.in_ok-rest.rest.now in
     let old = c.loop-line.sought in
-    let new = c.find_in.new.sought in
-    let any = c.in_ok-find_in.ensures.any in
+    let new = c.find_first.new.sought in
+    let any = c.in_ok-rest.ensures.any in
     let so_far = c.loop-line.invariant in
     let next = λ (lines : List SectionLine) (h : HasLines bytes 18446744073709551615 lines).
-    line-next bytes 18446744073709551615 lines h c.loop-line.line c.loop-line.site c.find_in.new.site
-    c.loop-line.rest.now c.cut_line.result.0.now behind old new
-    (so_far.gone lines h) (so_far.all lines h) (omega arith) (omega arith) c.cut_line.ensures.cut
-    c.find_in.ensures.head c.in_ok-find_in.ensures.spelled in
+    line-next bytes 18446744073709551615 lines h c.loop-line.line c.loop-line.site c.find_first.new.site
+    c.loop-line.rest.now first.text behind old new
+    (so_far.gone lines h) (so_far.all lines h) (omega arith) (omega arith) first.cut first.head
+    first.section in
     record {
       marked = any-marked old new c.args.classes.now any so_far.marked;
       found = any-found old new any so_far.found;
       keys = λ k some. any-keys old new any k (so_far.keys k some);
-      gone = λ lines h. line-gone bytes 18446744073709551615 lines h c.loop-line.line behind c.find_in.new.site new
+      gone = λ lines h. line-gone bytes 18446744073709551615 lines h c.loop-line.line behind c.find_first.new.site new
           (next lines h) (not-empty behind c.is_empty.result c.is_empty.ensures c.if-is_empty.false);
       all = λ lines h. (next lines h).all;
     }
@@ -39,21 +40,22 @@ loop-line-preserved c =
 pub returns-then-is_empty : goal.returns-then-is_empty
 returns-then-is_empty c =
     let bytes = c.args.bytes.now in
-    let behind = c.cut_line.result.1.now in
+    let first = c.in_ok-rest.ensures.first in
+    let behind = c.in_ok-rest.rest.now in
     let old = c.loop-line.sought in
-    let new = c.find_in.new.sought in
-    let any = c.in_ok-find_in.ensures.any in
+    let new = c.find_first.new.sought in
+    let any = c.in_ok-rest.ensures.any in
     let so_far = c.loop-line.invariant in
     let next = λ (lines : List SectionLine) (h : HasLines bytes 18446744073709551615 lines).
-    line-next bytes 18446744073709551615 lines h c.loop-line.line c.loop-line.site c.find_in.new.site
-    c.loop-line.rest.now c.cut_line.result.0.now behind old new
-    (so_far.gone lines h) (so_far.all lines h) (omega arith) (omega arith) c.cut_line.ensures.cut
-    c.find_in.ensures.head c.in_ok-find_in.ensures.spelled in
+    line-next bytes 18446744073709551615 lines h c.loop-line.line c.loop-line.site c.find_first.new.site
+    c.loop-line.rest.now first.text behind old new
+    (so_far.gone lines h) (so_far.all lines h) (omega arith) (omega arith) first.cut first.head
+    first.section in
     record {
       found = any-found old new any so_far.found;
       keys = λ k some. any-keys old new any k (so_far.keys k some);
       lines = λ lines before. lines-all bytes 18446744073709551615 lines new (omega arith)
-          (λ h. line-over bytes 18446744073709551615 lines h c.loop-line.line behind c.find_in.new.site new
+          (λ h. line-over bytes 18446744073709551615 lines h c.loop-line.line behind c.find_first.new.site new
           (omega arith) (next lines h)
           (is-empty behind c.is_empty.result c.is_empty.ensures c.if-is_empty.true)) before;
     }
