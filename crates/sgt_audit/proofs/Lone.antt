@@ -93,6 +93,16 @@ pub open-meets : (edges : List Edge) (o : Option SiteLog) (e : Entry) (met : Boo
 open-meets edges (Some log) e met = tt
 open-meets edges None e met = tt
 
+-- nor with a line that ends no section
+pub plain-meets : (edges : List Edge) (o : Option SiteLog) (line : SectionLine) (met : Bool) → line ≢ End
+    → MeetsSteps edges o line met
+plain-meets edges None line met other = tt
+plain-meets edges (Some log) End met other = absurd (other refl)
+plain-meets edges (Some log) (Site k) met other = tt
+plain-meets edges (Some log) (Initial h) met other = tt
+plain-meets edges (Some log) (Logged e) met other = tt
+plain-meets edges (Some log) (Final h) met other = tt
+
 -- what it is to have taken in a line that was read
 pub alone-follows : (c : Certificate) (edges : List Edge) (b : Begun) (line : SectionLine) (new : Alone) → IsLine line
     → FollowsAlone c edges b (line_text line) new None

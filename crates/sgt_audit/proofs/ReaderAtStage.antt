@@ -22,7 +22,7 @@ use Rattle.sgt_audit.specs.Reading.{Begun}
 use Rattle.sgt_audit.specs.Progress.{Stands}
 use Rattle.sgt_audit.specs.private.NextLine.{Follows}
 use Rattle.sgt_audit.specs.private.Ending.{EndsWith, IsComplete, limit_of}
-use Rattle.sgt_audit.specs.private.Stops.{FedFront, Goes, IsJudged, IsRest, IsStop, IsWhole, MeetsFault}
+use Rattle.sgt_audit.specs.private.Stops.{Goes, IsJudged, IsRest, IsStop, IsWhole, MeetsFault}
 use Rattle.sgt_audit.proofs.OneFault.{first_fault-excluded, reach-one}
 use Rattle.sgt_notation.proofs.Texts.{text-one_line}
 
@@ -318,11 +318,11 @@ spends_on (Some xs) (Some ys) None a b b' c first same later = absurd later
 spends_on (Some xs) (Some ys) (Some zs) a b b' c first same later = omega (arith, first, same, later)
 
 -- a line that was fed at the front is what comes next
-pub front-gave : (old new : Kept) (held : List ℕ) (n : ℕ) (fault : Option Fault) (lines after : Ahead)
-    (told : Option (List ℕ)) → (f : FedFront old new held n fault) → held ≡ lines.held → after ≡ passed n lines
-    → GaveNext 50 (stream lines told 0) Line (line_text f.line) (stream after told 0)
-front-gave old new held n fault lines after told f same is =
-    let short = line-short f.line f.is in
-    subst (λ (a : Ahead). GaveNext 50 (stream lines told 0) Line (line_text f.line) (stream a told 0)) (sym is)
-    (passed-next 50 n lines told 0 (line_text f.line) (line-no_lf f.line f.is) (omega (arith, short))
-    (subst (λ (h : List ℕ). n ≤ length h) same f.within) (ap (take n) (sym same) ∙ f.front))
+pub front-gave : (line : SectionLine) (held : List ℕ) (n : ℕ) (lines after : Ahead) (told : Option (List ℕ))
+    → IsLine line → n ≤ length held → take n held ≡ line_text line ++ 10 ∷ [] → held ≡ lines.held
+    → after ≡ passed n lines → GaveNext 50 (stream lines told 0) Line (line_text line) (stream after told 0)
+front-gave line held n lines after told is_line within front same is =
+    let short = line-short line is_line in
+    subst (λ (a : Ahead). GaveNext 50 (stream lines told 0) Line (line_text line) (stream a told 0)) (sym is)
+    (passed-next 50 n lines told 0 (line_text line) (line-no_lf line is_line) (omega (arith, short))
+    (subst (λ (h : List ℕ). n ≤ length h) same within) (ap (take n) (sym same) ∙ front))

@@ -4,13 +4,12 @@
 ghost use Rattle.std.specs.Prelude.{◌≡◌, ℕ, List, length, IfOk};
 ghost use Rattle.sgt_notation.specs.Spelling.{IsLine, line_text};
 ghost use Rattle.sgt_audit.specs.Alone.{FollowsAlone, IsReadyAlone, MeetsSteps, StandsAlone};
-ghost use Rattle.sgt_audit.specs.Kept.{Tracks};
 ghost use Rattle.sgt_audit.specs.Reading.{Begun};
 
 use crate::faults::Fault;
 use crate::format::{is_allowed, read_line};
 use crate::judging::{judge_line, judge_next_entry};
-use crate::known::{Known, look_up, look_up_at_hand};
+use crate::known::{Known, look_up_at_hand, look_up_entry};
 use crate::place::Place;
 use crate::rules::Rules;
 use crate::tracked::{enter, enter_line};
@@ -32,26 +31,16 @@ pub struct Alone {
     pub met: bool,
 }
 
-/// With the section's last line, whether each of the steps is a conflict in its log.
-#[inline(always)]
-fn meets_steps(certificate: &Decided, state: &SiteState, edges: &[Edge], line: &SectionLine) -> bool
-    ensures { (b : Begun) → Tracks certificate.now.decisions b state.now
-        → MeetsSteps edges.now b.current line.now result }
-{
-    match line {
-        SectionLine::End => are_met(certificate, state, edges),
-        _ => true,
-    }
-}
-
 impl Alone {
-    ghost use Rattle.std.specs.Prelude.{None, IsTrue, ◌↔◌, ◌<◌};
+    ghost use Rattle.std.specs.Prelude.{None, IsTrue, ◌≢◌, ◌↔◌, ◌<◌};
     ghost use Rattle.sgt_bundle.specs.Certificate.{IsDecidedOnce, AreRanks, ranks};
     ghost use Rattle.sgt_bundle.specs.declared.certificate.Certificate.{Certificate};
     ghost use Rattle.sgt_notation.specs.declared.SectionLine.TheVariants.{Logged};
     ghost use Rattle.sgt_audit.specs.Faults.{IsLineIn};
     ghost use Rattle.sgt_audit.specs.Reading.{IsBegun};
-    ghost use Rattle.sgt_audit.specs.private.Known.{IsKnownLine, IsKnownOf};
+    ghost use Rattle.sgt_audit.specs.private.Known.{IsKnownOf};
+    ghost use Rattle.sgt_audit_decisions.specs.declared.steps.Edge.{Edge as AnyEdge};
+    ghost use Rattle.sgt_names.specs.declared.entry.Entry.{Entry as AnyEntry};
 
     /// Before the section of the first of so many sites.
     pub fn new(
@@ -94,7 +83,8 @@ impl Alone {
         self.place.whole > site
     }
 
-    /// The next line, which was read already: its least fault, but for the walks. The steps are those at this site.
+    /// The next line, which was read already: its least fault, but for the walks. The steps are those at this site. The
+    /// entries that are most frequent go ways of their own, on which their kind is known and not asked for again.
     #[inline(always)]
     pub fn next_read(
         &mut self,
@@ -107,38 +97,17 @@ impl Alone {
         ensures second { self.new.second ≡ self.old.second }
     {
         match line {
-            SectionLine::Logged(entry) => self.next_entry(certificate, edges, entry),
-            _ => {
-                // by way of memory that only this way touches
-                let copy = *line;
-                self.next_other(certificate, edges, &copy)
-            }
-        }
-    }
-
-    /// The same, where the line is this entry. The kinds that are most frequent go ways of their own, on which the
-    /// kind is known and not asked for again.
-    #[inline(always)]
-    fn next_entry(
-        &mut self,
-        certificate: &Decided,
-        edges: &[Edge],
-        entry: &Entry,
-    ) -> Result<Option<Fault>, AllocError>
-        ensures follows { let line = Logged entry.now in
-            IsLine line → (b : Begun) → StandsAlone certificate.now b self.old
-            → IfOk result (FollowsAlone certificate.now edges.now b (line_text line) self.new) }
-        ensures second { self.new.second ≡ self.old.second }
-    {
-        match *entry {
-            Entry::Read { tx, item, value } => {
-                self.follow_entry(certificate, edges, Entry::Read { tx, item, value })
-            }
-            Entry::Write { tx, item, value } => {
-                self.follow_entry(certificate, edges, Entry::Write { tx, item, value })
-            }
-            Entry::Commit { tx } => self.follow_entry(certificate, edges, Entry::Commit { tx }),
-            _ => self.next_far_entry(certificate, edges, entry),
+            SectionLine::Logged(entry) => match *entry {
+                Entry::Read { tx, item, value } => {
+                    self.follow_entry(certificate, Entry::Read { tx, item, value })
+                }
+                Entry::Write { tx, item, value } => {
+                    self.follow_entry(certificate, Entry::Write { tx, item, value })
+                }
+                Entry::Commit { tx } => self.follow_entry(certificate, Entry::Commit { tx }),
+                _ => self.next_line(certificate, edges, *line),
+            },
+            _ => self.next_line(certificate, edges, *line),
         }
     }
 
@@ -157,97 +126,107 @@ impl Alone {
     pub(crate) fn follow_entry(
         &mut self,
         certificate: &Decided,
-        edges: &[Edge],
         entry: Entry,
     ) -> Result<Option<Fault>, AllocError>
         ensures follows { let line = Logged entry in
-            IsLineIn self.old.second line → (b : Begun) → StandsAlone certificate.now b self.old
-            → IfOk result (FollowsAlone certificate.now edges.now b (line_text line) self.new) }
+            IsLineIn self.old.second line → (edges : List AnyEdge) (b : Begun)
+            → StandsAlone certificate.now b self.old
+            → IfOk result (FollowsAlone certificate.now edges b (line_text line) self.new) }
         ensures second { self.new.second ≡ self.old.second }
     {
-        let known = match look_up_at_hand(certificate, &self.state, &entry) {
-            Some(known) if self.is_plain(&known) => known,
-            _ => return self.follow_far(certificate, edges, &SectionLine::Logged(entry)),
-        };
-        let found = judge_next_entry(Rules::Certified, &self.state, &self.place, &known, &entry);
+        match look_up_at_hand(certificate, &self.state, &entry) {
+            Some(known) if self.is_plain(&known) => self.follow_known(&known, &entry),
+            _ => self.follow(certificate, entry),
+        }
+    }
+
+    /// The same, by way of memory that only this way touches.
+    #[inline(never)]
+    fn follow(
+        &mut self,
+        certificate: &Decided,
+        entry: Entry,
+    ) -> Result<Option<Fault>, AllocError>
+        ensures follows { let line = Logged entry in
+            IsLineIn self.old.second line → (edges : List AnyEdge) (b : Begun)
+            → StandsAlone certificate.now b self.old
+            → IfOk result (FollowsAlone certificate.now edges b (line_text line) self.new) }
+        ensures second { self.new.second ≡ self.old.second }
+    {
+        let known = look_up_entry(certificate, &self.state, &entry);
+        self.follow_known(&known, &entry)
+    }
+
+    /// The next line, which is this entry, of which this is known.
+    #[inline(always)]
+    fn follow_known(
+        &mut self,
+        known: &Known,
+        entry: &Entry,
+    ) -> Result<Option<Fault>, AllocError>
+        ensures follows { let line = Logged entry.now in
+            IsLineIn self.old.second line → (c : Certificate) (edges : List AnyEdge) (b : Begun)
+            → IsKnownOf c.decisions self.old.state entry.now known.now → StandsAlone c b self.old
+            → IfOk result (FollowsAlone c edges b (line_text line) self.new) }
+        ensures second { self.new.second ≡ self.old.second }
+    {
+        let found = judge_next_entry(Rules::Certified, &self.state, &self.place, known, entry);
         if let Some(fault) = found {
             return Ok(Some(fault));
         }
-        enter(&mut self.state, &known, &entry)?;
-        self.place.enter_entry(&entry);
+        enter(&mut self.state, known, entry)?;
+        self.place.enter_entry(entry);
         self.met = true;
         Ok(None)
     }
 
-    /// The next line, which is one of the format, by way of memory that only this way touches.
-    #[inline(always)]
-    fn follow_far(
-        &mut self,
-        certificate: &Decided,
-        edges: &[Edge],
-        line: &SectionLine,
-    ) -> Result<Option<Fault>, AllocError>
-        ensures follows { IsLineIn self.old.second line.now → (b : Begun)
-            → StandsAlone certificate.now b self.old
-            → IfOk result (FollowsAlone certificate.now edges.now b (line_text line.now) self.new) }
-        ensures second { self.new.second ≡ self.old.second }
-    {
-        let copy = *line;
-        let found = self.follow(certificate, edges, &copy)?;
-        Ok(found)
-    }
-
-    /// An entry of a kind that is less frequent, by way of memory that only this way touches.
+    /// The next line, of a kind that is less frequent, by way of memory that only this way touches.
     #[inline(never)]
-    fn next_far_entry(
+    fn next_line(
         &mut self,
         certificate: &Decided,
         edges: &[Edge],
-        entry: &Entry,
+        line: SectionLine,
     ) -> Result<Option<Fault>, AllocError>
-        ensures follows { let line = Logged entry.now in
-            IsLine line → (b : Begun) → StandsAlone certificate.now b self.old
+        ensures follows { IsLine line → (b : Begun) → StandsAlone certificate.now b self.old
             → IfOk result (FollowsAlone certificate.now edges.now b (line_text line) self.new) }
         ensures second { self.new.second ≡ self.old.second }
     {
-        if is_allowed(self.second, &SectionLine::Logged(*entry)) {
-            self.follow_entry(certificate, edges, *entry)
-        } else {
-            Ok(Some(Fault::Notation))
-        }
-    }
-
-    /// The next line, of a kind that is less frequent.
-    #[inline(never)]
-    fn next_other(
-        &mut self,
-        certificate: &Decided,
-        edges: &[Edge],
-        line: &SectionLine,
-    ) -> Result<Option<Fault>, AllocError>
-        ensures follows { IsLine line.now → (b : Begun) → StandsAlone certificate.now b self.old
-            → IfOk result (FollowsAlone certificate.now edges.now b (line_text line.now) self.new) }
-        ensures second { self.new.second ≡ self.old.second }
-    {
-        self.next_line(certificate, edges, line)
-    }
-
-    /// The next line. Nothing is looked up of one that is no entry.
-    #[inline(always)]
-    pub(crate) fn next_line(
-        &mut self,
-        certificate: &Decided,
-        edges: &[Edge],
-        line: &SectionLine,
-    ) -> Result<Option<Fault>, AllocError>
-        ensures follows { IsLine line.now → (b : Begun) → StandsAlone certificate.now b self.old
-            → IfOk result (FollowsAlone certificate.now edges.now b (line_text line.now) self.new) }
-        ensures second { self.new.second ≡ self.old.second }
-    {
         match line {
-            SectionLine::Logged(entry) => self.next_far_entry(certificate, edges, entry),
-            _ => self.follow_known(certificate, edges, line, &None),
+            SectionLine::Logged(entry) => {
+                if !is_allowed(self.second, &line) {
+                    return Ok(Some(Fault::Notation));
+                }
+                self.follow(certificate, entry)
+            }
+            SectionLine::Initial(holding) => {
+                self.follow_other(&SectionLine::Initial(holding), true)
+            }
+            SectionLine::Final(holding) => self.follow_other(&SectionLine::Final(holding), true),
+            SectionLine::Site(_) => self.follow_other(&line, true),
+            SectionLine::End => {
+                let met = are_met(certificate, &self.state, edges);
+                self.follow_other(&line, met)
+            }
         }
+    }
+
+    /// The next line, which is no entry: nothing is looked up of it. With the section's last line it is known whether
+    /// each of the steps is a conflict in its log.
+    #[inline(always)]
+    fn follow_other(&mut self, line: &SectionLine, met: bool) -> Result<Option<Fault>, AllocError>
+        ensures follows { IsLine line.now → ((e : AnyEntry) → line.now ≢ Logged e) → (c : Certificate)
+            (edges : List AnyEdge) (b : Begun) → StandsAlone c b self.old → MeetsSteps edges b.current line.now met
+            → IfOk result (FollowsAlone c edges b (line_text line.now) self.new) }
+        ensures second { self.new.second ≡ self.old.second }
+    {
+        if let Some(fault) = judge_line(Rules::Certified, &self.state, &self.place, line, &None) {
+            return Ok(Some(fault));
+        }
+        self.met = met;
+        self.place.enter(line)?;
+        enter_line(&mut self.state, line, &None)?;
+        Ok(None)
     }
 
     /// The next line, without its LF: its least fault, but for the walks. The steps are those at this site.
@@ -262,49 +241,8 @@ impl Alone {
         ensures second { self.new.second ≡ self.old.second }
     {
         match read_line(self.second, line) {
-            Some(read) => self.follow(certificate, edges, &read),
+            Some(read) => self.next_line(certificate, edges, read),
             None => Ok(Some(Fault::Notation)),
         }
-    }
-
-    /// The next line, which is one of the format.
-    #[inline(never)]
-    fn follow(
-        &mut self,
-        certificate: &Decided,
-        edges: &[Edge],
-        line: &SectionLine,
-    ) -> Result<Option<Fault>, AllocError>
-        ensures follows { IsLineIn self.old.second line.now → (b : Begun)
-            → StandsAlone certificate.now b self.old
-            → IfOk result (FollowsAlone certificate.now edges.now b (line_text line.now) self.new) }
-        ensures second { self.new.second ≡ self.old.second }
-    {
-        let known = look_up(certificate, &self.state, line);
-        self.follow_known(certificate, edges, line, &known)
-    }
-
-    /// The same, where this is known of it.
-    #[inline(always)]
-    fn follow_known(
-        &mut self,
-        certificate: &Decided,
-        edges: &[Edge],
-        line: &SectionLine,
-        known: &Option<Known>,
-    ) -> Result<Option<Fault>, AllocError>
-        ensures follows { IsLineIn self.old.second line.now
-            → IsKnownLine certificate.now.decisions self.old.state line.now known.now → (b : Begun)
-            → StandsAlone certificate.now b self.old
-            → IfOk result (FollowsAlone certificate.now edges.now b (line_text line.now) self.new) }
-        ensures second { self.new.second ≡ self.old.second }
-    {
-        if let Some(fault) = judge_line(Rules::Certified, &self.state, &self.place, line, known) {
-            return Ok(Some(fault));
-        }
-        self.met = meets_steps(certificate, &self.state, edges, line);
-        self.place.enter(line)?;
-        enter_line(&mut self.state, line, known)?;
-        Ok(None)
     }
 }

@@ -39,7 +39,7 @@ fn add_lines(
             return Ok(false);
         }
         place.enter(&read)?;
-        sections.add(read)?;
+        sections.add(&read)?;
         rest = more;
     }
     if !rest.is_empty() {

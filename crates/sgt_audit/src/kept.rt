@@ -1,6 +1,6 @@
 //! A certificate, and lines of sections behind it, none of which has a fault.
 
-ghost use Rattle.std.specs.Prelude.{◌≡◌, ◌≢◌, ◌≤◌, ◌↔◌, ℕ, List, length, IsTrue, IfOk, is_some};
+ghost use Rattle.std.specs.Prelude.{◌≡◌, ◌≤◌, ◌↔◌, ℕ, List, length, IsTrue, IfOk, is_some};
 ghost use Rattle.sgt_notation.specs.Reading.{SpellsNone};
 ghost use Rattle.sgt_notation.specs.Spelling.{IsLine, line_text};
 
@@ -10,7 +10,6 @@ use crate::format::read_line;
 use crate::sections::{Sections, add_to};
 use crate::walks::Walks;
 use sgt_audit_decisions::Decided;
-use sgt_names::Entry;
 use sgt_notation::SectionLine;
 use std::alloc::AllocError;
 
@@ -31,7 +30,6 @@ impl Kept {
     ghost use Rattle.sgt_audit.specs.private.NextLine.{Follows};
     ghost use Rattle.sgt_audit.specs.private.Ending.{EndsWith, IsComplete, limit_of};
     ghost use Rattle.sgt_audit.specs.declared.machine.Progress.TheVariants.{Reading};
-    ghost use Rattle.sgt_notation.specs.declared.SectionLine.TheVariants.{End, Logged};
 
     /// Whether all sections were read.
     #[inline(always)]
@@ -61,112 +59,33 @@ impl Kept {
             → IfOk result (Follows s line.now (Reading self.new)) }
     {
         match read_line(self.alone.second, line) {
-            Some(read) => self.next_other(&read),
+            Some(read) => self.next_read(&read),
             None => Ok(Some(self.unread())),
         }
     }
 
-    /// The next line, which was read already. The entries that are most frequent go a way of their own, on which their
-    /// kind is not asked for again.
+    /// The next line, which was read already: the judge of its section says its fault. Behind the last line of a section
+    /// the judge knows whether the steps at its site are conflicts in its log; a step that isn't is the fault of the last
+    /// line of all.
     #[inline(always)]
     pub(crate) fn next_read(&mut self, line: &SectionLine) -> Result<Option<Fault>, AllocError>
         ensures sections { is_some self.new.sections ≡ is_some self.old.sections }
         ensures follows { IsLine line.now → (s : Stage) → IsAt self.old s
             → IfOk result (Follows s (line_text line.now) (Reading self.new)) }
     {
-        match line {
-            SectionLine::Logged(entry) => match *entry {
-                Entry::Read { tx, item, value } => {
-                    self.next_entry(&Entry::Read { tx, item, value })
-                }
-                Entry::Write { tx, item, value } => {
-                    self.next_entry(&Entry::Write { tx, item, value })
-                }
-                Entry::Commit { tx } => self.next_entry(&Entry::Commit { tx }),
-                _ => self.next_far(line),
-            },
-            _ => self.next_far(line),
-        }
-    }
-
-    /// The same of this entry.
-    #[inline(always)]
-    fn next_entry(&mut self, entry: &Entry) -> Result<Option<Fault>, AllocError>
-        ensures sections { is_some self.new.sections ≡ is_some self.old.sections }
-        ensures follows { let line = Logged entry.now in
-            IsLineIn self.old.alone.second line → (s : Stage) → IsAt self.old s
-            → IfOk result (Follows s (line_text line) (Reading self.new)) }
-    {
         if self.alone.place.is_complete() {
             return Ok(Some(Fault::Trailing));
         }
-        if let Some(fault) = self.alone.follow_entry(&self.certificate, &[], *entry)? {
-            return Ok(Some(fault));
-        }
-        add_to(&mut self.sections, &SectionLine::Logged(*entry))?;
-        Ok(None)
-    }
-
-    /// A line of another kind, by way of memory that only this way touches.
-    #[inline(always)]
-    fn next_far(&mut self, line: &SectionLine) -> Result<Option<Fault>, AllocError>
-        ensures sections { is_some self.new.sections ≡ is_some self.old.sections }
-        ensures follows { IsLine line.now → (s : Stage) → IsAt self.old s
-            → IfOk result (Follows s (line_text line.now) (Reading self.new)) }
-    {
-        let copy = *line;
-        let found = self.next_other(&copy)?;
-        Ok(found)
-    }
-
-    /// The next line, of a kind that is less frequent. That of an item or of a final value goes a way on which its kind
-    /// is not asked for again.
-    #[inline(never)]
-    fn next_other(&mut self, line: &SectionLine) -> Result<Option<Fault>, AllocError>
-        ensures sections { is_some self.new.sections ≡ is_some self.old.sections }
-        ensures follows { IsLine line.now → (s : Stage) → IsAt self.old s
-            → IfOk result (Follows s (line_text line.now) (Reading self.new)) }
-    {
-        if self.alone.place.is_complete() {
-            return Ok(Some(Fault::Trailing));
-        }
-        match line {
-            SectionLine::End => self.close(),
-            SectionLine::Initial(holding) => self.go_on(&SectionLine::Initial(*holding)),
-            SectionLine::Final(holding) => self.go_on(&SectionLine::Final(*holding)),
-            _ => self.go_on(line),
-        }
-    }
-
-    /// The same of a line that ends no section, where sections are still to come: the judge of the section says its
-    /// fault.
-    #[inline(always)]
-    fn go_on(&mut self, line: &SectionLine) -> Result<Option<Fault>, AllocError>
-        ensures sections { is_some self.new.sections ≡ is_some self.old.sections }
-        ensures follows { IsLine line.now → line.now ≢ End → (s : Stage) → IsAt self.old s → (IsComplete s → ⊥)
-            → IfOk result (Follows s (line_text line.now) (Reading self.new)) }
-    {
-        if let Some(fault) = self.alone.next_line(&self.certificate, &[], line)? {
+        let edges = self.walks.steps.at(self.alone.place.whole);
+        if let Some(fault) = self.alone.next_read(&self.certificate, edges, line)? {
             return Ok(Some(fault));
         }
         add_to(&mut self.sections, line)?;
-        Ok(None)
-    }
-
-    /// The same of the end of a section. The judge knows then whether the steps at its site are conflicts in its log;
-    /// a step that isn't is the fault of the last line of all.
-    fn close(&mut self) -> Result<Option<Fault>, AllocError>
-        ensures sections { is_some self.new.sections ≡ is_some self.old.sections }
-        ensures follows { (s : Stage) → IsAt self.old s → (IsComplete s → ⊥)
-            → IfOk result (Follows s (line_text End) (Reading self.new)) }
-    {
-        let edges = self.walks.steps.at(self.alone.place.whole);
-        let line = SectionLine::End;
-        if let Some(fault) = self.alone.next_line(&self.certificate, edges, &line)? {
-            return Ok(Some(fault));
+        match line {
+            SectionLine::End => (),
+            _ => return Ok(None),
         }
         self.walks.pass(self.alone.met);
-        add_to(&mut self.sections, &line)?;
         if self.alone.place.is_complete() && !self.walks.met {
             return Ok(Some(Fault::WalkStep));
         }

@@ -17,16 +17,23 @@ pub struct Known {
     pub ruling: Ruling,
 }
 
-/// What is known of the line, if it is an entry.
+/// What is known of the entry.
 #[inline(always)]
+pub(crate) fn look_up_entry(certificate: &Decided, state: &SiteState, entry: &Entry) -> Known
+    ensures { IsKnownOf certificate.now.decisions state.now entry.now result }
+{
+    Known {
+        place: state.place_of_entry(entry),
+        ruling: certificate.ruling_on(entry),
+    }
+}
+
+/// What is known of the line, if it is an entry.
 pub fn look_up(certificate: &Decided, state: &SiteState, line: &SectionLine) -> Option<Known>
     ensures { IsKnownLine certificate.now.decisions state.now line.now result }
 {
     match line {
-        SectionLine::Logged(entry) => Some(Known {
-            place: state.place_of_entry(entry),
-            ruling: certificate.ruling_on(entry),
-        }),
+        SectionLine::Logged(entry) => Some(look_up_entry(certificate, state, entry)),
         _ => None,
     }
 }

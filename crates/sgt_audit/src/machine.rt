@@ -1,6 +1,6 @@
 //! The auditor's machine, which is fed a text line by line.
 
-ghost use Rattle.std.specs.Prelude.{◌≡◌, ◌≢◌, ◌<◌, ◌≤◌, ℕ, [], List, length, Bool, true, IsTrue, IfOk, IfErr, IsSome};
+ghost use Rattle.std.specs.Prelude.{◌≡◌, ◌≢◌, ◌<◌, ◌≤◌, ℕ, [], List, length, Bool, true, IsTrue, IfOk, IfErr, IfSome, IsSome, Some};
 
 use crate::alone::Alone;
 use crate::faults::{Fault, FirstFault};
@@ -164,6 +164,17 @@ impl Machine {
             }
             Progress::Start => self.line(line.as_slice()),
             Progress::Reading(_) => self.line(line.as_slice()),
+        }
+    }
+
+    /// Whether the format is the second, where the first line was read and the certificate's comes next.
+    pub fn second(&self) -> Option<bool>
+        ensures some { (s : Stage) → Stands self.now.progress s → IfSome result (λ second. s ≡ headed second) }
+        ensures none { (second : Bool) → Stands self.now.progress (headed second) → result ≡ Some second }
+    {
+        match &self.progress {
+            Progress::Headed(second) => Some(*second),
+            Progress::Start | Progress::Reading(_) => None,
         }
     }
 

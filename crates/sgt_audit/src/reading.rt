@@ -8,7 +8,7 @@ ghost use Rattle.sgt_audit.specs.Faults.{BeginsNoneBehind, ReadsNoFurther, start
 ghost use Rattle.sgt_audit.specs.private.Ending.{IsKeeping};
 ghost use Rattle.sgt_audit.specs.Progress.{Stands};
 ghost use Rattle.sgt_audit.specs.declared.machine.Progress.TheVariants.{Reading};
-ghost use Rattle.sgt_audit.specs.private.Stops.{BeganBefore, FedFront, FedHeld, Goes, IsJudged, IsStop, IsWhole};
+ghost use Rattle.sgt_audit.specs.private.Stops.{BeganBefore, FedHeld, Goes, IsJudged, IsStop, IsWhole};
 
 use crate::faults::{Fault, FirstFault};
 use crate::kept::Kept;
@@ -16,23 +16,6 @@ use crate::machine::{Machine, Progress};
 use sgt_names::{EngineFail, Source};
 use sgt_notation::{Lines, LinesFault, Next, front_line};
 use std::alloc::{AllocError, Global};
-
-/// Feeds what was kept the line that is found at the front of the held bytes, if one is: how many bytes it has with
-/// its LF, and its fault.
-fn feed_front(kept: &mut Kept, held: &[u8]) -> Result<Option<(usize, Option<Fault>)>, AllocError>
-    ensures fed { IfOk result
-        (λ found. IfSome found (λ r. FedFront kept.old kept.new held.now r.0 r.1)) }
-    ensures none { IfOk result (λ found. IfNone found (kept.new ≡ kept.old)) }
-    ensures sections { is_some kept.new.sections ≡ is_some kept.old.sections }
-{
-    match front_line(held) {
-        Some((line, n)) => {
-            let fault = kept.next_read(&line)?;
-            Ok(Some((n, fault)))
-        }
-        None => Ok(None),
-    }
-}
 
 /// Feeds what was kept the lines that are held whole, up to the first fault. The number is that of the next line.
 fn feed_kept(
@@ -49,11 +32,11 @@ fn feed_kept(
     ensures bounded { most_left lines.new ≤ most_left lines.old }
     ensures sections { is_some kept.new.sections ≡ is_some kept.old.sections }
 {
-    'lines: while let Some((n, fault)) = feed_front(kept, lines.held())? {
-        lines.pass(n);
-        if let Some(fault) = fault {
+    'lines: while let Some((line, n)) = front_line(lines.held()) {
+        if let Some(fault) = kept.next_read(&line)? {
             return Ok(Some(fault));
         }
+        lines.pass(n);
         *number += 1;
     }
     Ok(None)

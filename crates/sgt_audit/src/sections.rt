@@ -39,14 +39,14 @@ impl OpenLog {
         }
     }
 
-    fn add(&mut self, line: SectionLine) -> Result<(), AllocError>
-        ensures ok { OnOk result (self.new ≡ with_line self.old line) }
+    fn add(&mut self, line: &SectionLine) -> Result<(), AllocError>
+        ensures ok { OnOk result (self.new ≡ with_line self.old line.now) }
         ensures err { OnErr result (self.new ≡ self.old) }
     {
         match line {
-            SectionLine::Initial(holding) => self.items.push(holding)?,
-            SectionLine::Logged(entry) => self.entries.push(entry)?,
-            SectionLine::Final(holding) => self.finals.push(holding)?,
+            SectionLine::Initial(holding) => self.items.push(*holding)?,
+            SectionLine::Logged(entry) => self.entries.push(*entry)?,
+            SectionLine::Final(holding) => self.finals.push(*holding)?,
             SectionLine::Site(_) | SectionLine::End => (),
         }
         Ok(())
@@ -101,9 +101,9 @@ impl Sections {
     }
 
     /// One more line.
-    pub(crate) fn add(&mut self, line: SectionLine) -> Result<(), AllocError>
+    pub(crate) fn add(&mut self, line: &SectionLine) -> Result<(), AllocError>
         ensures sites { self.new.sites ≡ self.old.sites }
-        ensures next { OnOk result (self.new ≡ with_next self.old self.old.current line) }
+        ensures next { OnOk result (self.new ≡ with_next self.old self.old.current line.now) }
     {
         if let Some(log) = &mut self.current {
             if !matches!(line, SectionLine::End) {
@@ -134,7 +134,7 @@ pub(crate) fn add_to(sections: &mut Option<Sections>, line: &SectionLine) -> Res
         → IfSome sections.new (λ s. s ≡ with_next b b.current line.now)) }
 {
     match sections {
-        Some(sections) => sections.add(*line),
+        Some(sections) => sections.add(line),
         None => Ok(()),
     }
 }

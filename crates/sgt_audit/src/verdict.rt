@@ -45,7 +45,7 @@ pub fn yes_to(decisions: &[Decision]) -> Verdict
 }
 
 /// The verdict on a text that was judged.
-pub(crate) fn verdict_on(judged: Result<Kept, FirstFault>) -> Verdict
+pub fn verdict_on(judged: Result<Kept, FirstFault>) -> Verdict
     ensures { (bytes : List ℕ) → IsJudged judged bytes → IsVerdict bytes result }
 {
     match judged {

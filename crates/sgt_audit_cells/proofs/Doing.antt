@@ -14,7 +14,7 @@ use Rattle.sgt_names.specs.declared.entry.Entry.{Entry}
 use Rattle.sgt_names.specs.declared.entry.Entry.TheVariants.{Read, Write, Add, Want, WantAdd, Commit, Refuse, Withdraw}
 use Rattle.sgt_audit_cells.specs.private.Noted.{IsPlaceOf}
 use Rattle.sgt_audit_cells.specs.Records.{Record, no_record, Did, IsAct, AreActs, IsRecord, deed_of}
-use Rattle.sgt_audit_cells.specs.private.Deeds.{IsTouched, IsOf, act, changes, adds}
+use Rattle.sgt_audit_cells.specs.private.Deeds.{IsTouched, IsOf, act, act_of, done, changes, adds}
 use Rattle.sgt_audit_cells.specs.declared.act.Act.{Act}
 use Rattle.sgt_audit_cells.specs.declared.act.Deed.{Deed}
 
@@ -280,6 +280,13 @@ module _ (ns : List Name) (entries : List Entry) (tx : ℕ) (e : Entry) where
   acts-next acts None apart is of on =
       subst (AreActs ns (entries ++ e ∷ []) tx) (sym (append-nil acts)) (acts-ended acts on is)
   acts-next acts (Some i) apart is of on = acts-entered acts i on.0 apart is of on.1 on.2
+
+-- by what is done at its place
+pub acts-by : (n : ℕ) (e : Entry) (place : Option ℕ)
+    → option_to_list (option_map (act_of n) (option_map (λ i. done i e) place))
+    ≡ option_to_list (option_map (λ i. act n i e) place)
+acts-by n e None = refl
+acts-by n e (Some i) = refl
 
 -- ---- a record
 

@@ -10,6 +10,7 @@ use Rattle.sgt_audit_cells.specs.Records.{Record, no_record}
 use Rattle.sgt_audit_cells.specs.declared.act.Act.{Act}
 use Rattle.sgt_audit_cells.specs.declared.record.Node.{Node}
 use Rattle.sgt_audit_cells.specs.declared.record.Slot.{Slot}
+use Rattle.sgt_audit_cells.specs.private.Deeds.{act_of}
 use Rattle.sgt_audit_cells.specs.private.Linked.{behind, chain_by, chain, AreLinked, AreWithin, last_here, record_of, records_of}
 use Rattle.sgt_audit_cells.proofs.Lists.{some-at}
 
@@ -66,35 +67,35 @@ module _ (nodes : List Node) (are : AreLinked nodes) where
   most-same (suc f) (suc g) zero lf lg = refl
   most-same (suc f) (suc g) (suc i) lf lg =
       elim (option_cases (slice_get nodes i)) [
-        | inl none ↦ ap (behind (chain_by f nodes)) none ∙ sym (ap (behind (chain_by g nodes)) none)
+        | inl none ↦ ap (behind (chain_by f nodes) i) none ∙ sym (ap (behind (chain_by g nodes) i) none)
         | inr some ↦
             let early = are i some.0 some.1 in
-            ap (behind (chain_by f nodes)) some.1
-            ∙ ap (λ acts. acts ++ some.0.act ∷ []) (most-same f g some.0.before (omega (arith, early, lf))
+            ap (behind (chain_by f nodes) i) some.1
+            ∙ ap (λ acts. acts ++ act_of i some.0.done ∷ []) (most-same f g some.0.before (omega (arith, early, lf))
             (omega (arith, early, lg)))
-            ∙ sym (ap (behind (chain_by g nodes)) some.1)
+            ∙ sym (ap (behind (chain_by g nodes) i) some.1)
       ]
 
   pub chain-at : (i : ℕ) (n : Node) → slice_get nodes i ≡ Some n
-      → chain nodes (suc i) ≡ chain nodes n.before ++ n.act ∷ []
+      → chain nodes (suc i) ≡ chain nodes n.before ++ act_of i n.done ∷ []
   chain-at i n at =
       let early = are i n at in
-      ap (behind (chain_by i nodes)) at
-      ∙ ap (λ acts. acts ++ n.act ∷ []) (most-same i n.before n.before early (omega arith))
+      ap (behind (chain_by i nodes) i) at
+      ∙ ap (λ acts. acts ++ act_of i n.done ∷ []) (most-same i n.before n.before early (omega arith))
 
   -- one step back
-  pub any-step : (P : Act → Type 0) (at i : ℕ) (n : Node) → slice_get nodes i ≡ Some n → at ≡ suc i → (P n.act → ⊥)
+  pub any-step : (P : Act → Type 0) (at i : ℕ) (n : Node) → slice_get nodes i ≡ Some n → at ≡ suc i → (P (act_of i n.done) → ⊥)
       → Any P (chain nodes at) ↔ Any P (chain nodes n.before)
   any-step P at i n here is not =
-      let same : chain nodes at ≡ chain nodes n.before ++ n.act ∷ [] = ap (chain nodes) is ∙ chain-at i n here in (
-        λ any. any-cases P (chain nodes n.before) n.act (subst (Any P) same any) not,
-        λ any. subst (Any P) (sym same) (any-pushed P (chain nodes n.before) n.act any),
+      let same : chain nodes at ≡ chain nodes n.before ++ act_of i n.done ∷ [] = ap (chain nodes) is ∙ chain-at i n here in (
+        λ any. any-cases P (chain nodes n.before) (act_of i n.done) (subst (Any P) same any) not,
+        λ any. subst (Any P) (sym same) (any-pushed P (chain nodes n.before) (act_of i n.done) any),
       )
 
-  pub any-here : (P : Act → Type 0) (at i : ℕ) (n : Node) → slice_get nodes i ≡ Some n → at ≡ suc i → P n.act
+  pub any-here : (P : Act → Type 0) (at i : ℕ) (n : Node) → slice_get nodes i ≡ Some n → at ≡ suc i → P (act_of i n.done)
       → Any P (chain nodes at)
   any-here P at i n here is p =
-      subst (Any P) (sym (ap (chain nodes) is ∙ chain-at i n here)) (any-last P (chain nodes n.before) n.act p)
+      subst (Any P) (sym (ap (chain nodes) is ∙ chain-at i n here)) (any-last P (chain nodes n.before) (act_of i n.done) p)
 
   module _ (x : Node) (early : x.before ≤ length nodes) where
     pushed-by : (f k : ℕ) → k ≤ length nodes → chain_by f (nodes ++ x ∷ []) k ≡ chain_by f nodes k
@@ -103,9 +104,9 @@ module _ (nodes : List Node) (are : AreLinked nodes) where
     pushed-by (suc f) (suc i) le =
         let there = some-at nodes i (omega (arith, le)) in
         let before = are i there.0 there.1 in
-        ap (behind (chain_by f (nodes ++ x ∷ []))) (get-pushed nodes x there.0 i there.1)
-        ∙ ap (λ acts. acts ++ there.0.act ∷ []) (pushed-by f there.0.before (omega (arith, before, le)))
-        ∙ sym (ap (behind (chain_by f nodes)) there.1)
+        ap (behind (chain_by f (nodes ++ x ∷ [])) i) (get-pushed nodes x there.0 i there.1)
+        ∙ ap (λ acts. acts ++ act_of i there.0.done ∷ []) (pushed-by f there.0.before (omega (arith, before, le)))
+        ∙ sym (ap (behind (chain_by f nodes) i) there.1)
 
     pub chain-pushed : (k : ℕ) → k ≤ length nodes → chain (nodes ++ x ∷ []) k ≡ chain nodes k
     chain-pushed k le = pushed-by k k le
@@ -120,10 +121,10 @@ module _ (nodes : List Node) (are : AreLinked nodes) where
 
 -- one more is linked behind what stands at its place
 pub chain-last : (nodes : List Node) (are : AreLinked nodes) (x : Node) → x.before ≤ length nodes
-    → chain (nodes ++ x ∷ []) (suc (length nodes)) ≡ chain nodes x.before ++ x.act ∷ []
+    → chain (nodes ++ x ∷ []) (suc (length nodes)) ≡ chain nodes x.before ++ act_of (length nodes) x.done ∷ []
 chain-last nodes are x early =
     chain-at (nodes ++ x ∷ []) (linked-pushed nodes are x early) (length nodes) x (get-last nodes x)
-    ∙ ap (λ acts. acts ++ x.act ∷ []) (chain-pushed nodes are x early x.before early)
+    ∙ ap (λ acts. acts ++ act_of (length nodes) x.done ∷ []) (chain-pushed nodes are x early x.before early)
 
 -- ---- the records
 
@@ -182,10 +183,10 @@ module _ (nodes : List Node) (are : AreLinked nodes) (at : ℕ) (n : Node) (with
   pub back-within : n.before ≤ length nodes
   back-within = let early = back-early in omega (arith, early, within)
 
-  pub back-step : (P : Act → Type 0) → (P n.act → ⊥) → Any P (chain nodes at) ↔ Any P (chain nodes n.before)
+  pub back-step : (P : Act → Type 0) → (P (act_of (at - 1) n.done) → ⊥) → Any P (chain nodes at) ↔ Any P (chain nodes n.before)
   back-step P not = any-step nodes are P at (at - 1) n there (omega (arith, some)) not
 
-  pub back-here : (P : Act → Type 0) → P n.act → Any P (chain nodes at)
+  pub back-here : (P : Act → Type 0) → P (act_of (at - 1) n.done) → Any P (chain nodes at)
   back-here P p = any-here nodes are P at (at - 1) n there (omega (arith, some)) p
 
 pub back-end : (nodes : List Node) (at : ℕ) (P : Act → Type 0) → at ≤ 0 → Any P (chain nodes at) → ⊥

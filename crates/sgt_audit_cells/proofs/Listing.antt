@@ -15,7 +15,7 @@ use Rattle.sgt_names.specs.declared.entry.Holding.{Holding}
 use Rattle.sgt_bundle.specs.Certificate.{decided_tx}
 use Rattle.sgt_bundle.specs.declared.certificate.Decision.{Decision}
 use Rattle.sgt_audit_cells.specs.Cells.{IsGreatest, IsCell, AreCells}
-use Rattle.sgt_audit_cells.specs.Records.{live_among}
+use Rattle.sgt_audit_cells.specs.Records.{Recorded, live_among}
 use Rattle.sgt_audit_cells.specs.Tracks.{EndsBy, TracksOpen}
 use Rattle.sgt_audit_cells.specs.declared.cell.Cell.{Cell}
 use Rattle.sgt_audit_cells.specs.declared.state.SiteState.{SiteState}
@@ -83,16 +83,16 @@ module _ (ds : List Decision) (items : List Holding) (h : Holding) where
 
   pub listed : (old new : SiteState) → All (λ x. x ≢ h.item) (names items) → TracksOpen ds items [] old
       → new.cells.items ≡ old.cells.items ++ fresh h ∷ []
-      → new.records ≡ old.records → new.count ≡ old.count → new.live ≡ old.live → new.last_end ≡ old.last_end
+      → new.records ≡ old.records → new.live ≡ old.live → new.last_end ≡ old.last_end
       → TracksOpen ds (items ++ h ∷ []) [] new
-  listed old new apart t cells records count live order = record {
+  listed old new apart t cells records live order = record {
     cells = subst (AreCells ds (items ++ h ∷ []) []) (sym cells) (more-cells old.cells.items apart t.cells);
-    many = ap length records ∙ t.many;
+    many = ap (λ (q : Recorded). length q.each) records ∙ t.many;
     records = λ k d r at_k at_r.
         record-renamed (names items) (names (items ++ h ∷ [])) (decided_tx d) r
-        (t.records k d r at_k (ap (λ rs. slice_get rs k) (sym records) ∙ at_r));
-    live = live ∙ t.live ∙ ap live_among (sym records);
-    count = count ∙ t.count;
+        (t.records k d r at_k (ap (λ (q : Recorded). slice_get q.each k) (sym records) ∙ at_r));
+    live = live ∙ t.live ∙ ap (λ (q : Recorded). live_among q.each) (sym records);
+    count = ap (λ (q : Recorded). q.count) records ∙ t.count;
     order = subst (IsGreatest (EndsBy ds) []) (sym order) t.order;
     decided = t.decided;
     listed = λ f here. absurd (no-entry f here);

@@ -151,6 +151,16 @@ module _ (ds : List Decision) (items : List Holding) (entries : List Entry) (c :
     adder = adder-left e (increments-none c.name e other);
   }
 
+pub noted-name : (c : Cell) (e : Entry) (rank : Option ℕ) → (noted c e rank).name ≡ c.name
+noted-name c (Read tx y v) rank = refl
+noted-name c (Write tx y v) rank = refl
+noted-name c (Want tx y v) rank = refl
+noted-name c (Add tx y v) rank = refl
+noted-name c (WantAdd tx y v) rank = refl
+noted-name c (Commit tx) rank = refl
+noted-name c (Refuse tx) rank = refl
+noted-name c (Withdraw tx) rank = refl
+
 abbrev Apart : Name → Name → Type 0
 Apart x y = x ≢ y
 

@@ -10,7 +10,7 @@ use Rattle.sgt_names.proofs.Lists.{Any_at, Any-from_at}
 use Rattle.sgt_audit_cells.specs.declared.act.Act.{Act}
 use Rattle.sgt_audit_cells.specs.declared.record.Node.{Node}
 use Rattle.sgt_audit_cells.specs.declared.row.Row.{Row}
-use Rattle.sgt_audit_cells.specs.private.Deeds.{IsOf}
+use Rattle.sgt_audit_cells.specs.private.Deeds.{IsOf, act_of}
 use Rattle.sgt_audit_cells.specs.private.Linked.{AreLinked, chain}
 use Rattle.sgt_audit_cells.specs.private.Rows.{HasBit, HasMark, IsRowOf, AreRows}
 use Rattle.sgt_audit_cells.proofs.Linked.{pushed-cases, any-pushed, any-last, chain-at}
@@ -121,16 +121,16 @@ any-either P xs y any =
 -- what is linked from a node: its act, and what is linked in front of it
 pub any-split : (nodes : List Node) (are : AreLinked nodes) (at : ℕ) (n : Node) → 0 < at
     → slice_get nodes (at - 1) ≡ Some n → (P : Act → Type 0)
-    → Any P (chain nodes at) ↔ (P n.act ⊎ Any P (chain nodes n.before))
+    → Any P (chain nodes at) ↔ (P (act_of (at - 1) n.done) ⊎ Any P (chain nodes n.before))
 any-split nodes are at n some there P =
     let is : at ≡ suc (at - 1) = omega (arith, some) in
-    let same : chain nodes at ≡ chain nodes n.before ++ n.act ∷ [] = ap (chain nodes) is
+    let same : chain nodes at ≡ chain nodes n.before ++ act_of (at - 1) n.done ∷ [] = ap (chain nodes) is
     ∙ chain-at nodes are (at - 1) n there in (
-      λ any. any-either P (chain nodes n.before) n.act (subst (Any P) same any),
+      λ any. any-either P (chain nodes n.before) (act_of (at - 1) n.done) (subst (Any P) same any),
       λ either.
           elim either [
-            | inl here ↦ subst (Any P) (sym same) (any-last P (chain nodes n.before) n.act here)
-            | inr any ↦ subst (Any P) (sym same) (any-pushed P (chain nodes n.before) n.act any)
+            | inl here ↦ subst (Any P) (sym same) (any-last P (chain nodes n.before) (act_of (at - 1) n.done) here)
+            | inr any ↦ subst (Any P) (sym same) (any-pushed P (chain nodes n.before) (act_of (at - 1) n.done) any)
           ],
     )
 

@@ -117,12 +117,12 @@ module _ (ds : List Decision) (items : List Holding) (entries : List Entry) (s :
       All_at (λ c. c.name ≢ x) s.cells.items at.0 c.0 none c.1 c.2
 
   record-at : (number : ℕ) (d : Decision) → slice_get ds number ≡ Some d
-      → (r : Record) × (slice_get s.records number ≡ Some r)
-  record-at number d at = some-at s.records number (let lt = slice_get_within ds number d at in let many = t.many in
+      → (r : Record) × (slice_get s.records.each number ≡ Some r)
+  record-at number d at = some-at s.records.each number (let lt = slice_get_within ds number d at in let many = t.many in
       omega (arith, lt, many))
 
   -- the record of a transaction
-  pub record-of : (number tx : ℕ) → Decides ds number tx → (r : Record) × (slice_get s.records number ≡ Some r)
+  pub record-of : (number tx : ℕ) → Decides ds number tx → (r : Record) × (slice_get s.records.each number ≡ Some r)
       × IsRecord (names items) entries tx r
   record-of number tx (d, at, of) = let r = record-at number d at in
       (r.0, r.1, subst (λ i. IsRecord (names items) entries i r.0) of (t.records number d r.0 at r.1))
@@ -174,7 +174,7 @@ module _ (ds : List Decision) (items : List Holding) (entries : List Entry) (s :
     All_at (IsCell ds items entries) s.cells.items place c t.cells.each at,
   )
 
-  pub record-is : (number tx : ℕ) (r : Record) → Decides ds number tx → slice_get s.records number ≡ Some r
+  pub record-is : (number tx : ℕ) (r : Record) → Decides ds number tx → slice_get s.records.each number ≡ Some r
       → IsRecord (names items) entries tx r
   record-is number tx r (d, at, of) here =
       subst (λ i. IsRecord (names items) entries i r) of (t.records number d r at here)
@@ -189,9 +189,9 @@ module _ (ds : List Decision) (items : List Holding) (entries : List Entry) (s :
   any-ended tx h = let a = Any_at (λ f. IsEnd f × (tx_of f ≡ tx)) entries h in
       (a.1, Contains-from_at entries a.0 a.1 a.2, a.3.1, a.3.0)
 
-  idle : AllEnded entries → (k : ℕ) (r : Record) → slice_get s.records k ≡ Some r → is_live r ≡ false
+  idle : AllEnded entries → (k : ℕ) (r : Record) → slice_get s.records.each k ≡ Some r → is_live r ≡ false
   idle all k r at =
-      let within = slice_get_within s.records k r at in
+      let within = slice_get_within s.records.each k r at in
       let many = t.many in
       let d = some-at ds k (omega (arith, within, many)) in
       let is = t.records k d.0 r d.1 at in
@@ -216,8 +216,8 @@ module _ (ds : List Decision) (items : List Holding) (entries : List Entry) (s :
         let none = sym t.live ∙ eqb-true s.live 0 (sym is ∙ h) in
         let same = r.2.touched.1 (e, here, refl, tt) in
         ended-any (tx_of e)
-        (r.2.ended.0 (ended-by r.0.touched r.0.ended (live-none s.records by.0 r.0 none r.1) same))),
-    λ all. is ∙ eq-eqb s.live 0 (t.live ∙ none-live s.records (idle all)),
+        (r.2.ended.0 (ended-by r.0.touched r.0.ended (live-none s.records.each by.0 r.0 none r.1) same))),
+    λ all. is ∙ eq-eqb s.live 0 (t.live ∙ none-live s.records.each (idle all)),
   )
 
 -- ---- one more entry
@@ -249,27 +249,27 @@ module _ (ds : List Decision) (items : List Holding) (entries : List Entry) (old
       (greatest-left (EndsBy ds) entries old.last_end e (λ r has. not has.0) t.order)
 
   module _ (place : Option ℕ) (on : IsPlaceOf (names items) e place) (apart : AllPairs Apart (names items))
-      (ends : Bool) (ending : IsTrue ends ↔ IsEnd e) (r v : Record) (at : slice_get old.records number ≡ Some r)
-      (records : new.records ≡ set old.records number v)
-      (told : IsTouched (option_to_list (option_map (λ i. act old.count i e) place)) ends r v) where
+      (ends : Bool) (ending : IsTrue ends ↔ IsEnd e) (r v : Record) (at : slice_get old.records.each number ≡ Some r)
+      (records : new.records.each ≡ set old.records.each number v)
+      (told : IsTouched (option_to_list (option_map (λ i. act old.records.count i e) place)) ends r v) where
     to : IsTouched (option_to_list (option_map (λ i. act (length entries) i e) place)) ends r v
     to = subst (λ n. IsTouched (option_to_list (option_map (λ i. act n i e) place)) ends r v) t.count told
 
-    new-at : (k : ℕ) (d : Decision) (q : Record) → slice_get ds k ≡ Some d → slice_get new.records k ≡ Some q
+    new-at : (k : ℕ) (d : Decision) (q : Record) → slice_get ds k ≡ Some d → slice_get new.records.each k ≡ Some q
         → IsRecord (names items) (entries ++ e ∷ []) (decided_tx d) q
     new-at k d q at_k at_q =
-        let there : slice_get (set old.records number v) k ≡ Some q = ap (λ rs. slice_get rs k) (sym records) ∙ at_q in
+        let there : slice_get (set old.records.each number v) k ≡ Some q = ap (λ rs. slice_get rs k) (sym records) ∙ at_q in
         elim (cases_eq k number) [
           | inl same ↦
               let of : tx_of e ≡ decided_tx d = sym by.2
               ∙ ap decided_tx (same_Some by.0 d (sym by.1 ∙ ap (slice_get ds) (sym same) ∙ at_k)) in
-              let is_v : v ≡ q = same_Some v q (sym (set-at old.records number v r at)
-              ∙ ap (slice_get (set old.records number v)) (sym same) ∙ there) in
-              let before = t.records k d r at_k (ap (slice_get old.records) same ∙ at) in
+              let is_v : v ≡ q = same_Some v q (sym (set-at old.records.each number v r at)
+              ∙ ap (slice_get (set old.records.each number v)) (sym same) ∙ there) in
+              let before = t.records k d r at_k (ap (slice_get old.records.each) same ∙ at) in
               subst (IsRecord (names items) (entries ++ e ∷ []) (decided_tx d)) is_v
               (record-entered (names items) entries (decided_tx d) r v e place ends apart of on ending before to)
           | inr other ↦
-              let before = t.records k d q at_k (sym (set-other old.records number k v other) ∙ there) in
+              let before = t.records k d q at_k (sym (set-other old.records.each number k v other) ∙ there) in
               record-left (names items) entries (decided_tx d) q e
               (λ of. other (one-number ds k number (decided_tx d) once (d, at_k, refl) (by.0, by.1, by.2 ∙ of)))
               before
@@ -283,27 +283,27 @@ module _ (ds : List Decision) (items : List Holding) (entries : List Entry) (old
         is.touched.1 (d.0, d.1, d.2, tt)
 
     new-live : (comes leaves : Bool) (live : ℕ) → comes ≡ not r.touched → leaves ≡ (ends && not r.ended)
-        → length new.records < 2 ^ 64
+        → length new.records.each < 2 ^ 64
         → (old.live + one_if comes < 2 ^ 64 → one_if leaves ≤ old.live + one_if comes
-        → live + one_if leaves ≡ old.live + one_if comes) → live ≡ live_among new.records
+        → live + one_if leaves ≡ old.live + one_if comes) → live ≡ live_among new.records.each
     new-live comes leaves live comes_is leaves_is few counts =
         let is_live_v : is_live v ≡ not v.ended = ap (λ b. b && not v.ended) to.touched in
         let one : one_if (is_live v) + one_if leaves ≡ one_if (is_live r) + one_if comes =
         ap (λ b. one_if b + one_if leaves) is_live_v ∙ ap (λ b. one_if (not v.ended) + one_if b) leaves_is
         ∙ turned r.touched r.ended ends v.ended came to.end
         ∙ ap (λ b. one_if (is_live r) + one_if b) (sym comes_is) in
-        let step = live-set old.records number r v at in
-        let long = ap length records ∙ length-set old.records number v in
+        let step = live-set old.records.each number r v at in
+        let long = ap length records ∙ length-set old.records.each number v in
         let told = t.live in
         let room : old.live + one_if comes < 2 ^ 64 = elim (cases_Bool comes) [
           | inl come ↦
-              let fewer = live-fewer old.records number r at (not-come r.touched r.ended (sym comes_is ∙ come)) in
+              let fewer = live-fewer old.records.each number r at (not-come r.touched r.ended (sym comes_is ∙ come)) in
               let eq = ap one_if come in omega (arith, fewer, long, told, few, eq)
-          | inr stay ↦ let all = live-few old.records in let eq = ap one_if stay in
+          | inr stay ↦ let all = live-few old.records.each in let eq = ap one_if stay in
               omega (arith, all, long, told, few, eq)
         ] in
         let next = counts room (omega (arith, one, step, told)) in
-        let same : live ≡ live_among (set old.records number v) = omega (arith, one, step, told, next) in
+        let same : live ≡ live_among (set old.records.each number v) = omega (arith, one, step, told, next) in
         same ∙ ap live_among (sym records)
 
     listed-more : (f : Entry) → Contains (entries ++ e ∷ []) f → ForSome (item_of f) (Contains (names items))
@@ -319,14 +319,14 @@ module _ (ds : List Decision) (items : List Holding) (entries : List Entry) (old
             subst (Contains (names items)) (same_Some is_at.0 x (sym is_at.2 ∙ is))
             (Contains-from_at (names items) i is_at.0 is_at.1)
 
-    pub tracks-next : new.count ≡ old.count + 1 → AreCells ds items (entries ++ e ∷ []) new.cells.items
+    pub tracks-next : new.records.count ≡ old.records.count + 1 → AreCells ds items (entries ++ e ∷ []) new.cells.items
         → IsGreatest (EndsBy ds) (entries ++ e ∷ []) new.last_end
-        → (comes leaves : Bool) → comes ≡ not r.touched → leaves ≡ (ends && not r.ended) → length new.records < 2 ^ 64
+        → (comes leaves : Bool) → comes ≡ not r.touched → leaves ≡ (ends && not r.ended) → length new.records.each < 2 ^ 64
         → (old.live + one_if comes < 2 ^ 64 → one_if leaves ≤ old.live + one_if comes
         → new.live + one_if leaves ≡ old.live + one_if comes) → TracksOpen ds items (entries ++ e ∷ []) new
     tracks-next count cells order comes leaves comes_is leaves_is few counts = record {
       cells = cells;
-      many = ap length records ∙ length-set old.records number v ∙ t.many;
+      many = ap length records ∙ length-set old.records.each number v ∙ t.many;
       records = new-at;
       live = new-live comes leaves new.live comes_is leaves_is few counts;
       count = count ∙ ap (λ n. n + 1) t.count ∙ sym (length_push entries e);
@@ -338,8 +338,8 @@ module _ (ds : List Decision) (items : List Holding) (entries : List Entry) (old
 -- ---- a section begins
 
 pub begun : (ds : List Decision) (section : ℕ) (old new : SiteState) → IsReadyFor ds section old
-    → length new.records ≡ length old.records → All (λ r. r ≡ no_record) new.records → new.cells.items ≡ []
-    → new.count ≡ 0 → new.live ≡ 0 → new.last_end ≡ None → TracksOpen ds [] [] new
+    → length new.records.each ≡ length old.records.each → All (λ r. r ≡ no_record) new.records.each → new.cells.items ≡ []
+    → new.records.count ≡ 0 → new.live ≡ 0 → new.last_end ≡ None → TracksOpen ds [] [] new
 begun ds section old new ready long fresh cells count live order = record {
   cells = record {
     names = ap (map (λ (c : Cell). c.name)) cells;
@@ -349,14 +349,14 @@ begun ds section old new ready long fresh cells count live order = record {
   records = λ k d r at_k at_r. subst (IsRecord [] [] (decided_tx d)) (sym (none k r at_r))
       (record-none [] (decided_tx d));
   count = count;
-  live = live ∙ sym (none-live new.records (λ k r at. ap is_live (none k r at)));
+  live = live ∙ sym (none-live new.records.each (λ k r at. ap is_live (none k r at)));
   order = subst (IsGreatest (EndsBy ds) []) (sym order) (λ f r here has. absurd (omega (arith, here.1)));
   decided = λ f here. absurd (omega (arith, here.1));
   listed = λ f here. absurd (omega (arith, here.1));
 }
   where
-    none : (k : ℕ) (r : Record) → slice_get new.records k ≡ Some r → r ≡ no_record
-    none k r at = All_at (λ r. r ≡ no_record) new.records k r fresh at
+    none : (k : ℕ) (r : Record) → slice_get new.records.each k ≡ Some r → r ≡ no_record
+    none k r at = All_at (λ r. r ≡ no_record) new.records.each k r fresh at
 
 -- a section ends
 pub ready-next : (ds : List Decision) (items : List Holding) (entries : List Entry) (s : SiteState)

@@ -14,6 +14,11 @@ pub record Record : Type 0 where
   pub ended : Bool
   pub acts : List Act
 
+-- what is kept of the open section: a record for each transaction, and how many entries there are
+pub record Recorded : Type 0 where
+  pub each : List Record
+  pub count : ℕ
+
 -- of one without an entry there
 abbrev pub no_record : Record
 no_record = record { touched = false; ended = false; acts = [] }

@@ -30,16 +30,16 @@ EndsBy ds e number = IsEnd e × IsDecided ds e number
 -- what is kept means these items and these entries of the open section, each of them decided and on a listed item
 pub record TracksOpen (ds : List Decision) (items : List Holding) (entries : List Entry) (s : SiteState) : Type 0 where
   pub cells : AreCells ds items entries s.cells.items
-  pub many : length s.records ≡ length ds
-  pub records : (k : ℕ) (d : Decision) (r : Record) → slice_get ds k ≡ Some d → slice_get s.records k ≡ Some r
+  pub many : length s.records.each ≡ length ds
+  pub records : (k : ℕ) (d : Decision) (r : Record) → slice_get ds k ≡ Some d → slice_get s.records.each k ≡ Some r
       → IsRecord (names items) entries (decided_tx d) r
-  pub count : s.count ≡ length entries
-  pub live : s.live ≡ live_among s.records
+  pub count : s.records.count ≡ length entries
+  pub live : s.live ≡ live_among s.records.each
   pub order : IsGreatest (EndsBy ds) entries s.last_end
   pub decided : (f : Entry) → Contains entries f → (number : ℕ) × IsDecided ds f number
   pub listed : (f : Entry) → Contains entries f → ForSome (item_of f) (Contains (names items))
 
 -- no section of this number or a later one was met
 pub record IsReadyFor (ds : List Decision) (section : ℕ) (s : SiteState) : Type 0 where
-  pub many : length s.records ≡ length ds
+  pub many : length s.records.each ≡ length ds
   pub before : s.section < section

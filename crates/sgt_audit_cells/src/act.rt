@@ -1,26 +1,33 @@
 //! One operation at the site whose section is open.
 
-ghost use Rattle.std.specs.Prelude.{◌≡◌, ◌↔◌, ◌<◌, List, IsTrue};
+ghost use Rattle.std.specs.Prelude.{◌≡◌, ◌↔◌, ◌<◌, ℕ, List, IsTrue, IfOk, option_map};
 ghost use Rattle.sgt_names.specs.declared.entry.Entry.{Entry};
 ghost use Rattle.sgt_names.specs.Entry.{item_of};
 ghost use Rattle.sgt_audit_cells.specs.Records.{deed_of};
-ghost use Rattle.sgt_audit_cells.specs.private.Deeds.{act, changes, adds, deeds_clash, IsOf, ClashesWith};
+ghost use Rattle.sgt_audit_cells.specs.private.Deeds.{act_of, done, changes, adds, deeds_clash, IsOf, ClashesWith};
 
 use sgt_names::{Entry, Item, Kind};
+use std::alloc::AllocError;
 
 /// What an operation does to its item, or asks for: it reads it, puts a value into it, or adds to it.
-#[derive(Clone, Copy, Debug, Default, PartialEq, Eq)]
+#[derive(Clone, Copy)]
 pub enum Deed {
-    #[default]
     Read,
     Put,
     Add,
 }
 
+/// What is done to the item at this place among the items.
+#[derive(Clone, Copy)]
+pub struct Done {
+    pub place: u16,
+    pub deed: Deed,
+}
+
 /// An operation: its own place among the entries, the place of its item among the items, and what it does to it.
-#[derive(Clone, Copy, Debug, Default, PartialEq, Eq)]
+#[derive(Clone, Copy)]
 pub struct Act {
-    pub at: u32,
+    pub at: usize,
     pub place: u16,
     pub deed: Deed,
 }
@@ -52,15 +59,20 @@ pub(crate) fn deed_of(entry: &Entry) -> Deed
     }
 }
 
-/// The entry at this place, on the item at that place.
+/// What the entry does, on the item at this place, if it has one.
 #[inline(always)]
-pub(crate) fn act_of(at: u32, place: u16, entry: &Entry) -> Act
-    ensures { result ≡ act at place entry.now }
+pub(crate) fn done_by(place: Option<usize>, entry: &Entry) -> Result<Option<Done>, AllocError>
+    ensures { IfOk result (λ found. found ≡ option_map (λ i. done i entry.now) place) }
 {
-    Act {
-        at,
-        place,
-        deed: deed_of(entry),
+    match place {
+        Some(place) => match u16::try_from(place) {
+            Ok(place) => Ok(Some(Done {
+                place,
+                deed: deed_of(entry),
+            })),
+            Err(_) => Err(AllocError),
+        },
+        None => Ok(None),
     }
 }
 
@@ -98,15 +110,32 @@ fn deeds_clash(kind: Kind, first: Deed, second: Deed) -> bool
     }
 }
 
-impl Act {
-    /// Whether it is on the item at this place and reads it, as the deed does, or changes it, as the deed does.
+impl Done {
+    /// Whether it is done to the item at this place, and changes it or not.
     #[inline(always)]
-    pub(crate) fn is_of(&self, place: usize, deed: Deed) -> bool
-        ensures { IsTrue result ↔ IsOf place (changes deed) self.now }
+    pub(crate) fn is_of(&self, place: usize, change: bool) -> bool
+        ensures { (at : ℕ) → IsTrue result ↔ IsOf place change (act_of at self.now) }
     {
-        self.place as usize == place && self.deed.changes() == deed.changes()
+        if self.place as usize != place {
+            return false;
+        }
+        match self.deed {
+            Deed::Read => !change,
+            Deed::Put | Deed::Add => change,
+        }
     }
 
+    /// The operation, where it stands at this place among the entries.
+    #[inline(always)]
+    pub(crate) fn act(self, at: usize) -> Act
+        ensures { result ≡ act_of at self }
+    {
+        let Done { place, deed } = self;
+        Act { at, place, deed }
+    }
+}
+
+impl Act {
     /// Whether the other comes later, on the same item, and they are a conflict of this kind.
     pub(crate) fn clashes_with(&self, kind: Kind, other: &Act) -> bool
         ensures { IsTrue result ↔ ClashesWith kind self.now other.now }

@@ -1,6 +1,6 @@
 //! One item of the site whose section is open.
 
-ghost use Rattle.std.specs.Prelude.{◌≡◌, ◌≢◌, ◌↔◌, ◌∷◌, ◌++◌, ◌<◌, [], List, IsTrue, IfSome, IfNone, Some, All, AllPairs, length, slice_get};
+ghost use Rattle.std.specs.Prelude.{◌≡◌, ◌≢◌, ◌↔◌, ◌∷◌, ◌++◌, [], List, IsTrue, IfSome, IfNone, Some, All, AllPairs, slice_get};
 ghost use Rattle.sgt_names.specs.Entry.{tx_of, item_of};
 ghost use Rattle.sgt_names.specs.Log.{value_at, names};
 ghost use Rattle.sgt_names.specs.declared.entry.Entry.{Entry};
@@ -9,7 +9,7 @@ ghost use Rattle.sgt_bundle.specs.Certificate.{IsDecidedOnce, AreRanks, ranks};
 ghost use Rattle.sgt_bundle.specs.Valid.{RiseInRank};
 ghost use Rattle.sgt_bundle.specs.declared.certificate.Decision.{Decision};
 ghost use Rattle.sgt_audit_cells.specs.Cells.{IsCell, AreCells, IsRankOf};
-ghost use Rattle.sgt_audit_cells.specs.private.Noted.{IsUpTo, Passes, raised, noted};
+ghost use Rattle.sgt_audit_cells.specs.private.Noted.{IsPlaceOf, IsUpTo, Passes, raised, noted};
 ghost use Rattle.sgt_audit_cells.specs.declared.cell.Cell.{Cell};
 
 use sgt_names::{Entry, Item, Value};
@@ -89,8 +89,9 @@ fn raise(top: Option<u32>, rank: Option<u32>) -> Option<u32>
     }
 }
 
+/// One more entry, on the cell's item.
 #[inline(always)]
-fn change(cell: &mut Cell, entry: &Entry, rank: Option<u32>)
+fn note(cell: &mut Cell, entry: &Entry, rank: Option<u32>)
     ensures { cell.new ≡ noted cell.old entry.now rank }
 {
     match *entry {
@@ -109,86 +110,49 @@ fn change(cell: &mut Cell, entry: &Entry, rank: Option<u32>)
     }
 }
 
-/// One more entry, on the cell's item.
-#[inline(always)]
-pub(crate) fn note(cell: &mut Cell, entry: &Entry, rank: Option<u32>)
-    ensures cell { (ds : List Decision) (items : List Holding) (entries : List Entry) → IsDecidedOnce ds
-        → IsCell ds items entries cell.old → item_of entry.now ≡ Some cell.old.name → IsRankOf ds (tx_of entry.now) rank
-        → IsCell ds items (entries ++ entry.now ∷ []) cell.new }
-    ensures name { cell.new.name ≡ cell.old.name }
-{
-    change(cell, entry, rank);
-}
-
-/// Whether the cell is the item's.
-#[inline(always)]
-fn is_of(cell: &Cell, item: &Item) -> bool
-    ensures { IsTrue result ↔ (cell.now.name ≡ item.now) }
-{
-    cell.name == *item
-}
-
 /// The place, where it is that of the item's cell.
 #[inline(always)]
 pub(crate) fn checked(cells: &[Cell], place: usize, item: &Item) -> Option<usize>
     ensures { IfSome result (λ n. (c : Cell) × (slice_get cells.now n ≡ Some c) × (c.name ≡ item.now)) }
 {
     let cell = cells.get(place)?;
-    if is_of(cell, item) { Some(place) } else { None }
-}
-
-/// The place of the item's cell, by halves. Some is the place; where the names don't rise, None says nothing.
-fn halved(cells: &[Cell], item: &Item) -> Option<usize>
-    ensures { IfSome result (λ n. (c : Cell) × (slice_get cells.now n ≡ Some c) × (c.name ≡ item.now)) }
-{
-    match cells.binary_search_by(|cell| cell.name.cmp(item)) {
-        Ok(place) => checked(cells, place, item),
-        Err(_) => None,
+    if cell.name == *item {
+        Some(place)
+    } else {
+        None
     }
 }
 
-/// The place of the item's cell, looked for one by one.
-fn search(cells: &[Cell], item: &Item) -> Option<usize>
-    ensures some { IfSome result (λ n. (c : Cell) × (slice_get cells.now n ≡ Some c) × (c.name ≡ item.now)) }
-    ensures none { IfNone result (All (λ c. c.name ≢ item.now) cells.now) }
-{
-    cells.iter().position(|cell| is_of(cell, item))
-}
-
-/// The place of the item's cell, where no hint led to it.
+/// The place of the item's cell, where no hint led to it: by halves, and one by one where that finds none, since
+/// nothing need be known of the order. A name that is not listed costs a look at each cell.
 #[inline(never)]
-fn unhinted(cells: &[Cell], item: &Item) -> Option<usize>
+pub(crate) fn search(cells: &[Cell], item: &Item) -> Option<usize>
     ensures some { IfSome result (λ n. (c : Cell) × (slice_get cells.now n ≡ Some c) × (c.name ≡ item.now)) }
     ensures none { IfNone result (All (λ c. c.name ≢ item.now) cells.now) }
 {
-    match halved(cells, item) {
-        Some(place) => Some(place),
-        None => search(cells, item),
+    if let Ok(place) = cells.binary_search_by(|cell| cell.name.cmp(item)) {
+        if let Some(place) = checked(cells, place, item) {
+            return Some(place);
+        }
     }
+    cells.iter().position(
+        |cell: &Cell| -> bool
+            ensures { IsTrue result ↔ (cell.now.name ≡ item.entry.now) }
+        { cell.name == *item },
+    )
 }
 
-/// The place of the item's cell. The hint is tried first, and then a search by halves; nothing need be known of
-/// either. A name that is not listed costs a look at each cell.
+/// One more entry, on the item at this place, if it has one.
 #[inline(always)]
-pub(crate) fn place_of(cells: &[Cell], hint: usize, item: &Item) -> Option<usize>
-    ensures some { IfSome result (λ n. (c : Cell) × (slice_get cells.now n ≡ Some c) × (c.name ≡ item.now)) }
-    ensures none { IfNone result (All (λ c. c.name ≢ item.now) cells.now) }
-{
-    match checked(cells, hint, item) {
-        Some(place) => Some(place),
-        None => unhinted(cells, item),
-    }
-}
-
-/// Enters one more entry into the cell of its item.
-#[inline(always)]
-pub(crate) fn enter(cells: &mut [Cell], place: usize, entry: &Entry, rank: Option<u32>)
-    requires { place < length cells.old }
+pub(crate) fn enter(cells: &mut [Cell], place: Option<usize>, entry: &Entry, rank: Option<u32>)
     ensures { (ds : List Decision) (items : List Holding) (entries : List Entry) → IsDecidedOnce ds
-        → AllPairs (λ x y. x ≢ y) (names items)
-        → AreCells ds items entries cells.old
-        → ((c : Cell) × (slice_get cells.old place ≡ Some c) × (item_of entry.now ≡ Some c.name))
+        → AllPairs (λ x y. x ≢ y) (names items) → AreCells ds items entries cells.old
+        → IsPlaceOf (names items) entry.now place
         → IsRankOf ds (tx_of entry.now) rank → AreCells ds items (entries ++ entry.now ∷ []) cells.new }
 {
-    note(&mut cells[place], entry, rank);
+    if let Some(place) = place {
+        if place < cells.len() {
+            note(&mut cells[place], entry, rank);
+        }
+    }
 }

@@ -1,11 +1,11 @@
 //! What a transaction did, each linked to the one before it.
 
-ghost use Rattle.std.specs.Prelude.{◌≡◌, ◌<◌, ◌≤◌, ◌-◌, ◌+◌, ◌∷◌, ◌++◌, ◌↔◌, [], ℕ, Some, length, slice_get, IsTrue, IfOk, OnOk, OnErr, Any};
+ghost use Rattle.std.specs.Prelude.{◌≡◌, ◌<◌, ◌≤◌, ◌-◌, ◌+◌, ◌∷◌, ◌++◌, ◌↔◌, [], ℕ, Some, length, slice_get, option_map, IsTrue, IfOk, OnOk, OnErr, Any};
 ghost use Rattle.std.specs.Option.{option_to_list};
-ghost use Rattle.sgt_audit_cells.specs.private.Deeds.{IsOf, ClashesWith, changes};
+ghost use Rattle.sgt_audit_cells.specs.private.Deeds.{IsOf, ClashesWith, act_of};
 ghost use Rattle.sgt_audit_cells.specs.private.Linked.{AreLinked, chain};
 
-use crate::act::{Act, Deed};
+use crate::act::{Act, Deed, Done};
 use crate::record::Node;
 use sgt_names::Kind;
 use std::alloc::AllocError;
@@ -20,35 +20,17 @@ fn node_at(nodes: &[Node], at: usize) -> Node
     nodes[at - 1]
 }
 
-/// Whether such a thing was done to the item at this place, at the node counted so or at one that is linked in front
-/// of it.
+/// Whether the item at this place was changed, or read, at the node counted so or at one that is linked in front of it.
 #[inline(always)]
-pub(crate) fn has_done(nodes: &[Node], last: usize, place: usize, deed: Deed) -> bool
+pub(crate) fn has_done(nodes: &[Node], last: usize, place: usize, change: bool) -> bool
     requires linked { AreLinked nodes.now }
     requires within { last ≤ length nodes.now }
-    ensures { IsTrue result ↔ Any (IsOf place (changes deed)) (chain nodes.now last) }
+    ensures { IsTrue result ↔ Any (IsOf place change) (chain nodes.now last) }
 {
     let mut at = last;
     'nodes: while at > 0 {
         let node = node_at(nodes, at);
-        if node.act.is_of(place, deed) {
-            return true;
-        }
-        at = node.before as usize;
-    }
-    false
-}
-
-/// Whether one of these comes later than the act and is a conflict of this kind with it.
-fn clashes(nodes: &[Node], last: usize, kind: Kind, act: &Act) -> bool
-    requires linked { AreLinked nodes.now }
-    requires within { last ≤ length nodes.now }
-    ensures { IsTrue result ↔ Any (ClashesWith kind act.now) (chain nodes.now last) }
-{
-    let mut at = last;
-    'nodes: while at > 0 {
-        let node = node_at(nodes, at);
-        if act.clashes_with(kind, &node.act) {
+        if node.done.is_of(place, change) {
             return true;
         }
         at = node.before as usize;
@@ -57,12 +39,23 @@ fn clashes(nodes: &[Node], last: usize, kind: Kind, act: &Act) -> bool
 }
 
 /// Whether the act is on the item at this place, and one of these comes later and is a conflict of this kind with it.
-fn clashes_at(nodes: &[Node], last: usize, kind: Kind, place: usize, act: &Act) -> bool
+fn clashes(nodes: &[Node], last: usize, kind: Kind, place: usize, act: &Act) -> bool
     requires linked { AreLinked nodes.now }
     requires within { last ≤ length nodes.now }
     ensures { IsTrue result ↔ ((act.now.place ≡ place) × Any (ClashesWith kind act.now) (chain nodes.now last)) }
 {
-    act.place as usize == place && clashes(nodes, last, kind, act)
+    if act.place as usize != place {
+        return false;
+    }
+    let mut at = last;
+    'nodes: while at > 0 {
+        let node = node_at(nodes, at);
+        if act.clashes_with(kind, &node.done.act(at - 1)) {
+            return true;
+        }
+        at = node.before as usize;
+    }
+    false
 }
 
 /// Whether one of the first, on the item at this place, precedes one of the second and conflicts with it.
@@ -82,7 +75,8 @@ pub(crate) fn have_clash(
     let mut at = first;
     'nodes: while at > 0 {
         let node = node_at(nodes, at);
-        if clashes_at(nodes, second, kind, place, &node.act) {
+        let act = node.done.act(at - 1);
+        if clashes(nodes, second, kind, place, &act) {
             return true;
         }
         at = node.before as usize;
@@ -115,22 +109,37 @@ fn next_place(len: usize) -> Result<u32, AllocError>
     }
 }
 
-/// Links one more act, if there is one, behind what stands at this place; and where it stands then. Room has to be
-/// reserved.
+/// Links what one more entry did, if it did something, behind what stands at this place; and where it stands then.
+/// Room has to be reserved.
 #[inline(always)]
-pub(crate) fn link(nodes: &mut Vec<Node>, last: u32, act: Option<Act>) -> Result<u32, AllocError>
+pub(crate) fn link(
+    nodes: &mut Vec<Node>,
+    last: u32,
+    done: Option<Done>,
+) -> Result<u32, AllocError>
     requires linked { AreLinked nodes.old.items }
     requires within { last ≤ length nodes.old.items }
     ensures linked { AreLinked nodes.new.items }
     ensures long { length nodes.old.items ≤ length nodes.new.items }
     ensures others { (k : ℕ) → k ≤ length nodes.old.items → chain nodes.new.items k ≡ chain nodes.old.items k }
     ensures place { IfOk result (λ next. (next ≤ length nodes.new.items)
-        × (chain nodes.new.items next ≡ chain nodes.old.items last ++ option_to_list act)) }
+        × (length nodes.new.items ≡ length nodes.old.items + 1)
+        × (chain nodes.new.items next
+        ≡ chain nodes.old.items last ++ option_to_list (option_map (act_of (length nodes.old.items)) done))) }
 {
-    let Some(act) = act else {
-        return Ok(last);
-    };
-    let place = next_place(nodes.len())?;
-    add(nodes, Node { act, before: last })?;
-    Ok(place)
+    match done {
+        Some(done) => {
+            let place = next_place(nodes.len())?;
+            add(nodes, Node { done, before: last })?;
+            Ok(place)
+        }
+        None => {
+            let done = Done {
+                place: 0,
+                deed: Deed::Read,
+            };
+            add(nodes, Node { done, before: 0 })?;
+            Ok(last)
+        }
+    }
 }

@@ -3,7 +3,7 @@
 ghost use Rattle.std.specs.Prelude.{◌≡◌, ◌==◌, ◌&&◌, ◌||◌, ◌+◌, ◌<◌, ◌≤◌, ◌^◌, false, not, if◌then◌else◌};
 ghost use Rattle.sgt_audit_cells.specs.private.Linked.{last_here};
 
-use crate::act::Act;
+use crate::act::Done;
 
 /// What is kept of a transaction: the stamp of the section in which it came last; whether it ended there; and where
 /// the last that it did there stands among the nodes, counted from 1, if it did anything.
@@ -21,11 +21,11 @@ pub struct Slot {
 /// A transaction with as many entries in a section gets a row.
 const MANY: u8 = 32;
 
-/// What a transaction did, and where the one before it of the same transaction stands, counted from 1 over the
-/// section. 0 is none.
+/// What an entry does, and where the one before it of the same transaction stands, counted from 1 over the section; 0
+/// is none. A node stands where its entry does. Nothing is linked to that of an end.
 #[derive(Clone, Copy)]
 pub struct Node {
-    pub act: Act,
+    pub done: Done,
     pub before: u32,
 }
 

@@ -1,15 +1,15 @@
 //! The records of the transactions of decisions: what each did in the open section.
 
-ghost use Rattle.std.specs.Prelude.{◌≡◌, ◌+◌, ◌<◌, ◌^◌, ◌↔◌, ◌&&◌, ◌||◌, false, not, length, IsTrue, IfOk, Some, All, Any, List, slice_get, slice_set};
+ghost use Rattle.std.specs.Prelude.{◌≡◌, ◌+◌, ◌<◌, ◌^◌, ◌↔◌, ◌&&◌, ◌||◌, false, not, length, IsTrue, IfOk, Some, All, Any, List, option_map, slice_get, slice_set};
 ghost use Rattle.std.specs.Option.{option_to_list};
 ghost use Rattle.sgt_names.specs.Name.{Name};
 ghost use Rattle.sgt_names.specs.Entry.{tx_of, item_of, Repeats};
 ghost use Rattle.sgt_names.specs.declared.entry.Entry.{Entry};
 ghost use Rattle.sgt_audit_cells.specs.Records.{Record, no_record, AreActs};
-ghost use Rattle.sgt_audit_cells.specs.private.Deeds.{IsTouched, ClashesWith};
+ghost use Rattle.sgt_audit_cells.specs.private.Deeds.{IsTouched, ClashesWith, act_of};
 ghost use Rattle.sgt_audit_cells.specs.private.Linked.{AreEarlier};
 
-use crate::act::{Act, deed_of};
+use crate::act::{Done, deed_of};
 use crate::chain::{has_done, have_clash, link};
 use crate::record::{Node, Slot, Turn};
 use crate::row::{Row, extend, shown};
@@ -17,11 +17,11 @@ use sgt_names::{Entry, Kind};
 use std::alloc::{AllocError, Global};
 use std::marker::Model;
 
-/// A record for each decision's transaction, which contracts see as their list.
+/// A record for each decision's transaction, and how many entries there are.
 #[derive(Drop)]
 pub struct RecordTable {
     slots: Vec<Slot>,
-    /// What was done in the open section.
+    /// What the entries of the open section did.
     nodes: Vec<Node>,
     /// What transactions with many operations did there, by bits.
     rows: Vec<Row>,
@@ -30,14 +30,17 @@ pub struct RecordTable {
 }
 
 impl Model for RecordTable {
-    ghost use Rattle.std.specs.Prelude.{List, length, ◌+◌};
-    ghost use Rattle.sgt_audit_cells.specs.Records.{Record};
+    ghost use Rattle.std.specs.Prelude.{length, ◌+◌};
+    ghost use Rattle.sgt_audit_cells.specs.Records.{Recorded};
     ghost use Rattle.sgt_audit_cells.specs.private.Linked.{AreLinked, AreWithin, AreEarlier, records_of};
     ghost use Rattle.sgt_audit_cells.specs.private.Rows.{AreRows};
 
-    ghost Value = { List Record };
+    ghost Value = { Recorded };
 
-    ghost view = { λ t. records_of t.stamp t.nodes.items t.slots.items };
+    ghost view = { λ t. record {
+      each = records_of t.stamp t.nodes.items t.slots.items;
+      count = length t.nodes.items;
+    } };
 
     ghost invariant = { λ t. AreLinked t.nodes.items × AreWithin t.stamp (length t.nodes.items) t.slots.items
         × AreEarlier (t.stamp + 1) t.slots.items × AreRows t.nodes.items t.rows.items };
@@ -82,7 +85,7 @@ fn next_stamp(slots: &mut [Slot], stamp: u16) -> u16
 impl RecordTable {
     /// Of so many transactions, that no section has met.
     pub(crate) fn new(alloc: Global, count: usize) -> Result<RecordTable, AllocError>
-        ensures { IfOk result (λ t. length t ≡ count) }
+        ensures { IfOk result (λ t. length t.each ≡ count) }
     {
         let slots = fresh_slots(alloc, count)?;
         Ok(RecordTable {
@@ -95,8 +98,9 @@ impl RecordTable {
 
     /// What was done is forgotten.
     pub(crate) fn clear(&mut self)
-        ensures length { length self.new ≡ length self.old }
-        ensures fresh { All (λ r. r ≡ no_record) self.new }
+        ensures length { length self.new.each ≡ length self.old.each }
+        ensures fresh { All (λ r. r ≡ no_record) self.new.each }
+        ensures none { self.new.count ≡ 0 }
     {
         self.stamp = next_stamp(self.slots.as_mut_slice(), self.stamp);
         self.nodes.clear();
@@ -108,7 +112,7 @@ impl RecordTable {
     #[inline(always)]
     pub(crate) fn is_first(&self, number: usize, place: usize, entry: &Entry) -> bool
         ensures { (r : Record) (ns : List Name) (entries : List Entry) (x : Name)
-            → slice_get self.now number ≡ Some r
+            → slice_get self.now.each number ≡ Some r
             → slice_get ns place ≡ Some x → item_of entry.now ≡ Some x
             → AreActs ns entries (tx_of entry.now) r.acts
             → (IsTrue result ↔ All (λ f. (y : Name) → Repeats y f entry.now → ⊥) entries) }
@@ -117,19 +121,19 @@ impl RecordTable {
             return false;
         };
         let last = slot.last_in(self.stamp) as usize;
-        let deed = deed_of(entry);
+        let change = deed_of(entry).changes();
         if slot.is_long() {
-            if let Some(done) = shown(self.rows.as_slice(), slot.row, last, place, deed) {
+            if let Some(done) = shown(self.rows.as_slice(), slot.row, last, place, change) {
                 return !done;
             }
         }
-        !has_done(self.nodes.as_slice(), last, place, deed)
+        !has_done(self.nodes.as_slice(), last, place, change)
     }
 
     /// Whether the transaction of this number ended in the section.
     #[inline(always)]
     pub(crate) fn has_ended(&self, number: usize) -> bool
-        ensures { (r : Record) → slice_get self.now number ≡ Some r → result ≡ r.ended }
+        ensures { (r : Record) → slice_get self.now.each number ≡ Some r → result ≡ r.ended }
     {
         match self.slots.get(number) {
             Some(slot) => slot.has_ended(self.stamp),
@@ -140,8 +144,8 @@ impl RecordTable {
     /// Whether one of what the first of the two did, on the item at this place, precedes one of what the second did
     /// and conflicts with it.
     pub(crate) fn have_clash(&self, numbers: (usize, usize), kind: Kind, place: usize) -> bool
-        ensures { (q r : Record) → slice_get self.now numbers.0 ≡ Some q
-            → slice_get self.now numbers.1 ≡ Some r
+        ensures { (q r : Record) → slice_get self.now.each numbers.0 ≡ Some q
+            → slice_get self.now.each numbers.1 ≡ Some r
             → (IsTrue result
             ↔ Any (λ a. (a.place ≡ place) × Any (ClashesWith kind a) r.acts) q.acts) }
     {
@@ -169,11 +173,24 @@ impl RecordTable {
         }
     }
 
-    /// Reserves room for one more entry.
-    pub(crate) fn reserve(&mut self) -> Result<(), AllocError>
+    #[inline(never)]
+    fn reserve(&mut self) -> Result<(), AllocError>
         ensures { self.new ≡ self.old }
     {
         self.nodes.reserve(1)
+    }
+
+    /// Reserves room for one more entry of the transaction of this number. Whether there was room, and no row of bits
+    /// need be kept.
+    #[inline(always)]
+    pub(crate) fn make_room(&mut self, number: usize) -> Result<bool, AllocError>
+        ensures { self.new ≡ self.old }
+    {
+        if self.has_room(number) {
+            return Ok(true);
+        }
+        self.reserve()?;
+        Ok(false)
     }
 
     /// One more entry of the transaction of this number, and what it changes at the section. Room has to be reserved.
@@ -181,13 +198,15 @@ impl RecordTable {
     pub(crate) fn enter(
         &mut self,
         number: usize,
-        act: Option<Act>,
+        done: Option<Done>,
         ends: bool,
     ) -> Result<Turn, AllocError>
-        ensures few { length self.new < 2 ^ 64 }
-        ensures entered { IfOk result (λ turn. (r : Record) → slice_get self.old number ≡ Some r
-            → (s : Record) × (self.new ≡ slice_set self.old number s)
-            × IsTouched (option_to_list act) ends r s
+        ensures few { length self.new.each < 2 ^ 64 }
+        ensures entered { IfOk result (λ turn. (r : Record) → slice_get self.old.each number ≡ Some r
+            → (s : Record) × (self.new ≡ record {
+              each = slice_set self.old.each number s;
+              count = self.old.count + 1;
+            }) × IsTouched (option_to_list (option_map (act_of self.old.count) done)) ends r s
             × (turn.comes ≡ not r.touched) × (turn.leaves ≡ (ends && not r.ended))) }
     {
         if number >= self.slots.len() {
@@ -200,7 +219,7 @@ impl RecordTable {
         let slot = self.slots[number];
         let here = slot.here(stamp);
         let turn = slot.turn(stamp, ends);
-        let last = link(&mut self.nodes, here.last, act)?;
+        let last = link(&mut self.nodes, here.last, done)?;
         let ended = either(here.ended, ends);
         self.slots[number] = Slot {
             stamp,
@@ -212,11 +231,13 @@ impl RecordTable {
         Ok(turn)
     }
 
-    /// Brings the row of the transaction of this number up to its last entry, where many are counted.
-    pub(crate) fn keep_row(&mut self, number: usize) -> Result<(), AllocError>
+    /// Brings the row of the transaction of this number up to its last entry, where many are counted. There is none to
+    /// keep where its entry was plain.
+    #[inline(always)]
+    pub(crate) fn keep_row(&mut self, number: usize, plain: bool) -> Result<(), AllocError>
         ensures { self.new ≡ self.old }
     {
-        if number >= self.slots.len() {
+        if plain || number >= self.slots.len() {
             return Ok(());
         }
         let slot = self.slots[number];

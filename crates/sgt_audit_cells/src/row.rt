@@ -1,12 +1,12 @@
 //! What a transaction with many operations did in the open section, by bits.
 
 ghost use Rattle.std.specs.Prelude.{◌≡◌, ◌≤◌, ◌<◌, ◌/◌, ◌↔◌, ◌⊎◌, ℕ, Bool, List, Any, length, IsTrue, IfOk, IfSome};
-ghost use Rattle.sgt_audit_cells.specs.private.Deeds.{IsOf, changes};
+ghost use Rattle.sgt_audit_cells.specs.private.Deeds.{IsOf, act_of};
 ghost use Rattle.sgt_audit_cells.specs.private.Linked.{AreLinked, chain};
 ghost use Rattle.sgt_audit_cells.specs.private.Rows.{HasBit, HasMark, IsRowOf, AreRows};
 ghost use Rattle.sgt_audit_cells.specs.declared.record.Node.{Node as Linked};
 
-use crate::act::{Act, Deed};
+use crate::act::Done;
 use crate::record::Node;
 use std::alloc::{AllocError, Global};
 
@@ -51,32 +51,21 @@ fn no_bits(alloc: Global) -> Result<Vec<u64>, AllocError>
 }
 
 impl Row {
-    /// Whether such a thing was done to the item at this place.
-    pub(crate) fn has(&self, place: usize, deed: Deed) -> bool
-        ensures { IsTrue result ↔ HasMark self.now (changes deed) place }
-    {
-        if deed.changes() {
-            has_bit(self.changes.as_slice(), place)
-        } else {
-            has_bit(self.reads.as_slice(), place)
-        }
-    }
-
-    /// Sets the bit of an act. Where its item has none, nothing is set.
-    fn add(&mut self, act: &Act) -> bool
+    /// Sets the bit of what was done. Where its item has none, nothing is set.
+    fn add(&mut self, done: Done) -> bool
         ensures node { self.new.upto ≡ self.old.upto }
-        ensures set { IsTrue result → (place : ℕ) (change : Bool) → HasMark self.new change place
-            ↔ (HasMark self.old change place ⊎ IsOf place change act.now) }
+        ensures set { IsTrue result → (at place : ℕ) (change : Bool) → HasMark self.new change place
+            ↔ (HasMark self.old change place ⊎ IsOf place change (act_of at done)) }
         ensures none { (IsTrue result → ⊥) → self.new ≡ self.old }
     {
-        let at = act.place as usize;
+        let at = done.place as usize;
         if at / 64 >= self.reads.len() {
             return false;
         }
         if at / 64 >= self.changes.len() {
             return false;
         }
-        if act.deed.changes() {
+        if done.deed.changes() {
             set(self.changes.as_mut_slice(), at);
         } else {
             set(self.reads.as_mut_slice(), at);
@@ -84,8 +73,8 @@ impl Row {
         true
     }
 
-    /// Takes in the act at this node, where the row shows all that is linked in front of it. Whether it shows what
-    /// was done up to there.
+    /// Takes in what was done at this node, where the row shows all that is linked in front of it. Whether it shows
+    /// what was done up to there.
     fn follow(&mut self, nodes: &[Node], last: usize) -> bool
         requires linked { AreLinked nodes.now }
         requires within { last ≤ length nodes.now }
@@ -102,7 +91,7 @@ impl Row {
         if self.upto != node.before as usize {
             return false;
         }
-        if self.add(&node.act) {
+        if self.add(node.done) {
             self.upto = last;
             return true;
         }
@@ -127,7 +116,7 @@ fn row_of(alloc: Global, nodes: &[Node], last: usize) -> Result<Option<Row>, All
     'nodes: while at > 0 {
         match nodes.get(at - 1) {
             Some(node) => {
-                if row.add(&node.act) {
+                if row.add(node.done) {
                     at = node.before as usize;
                 } else {
                     return Ok(None);
@@ -154,54 +143,32 @@ fn put(rows: &mut Vec<Row>, found: Option<Row>, number: u32) -> Result<u32, Allo
     Ok(next)
 }
 
-/// Whether such a thing was done up to this node, if the row of this number shows it.
+/// Whether the item at this place was changed, or read, up to this node, if the row of this number shows it.
 #[inline(never)]
 pub(crate) fn shown(
     rows: &[Row],
     number: u32,
     last: usize,
     place: usize,
-    deed: Deed,
+    change: bool,
 ) -> Option<bool>
     ensures { IfSome result (λ done. (nodes : List Linked) → AreRows nodes rows.now
-        → (IsTrue done ↔ Any (IsOf place (changes deed)) (chain nodes last))) }
+        → (IsTrue done ↔ Any (IsOf place change) (chain nodes last))) }
 {
     let Some(row) = rows.get(number as usize) else {
         return None;
     };
-    if row.upto == last {
-        Some(row.has(place, deed))
-    } else {
-        None
+    if row.upto != last {
+        return None;
     }
-}
-
-/// Brings the row of this number up to this node, where it shows what was done in front of it. Whether it does.
-fn follow(rows: &mut [Row], number: usize, nodes: &[Node], last: usize) -> bool
-    requires linked { AreLinked nodes.now }
-    requires within { last ≤ length nodes.now }
-    requires some { 0 < last }
-    requires rows { AreRows nodes.now rows.old }
-    ensures { AreRows nodes.now rows.new }
-{
-    if number < rows.len() {
-        return rows[number].follow(nodes, last);
+    if change {
+        return Some(has_bit(row.changes.as_slice(), place));
     }
-    false
-}
-
-/// The same, in their list.
-fn catch_up(rows: &mut Vec<Row>, number: u32, nodes: &[Node], last: usize) -> bool
-    requires linked { AreLinked nodes.now }
-    requires within { last ≤ length nodes.now }
-    requires some { 0 < last }
-    requires rows { AreRows nodes.now rows.old.items }
-    ensures { AreRows nodes.now rows.new.items }
-{
-    follow(rows.as_mut_slice(), number as usize, nodes, last)
+    Some(has_bit(row.reads.as_slice(), place))
 }
 
 /// Brings the row of this number up to this node, or makes one for it; and the number of the row.
+#[inline(never)]
 pub(crate) fn extend(
     rows: &mut Vec<Row>,
     nodes: &[Node],
@@ -216,8 +183,11 @@ pub(crate) fn extend(
     if last == 0 {
         return Ok(number);
     }
-    if catch_up(rows, number, nodes, last) {
-        return Ok(number);
+    let at = number as usize;
+    if at < rows.len() {
+        if rows[at].follow(nodes, last) {
+            return Ok(number);
+        }
     }
     let found = row_of(*rows.allocator(), nodes, last)?;
     put(rows, found, number)

@@ -13,11 +13,10 @@ ghost use Rattle.sgt_bundle.specs.declared.certificate.Decision.{Decision};
 ghost use Rattle.sgt_audit_cells.specs.Cells.{AreCells, IsRankOf};
 ghost use Rattle.sgt_audit_cells.specs.private.Noted.{IsPlaceOf, IsUpTo, raised};
 ghost use Rattle.sgt_audit_cells.specs.Records.{AreActs};
-ghost use Rattle.sgt_audit_cells.specs.private.Deeds.{act};
 ghost use Rattle.sgt_audit_decisions.specs.Decided.{Decides};
 ghost use Rattle.sgt_audit_cells.specs.Tracks.{TracksOpen, IsReadyFor, IsNumberOf, IsPlaceAmong};
 
-use crate::act::{self, Act};
+use crate::act::{done_by, item_in};
 use crate::cell::{self, Cell};
 use crate::record::live_after;
 use crate::record_table::RecordTable;
@@ -27,7 +26,7 @@ use std::alloc::{AllocError, Global};
 /// How many hints there are.
 const HINTS: usize = 8192;
 
-/// What is kept of the site whose section is open: a cell for each item, a record for each decision's transaction,
+/// What is kept of the site whose section is open: a cell for each item, a record for each decision's transaction with
 /// how many entries there are, how many transactions have an entry there and no end, and the greatest number of a
 /// decision that ended one there.
 #[derive(Drop)]
@@ -38,8 +37,6 @@ pub struct SiteState {
     /// Where the cell of an item may be, by a hash of its name.
     pub hints: Vec<u16>,
     pub records: RecordTable,
-    /// How many entries there are.
-    pub count: u32,
     pub live: usize,
     pub last_end: Option<usize>,
 }
@@ -89,46 +86,6 @@ fn fresh_cell(holding: &Holding) -> Cell
     }
 }
 
-/// The entry at this place, on the item at that place, if it has one.
-#[inline(always)]
-fn act_at(at: u32, place: Option<usize>, entry: &Entry) -> Result<Option<Act>, AllocError>
-    ensures { IfOk result (λ found. found ≡ option_map (λ i. act at i entry.now) place) }
-{
-    match place {
-        Some(place) => match u16::try_from(place) {
-            Ok(short) => Ok(Some(act::act_of(at, short, entry))),
-            Err(_) => Err(AllocError),
-        },
-        None => Ok(None),
-    }
-}
-
-/// One more, if there is a number for it.
-#[inline(always)]
-fn one_more(count: u32) -> Result<u32, AllocError>
-    ensures { IfOk result (λ next. next ≡ count + 1) }
-{
-    match count.checked_add(1) {
-        Some(next) => Ok(next),
-        None => Err(AllocError),
-    }
-}
-
-/// One more entry, on the item at this place, if it has one.
-#[inline(always)]
-fn enter_cell(cells: &mut [Cell], place: Option<usize>, entry: &Entry, rank: Option<u32>)
-    ensures { (ds : List Decision) (items : List Holding) (entries : List Entry) → IsDecidedOnce ds
-        → AllPairs (λ x y. x ≢ y) (names items) → AreCells ds items entries cells.old
-        → IsPlaceOf (names items) entry.now place
-        → IsRankOf ds (tx_of entry.now) rank → AreCells ds items (entries ++ entry.now ∷ []) cells.new }
-{
-    if let Some(place) = place {
-        if place < cells.len() {
-            cell::enter(cells, place, entry, rank);
-        }
-    }
-}
-
 /// The greatest number of a decision that ended a transaction, after one more end, decided by this number.
 #[inline(always)]
 fn later_end(last: Option<usize>, number: usize) -> Option<usize>
@@ -172,7 +129,6 @@ impl SiteState {
             cells: Vec::new(alloc),
             hints: vec![in alloc; 0u16; HINTS]?,
             records: RecordTable::new(alloc, count)?,
-            count: 0,
             live: 0,
             last_end: None,
         })
@@ -186,7 +142,6 @@ impl SiteState {
         self.section = section;
         self.cells.clear();
         self.records.clear();
-        self.count = 0;
         self.live = 0;
         self.last_end = None;
     }
@@ -212,7 +167,11 @@ impl SiteState {
             → TracksOpen ds items entries self.now → Contains (names items) item.now → ⊥) }
     {
         let hint = hint_of(self.hints.as_slice(), item);
-        cell::place_of(self.cells.as_slice(), hint, item)
+        let cells = self.cells.as_slice();
+        match cell::checked(cells, hint, item) {
+            Some(place) => Some(place),
+            None => cell::search(cells, item),
+        }
     }
 
     /// The place of the entry's item, if it has one that is listed.
@@ -222,7 +181,7 @@ impl SiteState {
             → TracksOpen ds items entries self.now
             → IsPlaceAmong (names items) entry.now result }
     {
-        match act::item_in(entry) {
+        match item_in(entry) {
             Some(item) => self.place_of(&item),
             None => None,
         }
@@ -234,7 +193,7 @@ impl SiteState {
         ensures { IfSome result (λ place. (ds : List Decision) (items : List Holding) (entries : List Entry)
             → TracksOpen ds items entries self.now → IsPlaceAmong (names items) entry.now place) }
     {
-        let Some(item) = act::item_in(entry) else {
+        let Some(item) = item_in(entry) else {
             return Some(None);
         };
         let hint = *self.hints.get(slot_of(&item))?;
@@ -348,7 +307,7 @@ impl SiteState {
         self.live == 0
     }
 
-    /// One more entry, as `enter` takes it, where room for it is reserved and it needs no row of bits.
+    /// One more entry, as `enter` takes it, where room for it is reserved.
     #[inline(always)]
     fn enter_reserved(
         &mut self,
@@ -365,35 +324,12 @@ impl SiteState {
             → IsRankOf ds (tx_of entry.now) rank
             → TracksOpen ds items entries self.old → TracksOpen ds items (entries ++ entry.now ∷ []) self.new) }
     {
-        let next = one_more(self.count)?;
-        let act = act_at(self.count, place, entry)?;
-        let turn = self.records.enter(number, act, entry.is_end())?;
+        let done = done_by(place, entry)?;
+        let turn = self.records.enter(number, done, entry.is_end())?;
         self.live = live_after(self.live, turn.comes, turn.leaves);
-        enter_cell(self.cells.as_mut_slice(), place, entry, rank);
+        cell::enter(self.cells.as_mut_slice(), place, entry, rank);
         note_end(&mut self.last_end, entry, number);
-        self.count = next;
         Ok(())
-    }
-
-    /// One more entry, as `enter` takes it, where it needs memory or a row of bits.
-    #[inline(never)]
-    fn enter_slowly(
-        &mut self,
-        place: Option<usize>,
-        entry: Entry,
-        number: usize,
-        rank: Option<u32>,
-    ) -> Result<(), AllocError>
-        ensures section { self.new.section ≡ self.old.section }
-        ensures tracks { OnOk result ((ds : List Decision) (items : List Holding) (entries : List Entry)
-            → IsDecidedOnce ds
-            → AllPairs (λ x y. x ≢ y) (names items) → ForSome (item_of entry) (Contains (names items))
-            → IsPlaceAmong (names items) entry place → IsDecided ds entry number → IsRankOf ds (tx_of entry) rank
-            → TracksOpen ds items entries self.old → TracksOpen ds items (entries ++ entry ∷ []) self.new) }
-    {
-        self.records.reserve()?;
-        self.enter_reserved(place, &entry, number, rank)?;
-        self.records.keep_row(number)
     }
 
     /// One more entry, on the item at this place or an end, decided by this number, of a transaction that is
@@ -414,10 +350,8 @@ impl SiteState {
             → IsRankOf ds (tx_of entry.now) rank
             → TracksOpen ds items entries self.old → TracksOpen ds items (entries ++ entry.now ∷ []) self.new) }
     {
-        if self.records.has_room(number) {
-            self.enter_reserved(place, entry, number, rank)
-        } else {
-            self.enter_slowly(place, *entry, number, rank)
-        }
+        let plain = self.records.make_room(number)?;
+        self.enter_reserved(place, entry, number, rank)?;
+        self.records.keep_row(number, plain)
     }
 }

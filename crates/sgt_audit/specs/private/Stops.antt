@@ -31,15 +31,6 @@ Goes told p coming n reads = (s : Stage) × Stands p s × IsRest s told coming
 abbrev pub MeetsFault : List ℕ → ℕ → Fault → ℕ → Type 0
 MeetsFault bytes n f reads = (first : FirstFault bytes n f) × (reads ≤ reach bytes n f first)
 
--- a line of so many bytes with its LF stands at the front and was fed, and this is what it was
--- answered with
-pub record FedFront (old new : Kept) (held : List ℕ) (n : ℕ) (fault : Option Fault) : Type 0 where
-  pub line : SectionLine
-  pub is : IsLine line
-  pub within : n ≤ length held
-  pub front : take n held ≡ line_text line ++ 10 ∷ []
-  pub follows : (s : Stage) → IsAt old s → Follows s (line_text line) (Reading new) fault
-
 -- the lines that were held whole were fed: the machine stands behind them, or the last of them has
 -- the first fault of the text
 abbrev pub FedHeld : Option (List ℕ) → Option (List ℕ) → Progress → Ahead → (n reads : ℕ)

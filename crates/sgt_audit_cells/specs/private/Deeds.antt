@@ -6,11 +6,20 @@ use Rattle.sgt_names.specs.declared.entry.Kind.TheVariants.{Wr, Rw, Ww}
 use Rattle.sgt_audit_cells.specs.Records.{Record, deed_of}
 use Rattle.sgt_audit_cells.specs.declared.act.Act.{Act}
 use Rattle.sgt_audit_cells.specs.declared.act.Deed.{Deed}
+use Rattle.sgt_audit_cells.specs.declared.act.Done.{Done}
 use Rattle.sgt_audit_cells.specs.declared.act.Deed.TheVariants as deed
+
+-- the operation at this place among the entries, which does this
+abbrev pub act_of : ℕ → Done → Act
+act_of at d = record { place = d.place; deed = d.deed; at = at }
+
+-- what the entry does, on the item at this place
+abbrev pub done : ℕ → Entry → Done
+done i e = record { place = i; deed = deed_of e }
 
 -- the entry at this place, on the item at that place
 abbrev pub act : (at place : ℕ) → Entry → Act
-act at i e = record { place = i; deed = deed_of e; at = at }
+act at i e = act_of at (done i e)
 
 abbrev pub changes : Deed → Bool
 changes deed.Read = false

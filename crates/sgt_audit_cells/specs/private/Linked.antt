@@ -1,20 +1,21 @@
 -- What transactions did in the open section, each linked to the one before it.
 use Rattle.std.specs.Prelude.{◌≡◌, ◌==◌, ◌&&◌, ◌<◌, ◌≤◌, ℕ, zero, suc, List, [], ◌∷◌, ◌++◌, Option, Some, None, All, map, slice_get, if◌then◌else◌}
 use Rattle.sgt_audit_cells.specs.Records.{Record}
+use Rattle.sgt_audit_cells.specs.private.Deeds.{act_of}
 use Rattle.sgt_audit_cells.specs.declared.act.Act.{Act}
 use Rattle.sgt_audit_cells.specs.declared.record.Node.{Node}
 use Rattle.sgt_audit_cells.specs.declared.record.Slot.{Slot}
 
--- a node's act behind those that it is linked to
-abbrev pub behind : (ℕ → List Act) → Option Node → List Act
-behind acts None = []
-behind acts (Some n) = acts n.before ++ n.act ∷ []
+-- what the node at this place did, behind what it is linked to
+abbrev pub behind : (ℕ → List Act) → ℕ → Option Node → List Act
+behind acts i None = []
+behind acts i (Some n) = acts n.before ++ act_of i n.done ∷ []
 
 -- what stands at a place, counted from 1, behind what it is linked to, at most so many
 abbrev pub chain_by : ℕ → List Node → ℕ → List Act
 chain_by zero nodes k = []
 chain_by (suc most) nodes zero = []
-chain_by (suc most) nodes (suc i) = behind (chain_by most nodes) (slice_get nodes i)
+chain_by (suc most) nodes (suc i) = behind (chain_by most nodes) i (slice_get nodes i)
 
 abbrev pub chain : List Node → ℕ → List Act
 chain nodes k = chain_by k nodes k

@@ -1,4 +1,4 @@
-use Rattle.std.proofs.Common.{◌∙◌, refl, sym, subst, arith, Any}
+use Rattle.std.proofs.Common.{◌-◌, ◌∙◌, refl, sym, subst, arith, Any}
 use Rattle.std.specs.Prelude.{◌↔◌}
 use Rattle.sgt_audit_cells.specs.private.Deeds.{IsOf}
 use Rattle.sgt_audit_cells.specs.private.Linked.{chain}
@@ -27,7 +27,7 @@ nodes-preserved c =
       back-within c.args.nodes.now c.requires.linked c.nodes.at c.in-Some.node.now c.nodes.invariant.0
           c.nodes-test.true there,
       c.add.ensures.node ∙ c.nodes.invariant.1,
-      λ place change. moved (c.nodes.invariant.2 place change) (c.add.ensures.set c.if-add.true place change)
+      λ place change. moved (c.nodes.invariant.2 place change) (c.add.ensures.set c.if-add.true (c.nodes.at - 1) place change)
           (any-split c.args.nodes.now c.requires.linked c.nodes.at c.in-Some.node.now c.nodes-test.true there
           (IsOf place change)),
     )

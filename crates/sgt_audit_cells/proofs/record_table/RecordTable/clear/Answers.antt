@@ -4,7 +4,7 @@ use Rattle.std.specs.Vec.{with_items}
 use Rattle.std.proofs.lemmas.List.{length-map, with_items_is}
 use Rattle.sgt_names.proofs.Lists.{All-from_map}
 use Rattle.sgt_names.proofs.Places.{All_at, All-from_at}
-use Rattle.sgt_audit_cells.specs.Records.{Record, no_record}
+use Rattle.sgt_audit_cells.specs.Records.{Record, Recorded, no_record}
 use Rattle.sgt_audit_cells.specs.private.Linked.{record_of}
 use Rattle.sgt_audit_cells.specs.declared.record.Slot.{Slot}
 use Rattle.sgt_audit_cells.proofs.Linked.{record-fresh}
@@ -18,7 +18,7 @@ returns-clause-length c =
     length-map (with_items t.slots stamped.new.slots).items (record_of stamped.result c.clear.new.self.items)
     ∙ ap length items
     ∙ stamped.ensures.len ∙ ap length c.as_mut_slice.ensures.value
-    ∙ sym (length-map t.slots.items (record_of t.stamp t.nodes.items)) ∙ ap length c.self.view_is
+    ∙ sym (length-map t.slots.items (record_of t.stamp t.nodes.items)) ∙ ap (λ (q : Recorded). length q.each) c.self.view_is
 
 pub returns-clause-fresh : goal.returns-clause-fresh
 returns-clause-fresh c =

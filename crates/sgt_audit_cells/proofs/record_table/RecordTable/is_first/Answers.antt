@@ -3,7 +3,7 @@ use Rattle.std.specs.Prelude.{◌↔◌}
 use Rattle.sgt_names.specs.Name.{Name}
 use Rattle.sgt_names.specs.Entry.{Repeats}
 use Rattle.sgt_names.specs.declared.entry.Entry.{Entry}
-use Rattle.sgt_audit_cells.specs.Records.{Record, deed_of}
+use Rattle.sgt_audit_cells.specs.Records.{Record, Recorded, deed_of}
 use Rattle.sgt_audit_cells.specs.private.Deeds.{IsOf, changes}
 use Rattle.sgt_audit_cells.specs.private.Linked.{chain}
 use Rattle.sgt_audit_cells.specs.private.Rows.{AreRows}
@@ -20,13 +20,13 @@ returns c r ns entries x there at on is =
     let s = c.in-Some.slot.now in
     let last = c.last_in-last.result in
     let at_s = got _ _ _ _ c.deref.ensures.value c.in-Some.ensures.lookup.0 c.in-Some.ensures.lookup.1 in
-    let r_is = record-is t.stamp t.nodes.items t.slots.items c.args.self.now c.self.view_is c.args.number s r at_s
+    let r_is = record-is t.stamp t.nodes.items t.slots.items c.args.self.now.each (ap (λ (q : Recorded). q.each) c.self.view_is) c.args.number s r at_s
     there in
     let same = ap (λ ns. chain ns last) c.as_slice-2.ensures.value ∙ ap (chain t.nodes.items) c.last_in-last.ensures
     ∙ ap (λ (q : Record). q.acts) r_is in
+    let change = c.changes-change.ensures ∙ ap changes c.deed_of.ensures in
     let did =
-    subst (λ d. IsTrue c.has_done.result
-    ↔ Any (IsOf c.args.place (changes d)) (chain c.as_slice-2.result.now last)) c.deed_of-deed.ensures
+    subst (λ b. IsTrue c.has_done.result ↔ Any (IsOf c.args.place b) (chain c.as_slice-2.result.now last)) change
     c.has_done.ensures in
     not-decides c.has_done.result (Any (IsOf c.args.place (changes (deed_of e))) r.acts)
     (All (λ (f : Entry). (y : Name) → Repeats y f e → ⊥) entries)
@@ -40,14 +40,15 @@ returns-in-Some-shown c r ns entries x there at on is =
     let s = c.in-Some.slot.now in
     let last = c.last_in-last.result in
     let at_s = got _ _ _ _ c.deref.ensures.value c.in-Some.ensures.lookup.0 c.in-Some.ensures.lookup.1 in
-    let r_is = record-is t.stamp t.nodes.items t.slots.items c.args.self.now c.self.view_is c.args.number s r at_s
+    let r_is = record-is t.stamp t.nodes.items t.slots.items c.args.self.now.each (ap (λ (q : Recorded). q.each) c.self.view_is) c.args.number s r at_s
     there in
     let same = ap (chain t.nodes.items) c.last_in-last.ensures ∙ ap (λ (q : Record). q.acts) r_is in
     let are = subst (AreRows t.nodes.items) (sym c.as_slice.ensures.value) c.self.invariant.3 in
     let done = c.in-Some-shown.done in
+    let change = c.changes-change.ensures ∙ ap changes c.deed_of.ensures in
     let did =
-    subst (λ d. IsTrue done ↔ Any (IsOf c.args.place (changes d)) (chain t.nodes.items last))
-    c.deed_of-deed.ensures (c.in-Some-shown.ensures t.nodes.items are) in
+    subst (λ b. IsTrue done ↔ Any (IsOf c.args.place b) (chain t.nodes.items last)) change
+    (c.in-Some-shown.ensures t.nodes.items are) in
     not-decides done (Any (IsOf c.args.place (changes (deed_of e))) r.acts) (All (λ (f : Entry). (y : Name)
     → Repeats y f e → ⊥) entries)
     (subst (λ (acts : List Act). IsTrue done ↔ Any (IsOf c.args.place (changes (deed_of e))) acts) same did)

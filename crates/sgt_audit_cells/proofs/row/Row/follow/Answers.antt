@@ -1,4 +1,4 @@
-use Rattle.std.proofs.Common.{◌≡◌, refl, subst, arith, Any}
+use Rattle.std.proofs.Common.{◌≡◌, ◌-◌, refl, subst, arith, Any}
 use Rattle.std.specs.Prelude.{◌↔◌}
 use Rattle.sgt_audit_cells.specs.private.Deeds.{IsOf}
 use Rattle.sgt_audit_cells.specs.private.Linked.{chain}
@@ -19,6 +19,6 @@ returns-then-add c = (
       let shows = subst (λ k. Any (IsOf place change) (chain nodes k) ↔ HasMark c.args.self.now change place) same
       (c.requires.row.1 place change) in
       let split = any-split nodes c.requires.linked c.args.last node c.requires.some there (IsOf place change) in
-      both-ways (followed shows (c.add.ensures.set c.if-add.true place change) split)
+      both-ways (followed shows (c.add.ensures.set c.if-add.true (c.args.last - 1) place change) split)
       (renamed c.add.new.self c.args.last change place),
 )

@@ -3,8 +3,8 @@ use Rattle.sgt_audit_cells.proofs.Entering.{none-map}
 use Rattle.sgt_audit_cells.proofs.Tracking.{not-listed}
 use Rattle.sgt_audit_cells.proofs.state.SiteState.place_of.Goals as goal
 
-pub returns-clause-none : goal.returns-clause-none
-returns-clause-none c =
-    none-map c.place_of.result (λ none ds items entries t here. not-listed ds items entries c.args.self.now t
-    c.args.item.now (subst (All (λ d. d.name ≢ c.args.item.now)) c.as_slice-2.ensures.value none) here)
-    c.place_of.ensures.none
+pub returns-in-None-clause-none : goal.returns-in-None-clause-none
+returns-in-None-clause-none c =
+    none-map c.search.result (λ none ds items entries t here. not-listed ds items entries c.args.self.now t
+    c.args.item.now (subst (All (λ d. d.name ≢ c.args.item.now)) c.as_slice-cells.ensures.value none) here)
+    c.search.ensures.none
