@@ -5,7 +5,7 @@ use Rattle.std.specs.List.{AllByRecursion}
 use Rattle.std.proofs.lemmas.Bool.{cases_eq, cases_order}
 use Rattle.std.proofs.lemmas.List.{append-nil, length-append}
 use Rattle.std.proofs.lemmas.List.Elements.{recursion_from_All, All-cons}
-use Rattle.sgt_notation.specs.Spelling.{text_of_lines, HasNoLf, line_text}
+use Rattle.sgt_notation.specs.Spelling.{IsLine, text_of_lines, HasNoLf, line_text}
 use Rattle.sgt_notation.specs.Lines.{Ahead, GaveNext, Gives, Spends, passed, stream}
 use Rattle.sgt_notation.proofs.Fronts.{passed-next}
 use Rattle.sgt_notation.proofs.Short.{line-no_lf, line-short}
@@ -321,8 +321,8 @@ spends_on (Some xs) (Some ys) (Some zs) a b b' c first same later = omega (arith
 pub front-gave : (line : SectionLine) (held : List ℕ) (n : ℕ) (lines after : Ahead) (told : Option (List ℕ))
     → IsLine line → n ≤ length held → take n held ≡ line_text line ++ 10 ∷ [] → held ≡ lines.held
     → after ≡ passed n lines → GaveNext 50 (stream lines told 0) Line (line_text line) (stream after told 0)
-front-gave line held n lines after told is_line within front same is =
+front-gave line held n lines after told is_line inside front same is =
     let short = line-short line is_line in
     subst (λ (a : Ahead). GaveNext 50 (stream lines told 0) Line (line_text line) (stream a told 0)) (sym is)
     (passed-next 50 n lines told 0 (line_text line) (line-no_lf line is_line) (omega (arith, short))
-    (subst (λ (h : List ℕ). n ≤ length h) same within) (ap (take n) (sym same) ∙ front))
+    (subst (λ (h : List ℕ). n ≤ length h) same inside) (ap (take n) (sym same) ∙ front))

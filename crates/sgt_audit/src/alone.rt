@@ -142,11 +142,7 @@ impl Alone {
 
     /// The same, by way of memory that only this way touches.
     #[inline(never)]
-    fn follow(
-        &mut self,
-        certificate: &Decided,
-        entry: Entry,
-    ) -> Result<Option<Fault>, AllocError>
+    fn follow(&mut self, certificate: &Decided, entry: Entry) -> Result<Option<Fault>, AllocError>
         ensures follows { let line = Logged entry in
             IsLineIn self.old.second line → (edges : List AnyEdge) (b : Begun)
             → StandsAlone certificate.now b self.old
@@ -159,11 +155,7 @@ impl Alone {
 
     /// The next line, which is this entry, of which this is known.
     #[inline(always)]
-    fn follow_known(
-        &mut self,
-        known: &Known,
-        entry: &Entry,
-    ) -> Result<Option<Fault>, AllocError>
+    fn follow_known(&mut self, known: &Known, entry: &Entry) -> Result<Option<Fault>, AllocError>
         ensures follows { let line = Logged entry.now in
             IsLineIn self.old.second line → (c : Certificate) (edges : List AnyEdge) (b : Begun)
             → IsKnownOf c.decisions self.old.state entry.now known.now → StandsAlone c b self.old
@@ -192,17 +184,17 @@ impl Alone {
             → IfOk result (FollowsAlone certificate.now edges.now b (line_text line) self.new) }
         ensures second { self.new.second ≡ self.old.second }
     {
-        match line {
+        match &line {
             SectionLine::Logged(entry) => {
                 if !is_allowed(self.second, &line) {
                     return Ok(Some(Fault::Notation));
                 }
-                self.follow(certificate, entry)
+                self.follow(certificate, *entry)
             }
             SectionLine::Initial(holding) => {
-                self.follow_other(&SectionLine::Initial(holding), true)
+                self.follow_other(&SectionLine::Initial(*holding), true)
             }
-            SectionLine::Final(holding) => self.follow_other(&SectionLine::Final(holding), true),
+            SectionLine::Final(holding) => self.follow_other(&SectionLine::Final(*holding), true),
             SectionLine::Site(_) => self.follow_other(&line, true),
             SectionLine::End => {
                 let met = are_met(certificate, &self.state, edges);

@@ -112,11 +112,7 @@ fn next_place(len: usize) -> Result<u32, AllocError>
 /// Links what one more entry did, if it did something, behind what stands at this place; and where it stands then.
 /// Room has to be reserved.
 #[inline(always)]
-pub(crate) fn link(
-    nodes: &mut Vec<Node>,
-    last: u32,
-    done: Option<Done>,
-) -> Result<u32, AllocError>
+pub(crate) fn link(nodes: &mut Vec<Node>, last: u32, done: Option<Done>) -> Result<u32, AllocError>
     requires linked { AreLinked nodes.old.items }
     requires within { last ≤ length nodes.old.items }
     ensures linked { AreLinked nodes.new.items }

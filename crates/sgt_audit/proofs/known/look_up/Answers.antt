@@ -5,9 +5,8 @@ use Rattle.sgt_audit.proofs.known.look_up.Goals as goal
 
 pub returns-in-Logged : goal.returns-in-Logged
 returns-in-Logged c =
-    subst (λ l. IsKnownLine c.args.certificate.now.decisions c.args.state.now l
-    (Some (record { place = c.place_of_entry.result; ruling = c.ruling_on.result }))) (sym c.in-Logged.is)
-    (record { place = c.place_of_entry.ensures c.args.certificate.now.decisions; ruling = c.ruling_on.ensures })
+    subst (λ l. IsKnownLine c.args.certificate.now.decisions c.args.state.now l (Some c.look_up_entry.result))
+    (sym c.in-Logged.is) c.look_up_entry.ensures
 
 pub returns-in_default : goal.returns-in_default
 returns-in_default c =

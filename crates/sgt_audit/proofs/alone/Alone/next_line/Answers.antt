@@ -2,11 +2,20 @@ use Rattle.std.proofs.Common.{true, IfOk, sym, subst}
 use Rattle.std.proofs.lemmas.Bool.{false≢true}
 use Rattle.sgt_notation.specs.Spelling.{IsLine, line_text}
 use Rattle.sgt_notation.specs.declared.SectionLine.{SectionLine}
+use Rattle.sgt_audit.specs.Faults.{Allows}
 use Rattle.sgt_audit.specs.Alone.{FollowsAlone, MeetsSteps, StandsAlone}
 use Rattle.sgt_audit.specs.Reading.{Begun}
 use Rattle.sgt_audit.proofs.Lone.{last-meets, plain-meets}
 use Rattle.sgt_audit.proofs.SiteStates.{open-tracked}
 use Rattle.sgt_audit.proofs.alone.Alone.next_line.Goals as goal
+
+pub returns-else-not-is_allowed-clause-follows : goal.returns-else-not-is_allowed-clause-follows
+returns-else-not-is_allowed-clause-follows c =
+    let allowed = subst (Allows c.args.self.now.second) c.in-Logged.is
+    (c.is_allowed.ensures.0 c.if-not-is_allowed.false) in
+    subst (λ (l : SectionLine). IsLine l → (b : Begun) → StandsAlone c.args.certificate.now b c.args.self.now
+    → IfOk c.follow.result (FollowsAlone c.args.certificate.now c.args.edges.now b (line_text l) c.follow.new.self))
+    (sym c.in-Logged.is) (λ is b s. c.follow.ensures.follows (is, allowed) c.args.edges.now b s)
 
 pub returns-in-Initial-clause-follows : goal.returns-in-Initial-clause-follows
 returns-in-Initial-clause-follows c is b s =

@@ -1,4 +1,4 @@
-use Rattle.std.proofs.Common.{◌≡◌, ◌++◌, ◌∷◌, [], IfSome, refl, sym, subst, ◌∙◌, arith}
+use Rattle.std.proofs.Common.{◌≡◌, ◌++◌, ◌∷◌, [], IfSome, None, Some, refl, sym, subst, ◌∙◌, arith}
 use Rattle.sgt_notation.specs.Spelling.{line_text}
 use Rattle.sgt_notation.specs.declared.SectionLine.{SectionLine}
 use Rattle.sgt_notation.specs.declared.SectionLine.TheVariants.{End}
@@ -16,10 +16,11 @@ use Rattle.sgt_audit.specs.private.NextLine.{Follows}
 use Rattle.sgt_audit.proofs.LoggedConflicts.{walks-decide}
 use Rattle.sgt_audit.proofs.Lone.{alone-follows, no-end, same-whole}
 use Rattle.sgt_audit.proofs.MayFollow.{added-lines, are-sections, begins-follow}
-use Rattle.sgt_audit.proofs.NextLine.{alone-breaks, added-last, added-open, walks-broken}
-use Rattle.sgt_audit.proofs.NextStage.{complete-all, line-breaks, line-follows, line-trails}
+use Rattle.sgt_audit.proofs.NextLine.{alone-breaks, line-breaks, walks-broken, added-open, added-last}
+use Rattle.sgt_audit.proofs.NextStage.{complete-all, line-follows, line-trails}
 use Rattle.sgt_audit.proofs.Places.{next-sites}
 use Rattle.sgt_audit.proofs.kept.Kept.next_read.Goals as goal
+use Rattle.sgt_audit.proofs.kept.Kept.next_read.Goals.{else-is_complete-2-via-then-is_complete-2+else-not-self, else-is_complete-2-via-else-is_complete-2}
 
 pub returns-then-is_complete-clause-follows : goal.returns-then-is_complete-clause-follows
 returns-then-is_complete-clause-follows k is s (b, before, h, stage) =
@@ -37,11 +38,11 @@ returns-in-Some-clause-follows k is s (b, before, h, stage) =
     (subst (λ n. Means n c b before) (sym same) h.means) open_yet found.0 s
     (subst (λ n. IsStageOf n c before s) (sym same) stage)
 
-pub returns-in_default-2-clause-follows : goal.returns-in_default-2-clause-follows
-returns-in_default-2-clause-follows k is s (b, before, h, stage) =
+pub returns-in_default-line-clause-follows : goal.returns-in_default-line-clause-follows
+returns-in_default-line-clause-follows k is s (b, before, h, stage) =
     let c = k.args.self.now.certificate in
     let line = k.args.line.now in
-    let other = k.in_default-2.not-End in
+    let other = k.in_default-line.not-End in
     let alone = k.next_read.new.self in
     let same = k.next_read.ensures.second in
     let m = subst (λ n. Means n c b before) (sym same) h.means in
@@ -87,7 +88,12 @@ returns-then-not-self-clause-follows k is s (b, before, h, stage) =
     let each = (are-sections next all).1 ∙ sites ∙ m.sites in
     let miss = refuted k.pass.new.self.met (walks-decide c next.whole k.pass.new.self m.kept.spelled each walks)
     k.if-not-self.true in
-    subst (λ (l : SectionLine). Follows s (line_text l) (Reading _) (Some fault.WalkStep)) (sym k.in-End.is)
+    let new : Kept = record k.args.self.now {
+      alone = alone;
+      walks = k.pass.new.self;
+      sections = k.add_to.new.sections;
+    } in
+    subst (λ (l : SectionLine). Follows s (line_text l) (Reading new) (Some fault.WalkStep)) (sym k.in-End.is)
     (line-breaks _ _ _ before _ _ _ m open_yet read refl (walks-broken _ _ _ next before _ m sites lines all miss kept) s
     (subst (λ n. IsStageOf n c before s) (sym same) stage))
 
