@@ -231,13 +231,12 @@ impl RecordTable {
         Ok(turn)
     }
 
-    /// Brings the row of the transaction of this number up to its last entry, where many are counted. There is none to
-    /// keep where its entry was plain.
-    #[inline(always)]
-    pub(crate) fn keep_row(&mut self, number: usize, plain: bool) -> Result<(), AllocError>
+    /// Brings the row of the transaction of this number up to its last entry, where many are counted.
+    #[inline(never)]
+    pub(crate) fn keep_row(&mut self, number: usize) -> Result<(), AllocError>
         ensures { self.new ≡ self.old }
     {
-        if plain || number >= self.slots.len() {
+        if number >= self.slots.len() {
             return Ok(());
         }
         let slot = self.slots[number];

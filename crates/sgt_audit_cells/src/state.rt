@@ -352,6 +352,9 @@ impl SiteState {
     {
         let plain = self.records.make_room(number)?;
         self.enter_reserved(place, entry, number, rank)?;
-        self.records.keep_row(number, plain)
+        if plain {
+            return Ok(());
+        }
+        self.records.keep_row(number)
     }
 }
