@@ -174,7 +174,7 @@ impl Alone {
 
     /// The next line, of a kind that is less frequent, by way of memory that only this way touches.
     #[inline(never)]
-    fn next_line(
+    pub(crate) fn next_line(
         &mut self,
         certificate: &Decided,
         edges: &[Edge],

@@ -10,6 +10,7 @@ use crate::format::read_line;
 use crate::sections::{Sections, add_to};
 use crate::walks::Walks;
 use sgt_audit_decisions::Decided;
+use sgt_names::Entry;
 use sgt_notation::SectionLine;
 use std::alloc::AllocError;
 
@@ -30,6 +31,7 @@ impl Kept {
     ghost use Rattle.sgt_audit.specs.private.NextLine.{Follows};
     ghost use Rattle.sgt_audit.specs.private.Ending.{EndsWith, IsComplete, limit_of};
     ghost use Rattle.sgt_audit.specs.declared.machine.Progress.TheVariants.{Reading};
+    ghost use Rattle.sgt_notation.specs.declared.SectionLine.TheVariants.{Logged};
 
     /// Whether all sections were read.
     #[inline(always)]
@@ -59,28 +61,69 @@ impl Kept {
             → IfOk result (Follows s line.now (Reading self.new)) }
     {
         match read_line(self.alone.second, line) {
-            Some(read) => self.next_read(&read),
+            Some(read) => self.next_line(read),
             None => Ok(Some(self.unread())),
         }
     }
 
-    /// The next line, which was read already: the judge of its section says its fault. Behind the last line of a section
-    /// the judge knows whether the steps at its site are conflicts in its log; a step that isn't is the fault of the last
-    /// line of all.
+    /// The next line, which was read already. The entries that are most frequent go ways of their own, as in
+    /// `Alone::next_read`.
     #[inline(always)]
     pub(crate) fn next_read(&mut self, line: &SectionLine) -> Result<Option<Fault>, AllocError>
         ensures sections { is_some self.new.sections ≡ is_some self.old.sections }
         ensures follows { IsLine line.now → (s : Stage) → IsAt self.old s
             → IfOk result (Follows s (line_text line.now) (Reading self.new)) }
     {
+        match line {
+            SectionLine::Logged(entry) => match *entry {
+                Entry::Read { tx, item, value } => {
+                    self.next_entry(&Entry::Read { tx, item, value })
+                }
+                Entry::Write { tx, item, value } => {
+                    self.next_entry(&Entry::Write { tx, item, value })
+                }
+                Entry::Commit { tx } => self.next_entry(&Entry::Commit { tx }),
+                _ => self.next_line(*line),
+            },
+            _ => self.next_line(*line),
+        }
+    }
+
+    /// The same of this entry.
+    #[inline(always)]
+    fn next_entry(&mut self, entry: &Entry) -> Result<Option<Fault>, AllocError>
+        ensures sections { is_some self.new.sections ≡ is_some self.old.sections }
+        ensures follows { let line = Logged entry.now in
+            IsLineIn self.old.alone.second line → (s : Stage) → IsAt self.old s
+            → IfOk result (Follows s (line_text line) (Reading self.new)) }
+    {
+        if self.alone.place.is_complete() {
+            return Ok(Some(Fault::Trailing));
+        }
+        if let Some(fault) = self.alone.follow_entry(&self.certificate, *entry)? {
+            return Ok(Some(fault));
+        }
+        add_to(&mut self.sections, &SectionLine::Logged(*entry))?;
+        Ok(None)
+    }
+
+    /// The next line, of a kind that is less frequent: the judge of its section says its fault. Behind the last line of
+    /// a section the judge knows whether the steps at its site are conflicts in its log; a step that isn't is the fault
+    /// of the last line of all.
+    #[inline(always)]
+    fn next_line(&mut self, line: SectionLine) -> Result<Option<Fault>, AllocError>
+        ensures sections { is_some self.new.sections ≡ is_some self.old.sections }
+        ensures follows { IsLine line → (s : Stage) → IsAt self.old s
+            → IfOk result (Follows s (line_text line) (Reading self.new)) }
+    {
         if self.alone.place.is_complete() {
             return Ok(Some(Fault::Trailing));
         }
         let edges = self.walks.steps.at(self.alone.place.whole);
-        if let Some(fault) = self.alone.next_read(&self.certificate, edges, line)? {
+        if let Some(fault) = self.alone.next_line(&self.certificate, edges, line)? {
             return Ok(Some(fault));
         }
-        add_to(&mut self.sections, line)?;
+        add_to(&mut self.sections, &line)?;
         match line {
             SectionLine::End => (),
             _ => return Ok(None),

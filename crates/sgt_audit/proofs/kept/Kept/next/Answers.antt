@@ -3,7 +3,7 @@ use Rattle.sgt_audit.proofs.kept.Kept.next.Goals as goal
 pub returns-in-Some-clause-follows : goal.returns-in-Some-clause-follows
 returns-in-Some-clause-follows c s here =
     let read = rw c.in-Some.is at c.read_line.ensures in
-    rw read.1 (c.next_read.ensures.follows read.0.0 s here)
+    rw read.1 (c.next_line.ensures.follows read.0.0 s here)
 
 pub returns-in-None-clause-follows : goal.returns-in-None-clause-follows
 returns-in-None-clause-follows c s here =
