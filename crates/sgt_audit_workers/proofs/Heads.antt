@@ -1,11 +1,12 @@
 -- The first two lines of a text.
-use Rattle.std.proofs.Common.{◌≡◌, ℕ, ◌+◌, ◌*◌, ◌/◌, ◌<◌, ◌≤◌, Bool, true, false, List, [], ◌∷◌, ◌++◌, length, Option, Some, None, IfSome, refl, sym, ap, ◌∙◌, subst, arith, append_assoc}
+use Rattle.std.proofs.Common.{◌≡◌, ◌≢◌, ℕ, ◌+◌, ◌-◌, ◌*◌, ◌^◌, ◌/◌, ◌<◌, ◌≤◌, Bool, List, [], ◌∷◌, ◌++◌, length, Option, Some, None, IfSome, refl, sym, ap, ◌∙◌, subst, arith, inl, inr, ◌⊎◌, append_assoc}
+use Rattle.std.specs.Prelude.{Result}
 use Rattle.std.specs.Io.KnownBytes.{Consumes}
 use Rattle.std.proofs.KnownBytes.{Consumes-trans}
 use Rattle.std.proofs.Math.Nat.{mul-add, mul_comm, mul_assoc, mul-le-mul_left}
 use Rattle.std.proofs.lemmas.List.{append-nil, length-append}
-use Rattle.sgt_names.specs.Limits.{max_line, most_reads}
-use Rattle.sgt_notation.specs.Lines.{Ahead, Gives, IsNext, Spends, coming}
+use Rattle.sgt_names.specs.Limits.{most_reads}
+use Rattle.sgt_notation.specs.Lines.{Ahead, Gives, IsNext, coming}
 use Rattle.sgt_notation.specs.Spelling.{HasNoLf, text_of_lines}
 use Rattle.sgt_notation.specs.declared.lines.Next.{Next}
 use Rattle.sgt_notation.specs.declared.lines.Next.TheVariants.{Line, Cut, TooLong, End}
@@ -14,209 +15,159 @@ use Rattle.sgt_bundle.specs.declared.certificate.Certificate.{Certificate}
 use Rattle.sgt_bundle.specs.declared.certificate.Decision.{Decision}
 use Rattle.sgt_audit.specs.declared.faults.Fault.{Fault}
 use Rattle.sgt_audit.specs.declared.faults.Fault.TheVariants as fault
-use Rattle.sgt_audit.specs.declared.machine.Progress.TheVariants as at
-use Rattle.sgt_audit.specs.Faults.{fault_number, Stage, start, headed, lines_so_far, IsFaultless, KeepsItself, Piece, whole, last, ComesNext, Rule, Breaks, FirstFault, bytes_of}
+use Rattle.sgt_audit.specs.declared.faults.FirstFault as found
+use Rattle.sgt_audit.specs.declared.kept.Kept.{Kept}
+use Rattle.sgt_audit.specs.declared.machine.Progress.{Progress}
+use Rattle.sgt_audit.specs.declared.verdict.Verdict.{Verdict}
 use Rattle.sgt_audit.specs.declared.verdict.Verdict.TheVariants.{No}
-use Rattle.sgt_audit.proofs.OneFault.{reach-one}
-use Rattle.sgt_audit.proofs.ReaderAtStage.{at-long}
+use Rattle.sgt_audit.specs.Faults.{Stage, start, headed, lines_so_far, KeepsItself, Piece, whole, Rule, Breaks, ReadsNoFurther, bytes_of}
+use Rattle.sgt_audit.specs.Progress.{Stands}
+use Rattle.sgt_audit.specs.Verdict.{IsVerdict}
+use Rattle.sgt_audit.specs.private.Ending.{EndsWith, limit_of}
+use Rattle.sgt_audit.specs.private.Stops.{Goes, IsJudged, IsRest, MeetsFault}
+use Rattle.sgt_audit.proofs.ReaderAtStage.{at-long, fault-line, stop-judged, told-met}
 use Rattle.sgt_audit_sections.specs.Sections.{front_text}
 use Rattle.sgt_audit_workers.specs.Reads.{Reader}
 use Rattle.sgt_audit_workers.specs.Cut.{longest}
-use Rattle.sgt_audit_workers.specs.private.Begun.{IsFaultBefore, IsMost}
+use Rattle.sgt_audit_workers.specs.private.Begun.{ComesBehind, IsMost, IsVerdictNear}
 use Rattle.sgt_audit_workers.specs.private.Tallied.{IsFound}
 use Rattle.sgt_audit_workers.specs.private.Texts.{HasAsked}
+use Rattle.sgt_audit_workers.proofs.Answered.{near}
 use Rattle.sgt_audit_workers.proofs.Reading.{line-more}
-use Rattle.sgt_notation.proofs.Fronts.{spends_none}
+use Rattle.sgt_audit_workers.proofs.Taken.{answer-of}
 
--- ---- what comes next has the first fault
+-- ---- a text that goes no further
 
-fault-here : (s : Stage) (bytes : List ℕ) (next : Piece) (f : Fault) → IsFaultless s → ComesNext bytes next
-    → Breaks (Rule s next) f → FirstFault (text_of_lines (lines_so_far s) ++ bytes) (length (lines_so_far s) + 1) f
-fault-here s bytes next f good comes breaks =
-    record {
-      stage = s;
-      rest = bytes;
-      next = next;
-      text = refl;
-      faultless = good;
-      number = refl;
-      comes =
-          comes;
-      breaks = breaks;
-    }
+-- of what came next no more is gone than it and an LF
+next-within : (limit : ℕ) (bytes rest l : List ℕ) (next : Next) → IsNext limit bytes next l rest
+    → length bytes ≤ length l + length rest + 1
+next-within limit bytes rest l Line is = omega (arith, ap length is.2, length-append l (10 ∷ rest))
+next-within limit bytes rest l Cut is = omega (arith, ap length is.3)
+next-within limit bytes rest l TooLong is = omega (arith, ap length is.1, length-append l rest)
+next-within limit bytes rest l End is = omega (arith, ap length is.0)
 
-line-fails : (s : Stage) (limit : ℕ) (bytes l rest : List ℕ) (f : Fault) → IsFaultless s
-    → IsNext limit bytes Line l rest → Breaks (Rule s (whole l)) f
-    → FirstFault (text_of_lines (lines_so_far s) ++ bytes) (length (lines_so_far s) + 1) f
-line-fails s limit bytes l rest f good is breaks = fault-here s bytes (whole l) f good (rest, is.2, is.0) breaks
+-- the bytes behind the last LF
+next-last : (limit : ℕ) (bytes rest l : List ℕ) (next : Next) → IsNext limit bytes next l rest
+    → (next ≡ Cut) ⊎ (next ≡ End) → (bytes ≡ l) × HasNoLf l
+next-last limit bytes rest l next is (inl cut) =
+    let here = subst (λ m. IsNext limit bytes m l rest) cut is in (here.3, here.0)
+next-last limit bytes rest l next is (inr end) =
+    let here = subst (λ m. IsNext limit bytes m l rest) end is in
+    (here.0 ∙ sym here.1, subst HasNoLf (sym here.1) (λ k d lt. absurd (omega arith)))
 
-cut-fails : (s : Stage) (limit : ℕ) (bytes l rest : List ℕ) (f : Fault) → IsFaultless s
-    → IsNext limit bytes Cut l rest → Breaks (Rule s (last l)) f
-    → FirstFault (text_of_lines (lines_so_far s) ++ bytes) (length (lines_so_far s) + 1) f
-cut-fails s limit bytes l rest f good is breaks = fault-here s bytes (last l) f good (is.3, is.0) breaks
+-- a verdict, and what came is no more than up to its fault
+found-here : (told old new : Option (List ℕ)) (s : Stage) (limit second : ℕ) (next : Next) (l : List ℕ) (v : Verdict)
+    → second ≤ length l → IsRest s told old → Gives limit old next l new → IfSome told (λ bytes. IsVerdict bytes v)
+    → IfSome told (λ bytes. ReadsNoFurther bytes (length (text_of_lines (lines_so_far s)) + length l + 1))
+    → IsFound second told new 0 v
+found-here None old new s limit second next l v le rest gives is near = tt
+found-here (Some bytes) None new s limit second next l v le rest gives is near = absurd rest
+found-here (Some bytes) (Some xs) None s limit second next l v le rest gives is near = absurd gives
+found-here (Some bytes) (Some xs) (Some ys) s limit second next l v le rest gives is near = (
+  is,
+  λ n f first. let few = near n f first in (
+    omega (arith, few, le),
+    omega (
+      arith,
+      few,
+      ap length rest,
+      length-append (text_of_lines (lines_so_far s)) xs,
+      next-within limit xs ys l next gives,
+    ),
+  ),
+)
 
-no-lf : HasNoLf []
-no-lf = λ k d lt. absurd (omega arith)
+met-verdict : (told : Option (List ℕ)) (n : ℕ) (f : Fault) (reads : ℕ)
+    → IfSome told (λ bytes. MeetsFault bytes n f reads) → IfSome told (λ bytes. IsVerdict bytes (No n f))
+met-verdict None n f reads met = tt
+met-verdict (Some bytes) n f reads met = met.0
 
-end-fails : (s : Stage) (limit : ℕ) (bytes l rest : List ℕ) (f : Fault) → IsFaultless s
-    → IsNext limit bytes End l rest → Breaks (Rule s (last [])) f
-    → FirstFault (text_of_lines (lines_so_far s) ++ bytes) (length (lines_so_far s) + 1) f
-end-fails s limit bytes l rest f good is breaks = fault-here s bytes (last []) f good (is.0, no-lf) breaks
+module _ (p : Progress) (told old : Option (List ℕ)) (n : ℕ) (next : Next) (l : List ℕ) (new : Option (List ℕ))
+    (is : ComesBehind p told old n next l new) where
+  abbrev front : ℕ
+  front = length (text_of_lines (lines_so_far is.stage))
 
--- ---- at the first line
+  goes : Goes told p old n front
+  goes = (is.stage, is.stands, is.lines, is.counts, omega arith)
 
-below-line : (l : List ℕ) (g : Fault) → fault_number g < 1 → Rule start (whole l) g
-below-line l fault.Format lt = absurd (omega arith)
-below-line l g lt = tt
+  found-met : (second : ℕ) (f : Fault) → second ≤ length l
+      → IfSome told (λ bytes. MeetsFault bytes n f (front + length l + 1)) → IsFound second told new 0 (No n f)
+  found-met second f le met = found-here told old new is.stage is.limit second next l (No n f) le is.lines is.gives
+      (met-verdict told n f (front + length l + 1) met) (told-met told n f (front + length l + 1) met)
 
-below-last : (l : List ℕ) (g : Fault) → fault_number g < 1 → Rule start (last l) g
-below-last l fault.Format lt = absurd (omega arith)
-below-last l fault.Truncated lt = absurd (omega arith)
-below-last l g lt = tt
+  -- a line with a fault
+  pub found-fault : (f : Fault) → next ≡ Line → ((s : Stage) → Stands p s → Breaks (Rule s (whole l)) f)
+      → IsFound (length l) told new 0 (No n f)
+  found-fault f same breaks =
+      found-met (length l) f (omega arith)
+      (fault-line told p p is.limit n old new l f front (front + length l + 1) goes (omega arith)
+      (subst (λ m. Gives is.limit old m l new) same is.gives) breaks)
 
-no-format : (l : List ℕ) → ((second : Bool) → l ≡ format_line second → ⊥) → Breaks (Rule start (whole l)) fault.Format
-no-format l none = record { broken = λ h. none h.0 h.1; least = below-line l }
+  -- one that is too long
+  pub found-long : (f : Fault) → next ≡ TooLong
+      → ((s : Stage) (piece : Piece) → Stands p s → ((second : Bool) → s ≢ headed second)
+      → limit_of s < length (bytes_of piece) → Breaks (Rule s piece) f) → IsFound 0 told new 0 (No n f)
+  found-long f same breaks =
+      found-met 0 f (omega arith)
+      (at-long told p is.limit n old new l f front (front + length l + 1) goes (omega arith) is.short
+      (subst (λ m. Gives is.limit old m l new) same is.gives)
+      (λ s stands piece long.
+      breaks s piece stands (λ second here. is.unlimited (is.limits s stands ∙ ap limit_of here) same)
+      (subst (λ k. k < length (bytes_of piece)) (is.limits s stands) long)))
 
-format-short : (second : Bool) → length (format_line second) ≡ 5
-format-short true = refl
-format-short false = refl
-
-long-format : (p : Piece) → max_line < length (bytes_of p) → Breaks (Rule start p) fault.Format
-long-format (whole l) long =
-    no-format l (λ second same. absurd (omega (arith, long, ap length same, format-short second)))
-long-format (last l) long = record { broken = λ short. absurd (omega (arith, short, long)); least = below-last l }
-
-ends-below : (l : List ℕ) → length l ≤ max_line → (g : Fault) → fault_number g < 18 → Rule start (last l) g
-ends-below l short fault.Format lt = short
-ends-below l short fault.Truncated lt = absurd (omega arith)
-ends-below l short g lt = tt
-
-ends-start : (l : List ℕ) → length l ≤ max_line → Breaks (Rule start (last l)) fault.Truncated
-ends-start l short = record { broken = λ h. h; least = ends-below l short }
-
-pub first-unspelled : (bytes l rest : List ℕ) → IsNext max_line bytes Line l rest
-    → ((second : Bool) → l ≡ format_line second → ⊥) → FirstFault bytes 1 fault.Format
-first-unspelled bytes l rest is none = line-fails start max_line bytes l rest fault.Format tt is (no-format l none)
-
-pub first-cut : (bytes l rest : List ℕ) → IsNext max_line bytes Cut l rest → FirstFault bytes 1 fault.Truncated
-first-cut bytes l rest is = cut-fails start max_line bytes l rest fault.Truncated tt is (ends-start l is.2)
-
-pub first-end : (bytes l rest : List ℕ) → IsNext max_line bytes End l rest → FirstFault bytes 1 fault.Truncated
-first-end bytes l rest is = end-fails start max_line bytes l rest fault.Truncated tt is (ends-start [] (omega arith))
-
-pub first-long : (bytes l rest : List ℕ) → IsNext max_line bytes TooLong l rest → FirstFault bytes 1 fault.Format
-first-long bytes l rest is =
-    (at-long (Some bytes) at.Start max_line 1 (Some bytes) (Some bytes) [] fault.Format 0 0 (
-      start,
-      refl,
-      refl,
-      omega arith,
-      omega arith,
-    ) (omega arith) (omega arith) (is.0, refl)
-    (λ s stands next long. subst (λ t. Breaks (Rule t next) fault.Format) (sym stands) (long-format next long))).0
-
--- ---- at the second
-
-headed-below : (second : Bool) (l : List ℕ) (g : Fault) → fault_number g < 18 → Rule (headed second) (last l) g
-headed-below second l fault.Truncated lt = absurd (omega arith)
-headed-below second l g lt = tt
-
-ends-headed : (second : Bool) (l : List ℕ) → Breaks (Rule (headed second) (last l)) fault.Truncated
-ends-headed second l = record { broken = λ h. h; least = headed-below second l }
-
-module _ (second : Bool) (limit : ℕ) (bytes l rest : List ℕ) where
-  abbrev front : List ℕ
-  front = text_of_lines (format_line second ∷ [])
-
-  abbrev text : List ℕ
-  text = front ++ bytes
-
-  pub second-line : (f : Fault) → IsNext limit bytes Line l rest → Breaks (Rule (headed second) (whole l)) f
-      → IsFaultBefore front bytes rest 2 f
-  unfolding line-fails fault-here
-  second-line f is breaks =
-      let here = line-fails (headed second) limit bytes l rest f tt is breaks in (
-        here,
-        λ m g any. omega (
-          arith,
-          reach-one text m 2 g f any here,
-          length-append front bytes,
-          ap length is.2,
-          length-append l (10 ∷ rest),
-        ),
-      )
-
-  pub second-cut : IsNext limit bytes Cut l rest → IsFaultBefore front bytes rest 2 fault.Truncated
-  unfolding cut-fails fault-here
-  second-cut is =
-      let here = cut-fails (headed second) limit bytes l rest fault.Truncated tt is (ends-headed second l) in (
-        here,
-        λ m g any. omega (
-          arith,
-          reach-one text m 2 g fault.Truncated any here,
-          length-append front bytes,
-          ap length is.3,
-        ),
-      )
-
-  pub second-end : IsNext limit bytes End l rest → IsFaultBefore front bytes rest 2 fault.Truncated
-  unfolding end-fails fault-here
-  second-end is =
-      let here = end-fails (headed second) limit bytes l rest fault.Truncated tt is (ends-headed second []) in (
-        here,
-        λ m g any. omega (
-          arith,
-          reach-one text m 2 g fault.Truncated any here,
-          length-append front bytes,
-          ap length is.0,
-        ),
-      )
+  -- the end of the input
+  pub found-end : (v : Verdict) (j : Result Kept found.FirstFault) → (next ≡ Cut) ⊎ (next ≡ End)
+      → ((s : Stage) → Stands p s → length l ≤ limit_of s → EndsWith s l n j)
+      → ((bytes : List ℕ) → IsJudged j bytes → IsVerdict bytes v) → IsFound 0 told new 0 v
+  found-end v j stops ends judged = known told old new is.lines is.gives
+    where
+      known : (all left more : Option (List ℕ)) → IsRest is.stage all left → Gives is.limit left next l more
+          → IsFound 0 all more 0 v
+      known None left more rest gives = tt
+      known (Some bytes) None more rest gives = absurd rest
+      known (Some bytes) (Some xs) None rest gives = absurd gives
+      known (Some bytes) (Some xs) (Some ys) rest gives =
+          let stop = next-last is.limit xs ys l next gives stops in
+          let all = stop-judged (Some bytes) p n l (front + length l + 1) j (
+            is.stage,
+            is.stands,
+            subst (λ k. length l ≤ k) (is.limits is.stage is.stands) is.short,
+            stop.1,
+            omega arith,
+            (rest ∙ ap (λ (t : List ℕ). text_of_lines (lines_so_far is.stage) ++ t) stop.0, is.counts),
+          ) ends in
+          found-here (Some bytes) (Some xs) (Some ys) is.stage is.limit 0 next l v (omega arith) rest gives
+          (judged bytes all.0) all.2
 
 -- ---- what was told
 
--- a fault in the first line, which might be all that was read
-pub found-first : (limit : ℕ) (told new : Option (List ℕ)) (next : Next) (l : List ℕ) (f : Fault)
-    → Gives limit told next l new → ((bytes rest : List ℕ) → IsNext limit bytes next l rest → FirstFault bytes 1 f)
-    → IsFound 0 told told 0 (No 1 f)
-found-first limit None new next l f gives first = tt
-found-first limit (Some bytes) None next l f gives first = absurd gives
-found-first limit (Some bytes) (Some rest) next l f gives first =
-    (first bytes rest gives, λ n g fault. (omega arith, omega arith))
+pub rest-start : (told : Option (List ℕ)) → IsRest start told told
+rest-start None = tt
+rest-start (Some bytes) = refl
 
--- a fault behind it
-pub found-second : (limit : ℕ) (told mid new : Option (List ℕ)) (second : Bool) (next : Next) (l : List ℕ) (f : Fault)
-    → Consumes told mid (format_line second ++ 10 ∷ []) → Gives limit mid next l new
-    → ((bytes rest : List ℕ) → IsNext limit bytes next l rest
-    → IsFaultBefore (text_of_lines (format_line second ∷ [])) bytes rest 2 f) → IsFound 0 told new 0 (No 2 f)
-found-second limit None mid new second next l f first gives fault = tt
-found-second limit (Some all) None new second next l f first gives fault = absurd first
-found-second limit (Some all) (Some bytes) None second next l f first gives fault = absurd gives
-found-second limit (Some all) (Some bytes) (Some rest) second next l f first gives fault =
-    let here = fault bytes rest gives in
-    let found : IsFound 0 (Some (text_of_lines (format_line second ∷ []) ++ bytes)) (Some rest) 0 (No 2 f) =
-    (here.0, λ n g any. let far = here.1 n g any in (omega arith, omega (arith, far))) in
-    subst (λ (b : List ℕ). IsFound 0 (Some b) (Some rest) 0 (No 2 f))
-    (sym (first ∙ ap (λ (t : List ℕ). t ++ bytes) (sym (append-nil (format_line second ++ 10 ∷ []))))) found
+pub rest-headed : (told left : Option (List ℕ)) (second : Bool) → Consumes told left (format_line second ++ 10 ∷ [])
+    → IsRest (headed second) told left
+rest-headed None left second read = tt
+rest-headed (Some bytes) None second read = absurd read
+rest-headed (Some bytes) (Some rest) second read =
+    read ∙ ap (λ (t : List ℕ). t ++ rest) (sym (append-nil (format_line second ++ 10 ∷ [])))
 
--- in a second line that was read whole
-pub found-line : (told mid new : Option (List ℕ)) (second : Bool) (limit : ℕ) (l : List ℕ) (f : Fault)
-    → Consumes told mid (format_line second ++ 10 ∷ []) → Gives limit mid Line l new
-    → Breaks (Rule (headed second) (whole l)) f → IsFound (length l) told new 0 (No 2 f)
-found-line None mid new second limit l f first gives breaks = tt
-found-line (Some all) None new second limit l f first gives breaks = absurd first
-found-line (Some all) (Some bytes) None second limit l f first gives breaks = absurd gives
-found-line (Some all) (Some bytes) (Some rest) second limit l f first gives breaks =
-    let front = text_of_lines (format_line second ∷ []) in
-    let here = second-line second limit bytes l rest f gives breaks in
-    let found : IsFound (length l) (Some (front ++ bytes)) (Some rest) 0 (No 2 f) = (
-      here.0,
-      λ n g any. let far = here.1 n g any in (
-        omega (arith, far, length-append front bytes, ap length gives.2, length-append l (10 ∷ rest)),
-        omega (arith, far),
-      ),
-    ) in
-    subst (λ (b : List ℕ). IsFound (length l) (Some b) (Some rest) 0 (No 2 f))
-    (sym (first ∙ ap (λ (t : List ℕ). t ++ bytes) (sym (append-nil (format_line second ++ 10 ∷ []))))) found
+pub comes-behind : (p : Progress) (s : Stage) (limit : ℕ) (told left old new : Option (List ℕ)) (next : Next)
+    (l items : List ℕ) → Stands p s → ((t : Stage) → Stands p t → limit ≡ limit_of t) → IsRest s told left
+    → left ≡ old → l ≡ items → Gives limit old next items new → length items ≤ limit
+    → (limit ≡ 2 ^ 64 - 1 → next ≢ TooLong) → ComesBehind p told left (length (lines_so_far s) + 1) next l new
+comes-behind p s limit told left old new next l items stands limits rest same read gives short unlimited = record {
+  stage = s;
+  limit = limit;
+  stands = stands;
+  lines = rest;
+  counts = refl;
+  limits = limits;
+  gives = subst (λ (k : List ℕ). Gives limit left next k new) (sym read)
+      (subst (λ (o : Option (List ℕ)). Gives limit o next items new) (sym same) gives);
+  short = subst (λ (k : List ℕ). length k ≤ limit) (sym read) short;
+  unlimited = unlimited;
+}
 
 -- a line of a text that is this
 pub line-told : (limit : ℕ) (old new : Option (List ℕ)) (l spelled : List ℕ) → l ≡ spelled
@@ -242,7 +193,7 @@ all-comes ahead (Some bytes) fresh = ap (λ (a : Ahead). Some (a.held ++ bytes))
 -- ---- how often the reader was asked
 
 -- no more was read than these bytes, and one read
-pub asked-on : (first old now : Reader) (left new : Option (List ℕ)) (front bytes : List ℕ) (more all : ℕ)
+asked-on : (first old now : Reader) (left new : Option (List ℕ)) (front bytes : List ℕ) (more all : ℕ)
     → HasAsked first left 0 old → Consumes first.told left front → Consumes left new bytes
     → now.asked ≤ old.asked + more → more ≤ length bytes + all → HasAsked first new all now
 asked-on first old now left new front bytes more all asked is read few le = known first.told left new asked is read
@@ -257,19 +208,8 @@ asked-on first old now left new front bytes more all asked is read few le = know
     known (Some xs) (Some ys) (Some zs) asked is read =
         omega (arith, asked, few, le, ap length read, length-append bytes zs)
 
-pub asked-same : (first old now : Reader) (left : Option (List ℕ)) (more : ℕ) → HasAsked first left 0 old
-    → now.asked ≤ old.asked + more → HasAsked first left more now
-asked-same first old now left more asked few = known first.told left asked
-  where
-    known : (told left : Option (List ℕ))
-        → IfSome told (λ xs. IfSome left (λ ys. old.asked + length ys ≤ first.asked + length xs + 0))
-        → IfSome told (λ xs. IfSome left (λ ys. now.asked + length ys ≤ first.asked + length xs + more))
-    known None left asked = tt
-    known (Some xs) None asked = tt
-    known (Some xs) (Some ys) asked = omega (arith, asked, few)
-
 -- no fewer bytes are gone than stand in what came
-pub gives-read : (limit : ℕ) (old new : Option (List ℕ)) (next : Next) (l : List ℕ) → Gives limit old next l new
+gives-read : (limit : ℕ) (old new : Option (List ℕ)) (next : Next) (l : List ℕ) → Gives limit old next l new
     → (bytes : List ℕ) × Consumes old new bytes × (length l ≤ length bytes)
 gives-read limit None new next l gives = (l, tt, omega arith)
 gives-read limit (Some xs) None next l gives = absurd gives
@@ -279,6 +219,19 @@ gives-read limit (Some xs) (Some ys) Cut l gives =
     (l, gives.3 ∙ sym (append-nil l) ∙ ap (λ (r : List ℕ). l ++ r) (sym gives.4), omega arith)
 gives-read limit (Some xs) (Some ys) TooLong l gives = (l, gives.1, omega arith)
 gives-read limit (Some xs) (Some ys) End l gives = ([], gives.0 ∙ sym gives.2, omega (arith, ap length gives.1))
+
+-- a verdict by what came next: no more was read than that, and one read
+pub near-next : (count second n : ℕ) (first old now : Reader) (left new : Option (List ℕ)) (front : List ℕ)
+    (p : Progress) (next : Next) (l : List ℕ) (v : Verdict) → 0 < count → HasAsked first left 0 old
+    → Consumes first.told left front
+    → ComesBehind p first.told left n next l new → now.asked ≤ old.asked + (length l + 1)
+    → IsFound second first.told new 0 v → IsVerdictNear count first now v
+near-next count second n first old now left new front p next l v some asked read is few found =
+    let came = gives-read is.limit left new next l is.gives in
+    let more = asked-on first old now left new front came.0 (length l + 1) 1 asked read came.1 few
+    (omega (arith, came.2)) in
+    near count second 1 first now v (answer-of second 0 1 1 first now new v found more (omega arith))
+    (omega (arith, some))
 
 -- the rules of a certificate by itself are three
 pub keeps-all : (decisions : List Decision) → KeepsItself decisions fault.Ranks

@@ -1,26 +1,24 @@
 //! The first two lines of a text.
 
-ghost use Rattle.std.specs.Prelude.{◌≡◌, ◌≢◌, ◌+◌, ◌-◌, ◌*◌, ◌^◌, ◌<◌, ◌≤◌, ◌∷◌, ◌++◌, ℕ, Bool, [], List, Option, length, IfOk, IfErr, IfSome, IfNone, vec_len};
-ghost use Rattle.sgt_names.specs.Limits.{max_line};
-ghost use Rattle.sgt_notation.specs.Lines.{IsNext};
-ghost use Rattle.sgt_notation.specs.Spelling.{text_of_lines};
+ghost use Rattle.std.specs.Prelude.{◌≡◌, ◌+◌, ◌*◌, ◌<◌, ◌≤◌, ℕ, Bool, List, Option, length, IfOk, IfErr, vec_len};
 ghost use Rattle.sgt_bundle.specs.Text.{IsCertificate, certificate_text, format_line};
-ghost use Rattle.sgt_audit.specs.Faults.{Breaks, FirstFault, Rule, headed, whole};
+ghost use Rattle.sgt_audit.specs.Faults.{Breaks, Rule, Stage, headed, start, whole};
+ghost use Rattle.sgt_audit.specs.Progress.{Stands};
 ghost use Rattle.sgt_audit_workers.specs.Head.{IsHead, IsHeadOf};
 ghost use Rattle.sgt_audit_workers.specs.Reads.{Reader, reader};
 ghost use Rattle.sgt_audit_workers.specs.declared.sections.Section.{Section};
 ghost use Rattle.sgt_audit_workers.specs.declared.sections.State.TheVariants.{Going};
-ghost use Rattle.sgt_audit_workers.specs.private.Begun.{BeginsText, IsFaultBefore, IsMost};
+ghost use Rattle.sgt_audit_workers.specs.private.Begun.{BeginsText, ComesBehind, IsMost};
 ghost use Rattle.sgt_audit_workers.specs.private.Judging.{WillSay};
-ghost use Rattle.sgt_audit_workers.specs.private.Tallied.{second_size};
+ghost use Rattle.sgt_audit_workers.specs.private.Tallied.{IsFound, second_size};
 ghost use Rattle.sgt_audit_workers.specs.private.Texts.{HasRead, IsAsked, IsLeft};
 
 use crate::judging::{Judging, finish, start};
 use crate::sections::{Beside, Section, Text, read_ahead, read_line};
-use sgt_audit::{Fault, Verdict, judge_certificate, read_format};
+use sgt_audit::{Fault, Machine, Verdict, judge_certificate, verdict_on};
 use sgt_audit_decisions::{Decided, Steps};
 use sgt_bundle::{CertFault, Certificate, from_line};
-use sgt_names::{EngineFail, MAX_LINE, Source};
+use sgt_names::{EngineFail, Source};
 use sgt_notation::Next;
 use std::alloc::Global;
 use std::thread::Threads;
@@ -36,22 +34,41 @@ pub struct Head {
     pub steps: Steps,
 }
 
-/// The format, by what comes first of the text; or the fault.
-fn first_line(next: Next, line: &[u8]) -> Result<bool, Fault>
-    ensures format { IfOk result
-        (λ second. (next ≡ Next.Line) × (line.now ≡ format_line second)) }
-    ensures fault { (bytes rest : List ℕ) → IsNext max_line bytes next line.now rest
-        → IfErr result (FirstFault bytes 1) }
+/// The machine, where what comes next is a whole line; else the verdict on the text, which goes no further. The number
+/// is that of the line.
+fn stopped(machine: Machine, next: Next, line: &[u8], number: u64) -> Result<Machine, Verdict>
+    ensures line { IfOk result (λ m. (next ≡ Next.Line) × (m ≡ machine)) }
+    ensures stops { (told old new : Option (List ℕ))
+        → ComesBehind machine.progress told old number next line.now new
+        → IfErr result (IsFound 0 told new 0) }
 {
     match next {
-        Next::Line => match read_format(line) {
-            Some(second) => Ok(second),
-            None => Err(Fault::Format),
-        },
-        Next::TooLong => Err(Fault::Format),
-        Next::Cut => Err(Fault::Truncated),
-        Next::End => Err(Fault::Truncated),
+        Next::Line => Ok(machine),
+        Next::TooLong => Err(Verdict::No {
+            line: number,
+            fault: machine.too_long(),
+        }),
+        Next::Cut | Next::End => Err(verdict_on(machine.end(line, number))),
     }
+}
+
+/// Feeds the machine the first line: whether its format is the second; or its fault.
+fn first_line(machine: &mut Machine, line: &[u8]) -> Result<Result<bool, Fault>, EngineFail>
+    requires { Stands machine.old.progress start }
+    ensures format { IfOk result (λ r. IfOk r (λ second. line.now ≡ format_line second)) }
+    ensures headed { IfOk result (λ r. IfOk r (λ second. Stands machine.new.progress (headed second)
+        × ((s : Stage) → Stands machine.new.progress s → s ≡ headed second))) }
+    ensures fault { (s : Stage) → Stands machine.old.progress s
+        → IfOk result (λ r. IfErr r (Breaks (Rule s (whole line.now)))) }
+    ensures err { IfErr result (λ e. e ≡ EngineFail.Memory) }
+{
+    if let Some(fault) = machine.line(line)? {
+        return Ok(Err(fault));
+    }
+    let Some(second) = machine.second() else {
+        unreachable!()
+    };
+    Ok(Ok(second))
 }
 
 /// The certificate whose line this is, behind a first line of this format; or the fault of the line.
@@ -103,21 +120,6 @@ pub fn head_of(alloc: Global, second: bool, line: &[u8]) -> Result<Result<Head, 
     match certificate_of(alloc, second, line)? {
         Ok(certificate) => head_with(alloc, second, certificate),
         Err(fault) => Ok(Err(fault)),
-    }
-}
-
-/// The fault of what comes behind the first line, if that is no whole line.
-fn second_fault(next: Next) -> Option<Fault>
-    ensures none { IfNone result (next ≡ Next.Line) }
-    ensures some { (second : Bool) (bytes line rest : List ℕ) → next ≢ Next.TooLong
-        → IsNext (2 ^ 64 - 1) bytes next line rest → IfSome result
-        (IsFaultBefore (text_of_lines (format_line second ∷ [])) bytes rest 2) }
-{
-    match next {
-        Next::Line => None,
-        Next::TooLong => Some(Fault::Certificate),
-        Next::Cut => Some(Fault::Truncated),
-        Next::End => Some(Fault::Truncated),
     }
 }
 
@@ -222,14 +224,19 @@ pub fn read_head<H: Threads + Sync, R: Source>(
         (λ b. IsMost count (second_size b.head) text.new.most)) }
 {
     let mut line = Vec::new(text.alloc);
-    let first = read_line(source, text, &mut line, MAX_LINE)?;
-    let second = match first_line(first, line.as_slice()) {
+    let machine = Machine::new(text.alloc, false);
+    let first = read_line(source, text, &mut line, machine.limit())?;
+    let mut machine = match stopped(machine, first, line.as_slice(), 1) {
+        Ok(machine) => machine,
+        Err(verdict) => return Ok(Err(verdict)),
+    };
+    let second = match first_line(&mut machine, line.as_slice())? {
         Ok(second) => second,
         Err(fault) => return Ok(Err(Verdict::No { line: 1, fault })),
     };
-    let next = read_line(source, text, &mut line, usize::MAX)?;
-    if let Some(fault) = second_fault(next) {
-        return Ok(Err(Verdict::No { line: 2, fault }));
+    let next = read_line(source, text, &mut line, machine.limit())?;
+    if let Err(verdict) = stopped(machine, next, line.as_slice(), 2) {
+        return Ok(Err(verdict));
     }
     text.most = most_of(count, line.as_slice());
     let beside = beside(count, line.as_slice());

@@ -1,9 +1,15 @@
 -- A text whose first two lines were read, and sections behind them.
-use Rattle.std.specs.Prelude.{◌≤◌, ℕ, ◌+◌, ◌-◌, ◌*◌, IfSome, List, [], ◌++◌, length, Option, Result, Ok, Err}
+use Rattle.std.specs.Prelude.{◌≡◌, ◌≢◌, ◌≤◌, ℕ, ◌+◌, ◌-◌, ◌*◌, ◌^◌, IfSome, List, [], length, Option, Result, Ok, Err}
 use Rattle.std.specs.Io.KnownBytes.{Consumes}
-use Rattle.sgt_audit.specs.Faults.{FirstFault, reach}
+use Rattle.sgt_notation.specs.Lines.{Gives}
+use Rattle.sgt_notation.specs.declared.lines.Next.{Next}
+use Rattle.sgt_notation.specs.declared.lines.Next.TheVariants.{TooLong}
+use Rattle.sgt_audit.specs.Faults.{Stage, lines_so_far}
+use Rattle.sgt_audit.specs.Progress.{Stands}
 use Rattle.sgt_audit.specs.Verdict.{IsVerdict}
-use Rattle.sgt_audit.specs.declared.faults.Fault.{Fault}
+use Rattle.sgt_audit.specs.private.Ending.{limit_of}
+use Rattle.sgt_audit.specs.private.Stops.{IsRest}
+use Rattle.sgt_audit.specs.declared.machine.Progress.{Progress}
 use Rattle.sgt_audit.specs.declared.verdict.Verdict.{Verdict}
 use Rattle.sgt_audit_sections.specs.Sections.{front_text}
 use Rattle.sgt_audit_workers.specs.Cut.{longest}
@@ -34,8 +40,16 @@ abbrev pub BeginsText : (workers : ℕ) → (first : Reader) → Text → (now :
 BeginsText workers first text now (Ok b) = IsBegun first b text now
 BeginsText workers first text now (Err v) = IsVerdictNear workers first now v
 
--- behind this front line n has the first fault, and what comes of it is no more than that and the rest
-abbrev pub IsFaultBefore : (front bytes rest : List ℕ) → (n : ℕ) → Fault → Type 0
-IsFaultBefore front bytes rest n f = FirstFault (front ++ bytes) n f
-    × ((m : ℕ) (g : Fault) (any : FirstFault (front ++ bytes) m g)
-    → length (front ++ bytes) ≤ length rest + reach (front ++ bytes) m g any)
+-- what comes next of the text, in the line of this number, where the machine was fed the lines before it, and read no
+-- more of it than its limit
+pub record ComesBehind (p : Progress) (told old : Option (List ℕ)) (number : ℕ) (next : Next) (line : List ℕ)
+    (new : Option (List ℕ)) : Type 0 where
+  pub stage : Stage
+  pub limit : ℕ
+  pub stands : Stands p stage
+  pub lines : IsRest stage told old
+  pub counts : number ≡ length (lines_so_far stage) + 1
+  pub limits : (s : Stage) → Stands p s → limit ≡ limit_of s
+  pub gives : Gives limit old next line new
+  pub short : length line ≤ limit
+  pub unlimited : limit ≡ 2 ^ 64 - 1 → next ≢ TooLong
