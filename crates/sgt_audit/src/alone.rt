@@ -135,7 +135,7 @@ impl Alone {
         ensures second { self.new.second ≡ self.old.second }
     {
         match look_up_at_hand(certificate, &self.state, &entry) {
-            Some(known) if self.is_plain(&known) => self.follow_known(&known, &entry),
+            Some(known) if self.is_plain(&known) => self.follow_known(&known, &entry, true),
             _ => self.follow(certificate, entry),
         }
     }
@@ -150,12 +150,17 @@ impl Alone {
         ensures second { self.new.second ≡ self.old.second }
     {
         let known = look_up_entry(certificate, &self.state, &entry);
-        self.follow_known(&known, &entry)
+        self.follow_known(&known, &entry, false)
     }
 
-    /// The next line, which is this entry, of which this is known.
+    /// The next line, which is this entry, of which this is known, and whether it is plain.
     #[inline(always)]
-    fn follow_known(&mut self, known: &Known, entry: &Entry) -> Result<Option<Fault>, AllocError>
+    fn follow_known(
+        &mut self,
+        known: &Known,
+        entry: &Entry,
+        plain: bool,
+    ) -> Result<Option<Fault>, AllocError>
         ensures follows { let line = Logged entry.now in
             IsLineIn self.old.second line → (c : Certificate) (edges : List AnyEdge) (b : Begun)
             → IsKnownOf c.decisions self.old.state entry.now known.now → StandsAlone c b self.old
@@ -166,7 +171,7 @@ impl Alone {
         if let Some(fault) = found {
             return Ok(Some(fault));
         }
-        enter(&mut self.state, known, entry)?;
+        enter(&mut self.state, known, entry, plain)?;
         self.place.enter_entry(entry);
         self.met = true;
         Ok(None)

@@ -123,9 +123,14 @@ pub(crate) fn is_in_order(rules: Rules, state: &SiteState, known: &Known, entry:
     }
 }
 
-/// One more entry, of which this is known.
+/// One more entry, of which this is known, and whether it is taken in without memory.
 #[inline(always)]
-pub(crate) fn enter(state: &mut SiteState, known: &Known, entry: &Entry) -> Result<(), AllocError>
+pub(crate) fn enter(
+    state: &mut SiteState,
+    known: &Known,
+    entry: &Entry,
+    plain: bool,
+) -> Result<(), AllocError>
     ensures section { state.new.section ≡ state.old.section }
     ensures tracks { OnOk result ((ds : List Decision) (items : List Holding) (entries : List Entry)
         → IsKnownOf ds state.old entry.now known.now → IsDecidedOnce ds
@@ -135,8 +140,14 @@ pub(crate) fn enter(state: &mut SiteState, known: &Known, entry: &Entry) -> Resu
         → TracksOpen ds items entries state.old
         → TracksOpen ds items (entries ++ entry.now ∷ []) state.new) }
 {
+    let rank = known.ruling.rank;
     match known.ruling.suiting {
-        Some(number) => state.enter(known.place, entry, number, known.ruling.rank),
+        Some(number) => {
+            if plain {
+                return state.enter_plain(known.place, entry, number, rank);
+            }
+            state.enter(known.place, entry, number, rank)
+        }
         None => Ok(()),
     }
 }
@@ -161,7 +172,7 @@ pub fn enter_line(
         }
         SectionLine::Initial(holding) => state.list(holding),
         SectionLine::Logged(entry) => match known {
-            Some(known) => enter(state, known, entry),
+            Some(known) => enter(state, known, entry, false),
             None => Ok(()),
         },
         SectionLine::Final(_) => Ok(()),

@@ -307,9 +307,9 @@ impl SiteState {
         self.live == 0
     }
 
-    /// One more entry, as `enter` takes it, where room for it is reserved.
+    /// One more entry, as `enter` takes it, where it needs no memory (`has_room`). Where it does, the answer is an Err.
     #[inline(always)]
-    fn enter_reserved(
+    pub fn enter_plain(
         &mut self,
         place: Option<usize>,
         entry: &Entry,
@@ -351,7 +351,7 @@ impl SiteState {
             → TracksOpen ds items entries self.old → TracksOpen ds items (entries ++ entry.now ∷ []) self.new) }
     {
         let plain = self.records.make_room(number)?;
-        self.enter_reserved(place, entry, number, rank)?;
+        self.enter_plain(place, entry, number, rank)?;
         if plain {
             return Ok(());
         }

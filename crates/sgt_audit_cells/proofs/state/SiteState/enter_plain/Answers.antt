@@ -9,7 +9,7 @@ use Rattle.sgt_audit_cells.specs.Records.{Recorded}
 use Rattle.sgt_audit_cells.proofs.Entering.{placed-listed}
 use Rattle.sgt_audit_cells.proofs.Doing.{acts-by}
 use Rattle.sgt_audit_cells.proofs.Tracking.{decides, record-of, order-next, tracks-next}
-use Rattle.sgt_audit_cells.proofs.state.SiteState.enter_reserved.Goals as goal
+use Rattle.sgt_audit_cells.proofs.state.SiteState.enter_plain.Goals as goal
 
 pub returns-clause-tracks : goal.returns-clause-tracks
 returns-clause-tracks c ds items entries once apart listed among by ranked t =
