@@ -334,7 +334,7 @@ impl SiteState {
 
     /// One more entry, on the item at this place or an end, decided by this number, of a transaction that is
     /// committed with this rank or isn't.
-    #[inline(always)]
+    #[inline(never)]
     pub fn enter(
         &mut self,
         place: Option<usize>,
