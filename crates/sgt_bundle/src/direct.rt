@@ -214,6 +214,9 @@ fn refused(bytes: &[u8]) -> Option<(Tx, &[u8])>
     Some((tx, rest))
 }
 
+/// How many steps a walk has room for from the start. Most cycles are of two transactions.
+const FEW_STEPS: usize = 2;
+
 #[inline(never)]
 fn refusal(alloc: Global, bytes: &[u8]) -> Result<Option<(Decision, &[u8])>, AllocError>
     ensures { IfOk result (λ found. IfSome found (λ r.
@@ -222,7 +225,7 @@ fn refusal(alloc: Global, bytes: &[u8]) -> Result<Option<(Decision, &[u8])>, All
     let Some((tx, rest)) = refused(bytes) else {
         return Ok(None);
     };
-    let mut walk = Vec::new(alloc);
+    let mut walk = Vec::with_capacity(alloc, FEW_STEPS)?;
     let Some(rest) = add_steps(&mut walk, rest)? else {
         return Ok(None);
     };

@@ -6,10 +6,10 @@ use Rattle.sgt_bundle.proofs.direct.refusal.Goals as goal
 
 pub returns : goal.returns
 returns c =
-    let steps = all-in_range (IsStep max_sites) c.new-walk.result.items c.in_ok-rest.field-0 c.in-Some-2.rest
-    c.add_steps.new.walk.items c.new-walk-2.result c.new-walk.ensures.items c.in-Some-2.is
-    c.in_ok-rest.ensures.in_range c.new-walk-2.ensures in
+    let steps = all-in_range (IsStep max_sites) c.in_ok-walk.walk.items c.in_ok-rest.field-0 c.in-Some-2.rest
+    c.add_steps.new.walk.items c.new-walk.result c.in_ok-walk.ensures.items c.in-Some-2.is
+    c.in_ok-rest.ensures.in_range c.new-walk.ensures in
     let text =
-    all-read step_data c.new-walk.result.items _ c.in_ok-rest.field-0 c.in-Some-2.rest c.add_steps.new.walk.items
-    c.new-walk-2.result c.new-walk.ensures.items c.in-Some-2.is c.in_ok-rest.ensures.text c.new-walk-2.ensures in
+    all-read step_data c.in_ok-walk.walk.items _ c.in_ok-rest.field-0 c.in-Some-2.rest c.add_steps.new.walk.items
+    c.new-walk.result c.in_ok-walk.ensures.items c.in-Some-2.is c.in_ok-rest.ensures.text c.new-walk.ensures in
     search (rules, refuse-front, steps, text)
