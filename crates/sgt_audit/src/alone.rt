@@ -173,7 +173,6 @@ impl Alone {
         }
         enter(&mut self.state, known, entry, plain)?;
         self.place.enter_entry(entry);
-        self.met = true;
         Ok(None)
     }
 
@@ -211,7 +210,11 @@ impl Alone {
     /// The next line, which is no entry: nothing is looked up of it. With the section's last line it is known whether
     /// each of the steps is a conflict in its log.
     #[inline(always)]
-    fn follow_other(&mut self, line: &SectionLine, met: bool) -> Result<Option<Fault>, AllocError>
+    pub(crate) fn follow_other(
+        &mut self,
+        line: &SectionLine,
+        met: bool,
+    ) -> Result<Option<Fault>, AllocError>
         ensures follows { IsLine line.now → ((e : AnyEntry) → line.now ≢ Logged e) → (c : Certificate)
             (edges : List AnyEdge) (b : Begun) → StandsAlone c b self.old → MeetsSteps edges b.current line.now met
             → IfOk result (FollowsAlone c edges b (line_text line.now) self.new) }

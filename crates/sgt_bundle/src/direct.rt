@@ -15,35 +15,8 @@ ghost use Rattle.sgt_bundle.specs.Text.{IsDecision, IsStep, certificate_text, de
 use crate::certificate::{Certificate, Decision, Step};
 use core::dec2flt::read_digits;
 use sgt_names::{Item, Kind, Label, Listed, MAX_SITES, SiteNo, Tx};
+use sgt_notation::behind;
 use std::alloc::{AllocError, Global};
-
-/// Whether the bytes are those of the word. No byte decides alone, so a constant word is compared by eight bytes at a
-/// time.
-#[inline(always)]
-fn are_same(bytes: &[u8], word: &[u8]) -> bool
-    requires { length bytes.now ≡ length word.now }
-    ensures { IsTrue result ↔ (bytes.now ≡ word.now) }
-{
-    let mut same = true;
-    for i in 0..word.len() {
-        same &= bytes[i] == word[i];
-    }
-    same
-}
-
-/// What stands behind this word, where it stands in front.
-#[inline(always)]
-fn behind<'b>(bytes: &'b [u8], word: &[u8]) -> Option<&'b [u8]>
-    ensures { MatchOption result ((rest : List ℕ) → bytes.entry.now ≢ word.now ++ rest)
-        (λ rest. bytes.entry.now ≡ word.now ++ rest.now) }
-{
-    let (front, rest) = bytes.split_at_checked(word.len())?;
-    if are_same(front, word) {
-        Some(rest)
-    } else {
-        None
-    }
-}
 
 /// How many digits stand in front, and their number wrapped to 64 bits. Up to seven are read from eight bytes, with
 /// no loop.

@@ -17,7 +17,7 @@ use sgt_names::{Entry, Holding, Item, SiteNo, Tx, Value};
 /// No number has more digits.
 const MOST_DIGITS: usize = 20;
 
-/// Within so many bytes an entry's line is read, wherever its parts end.
+/// Within so many bytes a line is read, wherever its parts end.
 const ROOM: usize = 64;
 
 /// The place behind this byte.
@@ -51,6 +51,7 @@ fn up_to_place(bytes: &[u8], to: usize) -> Option<&[u8]>
 }
 
 /// The place behind this word.
+#[inline(always)]
 fn word_at(bytes: &[u8], from: usize, word: &[u8]) -> Option<usize>
     ensures { IfSome result (Spans bytes.now from word.now) }
 {
@@ -170,6 +171,7 @@ fn name_at(bytes: &[u8], from: usize, end: u8) -> Option<(Item, usize)>
 }
 
 /// `NAME=NUM`, and the place behind it.
+#[inline(always)]
 fn holding_at(bytes: &[u8], from: usize) -> Option<(Holding, usize)>
     ensures { IfSome result
         (λ r. IsHolding r.0 × Spans bytes.now from (assignment r.0.item r.0.value) r.1) }
@@ -298,6 +300,7 @@ fn roomy_entry(bytes: &[u8], wants_lf: bool) -> Option<(SectionLine, usize)>
 }
 
 /// The line at the front that is no entry's, and the place behind it.
+#[inline(always)]
 fn word_line(bytes: &[u8]) -> Option<(SectionLine, usize)>
     ensures { IfSome result (λ r. IsLine r.0 × Spans bytes.now 0 (line_text r.0) r.1) }
 {
@@ -319,13 +322,34 @@ fn word_line(bytes: &[u8]) -> Option<(SectionLine, usize)>
 }
 
 /// The same, or the place behind its LF.
-#[inline(never)]
-fn front_word(bytes: &[u8], wants_lf: bool) -> Option<(SectionLine, usize)>
+#[inline(always)]
+fn ended_word(bytes: &[u8], wants_lf: bool) -> Option<(SectionLine, usize)>
     ensures { IfSome result
         (λ r. IsLine r.0 × Spans bytes.now 0 (line_text r.0 ++ ending wants_lf) r.1) }
 {
     let (line, to) = word_line(bytes)?;
     Some((line, line_end(bytes, to, wants_lf)?))
+}
+
+/// The same near the end of the bytes.
+#[inline(never)]
+fn last_word(bytes: &[u8], wants_lf: bool) -> Option<(SectionLine, usize)>
+    ensures { IfSome result
+        (λ r. IsLine r.0 × Spans bytes.now 0 (line_text r.0 ++ ending wants_lf) r.1) }
+{
+    ended_word(bytes, wants_lf)
+}
+
+/// The same. Where there is room for every such line, none of its places needs a test.
+#[inline(never)]
+fn front_word(bytes: &[u8], wants_lf: bool) -> Option<(SectionLine, usize)>
+    ensures { IfSome result
+        (λ r. IsLine r.0 × Spans bytes.now 0 (line_text r.0 ++ ending wants_lf) r.1) }
+{
+    match bytes.first_chunk::<ROOM>() {
+        Some(room) => ended_word(room, wants_lf),
+        None => last_word(bytes, wants_lf),
+    }
 }
 
 /// The same, by way of memory that only this way touches.

@@ -1,6 +1,6 @@
 //! Lines, read exactly where they are spelled.
 
-ghost use Rattle.std.specs.Prelude.{◌≡◌, ◌≢◌, ◌++◌, ◌∷◌, ℕ, List, All, IfSome, IfNone, MatchOption};
+ghost use Rattle.std.specs.Prelude.{◌≡◌, ◌≢◌, ◌↔◌, ◌++◌, ◌∷◌, ℕ, List, length, All, IsTrue, IfSome, IfNone, MatchOption};
 ghost use Rattle.sgt_notation.specs.Private.{IsOperation, operation_text};
 ghost use Rattle.sgt_notation.specs.Reading.{Finds, Reads, Refuses};
 ghost use Rattle.sgt_notation.specs.Spelling.{IsEntry, IsHolding, IsLine, assignment, entry_text, line_text};
@@ -21,12 +21,32 @@ pub(crate) fn cut(bytes: &[u8], at: u8) -> Option<(&[u8], &[u8])>
     Some((&bytes[..n], &bytes[n + 1..]))
 }
 
-/// What stands behind this word at the front.
-pub(crate) fn behind<'a>(bytes: &'a [u8], word: &[u8]) -> Option<&'a [u8]>
-    ensures { MatchOption result ((rest : List ℕ) → bytes.entry.now ≢ word.now ++ rest)
-        (λ r. bytes.entry.now ≡ word.now ++ r.now) }
+/// Whether the bytes are those of the word. No byte decides alone, so a constant word is compared by eight bytes at a
+/// time.
+#[inline(always)]
+fn are_same(bytes: &[u8], word: &[u8]) -> bool
+    requires { length bytes.now ≡ length word.now }
+    ensures { IsTrue result ↔ (bytes.now ≡ word.now) }
 {
-    bytes.strip_prefix(word)
+    let mut same = true;
+    for i in 0..word.len() {
+        same &= bytes[i] == word[i];
+    }
+    same
+}
+
+/// What stands behind this word, where it stands in front.
+#[inline(always)]
+pub fn behind<'b>(bytes: &'b [u8], word: &[u8]) -> Option<&'b [u8]>
+    ensures { MatchOption result ((rest : List ℕ) → bytes.entry.now ≢ word.now ++ rest)
+        (λ rest. bytes.entry.now ≡ word.now ++ rest.now) }
+{
+    let (front, rest) = bytes.split_at_checked(word.len())?;
+    if are_same(front, word) {
+        Some(rest)
+    } else {
+        None
+    }
 }
 
 /// Reads `TX[NAME]=NUM`.

@@ -1,4 +1,4 @@
-use Rattle.std.proofs.Common.{None, Some, refl, ap, true}
+use Rattle.std.proofs.Common.{None, Some, refl, ap}
 use Rattle.sgt_notation.specs.declared.SectionLine.{SectionLine}
 use Rattle.sgt_notation.specs.declared.SectionLine.TheVariants.{Logged}
 use Rattle.sgt_audit.specs.Reading.{lines_read}
@@ -28,7 +28,7 @@ returns-clause-follows c is cert edges b known s =
       second = old.second;
       place = c.enter_entry.new.self;
       state = c.enter.new.state;
-      met = true;
+      met = old.met;
     } in
     let judged = c.judge_next_entry-found.ensures cert b s.once s.ranked s.sites s.begun s.place s.open_site known in
     let kept = judged-all cert (lines_read b) line None (rw c.in_default.is at judged).0 in (
@@ -40,5 +40,5 @@ returns-clause-follows c is cert edges b known s =
           (λ a once begun fits admits t. entry-entered cert.decisions a old.state c.enter.new.state a.current e
           c.enter.ensures.section (λ items entries. c.in_ok-enter.ensures.tracks cert.decisions items entries known once)
           begun.room fits admits t),
-      open-meets edges b.current e true,
+      open-meets edges b.current e old.met,
     )

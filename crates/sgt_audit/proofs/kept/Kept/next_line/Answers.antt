@@ -14,7 +14,8 @@ use Rattle.sgt_audit.specs.Reading.{lines_read}
 use Rattle.sgt_audit.specs.private.Following.{with_next}
 use Rattle.sgt_audit.specs.private.NextLine.{Follows}
 use Rattle.sgt_audit.proofs.LoggedConflicts.{walks-decide}
-use Rattle.sgt_audit.proofs.Lone.{alone-follows, no-end, same-whole}
+use Rattle.sgt_audit.proofs.Goes.{line-goes}
+use Rattle.sgt_audit.proofs.Lone.{alone-follows}
 use Rattle.sgt_audit.proofs.MayFollow.{added-lines, are-sections, begins-follow}
 use Rattle.sgt_audit.proofs.NextLine.{alone-breaks, line-breaks, walks-broken, added-open, added-last}
 use Rattle.sgt_audit.proofs.NextStage.{complete-all, line-follows, line-trails}
@@ -40,29 +41,9 @@ returns-in-Some-clause-follows k is s (b, before, h, stage) =
 
 pub returns-in_default-line-clause-follows : goal.returns-in_default-line-clause-follows
 returns-in_default-line-clause-follows k is s (b, before, h, stage) =
-    let c = k.args.self.now.certificate in
-    let line = k.args.line in
-    let other = k.in_default-line.not-End in
-    let alone = k.next_line.new.self in
-    let same = k.next_line.ensures.second in
-    let m = subst (λ n. Means n c b before) (sym same) h.means in
-    let (read, kept, stands, meets) =
-    alone-follows c k.at-edges.result.now b line alone is (rw k.in_default.is at k.in_ok-fault.ensures.follows is b h.stands) in
-    let begins = subst (λ n. Begins n (lines_read b ++ line ∷ [])) (sym m.sites) (kept fault.Section (omega arith)) in
-    let next = with_next b b.current line in
-    let sites = next-sites b b.current line in
-    let lines = added-lines b m.begun line begins b.current refl in
-    let new : Kept = record k.args.self.now { alone = alone; sections = k.add_to.new.sections } in
-    let miss : AreSections next.sites (lines_read next) → ⊥ =
-    λ all. no-end b b.current line other (are-sections next all).0 in
-    line-follows new next before line s
-    (record {
-      means = added-open _ _ _ next before _ m sites lines read kept stands.begun miss;
-      stands = stands;
-      walks = subst (λ logs. MeansMet c.decisions logs k.args.self.now.walks)
-          (sym (same-whole b b.current line other)) h.walks;
-      sections = k.in_ok-add_to.ensures.next b h.sections;
-    }) (subst (λ n. IsStageOf n c before s) (sym same) stage)
+    line-goes k.args.self.now k.next_line.new.self k.add_to.new.sections k.at-edges.result.now b before k.args.line s
+    k.next_line.ensures.second h stage is k.in_default-line.not-End
+    (rw k.in_default.is at k.in_ok-fault.ensures.follows is b h.stands) (k.in_ok-add_to.ensures.next b h.sections)
 
 pub returns-then-not-self-clause-follows : goal.returns-then-not-self-clause-follows
 returns-then-not-self-clause-follows k is s (b, before, h, stage) =
