@@ -68,7 +68,7 @@ impl Kept {
     }
 
     /// The next line, which was read already. The entries that are most frequent go ways of their own, as in
-    /// `Alone::next_read`, and so do the values of items.
+    /// `Alone::next_read`.
     #[inline(always)]
     pub(crate) fn next_read(&mut self, line: &SectionLine) -> Result<Option<Fault>, AllocError>
         ensures sections { is_some self.new.sections ≡ is_some self.old.sections }
@@ -84,25 +84,30 @@ impl Kept {
                     self.next_entry(&Entry::Write { tx, item, value })
                 }
                 Entry::Commit { tx } => self.next_entry(&Entry::Commit { tx }),
-                _ => self.next_rare(*entry),
+                _ => self.next_other(*line),
             },
-            SectionLine::Initial(holding) => self.next_value(&SectionLine::Initial(*holding)),
-            SectionLine::Final(holding) => self.next_value(&SectionLine::Final(*holding)),
-            _ => self.next_line(*line),
+            _ => self.next_other(*line),
         }
     }
 
-    /// The same of an entry of a kind that is less frequent, by way of memory that only this way touches.
+    /// The same of a line of a kind that is less frequent, by way of memory that only this way touches.
     #[inline(never)]
-    fn next_rare(&mut self, entry: Entry) -> Result<Option<Fault>, AllocError>
+    fn next_other(&mut self, line: SectionLine) -> Result<Option<Fault>, AllocError>
         ensures sections { is_some self.new.sections ≡ is_some self.old.sections }
-        ensures follows { let line = Logged entry in IsLine line → (s : Stage) → IsAt self.old s
+        ensures follows { IsLine line → (s : Stage) → IsAt self.old s
             → IfOk result (Follows s (line_text line) (Reading self.new)) }
     {
-        if is_allowed(self.alone.second, &SectionLine::Logged(entry)) {
-            self.next_entry(&entry)
-        } else {
-            self.next_line(SectionLine::Logged(entry))
+        match &line {
+            SectionLine::Logged(entry) => {
+                if is_allowed(self.alone.second, &line) {
+                    self.next_entry(entry)
+                } else {
+                    self.next_line(line)
+                }
+            }
+            SectionLine::Initial(holding) => self.next_value(&SectionLine::Initial(*holding)),
+            SectionLine::Final(holding) => self.next_value(&SectionLine::Final(*holding)),
+            _ => self.next_line(line),
         }
     }
 

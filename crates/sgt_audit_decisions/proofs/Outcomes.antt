@@ -1,9 +1,9 @@
 -- What decisions come to, and the decisions themselves.
 use Rattle.std.proofs.Common.{◌≡◌, refl, sym, subst}
-use Rattle.std.specs.Prelude.{◌↔◌}
+use Rattle.std.specs.Prelude.{◌↔◌, is_some}
 use Rattle.sgt_names.specs.declared.entry.Entry.{Entry}
 use Rattle.sgt_names.specs.declared.entry.Entry.TheVariants as entry
-use Rattle.sgt_bundle.specs.Certificate.{rank_in, Suits}
+use Rattle.sgt_bundle.specs.Certificate.{is_commit, rank_in, Suits}
 use Rattle.sgt_bundle.specs.declared.certificate.Decision.{Decision}
 use Rattle.sgt_bundle.specs.declared.certificate.Decision.TheVariants.{Commit, Refuse, Withdraw}
 use Rattle.sgt_audit_decisions.specs.declared.outcome.Outcome.{Outcome}
@@ -13,6 +13,11 @@ pub rank-same : (d : Decision) → rank_with (outcome_of d) ≡ rank_in d
 rank-same (Commit i rank) = refl
 rank-same (Refuse i walk) = refl
 rank-same (Withdraw i) = refl
+
+pub commit-ranked : (d : Decision) → is_some (rank_with (outcome_of d)) ≡ is_commit d
+commit-ranked (Commit i rank) = refl
+commit-ranked (Refuse i walk) = refl
+commit-ranked (Withdraw i) = refl
 
 pub suits-same : (e : Entry) (d : Decision) → SuitsWith e (outcome_of d) ↔ Suits e d
 suits-same (entry.Read tx x v) (Commit i rank) = (λ h. h, λ h. h)

@@ -100,30 +100,13 @@ impl Decided {
         certificate
     }
 
-    /// The decision on the transaction, with its number.
-    fn decision_of(&self, tx: Tx) -> Option<(usize, &Decision)>
-        ensures some { IfSome result
-            (λ found. (slice_get self.now.decisions found.0 ≡ Some found.1.now)
-            × (decided_tx found.1.now ≡ tx)
-            × ((number : ℕ) → Decides self.now.decisions number tx → number ≡ found.0)) }
-        ensures none { IfNone result ((number : ℕ) → Decides self.now.decisions number tx → ⊥) }
-    {
-        match self.table.get(tx) {
-            Some(placed) => match self.decisions().get(placed.number) {
-                Some(decision) => Some((placed.number, decision)),
-                None => None,
-            },
-            None => None,
-        }
-    }
-
     /// The number of the decision on the transaction.
     pub fn number_of(&self, tx: Tx) -> Option<usize>
         ensures some { IfSome result (λ number. Decides self.now.decisions number tx) }
         ensures none { IfNone result ((number : ℕ) → Decides self.now.decisions number tx → ⊥) }
     {
-        match self.decision_of(tx) {
-            Some((number, _)) => Some(number),
+        match self.table.get(tx) {
+            Some(placed) => Some(placed.number),
             None => None,
         }
     }
@@ -160,8 +143,8 @@ impl Decided {
         ensures { IsTrue result
             ↔ ((m rank : ℕ) × (m < number) × IsCommitted self.now.decisions m tx rank) }
     {
-        match self.decision_of(tx) {
-            Some((earlier, decision)) => earlier < number && decision.is_commit(),
+        match self.table.get(tx) {
+            Some(placed) => placed.number < number && placed.outcome.rank().is_some(),
             None => false,
         }
     }

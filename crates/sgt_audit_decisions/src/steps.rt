@@ -92,16 +92,26 @@ fn add_decisions(groups: &mut [Group], decisions: &[Decision]) -> Result<(), All
     Ok(())
 }
 
-/// No step at any of so many sites.
-fn fresh(alloc: Global, sites: usize) -> Result<Vec<Group>, AllocError>
+/// How many steps the walks of these have, as far as that is counted.
+fn count_steps(decisions: &[Decision]) -> usize {
+    let mut count = 0usize;
+    for decision in decisions {
+        if let Some(walk) = decision.walk() {
+            count = count.saturating_add(walk.len());
+        }
+    }
+    count
+}
+
+/// No step at any of so many sites, and room for so many at each.
+fn fresh(alloc: Global, sites: usize, room: usize) -> Result<Vec<Group>, AllocError>
     ensures { IfOk result
         (λ groups. (length groups.items ≡ sites) × All (λ g. g.edges.items ≡ []) groups.items) }
 {
     let mut groups = Vec::new(alloc);
     for _ in 0..sites {
-        groups.push(Group {
-            edges: Vec::new(alloc),
-        })?;
+        let edges = Vec::with_capacity(alloc, room)?;
+        groups.push(Group { edges })?;
     }
     Ok(groups)
 }
@@ -117,7 +127,8 @@ impl Steps {
             (λ steps. All (λ e. e.step.label.site < sites) (edges_in decisions.now)
             → AreStepsOf decisions.now steps) }
     {
-        let mut groups = fresh(alloc, sites)?;
+        let room = count_steps(decisions) / sites.max(1);
+        let mut groups = fresh(alloc, sites, room)?;
         add_decisions(groups.as_mut_slice(), decisions)?;
         Ok(Steps { groups })
     }

@@ -16,16 +16,3 @@ name-front bytes chunk item n first front found =
     let same : take n bytes ≡ item = sym (take-take n 16 bytes (omega (arith, front.0, long)))
     ∙ (ap (take n) (sym first.same) ∙ sym found) in
     (subst IsName (sym found) front.1, sym (take-append-drop n bytes) ∙ ap (λ t. t ++ drop n bytes) same)
-
--- a number with none before it
-pub with-none : (k m : ℕ) → m % 2 ^ 64 ≡ (0 * k + m) % 2 ^ 64
-with-none k m = let e : m ≡ 0 * k + m = omega arith in ap (λ n. n % 2 ^ 64) e
-
--- digits that end within the first bytes are read from all
-pub digits-front : (bytes chunk : List ℕ) (n value k : ℕ) → chunk ≡ take 8 bytes → n < 8
-    → value ≡ (0 * k + digits_value 10 (slice_range chunk 0 n)) % 2 ^ 64
-    → value ≡ digits_value 10 (slice_range bytes 0 n) % 2 ^ 64
-digits-front bytes chunk n value k first few is =
-    let range : slice_range chunk 0 n ≡ slice_range bytes 0 n = between_from_start chunk n
-    ∙ (ap (take n) first ∙ (take-take n 8 bytes (omega (arith, few)) ∙ sym (between_from_start bytes n))) in
-    is ∙ (sym (with-none k (digits_value 10 (slice_range chunk 0 n))) ∙ ap (λ l. digits_value 10 l % 2 ^ 64) range)

@@ -2,9 +2,7 @@
 //! still be that of a certificate.
 
 ghost use Rattle.std.specs.Prelude.{◌≡◌, ◌≢◌, ◌++◌, ◌<◌, ◌≤◌, ◌↔◌, ℕ, List, length, drop, IsTrue, All, IfOk, IfSome, MatchOption, codes};
-ghost use Rattle.std.specs.Prelude.{◌%◌, ◌^◌, decimal, false, slice_range};
-ghost use Rattle.std.specs.Float.Numeral.{digits_len};
-ghost use Rattle.std.specs.Str.Parse.{digits_value};
+ghost use Rattle.std.specs.Prelude.{decimal, false};
 ghost use Rattle.serde_json.specs.Written.{compact_text, items_text};
 ghost use Rattle.sgt_names.specs.Limits.{max_sites};
 ghost use Rattle.sgt_names.specs.Name.{IsName};
@@ -13,47 +11,16 @@ ghost use Rattle.sgt_bundle.specs.Private.{with_commas};
 ghost use Rattle.sgt_bundle.specs.Text.{IsDecision, IsStep, certificate_text, decision_data, items_data, kind_name, step_data};
 
 use crate::certificate::{Certificate, Decision, Step};
-use core::dec2flt::read_digits;
 use sgt_names::{Item, Kind, Label, Listed, MAX_SITES, SiteNo, Tx};
-use sgt_notation::behind;
+use sgt_notation::{behind, front_number};
 use std::alloc::{AllocError, Global};
-
-/// How many digits stand in front, and their number wrapped to 64 bits. Up to seven are read from eight bytes, with
-/// no loop.
-#[inline(always)]
-fn digits(bytes: &[u8]) -> (usize, u64)
-    ensures end { result.0 ≡ digits_len bytes.now }
-    ensures within { result.0 ≤ length bytes.now }
-    ensures value { result.1 ≡ digits_value 10 (slice_range bytes.now 0 result.0) % 2 ^ 64 }
-{
-    if let Some(chunk) = bytes.first_chunk::<8>() {
-        let (n, number) = read_digits(chunk.as_slice(), 0, 0);
-        if n < 8 {
-            return (n, number);
-        }
-    }
-    read_digits(bytes, 0, 0)
-}
-
-/// The number in front, and what stands behind it.
-#[inline(always)]
-pub(crate) fn number(bytes: &[u8]) -> Option<(u64, &[u8])>
-    ensures { IfSome result (λ r. bytes.now ≡ decimal r.0 ++ r.1.now) }
-{
-    let (n, number) = digits(bytes);
-    if n == 0 || n > 19 || (n > 1 && bytes[0] == b'0') {
-        return None;
-    }
-    let (_, rest) = bytes.split_at_checked(n)?;
-    Some((number, rest))
-}
 
 /// The transaction in front.
 #[inline(always)]
 fn transaction(bytes: &[u8]) -> Option<(Tx, &[u8])>
     ensures { IfSome result (λ r. IsTx r.0 × (bytes.now ≡ decimal r.0 ++ r.1.now)) }
 {
-    let (number, rest) = number(bytes)?;
+    let (number, rest) = front_number(bytes)?;
     let tx = Tx::new(number).ok()?;
     Some((tx, rest))
 }
@@ -99,7 +66,7 @@ fn label(bytes: &[u8]) -> Option<(Label, &[u8])>
         return None;
     };
     let rest = behind(rest, b"\",\"site\":")?;
-    let Some((site, rest)) = number(rest) else {
+    let Some((site, rest)) = front_number(rest) else {
         return None;
     };
     let site = SiteNo::new(site).ok()?;
@@ -153,7 +120,7 @@ fn commit(bytes: &[u8]) -> Option<(Decision, &[u8])>
         return None;
     };
     let rest = behind(rest, b",\"rank\":")?;
-    let Some((rank, rest)) = number(rest) else {
+    let Some((rank, rest)) = front_number(rest) else {
         return None;
     };
     let rest = behind(rest, b"}")?;
@@ -255,7 +222,7 @@ fn sites(bytes: &[u8]) -> Option<u8>
     ensures text { IfSome result (λ sites. bytes.now ≡ codes ",\"sites\":" ++ (decimal sites ++ codes "}")) }
 {
     let rest = behind(bytes, b",\"sites\":")?;
-    let Some((number, rest)) = number(rest) else {
+    let Some((number, rest)) = front_number(rest) else {
         return None;
     };
     let last = behind(rest, b"}")?;
@@ -266,6 +233,9 @@ fn sites(bytes: &[u8]) -> Option<u8>
         None
     }
 }
+
+/// A decision mostly has about so many bytes: there is room for the decisions from the start.
+const BYTES_A_DECISION: usize = 32;
 
 /// The certificate that the line spells, were there `MAX_SITES` sites.
 pub(crate) fn spelled(alloc: Global, line: &[u8]) -> Result<Option<Certificate>, AllocError>
@@ -278,7 +248,7 @@ pub(crate) fn spelled(alloc: Global, line: &[u8]) -> Result<Option<Certificate>,
     let Some(rest) = behind(line, b"{\"decisions\":[") else {
         return Ok(None);
     };
-    let mut decisions = Vec::new(alloc);
+    let mut decisions = Vec::with_capacity(alloc, line.len() / BYTES_A_DECISION)?;
     let Some(rest) = add_decisions(alloc, &mut decisions, rest)? else {
         return Ok(None);
     };

@@ -10,9 +10,9 @@ ghost use Rattle.serde_json.specs.Read.{read};
 ghost use Rattle.sgt_bundle.specs.Line.{Refuses, is_certificate_object, is_decision_object, is_step_object};
 ghost use Rattle.sgt_bundle.specs.Private.{HasItems, HasNumber, HasText, HasValue, IsWhole};
 
-use crate::direct::number;
 use crate::fault::CertFault;
 use json::{Reader, Scratch, Token};
+use sgt_notation::front_number;
 use std::alloc::{AllocError, Global};
 
 /// A value that nests deeper is none.
@@ -65,7 +65,7 @@ fn one_key(reader: &mut Reader<'_>, wanted: &str) -> Option<()>
 fn is_whole(text: &str) -> bool
     ensures { IsTrue result → IsWhole text.now }
 {
-    match number(text.as_bytes()) {
+    match front_number(text.as_bytes()) {
         Some((_, rest)) => rest.is_empty(),
         None => false,
     }

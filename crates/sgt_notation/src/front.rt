@@ -111,6 +111,15 @@ fn front_value(bytes: &[u8]) -> Option<(Value, usize)>
     far_value(bytes)
 }
 
+/// The number in front, and what stands behind it.
+#[inline(always)]
+pub fn front_number(bytes: &[u8]) -> Option<(Value, &[u8])>
+    ensures { IfSome result (λ r. IsValue r.0 × (bytes.now ≡ decimal r.0 ++ r.1.now)) }
+{
+    let (value, n) = front_value(bytes)?;
+    Some((value, from_place(bytes, n)?))
+}
+
 /// A number, and the place behind it.
 #[inline(always)]
 fn value_at(bytes: &[u8], from: usize) -> Option<(Value, usize)>

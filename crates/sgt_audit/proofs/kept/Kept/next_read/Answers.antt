@@ -33,23 +33,3 @@ returns-in-Commit-clause-follows c =
     (subst (λ (e : Entry). IsLine (Logged e) → (s : Stage) → IsAt c.args.self.now s
     → IfOk c.next_entry-in-Commit.result (Follows s (line_text (Logged e)) (Reading c.next_entry-in-Commit.new.self))) (sym c.in-Commit.is)
     (λ is. c.next_entry-in-Commit.ensures.follows (is, λ no. absurd (false≢true no))))
-
-pub returns-in_default-entry : goal.returns-in_default-entry
-returns-in_default-entry c = record {
-  sections = c.next_rare.ensures.sections;
-  follows = subst (λ (l : SectionLine). IsLine l → (s : Stage) → IsAt c.args.self.now s
-      → IfOk c.next_rare.result (Follows s (line_text l) (Reading c.next_rare.new.self))) (sym c.in-Logged.is)
-      c.next_rare.ensures.follows;
-}
-
-pub returns-in-Initial-clause-follows : goal.returns-in-Initial-clause-follows
-returns-in-Initial-clause-follows c =
-    subst (λ (l : SectionLine). IsLine l → (s : Stage) → IsAt c.args.self.now s
-    → IfOk c.next_value.result (Follows s (line_text l) (Reading c.next_value.new.self))) (sym c.in-Initial.is)
-    c.next_value.ensures.follows
-
-pub returns-in-Final-clause-follows : goal.returns-in-Final-clause-follows
-returns-in-Final-clause-follows c =
-    subst (λ (l : SectionLine). IsLine l → (s : Stage) → IsAt c.args.self.now s
-    → IfOk c.next_value-in-Final.result (Follows s (line_text l) (Reading c.next_value-in-Final.new.self)))
-    (sym c.in-Final.is) c.next_value-in-Final.ensures.follows
