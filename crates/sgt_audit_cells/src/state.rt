@@ -48,15 +48,6 @@ fn slot_of(item: &Item) -> usize {
     (spread >> 51) as usize % HINTS
 }
 
-/// The place that is hinted for an item.
-#[inline(always)]
-fn hint_of(hints: &[u16], item: &Item) -> usize {
-    match hints.get(slot_of(item)) {
-        Some(hint) => *hint as usize,
-        None => 0,
-    }
-}
-
 /// Hints this place for an item.
 fn set_hint(hints: &mut [u16], item: &Item, place: usize) {
     if let Some(hint) = hints.get_mut(slot_of(item)) {
@@ -166,7 +157,10 @@ impl SiteState {
         ensures none { IfNone result ((ds : List Decision) (items : List Holding) (entries : List Entry)
             → TracksOpen ds items entries self.now → Contains (names items) item.now → ⊥) }
     {
-        let hint = hint_of(self.hints.as_slice(), item);
+        let hint = match self.hints.get(slot_of(item)) {
+            Some(hint) => *hint as usize,
+            None => 0,
+        };
         let cells = self.cells.as_slice();
         match cell::checked(cells, hint, item) {
             Some(place) => Some(place),
@@ -201,7 +195,8 @@ impl SiteState {
         Some(Some(place))
     }
 
-    /// Whether one more entry, decided by this number, needs no memory. Nothing need be known of it.
+    /// Whether one more entry, decided by this number, needs no memory. Nothing is proved of it: a wrong yes makes
+    /// `enter_plain` answer want of memory, and a wrong no costs time.
     #[inline(always)]
     pub fn has_room(&self, number: usize) -> bool {
         self.records.has_room(number)
