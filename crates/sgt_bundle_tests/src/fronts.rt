@@ -2,7 +2,8 @@
 
 use sgt_names::{Entry, Holding, Item, MemSource, SiteNo, Tx};
 use sgt_notation::{
-    Event, EventLine, Lines, Next, SectionLine, front_event, front_line, held_lines_come_next,
+    Event, EventLine, Lines, Next, SectionLine, behind, front_event, front_line, front_number,
+    held_lines_come_next,
 };
 use std::test::Fail;
 
@@ -32,9 +33,27 @@ fn each_kind_of_line_is_found(rt: HostRuntime) -> Result<(), Fail> {
         ("final x_1=70\n", SectionLine::Final(holding), 13),
         ("site 16\n", SectionLine::Site(SiteNo::new(16)?), 8),
         ("end\nsite 17\n", SectionLine::End, 4),
+        (
+            "item x_1=70\nitem x_2=70\nitem x_3=70\nitem x_4=70\nitem x_5=70\nitem x_6=70\n",
+            SectionLine::Initial(holding),
+            12,
+        ),
+        (
+            "final x_1=70\nfinal x_2=70\nfinal x_3=70\nfinal x_4=70\nfinal x_5=70\n",
+            SectionLine::Final(holding),
+            13,
+        ),
     ] {
         assert!(rt; front_line(text.as_bytes()) == Some((line, n)), "{text}");
     }
+    Ok(())
+}
+
+#[test]
+fn words_and_numbers_in_front_are_found(rt: HostRuntime) -> Result<(), Fail> {
+    assert!(rt; behind(b"site 16", b"site ") == Some(b"16".as_slice()));
+    assert!(rt; behind(b"item x=1", b"site ").is_none());
+    assert!(rt; front_number(b"70]=1") == Some((70, b"]=1".as_slice())));
     Ok(())
 }
 
