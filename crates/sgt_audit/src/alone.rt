@@ -193,7 +193,7 @@ impl Alone {
                 if !is_allowed(self.second, &line) {
                     return Ok(Some(Fault::Notation));
                 }
-                self.follow(certificate, *entry)
+                self.follow_entry(certificate, *entry)
             }
             SectionLine::Initial(holding) => {
                 self.follow_other(&SectionLine::Initial(*holding), true)
@@ -210,11 +210,7 @@ impl Alone {
     /// The next line, which is no entry: nothing is looked up of it. With the section's last line it is known whether
     /// each of the steps is a conflict in its log.
     #[inline(always)]
-    pub(crate) fn follow_other(
-        &mut self,
-        line: &SectionLine,
-        met: bool,
-    ) -> Result<Option<Fault>, AllocError>
+    fn follow_other(&mut self, line: &SectionLine, met: bool) -> Result<Option<Fault>, AllocError>
         ensures follows { IsLine line.now → ((e : AnyEntry) → line.now ≢ Logged e) → (c : Certificate)
             (edges : List AnyEdge) (b : Begun) → StandsAlone c b self.old → MeetsSteps edges b.current line.now met
             → IfOk result (FollowsAlone c edges b (line_text line.now) self.new) }

@@ -1,12 +1,12 @@
 //! A certificate, and lines of sections behind it, none of which has a fault.
 
-ghost use Rattle.std.specs.Prelude.{◌≡◌, ◌≢◌, ◌≤◌, ◌↔◌, ℕ, List, length, IsTrue, IfOk, is_some};
+ghost use Rattle.std.specs.Prelude.{◌≡◌, ◌≤◌, ◌↔◌, ℕ, List, length, IsTrue, IfOk, is_some};
 ghost use Rattle.sgt_notation.specs.Reading.{SpellsNone};
 ghost use Rattle.sgt_notation.specs.Spelling.{IsLine, line_text};
 
 use crate::alone::Alone;
 use crate::faults::{Fault, FirstFault};
-use crate::format::{is_allowed, read_line};
+use crate::format::read_line;
 use crate::sections::{Sections, add_to};
 use crate::walks::Walks;
 use sgt_audit_decisions::Decided;
@@ -31,8 +31,7 @@ impl Kept {
     ghost use Rattle.sgt_audit.specs.private.NextLine.{Follows};
     ghost use Rattle.sgt_audit.specs.private.Ending.{EndsWith, IsComplete, limit_of};
     ghost use Rattle.sgt_audit.specs.declared.machine.Progress.TheVariants.{Reading};
-    ghost use Rattle.sgt_notation.specs.declared.SectionLine.TheVariants.{End, Logged};
-    ghost use Rattle.sgt_names.specs.declared.entry.Entry.{Entry as AnyEntry};
+    ghost use Rattle.sgt_notation.specs.declared.SectionLine.TheVariants.{Logged};
 
     /// Whether all sections were read.
     #[inline(always)]
@@ -84,49 +83,10 @@ impl Kept {
                     self.next_entry(&Entry::Write { tx, item, value })
                 }
                 Entry::Commit { tx } => self.next_entry(&Entry::Commit { tx }),
-                _ => self.next_other(*line),
+                _ => self.next_line(*line),
             },
-            _ => self.next_other(*line),
+            _ => self.next_line(*line),
         }
-    }
-
-    /// The same of a line of a kind that is less frequent, by way of memory that only this way touches.
-    #[inline(never)]
-    fn next_other(&mut self, line: SectionLine) -> Result<Option<Fault>, AllocError>
-        ensures sections { is_some self.new.sections ≡ is_some self.old.sections }
-        ensures follows { IsLine line → (s : Stage) → IsAt self.old s
-            → IfOk result (Follows s (line_text line) (Reading self.new)) }
-    {
-        match &line {
-            SectionLine::Logged(entry) => {
-                if is_allowed(self.alone.second, &line) {
-                    self.next_entry(entry)
-                } else {
-                    self.next_line(line)
-                }
-            }
-            SectionLine::Initial(holding) => self.next_value(&SectionLine::Initial(*holding)),
-            SectionLine::Final(holding) => self.next_value(&SectionLine::Final(*holding)),
-            _ => self.next_line(line),
-        }
-    }
-
-    /// The same of a line that is the value of an item, at the begin or at the end of a section.
-    #[inline(always)]
-    fn next_value(&mut self, line: &SectionLine) -> Result<Option<Fault>, AllocError>
-        requires { ((e : AnyEntry) → line.now ≢ Logged e) × (line.now ≢ End) }
-        ensures sections { is_some self.new.sections ≡ is_some self.old.sections }
-        ensures follows { IsLine line.now → (s : Stage) → IsAt self.old s
-            → IfOk result (Follows s (line_text line.now) (Reading self.new)) }
-    {
-        if self.alone.place.is_complete() {
-            return Ok(Some(Fault::Trailing));
-        }
-        if let Some(fault) = self.alone.follow_other(line, true)? {
-            return Ok(Some(fault));
-        }
-        add_to(&mut self.sections, line)?;
-        Ok(None)
     }
 
     /// The same of this entry.

@@ -14,8 +14,8 @@ returns-else-not-is_allowed-clause-follows c =
     let allowed = subst (Allows c.args.self.now.second) c.in-Logged.is
     (c.is_allowed.ensures.0 c.if-not-is_allowed.false) in
     subst (λ (l : SectionLine). IsLine l → (b : Begun) → StandsAlone c.args.certificate.now b c.args.self.now
-    → IfOk c.follow.result (FollowsAlone c.args.certificate.now c.args.edges.now b (line_text l) c.follow.new.self))
-    (sym c.in-Logged.is) (λ is b s. c.follow.ensures.follows (is, allowed) c.args.edges.now b s)
+    → IfOk c.follow_entry.result (FollowsAlone c.args.certificate.now c.args.edges.now b (line_text l) c.follow_entry.new.self))
+    (sym c.in-Logged.is) (λ is b s. c.follow_entry.ensures.follows (is, allowed) c.args.edges.now b s)
 
 pub returns-in-Initial-clause-follows : goal.returns-in-Initial-clause-follows
 returns-in-Initial-clause-follows c is b s =
