@@ -32,7 +32,7 @@ pub struct Alone {
 }
 
 impl Alone {
-    ghost use Rattle.std.specs.Prelude.{None, IsTrue, ◌≢◌, ◌↔◌, ◌<◌};
+    ghost use Rattle.std.specs.Prelude.{None, IfSome, IsTrue, ◌≢◌, ◌↔◌, ◌<◌};
     ghost use Rattle.sgt_bundle.specs.Certificate.{IsDecidedOnce, AreRanks, ranks};
     ghost use Rattle.sgt_bundle.specs.declared.certificate.Certificate.{Certificate};
     ghost use Rattle.sgt_notation.specs.declared.SectionLine.TheVariants.{Logged};
@@ -111,13 +111,17 @@ impl Alone {
         }
     }
 
-    /// Whether the entry of which this is known is taken in without room being made for what is kept of it. Nothing
-    /// need be known of it: it chooses between two ways that answer the same.
+    /// What is known of the entry, where nothing need be searched for and no room need be made for what is kept of it.
     #[inline(always)]
-    fn is_plain(&self, known: &Known) -> bool {
-        match known.ruling.number {
-            Some(number) => self.place.current.is_some() && self.state.has_room(number),
-            None => false,
+    fn plain(&self, certificate: &Decided, entry: &Entry) -> Option<Known>
+        ensures { IfSome result (IsKnownOf certificate.now.decisions self.now.state entry.now) }
+    {
+        let known = look_up_at_hand(certificate, &self.state, entry)?;
+        let number = known.ruling.number?;
+        if self.place.current.is_some() && self.state.has_room(number) {
+            Some(known)
+        } else {
+            None
         }
     }
 
@@ -134,9 +138,9 @@ impl Alone {
             → IfOk result (FollowsAlone certificate.now edges b (line_text line) self.new) }
         ensures second { self.new.second ≡ self.old.second }
     {
-        match look_up_at_hand(certificate, &self.state, &entry) {
-            Some(known) if self.is_plain(&known) => self.follow_known(&known, &entry, true),
-            _ => self.follow(certificate, entry),
+        match self.plain(certificate, &entry) {
+            Some(known) => self.follow_known(&known, &entry, true),
+            None => self.follow(certificate, entry),
         }
     }
 
@@ -193,7 +197,10 @@ impl Alone {
                 if !is_allowed(self.second, &line) {
                     return Ok(Some(Fault::Notation));
                 }
-                self.follow_entry(certificate, *entry)
+                match self.plain(certificate, entry) {
+                    Some(known) => self.follow_known(&known, entry, true),
+                    None => self.follow(certificate, *entry),
+                }
             }
             SectionLine::Initial(holding) => {
                 self.follow_other(&SectionLine::Initial(*holding), true)

@@ -9,13 +9,22 @@ use Rattle.sgt_audit.proofs.Lone.{last-meets, plain-meets}
 use Rattle.sgt_audit.proofs.SiteStates.{open-tracked}
 use Rattle.sgt_audit.proofs.alone.Alone.next_line.Goals as goal
 
-pub returns-else-not-is_allowed-clause-follows : goal.returns-else-not-is_allowed-clause-follows
-returns-else-not-is_allowed-clause-follows c =
+pub returns-in-Some-clause-follows : goal.returns-in-Some-clause-follows
+returns-in-Some-clause-follows c =
     let allowed = subst (Allows c.args.self.now.second) c.in-Logged.is
     (c.is_allowed.ensures.0 c.if-not-is_allowed.false) in
     subst (λ (l : SectionLine). IsLine l → (b : Begun) → StandsAlone c.args.certificate.now b c.args.self.now
-    → IfOk c.follow_entry.result (FollowsAlone c.args.certificate.now c.args.edges.now b (line_text l) c.follow_entry.new.self))
-    (sym c.in-Logged.is) (λ is b s. c.follow_entry.ensures.follows (is, allowed) c.args.edges.now b s)
+    → IfOk c.follow_known.result (FollowsAlone c.args.certificate.now c.args.edges.now b (line_text l) c.follow_known.new.self))
+    (sym c.in-Logged.is)
+    (λ is b s. c.follow_known.ensures.follows (is, allowed) c.args.certificate.now c.args.edges.now b c.in-Some.ensures s)
+
+pub returns-in-None-clause-follows : goal.returns-in-None-clause-follows
+returns-in-None-clause-follows c =
+    let allowed = subst (Allows c.args.self.now.second) c.in-Logged.is
+    (c.is_allowed.ensures.0 c.if-not-is_allowed.false) in
+    subst (λ (l : SectionLine). IsLine l → (b : Begun) → StandsAlone c.args.certificate.now b c.args.self.now
+    → IfOk c.follow.result (FollowsAlone c.args.certificate.now c.args.edges.now b (line_text l) c.follow.new.self))
+    (sym c.in-Logged.is) (λ is b s. c.follow.ensures.follows (is, allowed) c.args.edges.now b s)
 
 pub returns-in-Initial-clause-follows : goal.returns-in-Initial-clause-follows
 returns-in-Initial-clause-follows c is b s =
