@@ -120,8 +120,7 @@ def search(program, name):
         for _ in range(rounds * found):
             times = [min(time, time_of(program, words, text)) for time, text in zip(times, texts)]
         grew, windows, found = judged(name, texts, times)
-        found = found and name not in TOLD
-    said = "  FOUND" if found else "  as told" if judged(name, texts, times)[2] else ""
+    said = "  FOUND" if found else ""
     told = ", %.2f s a window" % (times[-1] / windows) if windows else ""
     size = len(texts[-1]) / 1e6
     print("%-20s %-8s %8.2f MB %7.2f s, grew by %.1f%s%s" % (name, words[0], size, times[-1], grew, told, said), flush=True)
