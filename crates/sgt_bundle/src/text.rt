@@ -12,17 +12,8 @@ use crate::bundle::SiteLog;
 use crate::certificate::Certificate;
 use crate::line::push_certificate;
 use sgt_names::{Entry, Holding, SiteNo};
-use sgt_notation::{SectionLine, write_section};
+use sgt_notation::{SectionLine, write_section_line};
 use std::alloc::{AllocError, Global};
-
-fn push_line(out: &mut Vec<u8>, line: &SectionLine) -> Result<(), AllocError>
-    ensures text { OnOk result
-        (out.new.items ≡ out.old.items ++ text_of_lines (map line_text (line.now ∷ []))) }
-    ensures in_range { OnOk result (IsLine line.now) }
-{
-    write_section(out, line)?;
-    out.extend_from_slice(b"\n")
-}
 
 fn push_items(out: &mut Vec<u8>, items: &[Holding]) -> Result<(), AllocError>
     ensures text { OnOk result
@@ -31,7 +22,7 @@ fn push_items(out: &mut Vec<u8>, items: &[Holding]) -> Result<(), AllocError>
     ensures in_range { OnOk result (All IsHolding items.now) }
 {
     for item in items {
-        push_line(out, &SectionLine::Initial(*item))?;
+        write_section_line(out, &SectionLine::Initial(*item))?;
     }
     Ok(())
 }
@@ -43,7 +34,7 @@ fn push_entries(out: &mut Vec<u8>, entries: &[Entry]) -> Result<(), AllocError>
     ensures in_range { OnOk result (All IsEntry entries.now) }
 {
     for entry in entries {
-        push_line(out, &SectionLine::Logged(*entry))?;
+        write_section_line(out, &SectionLine::Logged(*entry))?;
     }
     Ok(())
 }
@@ -55,12 +46,36 @@ fn push_finals(out: &mut Vec<u8>, finals: &[Holding]) -> Result<(), AllocError>
     ensures in_range { OnOk result (All IsHolding finals.now) }
 {
     for item in finals {
-        push_line(out, &SectionLine::Final(*item))?;
+        write_section_line(out, &SectionLine::Final(*item))?;
     }
     Ok(())
 }
 
-fn push_section(out: &mut Vec<u8>, site: u64, log: &SiteLog) -> Result<(), AllocError>
+/// Writes the section of a site: its items with their first values, its entries, and its items with their last
+/// values. Err: memory ran out, and some of it may be written.
+pub fn push_section(
+    out: &mut Vec<u8>,
+    site: SiteNo,
+    items: &[Holding],
+    entries: &[Entry],
+    finals: &[Holding],
+) -> Result<(), AllocError>
+    ensures text { OnOk result
+        (out.new.items
+        ≡ out.old.items
+        ++ text_of_lines (map line_text (section_lines site
+        (record { items = items.now; entries = entries.now; finals = finals.now })))) }
+    ensures in_range { OnOk result
+        (IsLog (record { items = items.now; entries = entries.now; finals = finals.now })) }
+{
+    write_section_line(out, &SectionLine::Site(site))?;
+    push_items(out, items)?;
+    push_entries(out, entries)?;
+    push_finals(out, finals)?;
+    write_section_line(out, &SectionLine::End)
+}
+
+fn push_log(out: &mut Vec<u8>, site: u64, log: &SiteLog) -> Result<(), AllocError>
     requires { site < max_sites }
     ensures text { OnOk result
         (out.new.items
@@ -70,11 +85,14 @@ fn push_section(out: &mut Vec<u8>, site: u64, log: &SiteLog) -> Result<(), Alloc
     let Ok(site) = SiteNo::new(site) else {
         unreachable!();
     };
-    push_line(out, &SectionLine::Site(site))?;
-    push_items(out, log.items.as_slice())?;
-    push_entries(out, log.entries.as_slice())?;
-    push_finals(out, log.finals.as_slice())?;
-    push_line(out, &SectionLine::End)
+    let items = log.items.as_slice();
+    push_section(
+        out,
+        site,
+        items,
+        log.entries.as_slice(),
+        log.finals.as_slice(),
+    )
 }
 
 fn push_sections(out: &mut Vec<u8>, sites: &[SiteLog]) -> Result<(), AllocError>
@@ -85,7 +103,7 @@ fn push_sections(out: &mut Vec<u8>, sites: &[SiteLog]) -> Result<(), AllocError>
     ensures in_range { OnOk result (All IsLog sites.now) }
 {
     for (k, log) in sites.iter().enumerate() {
-        push_section(out, k as u64, log)?;
+        push_log(out, k as u64, log)?;
     }
     Ok(())
 }
@@ -100,13 +118,14 @@ fn push_given_sections(out: &mut Vec<u8>, sites: Vec<SiteLog>) -> Result<(), All
 {
     let mut site = 0;
     for log in sites {
-        push_section(out, site, &log)?;
+        push_log(out, site, &log)?;
         site += 1;
     }
     Ok(())
 }
 
-fn any_increment(entries: &[Entry]) -> bool
+/// Whether an entry is an increment, or asks for one.
+pub fn any_increment(entries: &[Entry]) -> bool
     ensures { result ≡ list_any is_increment entries.now }
 {
     entries.iter().any(|entry| entry.is_increment())
@@ -134,6 +153,25 @@ fn room_for(sites: &[SiteLog]) -> usize {
     room
 }
 
+/// Writes lines 1 and 2: of the second format, if it is to be that, and of the certificate. Err: memory ran out, and
+/// some of them may be written.
+pub fn push_head(
+    out: &mut Vec<u8>,
+    second: bool,
+    certificate: &Certificate,
+) -> Result<(), AllocError>
+    ensures text { OnOk result
+        (out.new.items
+        ≡ out.old.items
+        ++ text_of_lines (format_line second ∷ certificate_text certificate.now ∷ [])) }
+    ensures decisions { OnOk result (All (IsDecision max_sites) certificate.now.decisions) }
+{
+    let format = if second { b"sgt 2\n" } else { b"sgt 1\n" };
+    out.extend_from_slice(format)?;
+    push_certificate(out, certificate)?;
+    out.extend_from_slice(b"\n")
+}
+
 /// Lines 1 and 2 of the text: the second format exactly where it has to be, and the certificate. Err: memory ran out.
 fn head(alloc: Global, certificate: &Certificate, sites: &[SiteLog]) -> Result<Vec<u8>, AllocError>
     ensures text { IfOk result
@@ -142,12 +180,8 @@ fn head(alloc: Global, certificate: &Certificate, sites: &[SiteLog]) -> Result<V
         (format_line (has_increments sites.now) ∷ certificate_text certificate.now ∷ [])) }
     ensures decisions { IfOk result (λ _. All (IsDecision max_sites) certificate.now.decisions) }
 {
-    let second = any_log_increments(sites);
-    let format = if second { b"sgt 2\n" } else { b"sgt 1\n" };
     let mut head = Vec::with_capacity(alloc, room_for(sites))?;
-    head.extend_from_slice(format)?;
-    push_certificate(&mut head, certificate)?;
-    head.extend_from_slice(b"\n")?;
+    push_head(&mut head, any_log_increments(sites), certificate)?;
     Ok(head)
 }
 

@@ -1,11 +1,11 @@
 //! Bundles: what they are made of, and their texts.
 
 use sgt_bundle::{
-    Bundle, Certificate, SiteLog, bundles_are_spelled_in_their_formats, committed_transactions_run,
-    from_line, no_bytes_spell_two_bundles, ranks_are_distinct, serial_order_is_by_rank,
-    valid_bundles_run_serially,
+    Bundle, Certificate, SiteLog, any_increment, bundles_are_spelled_in_their_formats,
+    committed_transactions_run, from_line, no_bytes_spell_two_bundles, push_head, push_section,
+    ranks_are_distinct, serial_order_is_by_rank, valid_bundles_run_serially,
 };
-use sgt_names::{Entry, Holding, Item, Listed, Tx};
+use sgt_names::{Entry, Holding, Item, Listed, SiteNo, Tx};
 use std::alloc::{AllocError, Global};
 use std::test::Fail;
 
@@ -84,6 +84,24 @@ fn texts(rt: HostRuntime) -> Result<(), Fail> {
     ranks_are_distinct();
     serial_order_is_by_rank();
     valid_bundles_run_serially();
+    Ok(())
+}
+
+#[test]
+fn text_of_parts(rt: HostRuntime) -> Result<(), Fail> {
+    let log = increments(rt.alloc())?;
+    let certificate = from_line(rt.alloc(), LINE.as_bytes())?;
+    let entries = log.entries.as_slice();
+    let mut text = Vec::new(rt.alloc());
+    push_head(&mut text, any_increment(entries), &certificate)?;
+    push_section(
+        &mut text,
+        SiteNo::new(0)?,
+        log.items.as_slice(),
+        entries,
+        log.finals.as_slice(),
+    )?;
+    assert!(rt; text.as_slice() == TEXT.as_bytes());
     Ok(())
 }
 

@@ -2,8 +2,9 @@
 
 use sgt_names::{Entry, Tx};
 use sgt_notation::{
-    NotationFault, lines_are_read_back, lines_are_short, lines_have_no_lf, lines_have_one_reading,
-    push_number, read_entry, read_event, read_section, write_entry, write_section,
+    LINE_ROOM, NotationFault, SectionLine, lines_are_read_back, lines_are_short, lines_have_no_lf,
+    lines_have_one_reading, push_number, put_byte, put_bytes, put_last_number, read_entry,
+    read_event, read_section, write_entry, write_section, write_section_line,
 };
 use std::alloc::AllocError;
 use std::test::Fail;
@@ -107,6 +108,16 @@ fn numbers_and_entries_are_written_behind_what_is_there(rt: HostRuntime) -> Resu
     push_number(&mut out, 0)?;
     push_number(&mut out, u64::MAX)?;
     write_entry(&mut out, &entry)?;
-    assert!(rt; out.as_slice() == b"018446744073709551615c7".as_slice());
+    write_section_line(&mut out, &SectionLine::End)?;
+    assert!(rt; out.as_slice() == b"018446744073709551615c7end\n".as_slice());
     Ok(())
+}
+
+#[test]
+fn a_line_is_put_together_from_its_end(rt: HostRuntime) {
+    let mut line = [0u8; LINE_ROOM];
+    let at = put_last_number(&mut line, u64::MAX);
+    let at = put_byte(&mut line, at, b'=');
+    let at = put_bytes(&mut line, at, b"final x");
+    assert_eq!(rt; &line[at..], b"final x=18446744073709551615\n".as_slice());
 }

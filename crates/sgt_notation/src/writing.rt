@@ -1,12 +1,12 @@
 //! Lines, written as they are spelled.
 
-ghost use Rattle.std.specs.Prelude.{◌≡◌, ◌<◌, ◌≤◌, ◌+◌, ◌++◌, ◌∷◌, [], length, take, decimal, vec_len, vec_capacity, IsOk, OnOk, OnErr};
-ghost use Rattle.sgt_names.specs.Name.{IsName};
-ghost use Rattle.sgt_notation.specs.Spelling.{assignment, entry_text, line_text, operation, IsEntry, IsHolding, IsLine, IsTx, IsValue};
+ghost use Rattle.std.specs.Prelude.{◌≡◌, ◌<◌, ◌≤◌, ◌+◌, ◌++◌, ◌∷◌, [], length, decimal, vec_len, vec_capacity, IsOk, OnOk, OnErr};
+ghost use Rattle.sgt_notation.specs.Spelling.{entry_text, line_text, text_of_lines, IsEntry, IsLine};
 
 use crate::SectionLine;
+use crate::line::{LINE_ROOM, put_line};
 use itoa::Buffer;
-use sgt_names::{Entry, Holding, Item, Tx, Value};
+use sgt_names::Entry;
 use std::alloc::AllocError;
 
 // Writes a digit, for which there is room.
@@ -99,105 +99,6 @@ pub fn push_number(out: &mut Vec<u8>, number: u64) -> Result<(), AllocError>
     push_long(out, number)
 }
 
-fn push_operation(out: &mut Vec<u8>, tx: Tx, item: &Item, value: Value) -> Result<(), AllocError>
-    ensures ok { OnOk result (out.new.items ≡ out.old.items ++ operation tx item.now value) }
-    ensures in_range { OnOk result (IsTx tx × IsName item.now × IsValue value) }
-    ensures err { OnErr result (take (vec_len out.old) out.new.items ≡ out.old.items) }
-    ensures room { vec_len out.old + length (operation tx item.now value) ≤ vec_capacity out.old
-        → IsOk result }
-    ensures capacity { vec_capacity out.old ≤ vec_capacity out.new }
-{
-    push_number(out, tx.number() as u64)?;
-    out.extend_from_slice(b"[")?;
-    out.extend_from_slice(item.as_bytes())?;
-    out.extend_from_slice(b"]=")?;
-    push_number(out, value)
-}
-
-fn push_assignment(out: &mut Vec<u8>, holding: &Holding) -> Result<(), AllocError>
-    ensures ok { OnOk result
-        (out.new.items ≡ out.old.items ++ assignment holding.now.item holding.now.value) }
-    ensures in_range { OnOk result (IsHolding holding.now) }
-    ensures err { OnErr result (take (vec_len out.old) out.new.items ≡ out.old.items) }
-    ensures room { vec_len out.old + length (assignment holding.now.item holding.now.value)
-        ≤ vec_capacity out.old → IsOk result }
-    ensures capacity { vec_capacity out.old ≤ vec_capacity out.new }
-{
-    out.extend_from_slice(holding.item.as_bytes())?;
-    out.extend_from_slice(b"=")?;
-    push_number(out, holding.value)
-}
-
-fn push_entry(out: &mut Vec<u8>, entry: &Entry) -> Result<(), AllocError>
-    ensures ok { OnOk result (out.new.items ≡ out.old.items ++ entry_text entry.now) }
-    ensures in_range { OnOk result (IsEntry entry.now) }
-    ensures err { OnErr result (take (vec_len out.old) out.new.items ≡ out.old.items) }
-    ensures room { vec_len out.old + length (entry_text entry.now) ≤ vec_capacity out.old
-        → IsOk result }
-    ensures capacity { vec_capacity out.old ≤ vec_capacity out.new }
-{
-    match entry {
-        Entry::Read { tx, item, value } => {
-            out.extend_from_slice(b"r")?;
-            push_operation(out, *tx, item, *value)
-        }
-        Entry::Write { tx, item, value } => {
-            out.extend_from_slice(b"w")?;
-            push_operation(out, *tx, item, *value)
-        }
-        Entry::Add { tx, item, value } => {
-            out.extend_from_slice(b"d")?;
-            push_operation(out, *tx, item, *value)
-        }
-        Entry::Want { tx, item, value } => {
-            out.extend_from_slice(b"p")?;
-            push_operation(out, *tx, item, *value)
-        }
-        Entry::WantAdd { tx, item, value } => {
-            out.extend_from_slice(b"q")?;
-            push_operation(out, *tx, item, *value)
-        }
-        Entry::Commit { tx } => {
-            out.extend_from_slice(b"c")?;
-            push_number(out, tx.number() as u64)
-        }
-        Entry::Refuse { tx } => {
-            out.extend_from_slice(b"n")?;
-            push_number(out, tx.number() as u64)
-        }
-        Entry::Withdraw { tx } => {
-            out.extend_from_slice(b"a")?;
-            push_number(out, tx.number() as u64)
-        }
-    }
-}
-
-fn push_line(out: &mut Vec<u8>, line: &SectionLine) -> Result<(), AllocError>
-    ensures ok { OnOk result (out.new.items ≡ out.old.items ++ line_text line.now) }
-    ensures in_range { OnOk result (IsLine line.now) }
-    ensures err { OnErr result (take (vec_len out.old) out.new.items ≡ out.old.items) }
-    ensures room { vec_len out.old + length (line_text line.now) ≤ vec_capacity out.old
-        → IsOk result }
-    ensures capacity { vec_capacity out.old ≤ vec_capacity out.new }
-{
-    match line {
-        SectionLine::Site(site) => {
-            out.extend_from_slice(b"site ")?;
-            push_number(out, site.number() as u64)
-        }
-        SectionLine::Initial(holding) => {
-            out.extend_from_slice(b"item ")?;
-            push_assignment(out, holding)
-        }
-        SectionLine::Logged(entry) => push_entry(out, entry),
-        SectionLine::Final(holding) => {
-            out.extend_from_slice(b"final ")?;
-            push_assignment(out, holding)
-        }
-        SectionLine::End => out.extend_from_slice(b"end"),
-    }
-}
-
 /// Writes the line of the entry, without an LF, behind what is there. Where a growth is refused nothing is written.
 /// `read_entry` reads it again as this entry.
 pub fn write_entry(out: &mut Vec<u8>, entry: &Entry) -> Result<(), AllocError>
@@ -221,10 +122,19 @@ pub fn write_section(out: &mut Vec<u8>, line: &SectionLine) -> Result<(), AllocE
         → IsOk result }
     ensures capacity { vec_capacity out.old ≤ vec_capacity out.new }
 {
-    let before = out.len();
-    let written = push_line(out, line);
-    if written.is_err() {
-        out.truncate(before);
-    }
-    written
+    let mut room = [0; LINE_ROOM];
+    let at = put_line(&mut room, line);
+    out.extend_from_slice(&room[at..LINE_ROOM - 1])
+}
+
+/// As `write_section`, with an LF behind the line.
+pub fn write_section_line(out: &mut Vec<u8>, line: &SectionLine) -> Result<(), AllocError>
+    ensures ok { OnOk result
+        (out.new.items ≡ out.old.items ++ text_of_lines (line_text line.now ∷ [])) }
+    ensures in_range { OnOk result (IsLine line.now) }
+    ensures err { OnErr result (out.new.items ≡ out.old.items) }
+{
+    let mut room = [0; LINE_ROOM];
+    let at = put_line(&mut room, line);
+    out.extend_from_slice(&room[at..])
 }

@@ -5,9 +5,10 @@ ghost use Rattle.sgt_notation.specs.Spelling.{text_of_lines};
 ghost use Rattle.sgt_serial.specs.Text.{operation_line, change_line, run_lines, final_line, report_text};
 ghost use Rattle.sgt_serial.specs.private.Written.{with_lf};
 
-use crate::line::{ROOM, put_final, put_head, put_operation};
+use crate::line::{put_final, put_head, put_operation};
 use crate::report::{SerialReport, SerialTx, SiteChange, SiteValue};
 use sgt_names::{Change, Tx};
+use sgt_notation::LINE_ROOM;
 use std::alloc::{AllocError, Global};
 
 /// Writes a line of this letter, of the transaction.
@@ -23,7 +24,7 @@ fn push_operation(
     ensures room { vec_len out.old + 64 ≤ vec_capacity out.old → IsOk result }
     ensures capacity { vec_capacity out.old ≤ vec_capacity out.new }
 {
-    let mut line = [0u8; ROOM];
+    let mut line = [0u8; LINE_ROOM];
     let at = put_operation(&mut line, letter, tx, value);
     out.extend_from_slice(&line[at..])
 }
@@ -61,7 +62,7 @@ pub fn push_head(out: &mut Vec<u8>, tx: Tx) -> Result<(), AllocError>
     ensures room { vec_len out.old + 64 ≤ vec_capacity out.old → IsOk result }
     ensures capacity { vec_capacity out.old ≤ vec_capacity out.new }
 {
-    let mut line = [0u8; ROOM];
+    let mut line = [0u8; LINE_ROOM];
     let at = put_head(&mut line, tx);
     out.extend_from_slice(&line[at..])
 }
@@ -72,7 +73,7 @@ pub fn push_final(out: &mut Vec<u8>, value: &SiteValue) -> Result<(), AllocError
     ensures room { vec_len out.old + 64 ≤ vec_capacity out.old → IsOk result }
     ensures capacity { vec_capacity out.old ≤ vec_capacity out.new }
 {
-    let mut line = [0u8; ROOM];
+    let mut line = [0u8; LINE_ROOM];
     let at = put_final(&mut line, value);
     out.extend_from_slice(&line[at..])
 }

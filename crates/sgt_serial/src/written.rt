@@ -13,13 +13,13 @@ ghost use Rattle.sgt_serial.specs.private.Written.{IsPlanOf, PassesOn, with_lf, 
 
 use crate::entries::{SiteEntry, read_of, write_of};
 use crate::finals::finals;
-use crate::line::ROOM;
 use crate::operations::Operations;
 use crate::order::order_and_sites;
 use crate::report::SiteValue;
 use crate::text::{push_change, push_final, push_head, push_read};
 use sgt_bundle::{Bundle, SiteLog};
 use sgt_names::{Failed, Sink, Tx, write_all};
+use sgt_notation::LINE_ROOM;
 use std::alloc::{AllocError, Global};
 
 /// How many bytes are written at a time, and up to a line more.
@@ -262,7 +262,7 @@ impl Plan {
         let (order, sites) = order_and_sites(alloc, bundle)?;
         let operations = Operations::new(alloc, sites.as_slice())?;
         let finals = finals(alloc, sites.as_slice())?;
-        let out = Vec::with_capacity(alloc, BLOCK + ROOM)?;
+        let out = Vec::with_capacity(alloc, BLOCK + LINE_ROOM)?;
         Ok(Plan {
             sites,
             order,

@@ -11,7 +11,7 @@ loop-entry-preserved c =
       grind (arith, common_steps),
       All-next IsEntry xs c.loop-entry.entry-index x
           (element_at xs c.loop-entry.entry-index x c.loop-entry-test.true c.entry-item.is)
-          c.in_ok-push_line.ensures.in_range c.loop-entry.invariant.1,
+          c.in_ok-write_section_line.ensures.in_range c.loop-entry.invariant.1,
     )
 
 pub returns-clause-in_range : goal.returns-clause-in_range

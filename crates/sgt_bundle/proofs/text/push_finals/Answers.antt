@@ -11,7 +11,7 @@ loop-item-preserved c =
       grind (arith, common_steps),
       All-next IsHolding xs c.loop-item.item-index x
           (element_at xs c.loop-item.item-index x c.loop-item-test.true c.item-item.is)
-          c.in_ok-push_line.ensures.in_range c.loop-item.invariant.1,
+          c.in_ok-write_section_line.ensures.in_range c.loop-item.invariant.1,
     )
 
 pub returns-clause-in_range : goal.returns-clause-in_range

@@ -20,7 +20,7 @@ loop-log-init c =
 pub loop-log-preserved : goal.loop-log-preserved
 loop-log-preserved c =
     let log = c.in-Some.log in
-    let here = c.in_ok-push_section.ensures.in_range in
+    let here = c.in_ok-push_log.ensures.in_range in
     record {
       few = grind (arith, common_steps);
       text = grind (arith, common_steps);

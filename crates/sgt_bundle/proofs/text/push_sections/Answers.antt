@@ -10,7 +10,7 @@ loop-k-preserved c =
     let log = c.index-sites-k.result in (
       grind (arith, common_steps),
       All-next IsLog xs c.loop-k.k log (element_at xs c.loop-k.k log (omega arith) c.index-sites-k.is)
-          c.in_ok-push_section.ensures.in_range c.loop-k.invariant.1,
+          c.in_ok-push_log.ensures.in_range c.loop-k.invariant.1,
     )
 
 pub returns-clause-in_range : goal.returns-clause-in_range
