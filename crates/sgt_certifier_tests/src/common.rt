@@ -59,10 +59,21 @@ pub(crate) fn opened(alloc: Global, names: &Names, y: u64) -> Result<Site, SiteF
     Site::new(alloc, names.site, &items)
 }
 
-/// Whether these are the writers and the readers of the item.
-pub(crate) fn is_used_by(site: &Site, item: Item, writers: &[Writer], readers: &[Reader]) -> bool {
-    match (site.writers(item), site.readers(item)) {
-        (Ok(wrote), Ok(read)) => wrote == writers && read == readers,
+/// Whether these are the writers and the readers of the item, and the version that its last write made.
+pub(crate) fn is_used_by(
+    site: &Site,
+    item: Item,
+    writers: &[Writer],
+    written: u64,
+    readers: &[Reader],
+) -> bool {
+    match (site.writers(item), site.accesses(item)) {
+        (Ok(wrote), Ok(all)) => {
+            wrote == writers
+                && all.writers == writers
+                && all.version_written == written
+                && all.readers == readers
+        }
         _ => false,
     }
 }

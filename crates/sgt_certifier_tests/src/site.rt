@@ -107,7 +107,8 @@ fn pledge_holds(rt: HostRuntime) -> Result<(), Fail> {
         handle,
         version: 0,
     };
-    assert!(rt; is_used_by(&site, x, &[], &[reader]) && is_used_by(&site, y, &[writer], &[]));
+    assert!(rt; is_used_by(&site, x, &[], 0, &[reader]));
+    assert!(rt; is_used_by(&site, y, &[writer], 0, &[]));
     let after = [Holding { item: x, value: 5 }, Holding { item: y, value: 0 }];
     assert!(rt; ends_with(rt.alloc(), &site, &after));
     Ok(())

@@ -119,8 +119,8 @@ fn worked_site(rt: HostRuntime) -> Result<(), Fail> {
             version: 0,
         },
     );
-    assert!(rt; is_used_by(&site, item, &[writer], &[reader]));
-    assert!(rt; site.version_written(item) == Ok(1));
+    assert!(rt; is_used_by(&site, item, &[writer], 1, &[reader]));
+    assert!(rt; site.accesses(q).is_err());
     for (version, answer) in [
         (1, Ok(Some(names.edge(H1, ME, Kind::Wr)))),
         (0, Ok(Some(names.edge(ME, H1, Kind::Rw)))),

@@ -1,6 +1,6 @@
 -- The edges of each touched item together are those of the draft.
-use Rattle.std.proofs.Common.{◌≡◌, ◌≢◌, ℕ, ◌+◌, ◌<◌, ◌≤◌, ◌⊎◌, List, [], ◌∷◌, length, take, Some, Result, Ok, Err, refl, sym, ap, ◌∙◌, subst, arith, inl, inr, All, Contains}
-use Rattle.std.specs.Prelude.{slice_get, OnOk, ◌↔◌, Any}
+use Rattle.std.proofs.Common.{◌≡◌, ◌≢◌, ℕ, ◌+◌, ◌<◌, ◌≤◌, ◌⊎◌, List, [], ◌∷◌, length, take, Some, refl, sym, ap, ◌∙◌, subst, arith, inl, inr, All, Contains}
+use Rattle.std.specs.Prelude.{slice_get, ◌↔◌, Any}
 use Rattle.std.proofs.lemmas.Bool.{cases_lt}
 use Rattle.std.proofs.lemmas.Option.{same_Some, slice_get_within}
 use Rattle.sgt_names.specs.Name.{Name}
@@ -24,7 +24,6 @@ use Rattle.sgt_edges.specs.Neighbours.{IsInFront, IsBehind, IsNeighbour, in_fron
 use Rattle.sgt_edges.specs.private.Gathered.{IsTooNew, IsNear, IsBetween, AddsAll, FromWriter, ToWriter, FromReader, ChangesBefore, ReadsBefore, IsOfRead, IsOfChange}
 use Rattle.sgt_edges.proofs.Neighbours.{neighbours-carry, neighbour-edge}
 use Rattle.sgt_edges.specs.declared.edge.Edge.{Edge}
-use Rattle.sgt_site.proofs.PendingReads.{ok-then}
 
 -- a list of one has it
 itself : {A : Type 0} (a : A) → Contains (a ∷ []) a

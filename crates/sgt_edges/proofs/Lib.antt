@@ -6,5 +6,6 @@ pub mod Logged
 pub mod Unlisted
 pub mod Neighbours
 pub mod Slices
+pub mod Accesses
 pub mod Once
 pub mod Touching

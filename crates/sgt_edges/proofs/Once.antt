@@ -54,6 +54,9 @@ no-writers = apart-none (λ (a b : Writer). a.handle ≢ b.handle) [] refl
 pub no-readers : ReadersApart []
 no-readers = apart-none (λ (a b : Reader). a.handle ≢ b.handle) [] refl
 
+pub no-versions : AllPairs (λ (a b : Reader). a.version ≤ b.version) []
+no-versions = apart-none (λ (a b : Reader). a.version ≤ b.version) [] refl
+
 pub no-edges : (es : List Edge) → es ≡ [] → AreApart es
 no-edges es none = apart-none (λ e f. e ≢ f) es none
 

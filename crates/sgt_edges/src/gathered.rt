@@ -1,27 +1,27 @@
 //! The edges of a draft at a site.
 
-ghost use Rattle.std.specs.Prelude.{◌≡◌, ◌↔◌, ◌<◌, ◌∷◌, [], Some, All, Any, Contains, length, IsTrue, IfOk, IfErr, OnOk};
-ghost use Rattle.sgt_site.specs.State.{IsSite};
+ghost use Rattle.std.specs.Prelude.{◌≡◌, ◌↔◌, ◌<◌, ◌≤◌, ◌∷◌, [], Some, All, Any, Contains, length, IsTrue, IfOk, IfErr, OnOk};
+ghost use Rattle.sgt_site.specs.State.{SiteState, IsSite, IsVersionWritten};
 ghost use Rattle.sgt_names.specs.Draft.{AreRising, at_site};
 ghost use Rattle.sgt_names.specs.declared.draft.Seen.{Seen as ASeen};
 ghost use Rattle.sgt_edges.specs.Edges.{IsGiven, StandsForAll, SeesTooNew, RefusesEdges, HaveOwnHandles, AreApart};
 ghost use Rattle.sgt_edges.specs.declared.edge.Edge.{Edge as AnEdge};
-ghost use Rattle.sgt_edges.specs.private.Gathered.{AreWriters, WritersApart, ReadersApart, IsTooNew, IsNear, IsBetween, AddsAll, AddsOnce, FromWriter, ToWriter, FromReader, IsOfRead, IsOfChange};
+ghost use Rattle.sgt_edges.specs.private.Gathered.{AreAccesses, AreOrdered, WritersApart, ReadersApart, IsTooNew, IsNear, IsBetween, AddsAll, AddsOnce, FromWriter, ToWriter, FromReader, IsOfRead, IsOfChange};
 
 use crate::edge::{Edge, EdgeList};
 use crate::fault::EdgeFault;
-use crate::runs::{behind, changes_before, in_front, reads_before, writers_at};
+use crate::runs::{accesses_at, behind, changes_before, in_front, reads_before};
 use sgt_arena::Handle;
 use sgt_names::{Draft, Kind, Label, Part, SiteNo, Touch};
-use sgt_site::{Reader, Site, Writer};
+use sgt_site::{Accesses, Reader, Site, Writer};
 use std::alloc::{AllocError, Global};
 
 /// The conflicts of a draft's reads and changes at a site with the committed transactions there, as edges to and from
 /// this node: never to itself, and to neighbours alone, over which walks lead to the others. Their order is not
 /// fixed. The source of the rule: Bernstein, Hadzilacos and Goodman 1987, ch. 2 and 4.4.
 ///
-/// Searches the site's items for each item that the draft touches there, and the item's readers for its versions, and
-/// then goes over the writers and readers that it gives edges of and at most one more in each direction.
+/// Searches the site's items once for each item that the draft touches there, and the item's readers for its versions,
+/// and then goes over the writers and readers that it gives edges of and at most one more in each direction.
 pub fn gather(alloc: Global, site: &Site, draft: &Draft, me: Handle) -> Result<EdgeList, EdgeFault>
     ensures given { IfOk result (λ edges. All (IsGiven site.now draft.now.touched me) edges) }
     ensures stands { IfOk result (StandsForAll site.now draft.now.touched me) }
@@ -116,7 +116,7 @@ fn is_too_new(site: &Site, touch: &Touch) -> bool
 {
     match touch.seen {
         Some(seen) if touch.site == site.number() => {
-            seen.version > writers_at(site, touch.item).len() as u64
+            seen.version > accesses_at(site, touch.item).writers.len() as u64
         }
         _ => false,
     }
@@ -152,64 +152,69 @@ fn add_edges(
     if touch.site != here {
         return Ok(());
     }
-    let writers = writers_at(site, touch.item);
-    if exceeds(touch, writers) {
+    let item = accesses_at(site, touch.item);
+    if exceeds(touch, item.writers) {
         return Err(EdgeFault::SeenTooNew);
     }
-    let Ok(()) = add_of_read(edges, site, touch, writers, me) else {
+    let Ok(()) = add_of_read(edges, touch, &item, me) else {
         return Err(EdgeFault::Memory);
     };
-    let Ok(()) = add_of_change(edges, site, touch, writers, me) else {
+    let Ok(()) = add_of_change(edges, touch, &item, me) else {
         return Err(EdgeFault::Memory);
     };
     Ok(())
 }
 
-// Adds the edges of a touched item's read, if there is one. The item has these writers.
+// Adds the edges of a touched item's read, if there is one. The item has these accesses.
 fn add_of_read(
     edges: &mut EdgeList,
-    site: &Site,
     touch: &Touch,
-    writers: &[Writer],
+    item: &Accesses<'_>,
     me: Handle,
 ) -> Result<(), AllocError>
-    requires writers { AreWriters site.now touch.now.item writers.now }
-    requires here { touch.now.site ≡ site.now.number }
-    requires seen { IsTooNew site.now touch.now → ⊥ }
-    ensures all { OnOk result (AddsAll (IsOfRead site.now touch.now me) edges.old edges.new) }
-    ensures once { OnOk result
-        (WritersApart writers.now → AddsOnce (IsOfRead site.now touch.now me) edges.old edges.new) }
+    requires ordered { AreOrdered item.now.writers.now item.now.readers.now }
+    requires seen { (seen : ASeen) → touch.now.seen ≡ Some seen
+        → seen.version ≤ length item.now.writers.now }
+    ensures all { OnOk result ((s : SiteState)
+        → AreAccesses s touch.now.item item.now.writers.now item.now.readers.now
+        → AddsAll (IsOfRead s touch.now me) edges.old edges.new) }
+    ensures once { OnOk result ((s : SiteState)
+        → AreAccesses s touch.now.item item.now.writers.now item.now.readers.now
+        → WritersApart item.now.writers.now
+        → AddsOnce (IsOfRead s touch.now me) edges.old edges.new) }
 {
     let Some(seen) = touch.seen else {
         return Ok(());
     };
-    let before = in_front(site, touch.item, writers, seen.version);
+    let before = in_front(item.writers, item.readers, seen.version);
     add_before(edges, touch, Kind::Wr, before, me)?;
-    let after = behind(site, touch.item, writers, seen.version);
+    let after = behind(item.writers, item.readers, seen.version);
     add_after(edges, touch, after, me)
 }
 
-// Adds the edges of a touched item's change, if there is one. The item has these writers.
+// Adds the edges of a touched item's change, if there is one. The item has these accesses.
 fn add_of_change(
     edges: &mut EdgeList,
-    site: &Site,
     touch: &Touch,
-    writers: &[Writer],
+    item: &Accesses<'_>,
     me: Handle,
 ) -> Result<(), AllocError>
-    requires writers { AreWriters site.now touch.now.item writers.now }
-    requires apart { HaveOwnHandles site.now → WritersApart writers.now }
-    ensures all { OnOk result (AddsAll (IsOfChange site.now touch.now me) edges.old edges.new) }
-    ensures once { OnOk result
-        (HaveOwnHandles site.now
-        → AddsOnce (IsOfChange site.now touch.now me) edges.old edges.new) }
+    requires ordered { AreOrdered item.now.writers.now item.now.readers.now }
+    requires written { IsVersionWritten item.now.writers.now item.now.version_written }
+    ensures all { OnOk result ((s : SiteState)
+        → AreAccesses s touch.now.item item.now.writers.now item.now.readers.now
+        → AddsAll (IsOfChange s touch.now me) edges.old edges.new) }
+    ensures once { OnOk result ((s : SiteState)
+        → AreAccesses s touch.now.item item.now.writers.now item.now.readers.now
+        → WritersApart item.now.writers.now → ReadersApart item.now.readers.now
+        → AddsOnce (IsOfChange s touch.now me) edges.old edges.new) }
 {
     let Some(change) = touch.change else {
         return Ok(());
     };
-    let before = changes_before(site, touch.item, writers, change);
+    let before = changes_before(item, change);
     add_before(edges, touch, Kind::Ww, before, me)?;
-    let readers = reads_before(site, touch.item, writers.len() as u64, change);
+    let readers = reads_before(item, change);
     add_readers(edges, touch, readers, me)
 }
 

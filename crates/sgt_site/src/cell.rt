@@ -37,6 +37,17 @@ pub struct Reader {
     pub version: u64,
 }
 
+/// Who wrote an item or added to it, and who read it.
+#[derive(Clone, Copy)]
+pub struct Accesses<'a> {
+    /// The committed transactions that wrote it or added to it, in the order of the log.
+    pub writers: &'a [Writer],
+    /// The version that the last write made, 0 where there is none: from there on it was only added to.
+    pub version_written: u64,
+    /// The committed transactions that read it, by rising version that they read.
+    pub readers: &'a [Reader],
+}
+
 /// An item with its values, its writers, its committed readers, and its reads by whomever.
 #[derive(Drop)]
 pub(crate) struct Cell {
@@ -121,18 +132,18 @@ impl Cell {
         self.writers.as_slice()
     }
 
-    /// The version that the last write made.
-    pub(crate) fn version_written(&self) -> u64
-        ensures { IsVersionWritten self.now.writers result }
-    {
-        self.written
-    }
-
-    pub(crate) fn readers(&self) -> &[Reader]
-        ensures readers { result.now ≡ self.now.readers }
+    /// Who wrote the item or added to it, and who read it.
+    pub(crate) fn accesses(&self) -> Accesses<'_>
+        ensures writers { result.writers.now ≡ self.now.writers }
+        ensures written { IsVersionWritten self.now.writers result.version_written }
+        ensures readers { result.readers.now ≡ self.now.readers }
         ensures by_version { AllPairs (λ a b. a.version ≤ b.version) self.now.readers }
     {
-        self.readers.as_slice()
+        Accesses {
+            writers: self.writers.as_slice(),
+            version_written: self.written,
+            readers: self.readers.as_slice(),
+        }
     }
 
     /// What the transaction's read of the item answered, if it has read it.

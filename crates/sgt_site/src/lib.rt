@@ -10,7 +10,7 @@ mod readings;
 mod site;
 mod site_part;
 
-pub use cell::{Install, Reader, Writer};
+pub use cell::{Accesses, Install, Reader, Writer};
 pub use fault::SiteFault;
 pub use laws::{items_are_refused_once, pledges_are_refused_once, reads_are_refused_once};
 pub use site::Site;

@@ -16,7 +16,7 @@ ghost use Rattle.sgt_site.specs.private.Tails.{IsBelow};
 mod blocks;
 mod pledges;
 
-use crate::cell::{Cell, Install, Reader, Writer};
+use crate::cell::{Accesses, Cell, Install, Writer};
 use crate::cells::Cells;
 use crate::fault::SiteFault;
 use crate::pending::Pending;
@@ -259,41 +259,27 @@ impl Site {
         }
     }
 
-    /// The version that the last write of the item made, 0 where there is none: from there on it was only added to.
-    /// Searches the items.
+    /// Who wrote the item or added to it, and who read it, by one search of the items. Copies nothing.
     ///
     /// - S1: the item isn't at this site.
-    pub fn version_written(&self, item: Item) -> Result<u64, SiteFault>
-        ensures ok { IfOk result
-            (IsVersionWritten (writers_of self.now.installed self.now.entries item)) }
+    pub fn accesses(&self, item: Item) -> Result<Accesses<'_>, SiteFault>
+        ensures writers { IfOk result
+            (λ a. a.writers.now ≡ writers_of self.now.installed self.now.entries item) }
+        ensures written { IfOk result
+            (λ a. IsVersionWritten (writers_of self.now.installed self.now.entries item) a.version_written) }
+        ensures readers { IfOk result
+            (λ a. (r : Reader)
+            → Contains a.readers.now r ↔ IsReader self.now.installed self.now.entries item r) }
+        ensures once { IfOk result (λ a. AllPairs (λ p q. p.tx ≢ q.tx) a.readers.now) }
+        ensures by_version { IfOk result
+            (λ a. AllPairs (λ p q. p.version ≤ q.version) a.readers.now) }
         ensures site { IsSite self.now }
         ensures allowed { OnOk result (IsHere self.now item) }
         ensures refused { IfErr result
             (λ f. (f ≡ SiteFault.UnknownItem) × (IsHere self.now item → ⊥)) }
     {
         match self.cells.find(item) {
-            Some(at) => Ok(self.cells.as_slice()[at].version_written()),
-            None => Err(SiteFault::UnknownItem),
-        }
-    }
-
-    /// The committed transactions that read the item, by rising version that they read. Searches the items, and
-    /// copies nothing.
-    ///
-    /// - S1: the item isn't at this site.
-    pub fn readers(&self, item: Item) -> Result<&[Reader], SiteFault>
-        ensures ok { IfOk result
-            (λ rs. (r : Reader)
-            → Contains rs.now r ↔ IsReader self.now.installed self.now.entries item r) }
-        ensures once { IfOk result (λ rs. AllPairs (λ a b. a.tx ≢ b.tx) rs.now) }
-        ensures by_version { IfOk result (λ rs. AllPairs (λ a b. a.version ≤ b.version) rs.now) }
-        ensures site { IsSite self.now }
-        ensures allowed { OnOk result (IsHere self.now item) }
-        ensures refused { IfErr result
-            (λ f. (f ≡ SiteFault.UnknownItem) × (IsHere self.now item → ⊥)) }
-    {
-        match self.cells.find(item) {
-            Some(at) => Ok(self.cells.as_slice()[at].readers()),
+            Some(at) => Ok(self.cells.as_slice()[at].accesses()),
             None => Err(SiteFault::UnknownItem),
         }
     }

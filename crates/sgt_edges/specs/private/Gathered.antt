@@ -8,7 +8,7 @@ use Rattle.sgt_names.specs.declared.entry.Change.TheVariants.{Put, Add}
 use Rattle.sgt_names.specs.declared.entry.Kind.{Kind}
 use Rattle.sgt_names.specs.declared.entry.Kind.TheVariants.{Wr, Rw, Ww}
 use Rattle.sgt_arena.specs.declared.handle.Handle.{Handle}
-use Rattle.sgt_site.specs.State.{SiteState, version_at, writers_of}
+use Rattle.sgt_site.specs.State.{SiteState, IsSite, version_at, writers_of}
 use Rattle.sgt_site.specs.declared.cell.Reader.{Reader}
 use Rattle.sgt_site.specs.declared.cell.Writer.{Writer}
 use Rattle.sgt_edges.specs.Edges.{HasReader, AreApart}
@@ -64,6 +64,17 @@ FromReader t me r e = IsBetween t Rw r.handle me e
 abbrev pub AreWriters : SiteState → Name → List Writer → Type 0
 AreWriters s x writers = (writers ≡ writers_of s.installed s.entries x)
     × (length writers ≡ version_at s.entries x)
+
+-- these are the writers of the item, and these its committed readers
+pub record AreAccesses (s : SiteState) (x : Name) (writers : List Writer) (readers : List Reader) : Type 0 where
+  pub site : IsSite s
+  pub wrote : AreWriters s x writers
+  pub read : (r : Reader) → Contains readers r ↔ HasReader s x r
+
+-- the readers stand by rising version, and none of them read a version that these writers didn't make
+pub record AreOrdered (writers : List Writer) (readers : List Reader) : Type 0 where
+  pub by_version : AllPairs (λ a b. a.version ≤ b.version) readers
+  pub reached : (r : Reader) → Contains readers r → r.version ≤ length writers
 
 -- so many of the writers, those at the front, are increments, and the next one writes, if there is
 -- one
