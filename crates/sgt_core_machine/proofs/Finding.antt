@@ -75,15 +75,6 @@ pub ok_by : {A E : Type 0} {P : Type 0} (r : Result A E) → is_err r ≡ false 
 ok_by (Ok a) e p = p
 ok_by (Err f) e p = absurd (true≢false e)
 
--- an item's site is there
-pub item_inside : (m : Parts) (c : CoreState) → StandsFor m c → (s : ℕ) (x : Name) → IsOfSite c s x
-    → s < length m.places
-item_inside m c stands s x known =
-    below_all (length m.places) s (λ le. of_none m c s x stands (beyond m.places s le) known)
-  where
-    below_all : (n t : ℕ) → (n ≤ t → ⊥) → t < n
-    below_all n t out = omega (arith, out)
-
 -- what was found at a place of the table where a transaction is active
 pub found_there : (table : List (Option Running)) (slot : ℕ) (e : Option Running) (q : Running)
     → slice_get table slot ≡ Some (Some q) → e ≡ get_or table slot e → slice_get table slot ≡ Some e

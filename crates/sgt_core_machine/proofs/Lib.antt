@@ -11,6 +11,7 @@ pub mod Drafting
 pub mod Redrafting
 pub mod Changing
 pub mod Finding
+pub mod Known
 pub mod Reading
 pub mod Touching
 pub mod Refusing

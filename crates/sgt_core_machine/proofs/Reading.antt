@@ -498,5 +498,30 @@ module _ (m : Parts) (c : CoreState) (stands : StandsFor m c) (tx slot s : ℕ) 
                   (reached_more c (Read tx s x) (Value value) d stands.reached may),
             )
 
+        same_touched : k.before.draft.touched ≡ h.1.0.draft.touched
+        same_touched =
+            let q : Running =
+            record room.before { draft = record { touched = room.before.draft.touched; has_room = true } } in
+            let at : slice_get table slot ≡ Some (Some q) = ap (λ ts. slice_get ts slot) room.is
+            ∙ get-slice_set_same m.table slot (Some q) (slice_get_within m.table slot _ room.was) in
+            let now : Some q ≡ Some k.before = same_Some (Some q) (Some k.before) (sym at ∙ k.was) in
+            let was : Some h.1.0 ≡ Some room.before = same_Some (Some h.1.0) (Some room.before)
+            (sym h.1.1 ∙ room.was) in
+            ap (λ (w : Running). w.draft.touched) (sym (same_Some q k.before now))
+            ∙ ap (λ (w : Running). w.draft.touched) (sym (same_Some h.1.0 room.before was))
+
+        -- where the draft had nothing of the item, it finds what was read
+        pub read_plain : touched_at h.1.0.draft.touched (s, x) ≡ None
+            → Some v.value ≡ option_and_then look_of (touched_at k.after.draft.touched (s, x))
+        read_plain nothing =
+            let before = k.before.draft.touched in
+            let rising = (roomy.running slot (Some k.before) k.was).rising in
+            let there = now_there before k.after.draft.touched _ k.draft rising k.rising in
+            let looks_on : option_and_then look_of (touched_at k.after.draft.touched (s, x))
+            ≡ value_with_any (Some v.value) (change_at before (s, x)) = ap (option_and_then look_of) there in
+            let unchanged : change_at before (s, x) ≡ None = ap (λ ts. change_at ts (s, x)) same_touched
+            ∙ ap (option_and_then (λ (t : Touch). t.change)) nothing in
+            sym (looks_on ∙ ap (value_with_any (Some v.value)) unchanged)
+
         pub must_find : None ≡ option_and_then look_of (touched_at k.after.draft.touched (s, x)) → ⊥
         must_find e = read_finds n c roomy tx slot s x h.0 closed v places r last k was_unseen (sym e)

@@ -15,7 +15,7 @@ use Rattle.sgt_names.proofs.Lists.{Any_at}
 use Rattle.sgt_names.proofs.Places.{Contains-from_at, All-from_at}
 use Rattle.sgt_arena.specs.declared.handle.Handle.{Handle}
 use Rattle.sgt_site.specs.State.{SiteState, Pledge, HasEnded, KeepsReads, LogsRead, IsPledged, version_at}
-use Rattle.sgt_site.specs.Refused.{IsHere, MayRead, RefusesRead, MayPledge, RefusesPledge}
+use Rattle.sgt_site.specs.Refused.{IsHere, MayRead, MayPledge, RefusesPledge}
 use Rattle.sgt_site.specs.declared.fault.SiteFault.{SiteFault}
 use Rattle.sgt_site.specs.declared.fault.SiteFault.TheVariants as site_fault
 use Rattle.sgt_edges.specs.declared.edge.Edge.{Edge}
@@ -62,16 +62,6 @@ pledge_memory s tx touched (Err site_fault.Ended) may t = absurd (may.active t.1
 pledge_memory s tx touched (Err site_fault.PledgeOpen) may t = absurd (t.1 may.free)
 pledge_memory s tx touched (Err site_fault.DraftDiffers) may t = absurd (t.1 may.same)
 pledge_memory s tx touched (Err _) may t = absurd t
-
-pub read_memory : {A : Type 0} (s : SiteState) (tx : ℕ) (x : Name) (r : Result A SiteFault) → MayRead s tx x
-    → IfErr r (RefusesRead s tx x) → IfErr r (λ f. f ≡ site_fault.Memory)
-read_memory s tx x (Ok a) may t = tt
-read_memory s tx x (Err site_fault.Memory) may t = refl
-read_memory s tx x (Err site_fault.UnknownItem) may t = absurd (t may.known)
-read_memory s tx x (Err site_fault.ReadTwice) may t = absurd (may.first t.1)
-read_memory s tx x (Err site_fault.Ended) may t = absurd (may.active t.1)
-read_memory s tx x (Err site_fault.PledgeOpen) may t = absurd (may.free t.1)
-read_memory s tx x (Err _) may t = absurd t
 
 -- ---- what stands at a site
 

@@ -3,3 +3,4 @@ pub mod Decided
 pub mod Whole
 pub mod Withdrawing
 pub mod Installing
+pub mod Looked

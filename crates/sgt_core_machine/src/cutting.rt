@@ -10,7 +10,7 @@ ghost use Rattle.sgt_core_machine.specs.Cut.{finals_at, last_values, logs_at};
 ghost use Rattle.sgt_core_machine.specs.Machine.{parts_of, StandsFor, Stands};
 
 use crate::machine::{Machine, Place};
-use sgt_log_text::{any_increment, push_head, push_section};
+use sgt_bundle::{any_increment, push_head, push_section};
 use sgt_names::{Holding, Listed, SiteNo};
 use std::alloc::{AllocError, Global};
 
@@ -38,7 +38,7 @@ impl Machine {
         let Ok(certificate) = self.certifier.certificate(alloc, count) else {
             return Err(AllocError);
         };
-        push_head(alloc, &mut text, any_site_increments(places), &certificate)?;
+        push_head(&mut text, any_site_increments(places), &certificate)?;
         drop(certificate);
         let finals = push_sections(alloc, &mut text, places)?;
         Ok(Written { text, finals })

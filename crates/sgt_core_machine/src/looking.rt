@@ -1,8 +1,9 @@
 //! What a transaction sees of an item without the site.
 
-ghost use Rattle.std.specs.Prelude.{◌≡◌, ◌==◌, ◌&&◌, ◌<◌, Some, length, slice_get, option_and_then, IsTrue};
+ghost use Rattle.std.specs.Prelude.{◌≡◌, ◌==◌, ◌&&◌, ◌<◌, Some, length, slice_get, IsTrue};
 ghost use Rattle.std.specs.Str.{bytes_eq};
-ghost use Rattle.sgt_names.specs.Draft.{look_of, touched_at};
+ghost use Rattle.sgt_names.specs.Draft.{look_of};
+ghost use Rattle.sgt_core_machine.specs.private.Looked.{IsFound, IsFoundOf};
 ghost use Rattle.sgt_core_machine.specs.declared.machine.Running.{Running as ARunning};
 
 use crate::machine::Running;
@@ -11,32 +12,40 @@ use sgt_names::{Change, Draft, Item, Part, SiteNo, Touch, Value};
 // Up to how many touched items are gone over, in place of a search.
 const NEAR: usize = 16;
 
-// What the transaction at a place of the table sees of an item without the site.
-pub(crate) fn look_at(
-    table: &[Option<Running>],
-    slot: usize,
-    site: SiteNo,
-    item: Item,
-) -> Option<Value>
+/// What a transaction finds of an item in its draft.
+#[derive(Clone, Copy)]
+pub enum Found {
+    /// It sees this value without the site.
+    Value(Value),
+    /// The draft has nothing of the item.
+    Nothing,
+    /// It sees no value, but the draft may have an increment of the item.
+    NoValue,
+}
+
+// What the transaction at a place of the table finds of an item without the site.
+pub(crate) fn find_at(table: &[Option<Running>], slot: usize, site: SiteNo, item: Item) -> Found
     requires { slot < length table.now }
     ensures { (r : ARunning) → slice_get table.now slot ≡ Some (Some r)
-        → result ≡ option_and_then look_of (touched_at r.draft.touched (site, item)) }
+        → IsFound r.draft.touched (site, item) result }
 {
     match &table[slot] {
-        Some(running) => look_in(&running.draft, site, item),
-        None => None,
+        Some(running) => find_in(&running.draft, site, item),
+        None => Found::NoValue,
     }
 }
 
-// What the transaction of the draft sees of an item without the site.
-fn look_in(draft: &Draft, site: SiteNo, item: Item) -> Option<Value>
-    ensures { result ≡ option_and_then look_of (touched_at draft.now.touched (site, item)) }
+// What the transaction of the draft finds of an item without the site.
+fn find_in(draft: &Draft, site: SiteNo, item: Item) -> Found
+    ensures { IsFound draft.now.touched (site, item) result }
 {
     let (few, parts) = draft.touched();
     if are_near(few, parts) {
-        look_among(few, site, &item)
-    } else {
-        draft.look(site, item)
+        return find_among(few, site, &item);
+    }
+    match draft.look(site, item) {
+        Some(value) => Found::Value(value),
+        None => Found::NoValue,
     }
 }
 
@@ -47,16 +56,26 @@ fn are_near(few: &[Touch], parts: &[Part]) -> bool
     parts.is_empty() && few.len() <= NEAR
 }
 
-// What is seen of an item, where these are touched.
-fn look_among(touched: &[Touch], site: SiteNo, item: &Item) -> Option<Value>
-    ensures { result ≡ option_and_then look_of (touched_at touched.now (site, item.now)) }
+// What is found of an item, where these are touched.
+fn find_among(touched: &[Touch], site: SiteNo, item: &Item) -> Found
+    ensures { IsFound touched.now (site, item.now) result }
 {
     for touch in touched {
         if is_of(touch, site, item) {
-            return seen_of(touch);
+            return found_of(touch);
         }
     }
-    None
+    Found::Nothing
+}
+
+// What is found of an item that is touched so.
+fn found_of(touch: &Touch) -> Found
+    ensures { IsFoundOf (Some touch.now) result }
+{
+    match seen_of(touch) {
+        Some(value) => Found::Value(value),
+        None => Found::NoValue,
+    }
 }
 
 // Whether it is this item of the site.

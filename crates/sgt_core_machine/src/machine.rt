@@ -1,13 +1,14 @@
 //! The parts of the core: its sites, its certifier, the drafts of its active transactions, and the open step.
 
-ghost use Rattle.std.specs.Prelude.{◌≡◌, ◌↔◌, ◌++◌, ◌∷◌, [], ◌<◌, ◌≤◌, true, None, Some, length, slice_get, All, IsTrue, IfOk, IfErr, OnOk, OnErr};
+ghost use Rattle.std.specs.Prelude.{◌≡◌, ◌↔◌, ◌++◌, ◌∷◌, [], ℕ, ◌<◌, ◌≤◌, true, None, Some, length, slice_get, All, IsTrue, IfOk, IfErr, OnOk, OnErr};
 ghost use Rattle.sgt_names.specs.Draft.{added_to, seen_at, Touches};
+ghost use Rattle.sgt_names.specs.Name.{Name};
 ghost use Rattle.sgt_names.specs.declared.entry.Change.TheVariants as change;
 ghost use Rattle.sgt_notation.specs.declared.event.Event.{Event as AnEvent};
 ghost use Rattle.sgt_notation.specs.declared.event.Event.TheVariants as event;
 ghost use Rattle.sgt_names.specs.Limits.{max_sites};
 ghost use Rattle.sgt_site.specs.State.{AreItems, opened};
-ghost use Rattle.sgt_site.specs.Refused.{MayRead};
+ghost use Rattle.sgt_site.specs.Refused.{IsHere, MayRead};
 ghost use Rattle.sgt_site.specs.declared.fault.SiteFault.TheVariants.{BadItems};
 ghost use Rattle.sgt_core_machine.specs.declared.machine.Part.TheVariants.{Idle};
 ghost use Rattle.sgt_core_machine.specs.declared.machine.Place.{Place as APlace};
@@ -15,10 +16,11 @@ ghost use Rattle.sgt_core_model.specs.Core.{CoreState, fresh};
 ghost use Rattle.sgt_core_machine.specs.Gathered.{GathersAt, MayPledgeAt, AreReleased};
 ghost use Rattle.sgt_core_model.specs.Step.{IsOwnOpen, IsOtherOpen, IsOfSite, tx_in, IsRefused, MayStep};
 ghost use Rattle.sgt_core_machine.specs.Machine.{parts_of, StandsFor, Stands, GoesOn, IsSlotOf, RefusesItem, RefusesSites, AreOpened, Redrafts, ChangesTo, ReadsTo, ReadsAt, HasRoomAt, IsOfClose, close_fault};
+ghost use Rattle.sgt_core_machine.specs.private.Looked.{IsItemAt, IsWhy, IsOfRead, read_fault};
 ghost use Rattle.sgt_core_machine.specs.declared.machine.Running.{Running as ARunning};
 
 use crate::gathering::{add_edges, gather_there, give_back_at, is_gathered, make_due, release_all};
-use crate::looking::look_at;
+use crate::looking::{Found, find_at};
 use sgt_arena::{Handle, MAX_PLACES};
 use sgt_certifier::{CertifierFault, Judge};
 use sgt_core_model::{CoreFault, Reply};
@@ -172,7 +174,27 @@ impl Machine {
         place.site.writers(item).is_ok()
     }
 
-    // The place of a transaction that may read and change the item now.
+    // The place of a transaction whose step isn't open.
+    fn unopened_slot(&self, tx: Tx) -> Result<usize, CoreFault>
+        requires { Stands (parts_of self.now) }
+        ensures ok { IfOk result (λ slot. IsSlotOf (parts_of self.now) tx slot) }
+        ensures closed { OnOk result
+            ((c : CoreState) → StandsFor (parts_of self.now) c → IsOwnOpen c tx → ⊥) }
+        ensures err { IfErr result
+            (λ f. (c : CoreState) → StandsFor (parts_of self.now) c
+            → (site : ℕ) (x : Name) → RefusesItem c tx site x f) }
+    {
+        let slot = match self.slot_of(tx) {
+            Ok(slot) => slot,
+            Err(fault) => return Err(fault),
+        };
+        if self.owns_step(tx) {
+            return Err(CoreFault::StepOpen);
+        }
+        Ok(slot)
+    }
+
+    // The place of a transaction that may change the item now.
     fn free_slot(&self, tx: Tx, site: SiteNo, item: Item) -> Result<usize, CoreFault>
         requires { Stands (parts_of self.now) }
         ensures ok { IfOk result (λ slot. IsSlotOf (parts_of self.now) tx slot) }
@@ -184,17 +206,27 @@ impl Machine {
             (λ f. (c : CoreState) → StandsFor (parts_of self.now) c
             → RefusesItem c tx site item f) }
     {
-        let slot = match self.slot_of(tx) {
+        let slot = match self.unopened_slot(tx) {
             Ok(slot) => slot,
             Err(fault) => return Err(fault),
         };
-        if self.owns_step(tx) {
-            return Err(CoreFault::StepOpen);
-        }
         if !self.has_item(site, item) {
             return Err(CoreFault::UnknownItem);
         }
         Ok(slot)
+    }
+
+    // Why the item isn't read, where there was no memory.
+    #[inline(never)]
+    fn unread(&self, site: SiteNo, item: Item) -> CoreFault
+        ensures { (c : CoreState) → StandsFor (parts_of self.now) c
+            → IsWhy (IsOfSite c site item) result }
+    {
+        if self.has_item(site, item) {
+            CoreFault::Memory
+        } else {
+            CoreFault::UnknownItem
+        }
     }
 
     /// The transaction is to write the value.
@@ -347,25 +379,28 @@ impl Machine {
         ensures { GoesOn (λ c d. MayStep c (event.Read tx site item) result d) (parts_of self.old)
             (parts_of self.new) }
     {
-        let slot = match self.free_slot(tx, site, item) {
+        let slot = match self.unopened_slot(tx) {
             Ok(slot) => slot,
             Err(fault) => return refused(fault),
         };
-        if let Some(value) = look_at(self.running.as_slice(), slot, site, item) {
+        let found = find_at(self.running.as_slice(), slot, site, item);
+        if let Found::Value(value) = found {
             return Reply::Value { value };
         }
         if room_at(&mut self.running, slot).is_err() {
-            return refused(CoreFault::Memory);
+            return refused(self.unread(site, item));
         }
         let seen = match read_at(&mut self.places, tx, site, item) {
             Ok(seen) => seen,
-            Err(SiteFault::Memory) => return refused(CoreFault::Memory),
-            Err(_) => unreachable!(),
+            Err(fault) => return refused(fault),
         };
         keep_at(&mut self.running, slot, site, item, seen);
-        match look_at(self.running.as_slice(), slot, site, item) {
-            Some(value) => Reply::Value { value },
-            None => unreachable!(),
+        if let Found::Nothing = found {
+            return Reply::Value { value: seen.value };
+        }
+        match find_at(self.running.as_slice(), slot, site, item) {
+            Found::Value(value) => Reply::Value { value },
+            _ => unreachable!(),
         }
     }
 
@@ -488,17 +523,36 @@ fn room_at(table: &mut Vec<Option<Running>>, slot: usize) -> Result<(), AllocErr
     }
 }
 
-// Reads an item at its site. It errs for want of memory alone.
-fn read_at(places: &mut Vec<Place>, tx: Tx, site: SiteNo, item: Item) -> Result<Seen, SiteFault>
-    requires site { site < length places.old.items }
-    requires may { (p : APlace) → slice_get places.old.items site ≡ Some p
+// Reads an item at its site. It errs where the item isn't there, and for want of memory.
+fn read_at(places: &mut Vec<Place>, tx: Tx, site: SiteNo, item: Item) -> Result<Seen, CoreFault>
+    requires { (p : APlace) → slice_get places.old.items site ≡ Some p → IsHere p.site item
         → MayRead p.site tx item }
     ensures ok { IfOk result (λ seen. ReadsAt places.old.items places.new.items tx site item seen) }
+    ensures known { OnOk result (IsItemAt places.old.items site item) }
     ensures err { OnErr result (places.new.items ≡ places.old.items) }
-    ensures memory { IfErr result (λ f. f ≡ SiteFault.Memory) }
+    ensures why { IfErr result (IsWhy (IsItemAt places.old.items site item)) }
 {
-    let place = &mut places[site.number() as usize];
-    place.site.read(tx, item)
+    let at = site.number() as usize;
+    if at >= places.len() {
+        return Err(CoreFault::UnknownItem);
+    }
+    let place = &mut places[at];
+    match place.site.read(tx, item) {
+        Ok(seen) => Ok(seen),
+        Err(fault) => Err(fault_of_read(fault)),
+    }
+}
+
+// How the core tells that a site doesn't answer a read that it may answer where the item is there.
+fn fault_of_read(fault: SiteFault) -> CoreFault
+    requires { IsOfRead fault }
+    ensures { result ≡ read_fault fault }
+{
+    match fault {
+        SiteFault::UnknownItem => CoreFault::UnknownItem,
+        SiteFault::Memory => CoreFault::Memory,
+        _ => unreachable!(),
+    }
 }
 
 // Keeps a read in a draft of the table that has room for it.

@@ -1,35 +1,19 @@
-use Rattle.std.proofs.Common.{refl}
-use Rattle.sgt_notation.specs.declared.event.Event.TheVariants.{Read, Put, Add}
 use Rattle.sgt_core_machine.specs.Machine.{parts_of}
 use Rattle.sgt_core_machine.proofs.Redrafting.{slot_begun, slot_active}
 use Rattle.sgt_core_machine.proofs.Finding.{not_true}
-use Rattle.sgt_core_machine.proofs.Changing.{own_refuses, item_refuses}
+use Rattle.sgt_core_machine.proofs.Changing.{item_refuses}
 use Rattle.sgt_core_machine.proofs.machine.Machine.free_slot.Goals as goal
 
 pub returns-in-Err-clause-err : goal.returns-in-Err-clause-err
-returns-in-Err-clause-err c = λ d s. (
-  c.in-Err.ensures.err d s (Read c.args.tx c.args.site c.args.item) refl,
-  λ v. c.in-Err.ensures.err d s (Put c.args.tx c.args.site c.args.item v) refl,
-  λ v. c.in-Err.ensures.err d s (Add c.args.tx c.args.site c.args.item v) refl,
-)
-
-pub returns-then-owns_step-clause-err : goal.returns-then-owns_step-clause-err
-returns-then-owns_step-clause-err c = λ d s.
-    let m = parts_of c.args.self.now in
-    let slot = c.in-Ok.ensures.ok in
-    own_refuses d c.args.tx (slot_begun m d c.args.tx _ s slot) (slot_active m d c.args.tx _ s slot) c.args.site
-    c.args.item ((c.owns_step.ensures d s).0 c.if-owns_step.true)
+returns-in-Err-clause-err c = λ d s. c.in-Err.ensures.err d s c.args.site c.args.item
 
 pub returns-then-not-has_item-clause-err : goal.returns-then-not-has_item-clause-err
 returns-then-not-has_item-clause-err c = λ d s.
     let m = parts_of c.args.self.now in
     let slot = c.in-Ok.ensures.ok in
     item_refuses d c.args.tx (slot_begun m d c.args.tx _ s slot) (slot_active m d c.args.tx _ s slot) c.args.site
-    c.args.item (λ own. not_true _ c.if-owns_step.false ((c.owns_step.ensures d s).1 own))
+    c.args.item (c.in-Ok.ensures.closed d s)
     (λ known. not_true _ c.if-not-has_item.true ((c.has_item.ensures d s).1 known))
-
-pub returns-clause-closed : goal.returns-clause-closed
-returns-clause-closed c = λ d s own. not_true _ c.if-owns_step.false ((c.owns_step.ensures d s).1 own)
 
 pub returns-clause-known : goal.returns-clause-known
 returns-clause-known c = λ d s. (c.has_item.ensures d s).0 c.if-not-has_item.false

@@ -14,7 +14,7 @@ returns-clause-text c d s =
     text_there m d c.in-Ok.certificate _ c.push_sections.new.out.items s c.in-Ok.ensures (ap length same)
     (whole_text c.in_ok-text.text.items c.push_head.new.out.items c.push_sections.new.out.items
     c.any_site_increments.result c.in-Ok.certificate (logs_at m.places) c.in_ok-text.ensures.items
-    c.in_ok-push_head.ensures
+    c.in_ok-push_head.ensures.text
     (c.in_ok-finals.ensures.text
     ∙ ap (λ (ps : List Place). c.push_head.new.out.items ++ text_of_lines
     (map line_text (sections_from 0 (logs_at ps)))) same)
