@@ -50,6 +50,17 @@ pub struct Operation {
     pub is_committed: bool,
 }
 
+impl Operation {
+    /// Where it stands, on this item.
+    pub fn place(&self, item: u16) -> Place {
+        Place {
+            line: self.line,
+            item,
+            act: self.act,
+        }
+    }
+}
+
 /// An item of a site.
 #[derive(Clone, Copy, Debug)]
 pub struct Named {

@@ -147,13 +147,19 @@ impl<'a> Turns<'a> {
         false
     }
 
-    /// The transaction is ranked, of which an operation is in the item's run.
-    fn leave(&mut self, item: usize, tx: u32) {
-        let Some(mut turn) = self.turns.get(item).copied() else {
-            return;
-        };
+    /// The item's run has one transaction less. What it is then, if not more than one is left.
+    fn lessen(&mut self, item: usize, tx: u32) -> Option<Turn> {
+        let turn = self.turns.get_mut(item)?;
         turn.left = turn.left.saturating_sub(1);
         turn.mixed ^= tx;
+        if turn.left > 1 { None } else { Some(*turn) }
+    }
+
+    /// The transaction is ranked, of which an operation is in the item's run.
+    fn leave(&mut self, item: usize, tx: u32) {
+        let Some(turn) = self.lessen(item, tx) else {
+            return;
+        };
         if turn.left == 0 {
             self.open(item, turn);
         } else {
