@@ -105,15 +105,17 @@ fn outcome_of(dones: &[Done], verdict: Verdict) -> Outcome
     }
 }
 
-// The text of a settled run, with the verdict on its own bundle. Err: memory ran out.
-fn run_text(alloc: Global, settled: &Settled) -> Result<Answer, AllocError>
-    ensures { IfOk result (λ answer. IsTextOf settled.now answer.outcome answer.text.items) }
+// The text of a settled run, with the verdict on its own bundle. Err: memory ran out. All of the run but its Dones is
+// let go before the bundle is audited.
+fn run_text(alloc: Global, settled: Settled) -> Result<Answer, AllocError>
+    ensures { IfOk result (λ answer. IsTextOf settled answer.outcome answer.text.items) }
 {
-    let whole = bundle(alloc, settled)?;
+    let whole = bundle(alloc, &settled)?;
+    let told = settled.into_dones();
     let bytes = whole.into_text(alloc)?;
     let verdict = verdict_on(alloc, bytes.as_slice())?;
     let line = verdict.to_line(alloc)?;
-    let dones = settled.dones();
+    let dones = told.as_slice();
     let mut text = Vec::new(alloc);
     push_dones(&mut text, dones)?;
     text.extend_from_slice(line.as_bytes())?;
@@ -124,14 +126,15 @@ fn run_text(alloc: Global, settled: &Settled) -> Result<Answer, AllocError>
 }
 
 // Runs the scripts by as many workers as the blanks have parts, on a service of these sites, and settles the run. The
-// sites that were settled are those that were put there; V9 names the first that isn't.
+// sites that were settled are those that were put there; V9 names the first that isn't. The scripts are let go before
+// the run is settled.
 fn settled_run<L: Ledgers + Send + Sync, G: Gate + Sync, R: Threads + Wait + Sync>(
     rt: &R,
     alloc: Global,
     blanks: Blanks,
     workers: u64,
     sites: &[Listed<Holding>],
-    scripts: &[Script],
+    scripts: Listed<Script>,
     tries: u64,
     gate: &G,
 ) -> Result<Settled, PoolFail<ServiceFault>>
@@ -140,15 +143,16 @@ fn settled_run<L: Ledgers + Send + Sync, G: Gate + Sync, R: Threads + Wait + Syn
     requires sites { (1 ≤ length sites.now) × (length sites.now ≤ max_sites) }
     requires items { All AreItems sites.now }
     ensures settled { IfOk result IsSettled }
-    ensures run { IfOk result (IsRunOf scripts.now (length sites.now) tries) }
+    ensures run { IfOk result (IsRunOf scripts (length sites.now) tries) }
     ensures items { IfOk result (λ s. site_items s ≡ sites.now) }
-    ensures fault { IfErr result (λ f. IsWant f ⊎ EndsRun scripts.now sites.now tries f) }
+    ensures fault { IfErr result (λ f. IsWant f ⊎ EndsRun scripts sites.now tries f) }
 {
     let (service, seats) = match Service::<L, &G>::new(alloc, blanks, sites, workers, gate) {
         Ok(opened) => opened,
         Err(fault) => return Err(PoolFail::Work(fault)),
     };
-    let (dones, seats) = run(rt, alloc, &service, seats, scripts, tries)?;
+    let (dones, seats) = run(rt, alloc, &service, seats, scripts.as_slice(), tries)?;
+    drop(scripts);
     let settled = match settle(alloc, service, dones, seats) {
         Ok(settled) => settled,
         Err(fault) => return Err(PoolFail::Work(fault)),
@@ -191,12 +195,12 @@ fn answer_to<G: Gate + Sync, R: Threads + Wait + Sync>(
         Blanks::new(workers),
         workers,
         items.as_slice(),
-        scripts.as_slice(),
+        scripts,
         tries,
         gate,
     );
     match settled {
-        Ok(settled) => run_text(alloc, &settled),
+        Ok(settled) => run_text(alloc, settled),
         Err(fail) => Ok(Answer {
             outcome: Outcome::No,
             text: fault_line(alloc, fail)?,

@@ -70,6 +70,15 @@ impl Settled {
         self.dones.as_slice()
     }
 
+    /// The same, of which all else is let go.
+    pub fn into_dones(self) -> Vec<Done>
+        ensures dones { result.items ≡ self.dones }
+        ensures settled { IsSettled self }
+    {
+        let Settled { dones, .. } = self;
+        dones
+    }
+
     /// The run of which this was left behind the locks and counted, and whose callers were told this, where it is
     /// settled. Else the fault that `check_settled` tells of it.
     pub fn of_opened(

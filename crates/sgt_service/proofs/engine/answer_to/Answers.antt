@@ -28,8 +28,7 @@ returns-in-Ok g c =
     let items = c.as_slice.ensures.value ∙ c.in_ok-items.ensures
     ∙ ap (map (λ (l : SiteLine). l.items)) c.into_vec.ensures in
     let many = ap length items ∙ length-map input.sites (λ (l : SiteLine). l.items) in
-    let of = subst (λ ss. IsRunOf ss (length input.sites) tries settled) c.as_slice-2.ensures
-    (subst (λ n. IsRunOf c.as_slice-2.result.now n tries settled) many c.in-Ok.ensures.run) in
+    let of = subst (λ n. IsRunOf input.scripts n tries settled) many c.in-Ok.ensures.run in
     if_ok c.run_text.result _ _ (λ answer is told read.
     read_answers input tries told answer.outcome answer.text.items
     (subst (λ (r : Reading). IfSome told (λ bytes. IsRead bytes r)) c.in-Readable.is read)

@@ -1,6 +1,7 @@
-use Rattle.std.proofs.Common.{◌≡◌, ◌∙◌, ap, arith, inl, inr, length, refl, rules, sym, vec_len}
+use Rattle.std.proofs.Common.{◌≡◌, ◌∙◌, ap, arith, inl, inr, length, refl, rules, sym, subst, vec_len}
 use Rattle.std.proofs.lemmas.List.{length-map}
 use Rattle.sgt_names.specs.Log.{names}
+use Rattle.sgt_service.specs.Report.{EndsUnsettled, IsRunOf}
 use Rattle.sgt_service.proofs.Ordering.{numbered_rise}
 use Rattle.sgt_service.proofs.Reporting.{ends_unsettled, left_of}
 use Rattle.sgt_service.proofs.Telling.{run_ended}
@@ -13,12 +14,13 @@ returns-in-None-clause-run g c =
     let ledgers = c.requires.ledgers in
     let named : vec_len service.names ≡ length c.args.sites.now = service.names.ok.0 ∙ ap length c.in-Ok.ensures.names
     ∙ length-map c.args.sites.now names in
-    left_of _ _ _ _ _ seats.items c.in_ok-dones.seats.items _ _ c.in-Ok.ensures.seats.1
+    subst (λ ss. IsRunOf ss (length c.args.sites.now) c.args.tries c.in-Ok-settle.settled) c.as_slice.ensures
+    (left_of _ _ _ _ _ seats.items c.in_ok-dones.seats.items _ _ c.in-Ok.ensures.seats.1
     (omega (arith, seats.ok.0, c.in-Ok.ensures.seats.0, ledgers.1)) c.in_ok-dones.ensures.parts
     c.in_ok-dones.ensures.counted c.in_ok-dones.ensures.dones c.in_ok-dones.ensures.tried named
     (c.in-Ok-settle.ensures.dones.kept
-    (numbered_rise 1 c.in_ok-dones.dones.items (length c.args.scripts.now) c.in_ok-dones.ensures.dones.jobs))
-    c.in-Ok-settle.ensures.sites c.in-Ok-settle.ensures.counts c.in-Ok-settle.ensures.decisions
+    (numbered_rise 1 c.in_ok-dones.dones.items (length c.as_slice.result.now) c.in_ok-dones.ensures.dones.jobs))
+    c.in-Ok-settle.ensures.sites c.in-Ok-settle.ensures.counts c.in-Ok-settle.ensures.decisions)
 
 pub returns-in-Err-settle-clause-fault : goal.returns-in-Err-settle-clause-fault
 returns-in-Err-settle-clause-fault g c =
@@ -27,10 +29,12 @@ returns-in-Err-settle-clause-fault g c =
     let ledgers = c.requires.ledgers in
     let named : vec_len service.names ≡ length c.args.sites.now = service.names.ok.0 ∙ ap length c.in-Ok.ensures.names
     ∙ length-map c.args.sites.now names in
-    inr (inr (inl (ends_unsettled _ _ _ _ _ seats.items c.in_ok-dones.seats.items _ _ c.in-Ok.ensures.seats.1
+    inr (inr (inl (subst (λ ss. EndsUnsettled ss (length c.args.sites.now) c.args.tries c.in-Err-settle.fault)
+    c.as_slice.ensures
+    (ends_unsettled _ _ _ _ _ seats.items c.in_ok-dones.seats.items _ _ c.in-Ok.ensures.seats.1
     (omega (arith, seats.ok.0, c.in-Ok.ensures.seats.0, ledgers.1))
     c.in_ok-dones.ensures.parts c.in_ok-dones.ensures.counted c.in_ok-dones.ensures.dones c.in_ok-dones.ensures.tried
-    named c.in-Err-settle.ensures.refused)))
+    named c.in-Err-settle.ensures.refused))))
 
 pub returns-in-Some-clause-fault : goal.returns-in-Some-clause-fault
 returns-in-Some-clause-fault g c =
@@ -39,12 +43,13 @@ returns-in-Some-clause-fault g c =
     let ledgers = c.requires.ledgers in
     let named : vec_len service.names ≡ length c.args.sites.now = service.names.ok.0 ∙ ap length c.in-Ok.ensures.names
     ∙ length-map c.args.sites.now names in
-    let of = left_of _ _ _ _ _ seats.items c.in_ok-dones.seats.items _ c.in-Ok-settle.settled c.in-Ok.ensures.seats.1
+    let of = subst (λ ss. IsRunOf ss (length c.args.sites.now) c.args.tries c.in-Ok-settle.settled) c.as_slice.ensures
+    (left_of _ _ _ _ _ seats.items c.in_ok-dones.seats.items _ c.in-Ok-settle.settled c.in-Ok.ensures.seats.1
     (omega (arith, seats.ok.0, c.in-Ok.ensures.seats.0, ledgers.1)) c.in_ok-dones.ensures.parts
     c.in_ok-dones.ensures.counted c.in_ok-dones.ensures.dones c.in_ok-dones.ensures.tried named
     (c.in-Ok-settle.ensures.dones.kept
-    (numbered_rise 1 c.in_ok-dones.dones.items (length c.args.scripts.now) c.in_ok-dones.ensures.dones.jobs))
-    c.in-Ok-settle.ensures.sites c.in-Ok-settle.ensures.counts c.in-Ok-settle.ensures.decisions in
+    (numbered_rise 1 c.in_ok-dones.dones.items (length c.as_slice.result.now) c.in_ok-dones.ensures.dones.jobs))
+    c.in-Ok-settle.ensures.sites c.in-Ok-settle.ensures.counts c.in-Ok-settle.ensures.decisions) in
     let began = rw (c.in-Some.is, c.sites.ensures) at c.first_other.ensures in
     inr (inr (inr (record {
       run = c.in-Ok-settle.settled;
@@ -62,6 +67,7 @@ returns-in_err-dones-clause-fault g c =
     service.names.ok.0 ∙ ap length c.in-Ok.ensures.names ∙ length-map c.args.sites.now names in
     search (
       rules,
-      run_ended c.args.scripts.now c.args.sites.now c.args.tries (vec_len service.sites) service.names.items
+      c.as_slice.ensures,
+      run_ended c.as_slice.result.now c.args.sites.now c.args.tries (vec_len service.sites) service.names.items
           (sym service.named ∙ named) c.in-Ok.ensures.names,
     )
