@@ -9,7 +9,6 @@ use Rattle.sgt_audit.specs.declared.alone.Alone.{Alone}
 use Rattle.sgt_audit.specs.declared.faults.Fault.TheVariants as fault
 use Rattle.sgt_audit.specs.declared.kept.Kept.{Kept}
 use Rattle.sgt_audit.specs.declared.machine.Progress.TheVariants.{Reading}
-use Rattle.sgt_audit.specs.declared.sections.Sections.{Sections}
 use Rattle.sgt_audit.specs.Alone.{FollowsAlone}
 use Rattle.sgt_audit.specs.Faults.{Stage}
 use Rattle.sgt_audit.specs.Held.{Holds}
