@@ -19,9 +19,10 @@ use crate::fault::CertFault;
 use crate::fits::decisions_fit;
 use crate::shape::has_shape;
 use crate::tokens;
+use itoa::write_digits;
 use serde_json::Value;
 use sgt_names::Kind;
-use sgt_notation::push_number;
+use sgt_notation::{LINE_ROOM, push_number, put_byte, put_bytes};
 use std::alloc::{AllocError, Global};
 
 fn push_member(out: &mut Vec<u8>, before: &[u8], n: u64) -> Result<(), AllocError>
@@ -97,13 +98,18 @@ fn push_steps(out: &mut Vec<u8>, walk: &[Step]) -> Result<(), AllocError>
     out.extend_from_slice(b"]")
 }
 
+// A commit is most of a certificate, so it is put together from its end and copied at once.
 fn push_commit(out: &mut Vec<u8>, tx: u64, rank: u64) -> Result<(), AllocError>
     ensures { OnOk result (out.new.items
         ≡ out.old.items ++ (codes "{\"commit\":" ++ (decimal tx ++ (codes ",\"rank\":" ++ (decimal rank ++ codes "}"))))) }
 {
-    push_member(out, b"{\"commit\":", tx)?;
-    push_member(out, b",\"rank\":", rank)?;
-    out.extend_from_slice(b"}")
+    let mut text = [0u8; LINE_ROOM];
+    let at = put_byte(&mut text, LINE_ROOM, b'}');
+    let at = write_digits(rank, &mut text, at);
+    let at = put_bytes(&mut text, at, b",\"rank\":");
+    let at = write_digits(tx, &mut text, at);
+    let at = put_bytes(&mut text, at, b"{\"commit\":");
+    out.extend_from_slice(&text[at..])
 }
 
 fn push_refuse(out: &mut Vec<u8>, tx: u64, walk: &[Step]) -> Result<(), AllocError>
