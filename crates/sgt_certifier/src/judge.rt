@@ -302,6 +302,7 @@ impl Judge {
     }
 
     // Decides as `decide` does, and tells the reply twice: to who asks, and for a history.
+    #[inline(always)]
     pub(crate) fn decide_twice(
         &mut self,
         handle: Handle,

@@ -94,6 +94,7 @@ fn check_memory(reply: &Reply) -> Result<(), AllocError>
 }
 
 /// Writes what the core replies to the event, whose line is given without its LF. Err: memory ran out.
+#[inline(always)]
 fn answer_event(
     core: &mut Core,
     event: &EventLine,

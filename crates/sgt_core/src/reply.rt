@@ -67,6 +67,7 @@ fn push_answer(out: &mut Vec<u8>, asked: &[u8], reply: &Reply) -> Result<(), All
 /// Writes the line of the reply, without an LF, behind what is there: `! EN` of a refusal, and else the line of the
 /// event that was asked, which is given without its LF, with what the answer tells behind it. Where a growth is
 /// refused nothing is written.
+#[inline(always)]
 pub fn write_reply(out: &mut Vec<u8>, asked: &[u8], reply: &Reply) -> Result<(), AllocError>
     ensures ok { OnOk result (out.new.items ≡ out.old.items ++ answer_text asked.now reply.now) }
     ensures err { OnErr result (out.new.items ≡ out.old.items) }

@@ -169,6 +169,7 @@ impl Site {
     ///
     /// Searches the items, the reads of this one, the ended transactions and those that have read and have no end,
     /// each in the logarithm of their number, and not the log.
+    #[inline(always)]
     pub fn read(&mut self, tx: Tx, item: Item) -> Result<Seen, SiteFault>
         ensures value { IfOk result
             (λ seen. value_at self.old.items self.old.entries item ≡ Some seen.value) }

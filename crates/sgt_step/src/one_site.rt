@@ -31,6 +31,7 @@ pub enum Ending {
 /// - S4: there was no memory.
 ///
 /// The cost is that of `Site::pledge` and `gather_into`.
+#[inline(always)]
 pub fn gather(
     site: &mut Site,
     tx: Tx,
@@ -74,6 +75,7 @@ pub fn give_back(site: &mut Site, tx: Tx)
 /// that of `Site::install`, `Site::refuse` or `Site::withdraw`.
 ///
 /// - S5: no pledge of the transaction stands; or it isn't withdrawn, and the draft reads or writes otherwise here than the one that was pledged. Nothing changes.
+#[inline(always)]
 pub fn end(
     site: &mut Site,
     tx: Tx,
