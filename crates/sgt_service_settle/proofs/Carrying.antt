@@ -3,22 +3,18 @@ use Rattle.std.proofs.Common.{◌≡◌, ◌↔◌, ℕ, ◌<◌, List, [], ◌�
 use Rattle.std.specs.Prelude.{slice_get, max}
 use Rattle.std.proofs.Math.Nat.{max-eq_left, max-eq_right}
 use Rattle.std.proofs.lemmas.Bool.{cases_eq, cases_lt}
-use Rattle.std.proofs.lemmas.Option.{same_Some}
+use Rattle.std.proofs.lemmas.Option.{same_Some, slice_get_within}
 use Rattle.sgt_names.specs.Name.{Name}
 use Rattle.sgt_names.specs.Log.{Conflicts}
-use Rattle.sgt_names.specs.Entry.{tx_of, item_of, Reads, Writes, Clash}
+use Rattle.sgt_names.specs.Entry.{tx_of, item_of}
 use Rattle.sgt_names.specs.declared.entry.Entry.{Entry}
-use Rattle.sgt_names.specs.declared.entry.Entry.TheVariants as entry
-use Rattle.sgt_names.specs.declared.entry.Kind.{Kind}
-use Rattle.sgt_names.specs.declared.entry.Kind.TheVariants.{Wr, Rw, Ww}
 use Rattle.sgt_order.specs.Graph.{Leads, Reaches}
 use Rattle.sgt_order.proofs.Placed.{reaches-on}
 use Rattle.sgt_service_settle.specs.declared.index.Index.{Index}
 use Rattle.sgt_service_settle.specs.declared.carried.Rows.{Rows}
 use Rattle.sgt_service_settle.specs.declared.link.Cut.{Cut}
-use Rattle.sgt_service_settle.specs.private.Search.{IsMarked, InRows, LinksBy, AreEnds, Told}
-use Rattle.sgt_service_settle.specs.private.Index.{IsIn, IsDue, IsSided, AllSided, IsPlaceCarried, AreCarried, AreRows}
-use Rattle.sgt_notation.proofs.DecidableEntries.{reads-item, writes-item}
+use Rattle.sgt_service_settle.specs.private.Search.{IsMarked, InRows, Told}
+use Rattle.sgt_service_settle.specs.private.Index.{IsIn, IsLinkOf, LinkedBy, IsDue, IsSided, AllSided, IsPlaceCarried, AreCarried, AreRows}
 use Rattle.sgt_notation.proofs.Texts.{clash_items}
 
 leads_map : (R S : ℕ → ℕ → Type 0) → ((a b : ℕ) → R a b → S a b) → (a b : ℕ) (between : List ℕ) → Leads R a between b
@@ -38,29 +34,32 @@ reaches_turn : (R S : ℕ → ℕ → Type 0) → ((a b : ℕ) → R a b → S b
 reaches_turn R S to a b r = leads_turn R S to a b r.0 r.1
 
 -- the ends of a link are in the table
-pub link_within : (index : Index) (cut : Cut) (a b : ℕ) → AreEnds index.links.items (length index.commits.items)
-    → LinksBy index.links.items cut a b → (a < length index.commits.items) × (b < length index.commits.items)
-link_within index cut a b ends e =
-    let low = ends e.0 e.1 e.2 in
-    (subst (λ k. k < length index.commits.items) e.3 low.0, subst (λ k. k < length index.commits.items) e.4 low.1)
+pub link_within : (index : Index) (cut : Cut) (a b : ℕ) → LinkedBy index cut a b
+    → (a < length index.commits.items) × (b < length index.commits.items)
+link_within index cut a b e =
+    let commits = index.commits.items in
+    let link : IsLinkOf index.windows.items commits e.1.0 e.0 = e.1.2 in (
+      subst (λ k. k < length commits) e.2 (slice_get_within commits e.0.from (Some link.from.1.0) link.from.1.1),
+      subst (λ k. k < length commits) e.3 (slice_get_within commits e.0.to (Some link.to.1.0) link.to.1.1),
+    )
 
 -- the marks of the search forward tell whom the transaction reaches
 told_out : (index : Index) (rows : Rows) (cut : Cut) (tx : ℕ) (marks : List Bool) → AreRows index rows
-    → Told rows.out.items cut tx marks → (k : ℕ) → IsMarked marks k ↔ Reaches (LinksBy index.links.items cut) tx k
+    → Told rows.out.items cut tx marks → (k : ℕ) → IsMarked marks k ↔ Reaches (LinkedBy index cut) tx k
 told_out index rows cut tx marks are told k = (
-  λ m. reaches_map (InRows rows.out.items cut) (LinksBy index.links.items cut) (λ a b. (are.out cut a b).0) tx k
+  λ m. reaches_map (InRows rows.out.items cut) (LinkedBy index cut) (λ a b. (are.out cut a b).0) tx k
       ((told k).0 m),
-  λ r. (told k).1 (reaches_map (LinksBy index.links.items cut) (InRows rows.out.items cut)
+  λ r. (told k).1 (reaches_map (LinkedBy index cut) (InRows rows.out.items cut)
       (λ a b. (are.out cut a b).1) tx k r),
 )
 
 -- those of the search backward tell who reaches it
 told_back : (index : Index) (rows : Rows) (cut : Cut) (tx : ℕ) (marks : List Bool) → AreRows index rows
-    → Told rows.back.items cut tx marks → (k : ℕ) → IsMarked marks k ↔ Reaches (LinksBy index.links.items cut) k tx
+    → Told rows.back.items cut tx marks → (k : ℕ) → IsMarked marks k ↔ Reaches (LinkedBy index cut) k tx
 told_back index rows cut tx marks are told k = (
-  λ m. reaches_turn (InRows rows.back.items cut) (LinksBy index.links.items cut) (λ a b. (are.back cut a b).0) tx k
+  λ m. reaches_turn (InRows rows.back.items cut) (LinkedBy index cut) (λ a b. (are.back cut a b).0) tx k
       ((told k).0 m),
-  λ r. (told k).1 (reaches_turn (LinksBy index.links.items cut) (InRows rows.back.items cut)
+  λ r. (told k).1 (reaches_turn (LinkedBy index cut) (InRows rows.back.items cut)
       (λ a b. (are.back cut b a).1) k tx r),
 )
 
@@ -88,13 +87,13 @@ place_carried index rows cut log p e forward backward are out back = (
 
 -- the walk under one cut is one under another that is the same
 recut : (index : Index) (cut : Cut) (site last a b : ℕ) → site ≡ cut.site → last ≡ cut.last
-    → Reaches (LinksBy index.links.items (record { site = site; item = cut.item; last = last })) a b
-    → Reaches (LinksBy index.links.items cut) a b
+    → Reaches (LinkedBy index (record { site = site; item = cut.item; last = last })) a b
+    → Reaches (LinkedBy index cut) a b
 recut index cut site last a b is_site is_last r =
-    let at_site : Reaches (LinksBy index.links.items (record { site = cut.site; item = cut.item; last = last })) a b =
-    subst (λ k. Reaches (LinksBy index.links.items (record { site = k; item = cut.item; last = last })) a b) is_site
+    let at_site : Reaches (LinkedBy index (record { site = cut.site; item = cut.item; last = last })) a b =
+    subst (λ k. Reaches (LinkedBy index (record { site = k; item = cut.item; last = last })) a b) is_site
     r in
-    subst (λ k. Reaches (LinksBy index.links.items (record { site = cut.site; item = cut.item; last = k })) a b)
+    subst (λ k. Reaches (LinkedBy index (record { site = cut.site; item = cut.item; last = k })) a b)
     is_last at_site
 
 -- where all conflicts are carried, so are those of an entry
@@ -149,7 +148,7 @@ places_carried index site log each kind x a b m n c first second =
     let mine : IsIn index.commits.items (tx_of c.e) m = subst (λ k. IsIn index.commits.items k m) (sym c.from) first in
     let yours : IsIn index.commits.items (tx_of c.f) n = subst (λ k. IsIn index.commits.items k n) (sym c.to) second in
     let apart : tx_of c.e ≡ tx_of c.f → ⊥ = λ same. c.apart (sym c.from ∙ (same ∙ c.to)) in
-    let walk : Reaches (LinksBy index.links.items (record { site = site; item = x; last = max m n })) (tx_of c.e)
+    let walk : Reaches (LinkedBy index (record { site = site; item = x; last = max m n })) (tx_of c.e)
     (tx_of c.f) =
     elim (cases_lt m n) [
       | inl early ↦
@@ -157,7 +156,7 @@ places_carried index site log each kind x a b m n c first second =
           record { apart = λ same. apart (sym same); number = m; commit = mine; early = omega (arith, early) } in
           let r = (each c.q n c.f x c.second items.1 yours c.p c.e c.first due).before c.before kind c.clash in
           let top : max m n ≡ n = max-eq_right (omega (arith, early)) in
-          subst (λ k. Reaches (LinksBy index.links.items (record { site = site; item = x; last = k })) (tx_of c.e)
+          subst (λ k. Reaches (LinkedBy index (record { site = site; item = x; last = k })) (tx_of c.e)
           (tx_of c.f)) (sym top) r
       | inr late ↦
           let due : IsDue index.commits.items c.e c.f m = record {
@@ -170,9 +169,9 @@ places_carried index site log each kind x a b m n c first second =
           let r = (each c.p m c.e x c.first items.0 mine c.q c.f c.second due).after (omega (arith, c.before)) kind
           c.clash in
           let top : max m n ≡ m = max-eq_left late in
-          subst (λ k. Reaches (LinksBy index.links.items (record { site = site; item = x; last = k })) (tx_of c.e)
+          subst (λ k. Reaches (LinkedBy index (record { site = site; item = x; last = k })) (tx_of c.e)
           (tx_of c.f)) (sym top) r
     ] in
-    subst (λ k. Reaches (LinksBy index.links.items (record { site = site; item = x; last = max m n })) k b) c.from
-    (subst (λ k. Reaches (LinksBy index.links.items (record { site = site; item = x; last = max m n })) (tx_of c.e) k)
+    subst (λ k. Reaches (LinkedBy index (record { site = site; item = x; last = max m n })) k b) c.from
+    (subst (λ k. Reaches (LinkedBy index (record { site = site; item = x; last = max m n })) (tx_of c.e) k)
     c.to walk)

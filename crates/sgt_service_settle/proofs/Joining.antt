@@ -19,8 +19,7 @@ use Rattle.sgt_service_settle.specs.declared.deeds.Track.{Track}
 use Rattle.sgt_service_settle.specs.declared.index.Index.{Index}
 use Rattle.sgt_service_settle.specs.declared.link.Link.{Link}
 use Rattle.sgt_service_settle.specs.private.Words.{IsItemAt, Pushed}
-use Rattle.sgt_service_settle.specs.private.Search.{LinksBy}
-use Rattle.sgt_service_settle.specs.private.Index.{IsIn, AreCarried}
+use Rattle.sgt_service_settle.specs.private.Index.{IsIn, IsIndexed, LinkedBy, AreCarried}
 use Rattle.sgt_service_settle.specs.private.Acts.{AreKnown}
 use Rattle.sgt_service_settle.specs.private.Deeds.{deed_of, AreTracks}
 use Rattle.sgt_service_settle.specs.private.Course.{IsNoted, Follows}
@@ -147,15 +146,15 @@ front_contains order n e has = let at = Contains_at (take n order) e has in
 
 -- ---- edges
 
-pub item_links_next : (links : List Link) (site : ℕ) (items : List Holding) (rows new : List (Vec Link Global))
-    (at : ℕ) (l : Link) → Contains links l → l.label.site ≡ site → IsItemAt items l.label.item at
-    → Pushed rows at l new → AreItemLinks links site items rows → AreItemLinks links site items new
-item_links_next links site items rows new at l among is_site item pushed are k m other there =
+pub item_links_next : (P : Link → Type 0) (site : ℕ) (items : List Holding) (rows new : List (Vec Link Global))
+    (at : ℕ) (l : Link) → P l → l.label.site ≡ site → IsItemAt items l.label.item at → Pushed rows at l new
+    → AreItemLinks P site items rows → AreItemLinks P site items new
+item_links_next P site items rows new at l holds is_site item pushed are k m other there =
     elim (at_pushed rows at l new pushed k m other there) [
       | inl old ↦ are k m other old
       | inr last ↦
           let is : l ≡ other = last.2 in (
-            subst (Contains links) is among,
+            subst P is holds,
             ap (λ (x : Link). x.label.site) (sym is)
                 ∙ is_site,
             subst (λ (x : Link). IsItemAt items x.label.item k) is
@@ -164,20 +163,19 @@ item_links_next links site items rows new at l among is_site item pushed are k m
     ]
 
 handed_by_links : (index : Index) (site : ℕ) (items : List Holding) (rows : List (Vec Link Global))
-    (row : Vec Link Global) (at : ℕ) (x : Name) (last a b : ℕ) → AreItemLinks index.links.items site items rows
+    (row : Vec Link Global) (at : ℕ) (x : Name) (last a b : ℕ) → AreItemLinks (IsIndexed index) site items rows
     → slice_get rows at ≡ Some row → IsItemAt items x at
-    → IsHanded row.items last a b → LinksBy index.links.items (record { site = site; item = x; last = last }) a b
+    → IsHanded row.items last a b → LinkedBy index (record { site = site; item = x; last = last }) a b
 handed_by_links index site items rows row at x last a b are here item h =
     let l : Link = h.0 in
     let place = Contains_at row.items l h.1 in
     let known = are at place.0 l (row, here, place.1) in
     let is_item : l.label.item ≡ x = one_item items l.label.item x at known.2 item in
-    let among = Contains_at index.links.items l known.0 in
-    (among.0, l, among.1, h.2, h.3, record { site = known.1; item = is_item; early = h.4 })
+    (l, known.0, h.2, h.3, record { site = known.1; item = is_item; early = h.4 })
 
 -- where the conflicts of each item's deeds are carried, those of the log are
 pub all_carried : (index : Index) (site : ℕ) (items : List Holding) (log : List Entry) (tracks : List Track)
-    (rows : List (Vec Link Global)) → AreKnown items log → AreItemLinks index.links.items site items rows
+    (rows : List (Vec Link Global)) → AreKnown items log → AreItemLinks (IsIndexed index) site items rows
     → length rows ≡ length items
     → AreTracks index.commits.items items log (length log) tracks
     → ((k : ℕ) (t : Track) (row : Vec Link Global) → slice_get tracks k ≡ Some t → slice_get rows k ≡ Some row
@@ -201,7 +199,7 @@ all_carried index site items log tracks rows known links long are carried kind x
     } in
     let row = within_at rows place.0 (omega (arith, within, long)) in
     let top = max m n in
-    let R : ℕ → ℕ → Type 0 = LinksBy index.links.items (record { site = site; item = x; last = top }) in
+    let R : ℕ → ℕ → Type 0 = LinkedBy index (record { site = site; item = x; last = top }) in
     elim (carried place.0 q.track row.0 q.at_track row.1 d e has q.deed precedes) [
       | inl same ↦ absurd (c.apart (sym c.from ∙ (same ∙ c.to)))
       | inr walk ↦

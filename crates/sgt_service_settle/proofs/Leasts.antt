@@ -2,9 +2,14 @@
 use Rattle.std.proofs.Common.{◌≡◌, ◌⊎◌, ◌≤◌, ℕ, List, [], ◌∷◌, ◌++◌, Option, Some, None, refl, sym, ap, ◌∙◌, subst, arith, inl, inr}
 use Rattle.std.specs.Prelude.{min}
 use Rattle.std.proofs.lemmas.Bool.{cases_lt}
+use Rattle.sgt_arena.specs.declared.handle.Handle.{Handle}
+use Rattle.sgt_edges.specs.declared.edge.Edge.{Edge}
+use Rattle.sgt_certifier.specs.declared.call.Decided.{Decided}
+use Rattle.sgt_certifier.specs.declared.call.Call.{Call}
+use Rattle.sgt_certifier.specs.declared.call.Call.TheVariants as call
+use Rattle.sgt_service_settle.specs.Told.{handed_by}
 use Rattle.sgt_service_settle.specs.private.Words.{lesser, IsLeastOf}
 use Rattle.sgt_service_settle.proofs.Lists.{push_contains, push_old, push_new}
-use Rattle.sgt_names.proofs.Elements.{contains-none}
 
 min_cases : (j k : ℕ) → (min j k ≡ j) ⊎ (min j k ≡ k)
 min_cases j k = elim (cases_lt j k) [ inl lt ↦ inl (omega arith) | inr le ↦ inr (omega arith) ]
@@ -44,3 +49,13 @@ least_miss key Q xs a (Some k) q old = (
     | inr last ↦ absurd (q (subst Q (sym last) qb))
   ],
 )
+
+-- a call that is no decision hands no edges
+pub handed_none : (c : Call)
+    → ((h : Handle) (edges : List Edge) (reply : Decided) → c ≡ call.Decide h edges reply → ⊥) → handed_by c ≡ []
+handed_none (call.Begin tx h) none = refl
+handed_none (call.Decide h edges reply) none = absurd (none h edges reply refl)
+handed_none (call.Finish tx) none = refl
+handed_none (call.Withdraw h number) none = refl
+handed_none (call.Close ranks) none = refl
+handed_none (call.Installed tx site items) none = refl

@@ -9,12 +9,13 @@ use Rattle.sgt_certifier.specs.Certifier.{Ruling}
 use Rattle.sgt_certifier.specs.declared.call.Call.{Call}
 use Rattle.sgt_service_settle.specs.Told.{handed_in}
 use Rattle.sgt_service_settle.specs.declared.handed.Handed.{Handed}
+use Rattle.sgt_service_settle.specs.declared.link.Arc.{Arc}
 use Rattle.sgt_service_settle.specs.declared.link.Cut.{Cut}
 use Rattle.sgt_service_settle.specs.declared.link.Link.{Link}
 use Rattle.sgt_service_settle.specs.declared.index.Index.{Index}
-use Rattle.sgt_service_settle.specs.private.Search.{LinksBy, AreEnds, Passes}
+use Rattle.sgt_service_settle.specs.private.Search.{Hold, LinksBy, AreEnds, Passes}
 use Rattle.sgt_service_settle.specs.private.Words.{AreBySite}
-use Rattle.sgt_service_settle.specs.private.Index.{Names, AreNamed, AreCommits, IsEnd, IsLinkOf, AreLinks, CarriesBy, IsIndex}
+use Rattle.sgt_service_settle.specs.private.Index.{Names, AreNamed, AreCommits, IsEnd, IsLinkOf, AreLinks, LinkedBy, CarriesBy, IsIndex}
 use Rattle.sgt_service_settle.proofs.Lists.{push_contains, push_old, push_new}
 use Rattle.sgt_names.proofs.Elements.{contains-none}
 use Rattle.sgt_names.proofs.Lists.{take_next}
@@ -74,7 +75,7 @@ links_miss windows commits handed n h links here none old m = (
 
 -- ---- the whole index
 
-are_ends : (windows : List (Vec ℕ Global)) (commits : List (Option ℕ)) (handed : List Handed) (links : List Link)
+pub are_ends : (windows : List (Vec ℕ Global)) (commits : List (Option ℕ)) (handed : List Handed) (links : List Link)
     → AreLinks windows commits handed links → AreEnds links (length commits)
 are_ends windows commits handed links are n l at =
     let k = (are l).0 (Contains-from_at links n l at) in (
@@ -82,61 +83,69 @@ are_ends windows commits handed links are n l at =
       slice_get_within commits l.to (Some k.2.to.1.0) k.2.to.1.1,
     )
 
-links_carry : (history : List Call) (rulings : List Ruling) (windows : List (Vec ℕ Global))
-    (commits : List (Option ℕ)) (handed : List Handed) (links : List Link) → AreNamed history windows
-    → AreCommits rulings commits → handed ≡ handed_in history → AreLinks windows commits handed links
-    → (cut : Cut) (a b : ℕ) → LinksBy links cut a b ↔ CarriesBy history rulings cut a b
-links_carry history rulings windows commits handed links names by is are cut a b = (
-  λ e.
-      let l : Link = e.1 in
-      let k = (are l).0 (Contains-from_at links e.0 l e.2) in
-      let h : Handed = k.0 in
-      let link : IsLinkOf windows commits h l = k.2 in
-      let passes : Passes cut h.edge.label h.number =
-      subst (λ n. Passes cut h.edge.label n) link.number (subst (λ x. Passes cut x l.number) link.label e.5) in
-      let from : IsEnd windows commits h.edge.from a = subst (IsEnd windows commits h.edge.from) e.3 link.from in
-      let to : IsEnd windows commits h.edge.to b = subst (IsEnd windows commits h.edge.to) e.4 link.to in
-      record {
-        handed = h;
-        is = subst (λ hs. Contains hs h) is k.1;
-        early = passes.early;
-        here = passes.site;
-        item = passes.item;
-        from = (names h.edge.from a).0 from.0;
-        to = (names h.edge.to b).0 to.0;
-        first = (from.1.0, (by a from.1.0).0 from.1.1);
-        second = (to.1.0, (by b to.1.0).0 to.1.1);
-      },
-  λ c.
-      let l : Link = record { from = a; to = b; label = c.handed.edge.label; number = c.handed.number } in
-      let link : IsLinkOf windows commits c.handed l = record {
-        from = ((names c.handed.edge.from a).1 c.from, (c.first.0, (by a c.first.0).1 c.first.1));
-        to = ((names c.handed.edge.to b).1 c.to, (c.second.0, (by b c.second.0).1 c.second.1));
-        label = refl;
-        number = refl;
-      } in
-      let at = Contains_at links l ((are l).1 (c.handed, subst (λ hs. Contains hs c.handed) (sym is) c.is, link)) in
-      (at.0, l, at.1, refl, refl, record { site = c.here; item = c.item; early = c.early }),
+-- the links of the list are those of the index
+pub links_indexed : (index : Index) (links : List Link)
+    → AreLinks index.windows.items index.commits.items (handed_in index.history.now) links → (cut : Cut) (a b : ℕ)
+    → LinksBy links cut a b ↔ LinkedBy index cut a b
+links_indexed index links are cut a b = (
+  λ e. (e.1, (are e.1).0 (Contains-from_at links e.0 e.1 e.2), e.3, e.4, e.5),
+  λ k. let at = Contains_at links k.0 ((are k.0).1 k.1) in (at.0, k.0, at.1, k.2, k.3, k.4),
 )
 
-pub whole_index : (history : List Call) (rulings : List Ruling) (index : Index) (links : List Link)
-    → index.links.items ≡ links → AreNamed history index.windows.items → AreCommits rulings index.commits.items
-    → index.handed.items ≡ handed_in history
-    → AreLinks index.windows.items index.commits.items index.handed.items links
-    → AreBySite index.handed.items index.sited.items → IsIndex history rulings index
-whole_index history rulings index links same names by is are sited =
-    let carry = links_carry history rulings index.windows.items index.commits.items index.handed.items links names by
-    is are in
-    record {
-      names = names;
-      commits = by;
-      handed = is;
-      links = λ cut a b. subst (λ ls. LinksBy ls cut a b ↔ CarriesBy history rulings cut a b) (sym same)
-          (carry cut a b);
-      paired = record {
-        ends = subst (λ ls. AreEnds ls (length index.commits.items)) (sym same)
-            (are_ends index.windows.items index.commits.items index.handed.items links are);
-        linked = subst (AreLinks index.windows.items index.commits.items index.handed.items) (sym same) are;
-        sited = sited;
-      };
-    }
+-- rows that have the edges of R have those of S, where these are the same
+pub hold_same : (rows : List (Vec Arc Global)) (R S : Cut → ℕ → ℕ → Type 0)
+    → ((cut : Cut) (a b : ℕ) → R cut a b ↔ S cut a b) → Hold rows R → Hold rows S
+hold_same rows R S same hold cut a b =
+    (λ r. (same cut a b).0 ((hold cut a b).0 r), λ s. (hold cut a b).1 ((same cut a b).1 s))
+
+links_carry : (history : List Call) (rulings : List Ruling) (index : Index) → AreNamed history index.windows.items
+    → AreCommits rulings index.commits.items → index.history.now ≡ history → (cut : Cut) (a b : ℕ)
+    → LinkedBy index cut a b ↔ CarriesBy history rulings cut a b
+links_carry history rulings index names by is cut a b =
+    let windows = index.windows.items in
+    let commits = index.commits.items in (
+      λ e.
+          let l : Link = e.0 in
+          let h : Handed = e.1.0 in
+          let link : IsLinkOf windows commits h l = e.1.2 in
+          let passes : Passes cut h.edge.label h.number =
+          subst (λ n. Passes cut h.edge.label n) link.number (subst (λ x. Passes cut x l.number) link.label e.4) in
+          let from : IsEnd windows commits h.edge.from a = subst (IsEnd windows commits h.edge.from) e.2 link.from in
+          let to : IsEnd windows commits h.edge.to b = subst (IsEnd windows commits h.edge.to) e.3 link.to in
+          record {
+            handed = h;
+            is = subst (λ calls. Contains (handed_in calls) h) is e.1.1;
+            early = passes.early;
+            here = passes.site;
+            item = passes.item;
+            from = (names h.edge.from a).0 from.0;
+            to = (names h.edge.to b).0 to.0;
+            first = (from.1.0, (by a from.1.0).0 from.1.1);
+            second = (to.1.0, (by b to.1.0).0 to.1.1);
+          },
+      λ c.
+          let l : Link = record { from = a; to = b; label = c.handed.edge.label; number = c.handed.number } in
+          let link : IsLinkOf windows commits c.handed l = record {
+            from = ((names c.handed.edge.from a).1 c.from, (c.first.0, (by a c.first.0).1 c.first.1));
+            to = ((names c.handed.edge.to b).1 c.to, (c.second.0, (by b c.second.0).1 c.second.1));
+            label = refl;
+            number = refl;
+          } in (
+            l,
+            (c.handed, subst (λ calls. Contains (handed_in calls) c.handed) (sym is) c.is, link),
+            refl,
+            refl,
+            record { site = c.here; item = c.item; early = c.early },
+          ),
+    )
+
+pub whole_index : (history : List Call) (rulings : List Ruling) (index : Index) → AreNamed history index.windows.items
+    → AreCommits rulings index.commits.items → index.history.now ≡ history
+    → AreBySite (handed_in index.history.now) index.sited.items → IsIndex history rulings index
+whole_index history rulings index names by is sited = record {
+  names = names;
+  commits = by;
+  calls = is;
+  links = links_carry history rulings index names by is;
+  paired = sited;
+}

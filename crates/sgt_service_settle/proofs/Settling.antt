@@ -8,14 +8,13 @@ use Rattle.sgt_names.specs.declared.entry.Entry.{Entry}
 use Rattle.sgt_site.specs.State.{SiteState}
 use Rattle.sgt_certifier.specs.Certifier.{Ruling}
 use Rattle.sgt_certifier.specs.declared.call.Call.{Call}
+use Rattle.sgt_service_settle.specs.Told.{handed_in}
 use Rattle.sgt_service_settle.specs.Settled.{Carries, AreEntriesCounted, AreCountedAt, IsLogSettled, IsSiteSettled}
 use Rattle.sgt_service_agreement.specs.declared.counts.EntryCounts.{EntryCounts}
 use Rattle.sgt_service_settle.specs.declared.handed.Handed.{Handed}
 use Rattle.sgt_service_settle.specs.declared.index.Index.{Index}
-use Rattle.sgt_service_settle.specs.private.Words.{IsLeastOf}
-use Rattle.sgt_service_settle.specs.private.Search.{LinksBy}
-use Rattle.sgt_service_settle.specs.private.Index.{IsIndex}
-use Rattle.sgt_service_settle.specs.private.Sites.{IsLogFit, IsFitAt}
+use Rattle.sgt_service_settle.specs.private.Index.{IsIndex, LinkedBy}
+use Rattle.sgt_service_settle.specs.private.Sites.{IsLogFit, IsFitAt, IsLeastBeyond}
 use Rattle.sgt_service_settle.proofs.Carrying.{reaches_map}
 
 log_settled : (history : List Call) (rulings : List Ruling) (index : Index) (k : ℕ) (c : EntryCounts)
@@ -23,10 +22,10 @@ log_settled : (history : List Call) (rulings : List Ruling) (index : Index) (k :
 log_settled history rulings index k c log is fit = record {
   counted = fit.counted;
   edges = λ h contains site.
-      let e = fit.edges h (subst (λ hs. Contains hs h) (sym is.handed) contains) site in
+      let e = fit.edges h (subst (λ calls. Contains (handed_in calls) h) (sym is.calls) contains) site in
       (e.0, e.1, (is.names h.edge.from e.0).0 e.2, (is.names h.edge.to e.1).0 e.3, e.4);
   conflicts = λ kind x a b m n conflict first second.
-      reaches_map (LinksBy index.links.items (record { site = k; item = x; last = max m n }))
+      reaches_map (LinkedBy index (record { site = k; item = x; last = max m n }))
       (Carries history rulings k x (max m n))
       (λ from to. (is.links (record { site = k; item = x; last = max m n }) from to).0) a b
       (fit.conflicts kind x a b m n conflict ((is.commits a m).1 first) ((is.commits b n).1 second));
@@ -37,11 +36,11 @@ log_fit : (history : List Call) (rulings : List Ruling) (index : Index) (k : ℕ
 log_fit history rulings index k c log is settled = record {
   counted = settled.counted;
   edges = λ h contains site.
-      let e = settled.edges h (subst (λ hs. Contains hs h) is.handed contains) site in
+      let e = settled.edges h (subst (λ calls. Contains (handed_in calls) h) is.calls contains) site in
       (e.0, e.1, (is.names h.edge.from e.0).1 e.2, (is.names h.edge.to e.1).1 e.3, e.4);
   conflicts = λ kind x a b m n conflict first second.
       reaches_map (Carries history rulings k x (max m n))
-      (LinksBy index.links.items (record { site = k; item = x; last = max m n }))
+      (LinkedBy index (record { site = k; item = x; last = max m n }))
       (λ from to. (is.links (record { site = k; item = x; last = max m n }) from to).1) a b
       (settled.conflicts kind x a b m n conflict ((is.commits a m).0 first) ((is.commits b n).0 second));
 }
@@ -91,53 +90,42 @@ settled_counted history rulings sites counts k settled s c there counted =
 
 -- ---- sites that aren't there
 
-beyond_with : (history : List Call) (rulings : List Ruling) (index : Index) (sites : List SiteState)
-    (counts : List EntryCounts) (k : ℕ) (o : Option SiteState) → slice_get sites k ≡ o → IsIndex history rulings index
-    → length sites ≤ k → ((h : Handed) → Contains index.handed.items h → h.edge.label.site ≡ k → ⊥)
+beyond_with : (history : List Call) (rulings : List Ruling) (sites : List SiteState) (counts : List EntryCounts)
+    (k : ℕ) (o : Option SiteState) → slice_get sites k ≡ o → length sites ≤ k
+    → ((h : Handed) → Contains (handed_in history) h → h.edge.label.site ≡ k → ⊥)
     → IsSiteSettled history rulings counts k o
-beyond_with history rulings index sites counts k None at is high none =
-    λ h contains site. none h (subst (λ hs. Contains hs h) (sym is.handed) contains) site
-beyond_with history rulings index sites counts k (Some s) at is high none =
+beyond_with history rulings sites counts k None at high none = none
+beyond_with history rulings sites counts k (Some s) at high none =
     absurd (let low = slice_get_within sites k s at in omega (arith, low, high))
 
-pub beyond_settled : (history : List Call) (rulings : List Ruling) (index : Index) (sites : List SiteState)
-    (counts : List EntryCounts) (k : ℕ) → IsIndex history rulings index → length sites ≤ k
-    → ((h : Handed) → Contains index.handed.items h → h.edge.label.site ≡ k → ⊥)
-    → IsSiteSettled history rulings counts k (slice_get sites k)
-beyond_settled history rulings index sites counts k is high none =
-    beyond_with history rulings index sites counts k (slice_get sites k) refl is high none
-
-settled_with : (history : List Call) (rulings : List Ruling) (index : Index) (sites : List SiteState)
-    (counts : List EntryCounts) (k : ℕ) (o : Option SiteState) → slice_get sites k ≡ o → IsIndex history rulings index
-    → length sites ≤ k → IsSiteSettled history rulings counts k o → (h : Handed) → Contains index.handed.items h
+settled_with : (history : List Call) (rulings : List Ruling) (sites : List SiteState) (counts : List EntryCounts)
+    (k : ℕ) (o : Option SiteState) → slice_get sites k ≡ o → length sites ≤ k
+    → IsSiteSettled history rulings counts k o → (h : Handed) → Contains (handed_in history) h
     → h.edge.label.site ≡ k → ⊥
-settled_with history rulings index sites counts k None at is high settled h contains site =
-    settled h (subst (λ hs. Contains hs h) is.handed contains) site
-settled_with history rulings index sites counts k (Some s) at is high settled h contains site =
+settled_with history rulings sites counts k None at high settled = settled
+settled_with history rulings sites counts k (Some s) at high settled =
     absurd (let low = slice_get_within sites k s at in omega (arith, low, high))
 
 -- all sites that are there are settled; the least edge beyond them is the least that isn't
-pub beyond_found : (history : List Call) (rulings : List Ruling) (index : Index) (sites : List SiteState)
-    (counts : List EntryCounts) (o : Option ℕ) → IsIndex history rulings index
-    → ((k : ℕ) → k < length sites → IsSiteSettled history rulings counts k (slice_get sites k))
-    → IsLeastOf (λ (h : Handed). h.edge.label.site) (λ (h : Handed). length sites ≤ h.edge.label.site)
-    index.handed.items o
+pub beyond_found : (history : List Call) (rulings : List Ruling) (sites : List SiteState) (counts : List EntryCounts)
+    (o : Option ℕ) → ((k : ℕ) → k < length sites → IsSiteSettled history rulings counts k (slice_get sites k))
+    → IsLeastBeyond (length sites) (handed_in history) o
     → MatchOption o ((k : ℕ) → IsSiteSettled history rulings counts k (slice_get sites k))
     (λ site. (IsSiteSettled history rulings counts site (slice_get sites site) → ⊥) × ((k : ℕ) → k < site
     → IsSiteSettled history rulings counts k (slice_get sites k)))
-beyond_found history rulings index sites counts None is each least = λ k.
+beyond_found history rulings sites counts None each least = λ k.
     elim (cases_lt k (length sites)) [
       | inl low ↦ each k low
-      | inr high ↦ beyond_settled history rulings index sites counts k is high
+      | inr high ↦ beyond_with history rulings sites counts k (slice_get sites k) refl high
           (λ h contains site. least h contains (omega (arith, high, site)))
     ]
-beyond_found history rulings index sites counts (Some site) is each least = (
-  λ settled. settled_with history rulings index sites counts site (slice_get sites site) refl is
+beyond_found history rulings sites counts (Some site) each least = (
+  λ settled. settled_with history rulings sites counts site (slice_get sites site) refl
       (omega (arith, least.0.3, least.0.2)) settled least.0.0 least.0.1 least.0.2,
   λ k lt.
       elim (cases_lt k (length sites)) [
         | inl low ↦ each k low
-        | inr high ↦ beyond_settled history rulings index sites counts k is high (λ h contains at. let le =
+        | inr high ↦ beyond_with history rulings sites counts k (slice_get sites k) refl high (λ h contains at. let le =
             least.1 h contains (omega (arith, high, at)) in omega (arith, le, at, lt))
       ],
 )

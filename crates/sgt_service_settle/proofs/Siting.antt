@@ -1,5 +1,5 @@
 -- The edges at the places of their sites.
-use Rattle.std.proofs.Common.{◌≡◌, ◌↔◌, ◌∙◌, ◌≤◌, ◌<◌, ◌+◌, ℕ, List, [], ◌∷◌, ◌++◌, take, length, Some, sym, ap, subst, arith, inl, inr, Contains, Vec, Global}
+use Rattle.std.proofs.Common.{◌≡◌, ◌↔◌, ◌∙◌, ◌≤◌, ◌<◌, ℕ, List, [], ◌∷◌, ◌++◌, length, Some, sym, ap, subst, arith, inl, inr, Contains, Vec, Global}
 use Rattle.std.specs.Prelude.{slice_get}
 use Rattle.std.proofs.lemmas.Option.{same_Some}
 use Rattle.sgt_names.proofs.Places.{Contains_at, Contains-from_at}
@@ -8,37 +8,32 @@ use Rattle.sgt_service_settle.specs.private.Words.{At, Pushed, AreBySite}
 use Rattle.sgt_service_settle.proofs.Lists.{push_contains, push_old, push_new}
 use Rattle.sgt_service_settle.proofs.Rowing.{at_pushed, pushed_old, pushed_last}
 use Rattle.sgt_names.proofs.Elements.{contains-none}
-use Rattle.sgt_names.proofs.Lists.{take_next}
 
-pub sited_none : (handed : List Handed) (rows : List (Vec Handed Global)) → ((k n : ℕ) (h : Handed) → At rows k n h → ⊥)
-    → AreBySite (take 0 handed) rows
-sited_none handed rows none = record {
+pub sited_none : (rows : List (Vec Handed Global)) → ((k n : ℕ) (h : Handed) → At rows k n h → ⊥) → AreBySite [] rows
+sited_none rows none = record {
   these = λ site n h there. absurd (none site n h there);
   all = λ h has low. absurd (contains-none h has);
 }
 
 -- an edge of a site that is there, put at its place
-pub sited_hit : (handed : List Handed) (n : ℕ) (h : Handed) (rows new : List (Vec Handed Global))
-    → slice_get handed n ≡ Some h
-    → Pushed rows h.edge.label.site h new → length new ≡ length rows → AreBySite (take n handed) rows
-    → AreBySite (take (n + 1) handed) new
-sited_hit handed n h rows new here pushed long old =
+pub sited_hit : (before : List Handed) (h : Handed) (rows new : List (Vec Handed Global))
+    → Pushed rows h.edge.label.site h new → length new ≡ length rows → AreBySite before rows
+    → AreBySite (before ++ h ∷ []) new
+sited_hit before h rows new pushed long old =
     let site = h.edge.label.site in
-    let more = take_next handed n h here in
     record {
       these = λ k m other there.
           elim (at_pushed rows site h new pushed k m other there) [
             | inl early ↦
                 let known = old.these k m other early in
-                (subst (λ hs. Contains hs other) (sym more) (push_old (take n handed) h other known.0), known.1)
+                (push_old before h other known.0, known.1)
             | inr last ↦ (
-              subst (λ hs. Contains hs other) (sym more)
-                  (subst (Contains (take n handed ++ h ∷ [])) last.2 (push_new (take n handed) h)),
+              subst (Contains (before ++ h ∷ [])) last.2 (push_new before h),
               ap (λ (x : Handed). x.edge.label.site) (sym last.2) ∙ sym last.0,
             )
           ];
       all = λ other has low.
-          elim (push_contains (take n handed) h other (subst (λ hs. Contains hs other) more has)) [
+          elim (push_contains before h other has) [
             | inl early ↦
                 let known = old.all other early (omega (arith, low, long)) in
                 (known.0, pushed_old rows site h new pushed other.edge.label.site known.0 other known.1)
@@ -49,17 +44,13 @@ sited_hit handed n h rows new here pushed long old =
     }
 
 -- one of a site that isn't there
-pub sited_miss : (handed : List Handed) (n : ℕ) (h : Handed) (rows : List (Vec Handed Global))
-    → slice_get handed n ≡ Some h
-    → length rows ≤ h.edge.label.site → AreBySite (take n handed) rows → AreBySite (take (n + 1) handed) rows
-sited_miss handed n h rows here past old =
-    let more = take_next handed n h here in
+pub sited_miss : (before : List Handed) (h : Handed) (rows : List (Vec Handed Global))
+    → length rows ≤ h.edge.label.site → AreBySite before rows → AreBySite (before ++ h ∷ []) rows
+sited_miss before h rows past old =
     record {
-      these = λ k m other there.
-          let known = old.these k m other there in
-          (subst (λ hs. Contains hs other) (sym more) (push_old (take n handed) h other known.0), known.1);
+      these = λ k m other there. let known = old.these k m other there in (push_old before h other known.0, known.1);
       all = λ other has low.
-          elim (push_contains (take n handed) h other (subst (λ hs. Contains hs other) more has)) [
+          elim (push_contains before h other has) [
             | inl early ↦ old.all other early low
             | inr last ↦ let same = ap (λ (x : Handed). x.edge.label.site) last in
                 absurd (omega (arith, low, past, same))

@@ -11,7 +11,7 @@ use Rattle.sgt_service_settle.specs.declared.handed.Handed.{Handed}
 use Rattle.sgt_service_settle.specs.declared.index.Index.{Index}
 use Rattle.sgt_service_settle.specs.declared.link.Link.{Link}
 use Rattle.sgt_service_settle.specs.private.Words.{Pushed}
-use Rattle.sgt_service_settle.specs.private.Index.{IsLinkOf, IsLoggedBy}
+use Rattle.sgt_service_settle.specs.private.Index.{IsHandedIn, IsLinkOf, IsLoggedBy}
 use Rattle.sgt_service_settle.specs.private.Sites.{AreLogged}
 use Rattle.sgt_service_settle.specs.private.Places.{IsShown, AreShown, IsTied, IsAdded, IsTieAdded, AreTied}
 use Rattle.sgt_service_settle.proofs.Lists.{push_contains, push_old, push_new}
@@ -90,7 +90,7 @@ tied_miss index edges others n h rows here are =
 
 -- all edges at the site
 pub tied_all : (index : Index) (site : ℕ) (edges others : List Handed) (rows : List (Vec Link Global))
-    → ((h : Handed) → Contains edges h ↔ (Contains index.handed.items h × (h.edge.label.site ≡ site)))
+    → ((h : Handed) → Contains edges h ↔ (IsHandedIn index h × (h.edge.label.site ≡ site)))
     → AreTiedOf index edges rows others → AreTied index site rows others
 tied_all index site edges others rows is are = record {
   each = λ h has at. are.each h ((is h).1 (has, at));
@@ -108,9 +108,9 @@ link_logged index log h l is shown =
 pub left_logged : (index : Index) (site : ℕ) (log : List Entry) (rows : List (Vec Link Global))
     (others edges left : List Handed) (shown : Bool) → AreTied index site rows others
     → (IsTrue shown → AreShown log rows)
-    → ((h : Handed) → Contains edges h ↔ (Contains index.handed.items h × (h.edge.label.site ≡ site)))
+    → ((h : Handed) → Contains edges h ↔ (IsHandedIn index h × (h.edge.label.site ≡ site)))
     → (IsTrue shown → left ≡ others) → (shown ≡ false → left ≡ edges)
-    → AreLogged index.windows.items left log ↔ ((h : Handed) → Contains index.handed.items h
+    → AreLogged index.windows.items left log ↔ ((h : Handed) → IsHandedIn index h
     → h.edge.label.site ≡ site → IsLoggedBy index.windows.items log h.edge)
 left_logged index site log rows others edges left shown tied rows_shown are is_others is_edges =
     elim (cases_Bool shown) [

@@ -4,12 +4,14 @@ ghost use Rattle.std.specs.Prelude.{◌≡◌, ◌↔◌, ◌<◌, IsTrue, lengt
 ghost use Rattle.sgt_names.specs.Entry.{tx_of, item_of, Clash};
 ghost use Rattle.sgt_service_settle.specs.declared.link.Cut.{Cut as ACut};
 ghost use Rattle.sgt_names.specs.declared.entry.Kind.{Kind as AKind};
+ghost use Rattle.sgt_service_settle.specs.Told.{handed_in};
 ghost use Rattle.sgt_service_settle.specs.private.Search.{IsMarked};
-ghost use Rattle.sgt_service_settle.specs.private.Index.{IsIn, IsDue, IsSided, AllSided, IsPlaceCarried, AreCarried, IsPaired, AreRows};
+ghost use Rattle.sgt_service_settle.specs.private.Index.{IsIn, AreLinks, IsDue, IsSided, AllSided, IsPlaceCarried, AreCarried, AreRows};
 
 use crate::committed::number_of;
-use crate::index::Index;
-use crate::link::{Arc, Cut};
+use crate::handed::all_handed;
+use crate::index::{Index, links_of};
+use crate::link::{Arc, Cut, Link};
 use crate::rows::{entering, leaving};
 use crate::search::search;
 use sgt_names::{Entry, Item, SiteNo, Tx};
@@ -22,15 +24,26 @@ pub struct Rows {
     pub back: Vec<Vec<Arc>>,
 }
 
-// The rows of the edges. Linear in the edges and the transactions, in time and memory.
-fn rows_of(alloc: Global, index: &Index) -> Result<Rows, AllocError>
-    requires { IsPaired index.now }
+// The edges between committed transactions.
+fn links_in(alloc: Global, index: &Index<'_>) -> Result<Vec<Link>, AllocError>
+    ensures { IfOk result (λ links. AreLinks index.now.windows.items index.now.commits.items
+        (handed_in index.now.history.now) links.items) }
+{
+    let handed = all_handed(alloc, index.history)?;
+    let windows = index.windows.as_slice();
+    let commits = index.commits.as_slice();
+    let links = links_of(alloc, windows, commits, handed.as_slice())?;
+    Ok(links)
+}
+
+// The rows of the edges. Linear in the history with its edges and in the transactions, in time and memory.
+fn rows_of(alloc: Global, index: &Index<'_>) -> Result<Rows, AllocError>
     ensures { IfOk result (AreRows index.now) }
 {
-    let links = index.links.as_slice();
+    let links = links_in(alloc, index)?;
     let all = index.commits.len();
-    let out = leaving(alloc, links, all)?;
-    let back = entering(alloc, links, all)?;
+    let out = leaving(alloc, links.as_slice(), all)?;
+    let back = entering(alloc, links.as_slice(), all)?;
     Ok(Rows { out, back })
 }
 
@@ -107,7 +120,7 @@ fn all_sided(
 // Whether the conflicts of the entry with those that are due are carried. The marks are written anew.
 fn is_place_carried(
     alloc: Global,
-    index: &Index,
+    index: &Index<'_>,
     rows: &Rows,
     log: &[Entry],
     cut: &Cut,
@@ -116,7 +129,6 @@ fn is_place_carried(
     forward: &mut [bool],
     backward: &mut [bool],
 ) -> Result<bool, AllocError>
-    requires paired { IsPaired index.now }
     requires rows { AreRows index.now rows.now }
     requires commit { tx_of entry.now < length index.now.commits.items }
     requires forward { length forward.old ≡ length index.now.commits.items }
@@ -149,11 +161,10 @@ pub(crate) fn cut_at(commits: &[Option<u64>], site: SiteNo, entry: &Entry) -> Op
 /// Whether each conflict of the log of the site between committed transactions is carried.
 pub(crate) fn are_carried(
     alloc: Global,
-    index: &Index,
+    index: &Index<'_>,
     site: SiteNo,
     log: &[Entry],
 ) -> Result<bool, AllocError>
-    requires { IsPaired index.now }
     ensures { IfOk result (λ yes. IsTrue yes ↔ AreCarried index.now site log.now) }
 {
     let rows = rows_of(alloc, index)?;

@@ -7,9 +7,10 @@ ghost use Rattle.sgt_service_settle.specs.Settled.{AreCountedAt, AreKept, IsSett
 ghost use Rattle.sgt_service_settle.specs.Fault.{IsUnsettled};
 
 use crate::begins::check_begins;
+use crate::beyond::first_beyond;
 use crate::counts::has_first_counts;
 use crate::index::index_of;
-use crate::sites::{first_beyond, first_unfit, no_tables};
+use crate::sites::{first_unfit, no_tables};
 use crate::tickets::check_tickets;
 use crate::versions::first_uncounted;
 use sgt_certifier::Certifier;
@@ -54,7 +55,7 @@ fn first_differing(
     if let Some(site) = unfit {
         return Ok(Some(site));
     }
-    Ok(first_beyond(index.handed.as_slice(), sites.len()))
+    Ok(first_beyond(certifier.history(), sites.len()))
 }
 
 // What each site keeps of itself.

@@ -16,7 +16,8 @@ pub struct Handed {
     pub number: u64,
 }
 
-fn number_of(reply: &Decided) -> u64
+/// The number of the decision.
+pub(crate) fn number_of(reply: &Decided) -> u64
     ensures { result ≡ number_of reply.now }
 {
     match reply {
@@ -47,8 +48,8 @@ fn add_handed(handed: &mut Vec<Handed>, call: &Call) -> Result<(), AllocError>
     }
 }
 
-// How many edges the decisions are handed.
-fn edges_in(history: &[Call]) -> usize {
+/// How many edges the decisions are handed.
+pub(crate) fn edges_in(history: &[Call]) -> usize {
     let mut count = 0usize;
     for call in history {
         if let Call::Decide { edges, .. } = call {

@@ -3,31 +3,29 @@
 ghost use Rattle.std.specs.Prelude.{◌≡◌, ◌↔◌, ◌<◌, ℕ, Some, Contains, length, IfOk, IfSome, IfNone};
 ghost use Rattle.sgt_service_settle.specs.declared.link.Link.{Link as ALink};
 ghost use Rattle.sgt_service_settle.specs.declared.handed.Handed.{Handed as AHanded};
-ghost use Rattle.sgt_service_settle.specs.private.Index.{IsEnd, IsLinkOf, AreLinks, IsIndex, IsPaired};
+ghost use Rattle.sgt_service_settle.specs.private.Index.{IsEnd, IsLinkOf, AreLinks, IsHandedIn, IsIndex, IsPaired};
 
 use crate::committed::{commits, number_of};
-use crate::handed::{Handed, all_handed};
+use crate::handed::Handed;
 use crate::link::Link;
 use crate::names::{tx_under, windows};
-use crate::rows::by_site;
+use crate::sited::by_site;
 use sgt_arena::Handle;
-use sgt_certifier::Certifier;
+use sgt_certifier::{Call, Certifier};
 use sgt_names::{SiteNo, Tx};
 use std::alloc::{AllocError, Global};
 
 /// What is looked up in a history. The table of commits is by the numbers of transactions.
 #[derive(Drop)]
-pub struct Index {
+pub struct Index<'a> {
+    /// The calls of the history.
+    pub history: &'a [Call],
     /// The transactions of each window, in the order in which they began.
     pub windows: Vec<Vec<Tx>>,
     /// The numbers of the decisions that commit.
     pub commits: Vec<Option<u64>>,
-    /// The edges that the decisions were handed.
-    pub handed: Vec<Handed>,
-    /// Those at each site.
+    /// The edges that the decisions were handed, at each site.
     pub sited: Vec<Vec<Handed>>,
-    /// Those between committed transactions, in the order of those decisions.
-    pub links: Vec<Link>,
 }
 
 // The committed transaction under the handle.
@@ -62,8 +60,8 @@ pub(crate) fn link_of(windows: &[Vec<Tx>], commits: &[Option<u64>], handed: &Han
     })
 }
 
-// The edges between committed transactions.
-fn links_of(
+/// The edges between committed transactions.
+pub(crate) fn links_of(
     alloc: Global,
     windows: &[Vec<Tx>],
     commits: &[Option<u64>],
@@ -82,11 +80,11 @@ fn links_of(
 }
 
 /// The edges that were handed at the site.
-pub(crate) fn edges_at(index: &Index, site: SiteNo) -> &[Handed]
+pub(crate) fn edges_at<'a>(index: &'a Index<'_>, site: SiteNo) -> &'a [Handed]
     requires paired { IsPaired index.now }
     requires there { site < length index.now.sited.items }
     ensures { (h : AHanded) → Contains result.now h
-        ↔ (Contains index.now.handed.items h × (h.edge.label.site ≡ site)) }
+        ↔ (IsHandedIn index.now h × (h.edge.label.site ≡ site)) }
 {
     let place = site.number() as usize;
     index.sited[place].as_slice()
@@ -94,11 +92,11 @@ pub(crate) fn edges_at(index: &Index, site: SiteNo) -> &[Handed]
 
 /// The index of a certifier's history, with the edges at so many sites. Linear in the history with its edges, and in
 /// the sites, in time and memory.
-pub(crate) fn index_of(
+pub(crate) fn index_of<'a>(
     alloc: Global,
-    certifier: &Certifier,
+    certifier: &'a Certifier,
     sites: usize,
-) -> Result<Index, AllocError>
+) -> Result<Index<'a>, AllocError>
     ensures index { IfOk result
         (IsIndex certifier.now.history certifier.now.state.rulings) }
     ensures long { IfOk result (λ index. length index.sited.items ≡ sites) }
@@ -106,19 +104,11 @@ pub(crate) fn index_of(
     let history = certifier.history();
     let windows = windows(alloc, certifier)?;
     let commits = commits(alloc, certifier)?;
-    let handed = all_handed(alloc, history)?;
-    let links = links_of(
-        alloc,
-        windows.as_slice(),
-        commits.as_slice(),
-        handed.as_slice(),
-    )?;
-    let sited = by_site(alloc, handed.as_slice(), sites)?;
+    let sited = by_site(alloc, history, sites)?;
     Ok(Index {
+        history,
         windows,
         commits,
-        handed,
         sited,
-        links,
     })
 }

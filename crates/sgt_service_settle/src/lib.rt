@@ -3,6 +3,7 @@
 
 mod acts;
 mod begins;
+mod beyond;
 mod carried;
 mod check;
 mod committed;
@@ -22,6 +23,7 @@ mod places;
 mod points;
 mod rows;
 mod search;
+mod sited;
 mod sites;
 mod tallies;
 mod tickets;

@@ -1,10 +1,9 @@
-//! The edges by their sites, and those between committed transactions by the transaction at one end.
+//! Rows, and the edges between committed transactions by the transaction at one end.
 
 ghost use Rattle.std.specs.Prelude.{◌≡◌, ◌<◌, ℕ, length, OnOk, IfOk};
-ghost use Rattle.sgt_service_settle.specs.private.Words.{At, Pushed, AreBySite};
+ghost use Rattle.sgt_service_settle.specs.private.Words.{At, Pushed};
 ghost use Rattle.sgt_service_settle.specs.private.Search.{Hold, LinksBy, AreEnds};
 
-use crate::handed::Handed;
 use crate::link::{Arc, Link};
 use std::alloc::{AllocError, Global};
 
@@ -42,25 +41,6 @@ pub(crate) fn no_rows<T: Copy>(
         row.reserve(each)?;
         rows.reserve(1)?;
         rows.push_reserved(row);
-    }
-    Ok(rows)
-}
-
-/// The edges at each of the first so many sites.
-pub(crate) fn by_site(
-    alloc: Global,
-    handed: &[Handed],
-    sites: usize,
-) -> Result<Vec<Vec<Handed>>, AllocError>
-    ensures long { IfOk result (λ rows. length rows.items ≡ sites) }
-    ensures sited { IfOk result (λ rows. AreBySite handed.now rows.items) }
-{
-    let mut rows = no_rows(alloc, sites, share(handed.len(), sites))?;
-    for one in handed {
-        let site = one.edge.label.site.number() as usize;
-        if site < sites {
-            push_at(rows.as_mut_slice(), site, *one)?;
-        }
     }
     Ok(rows)
 }

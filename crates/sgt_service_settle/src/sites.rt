@@ -7,8 +7,6 @@ ghost use Rattle.sgt_names.specs.Limits.{max_sites};
 ghost use Rattle.sgt_names.specs.Ordered.{IsRisingBy};
 ghost use Rattle.sgt_names.specs.declared.entry.Entry.{Entry as AnEntry};
 ghost use Rattle.sgt_service_settle.specs.Settled.{AreEntriesCounted, AreCountedAt, IsCounted};
-ghost use Rattle.sgt_service_settle.specs.declared.handed.Handed.{Handed as AHanded};
-ghost use Rattle.sgt_service_settle.specs.private.Words.{IsLeastOf, lesser};
 ghost use Rattle.sgt_service_settle.specs.private.Index.{IsPaired};
 ghost use Rattle.sgt_service_settle.specs.private.Joined.{AreUnder};
 ghost use Rattle.sgt_service_settle.specs.private.Acts.{AreKnown, AreActs, AreByActor};
@@ -102,7 +100,7 @@ fn unshown<'a>(shown: bool, edges: &'a [Handed], ties: &'a Ties) -> &'a [Handed]
 // Whether the log of the site has the counted entries, and its conflicts are those that the decisions were handed.
 fn is_log_fit(
     alloc: Global,
-    index: &Index,
+    index: &Index<'_>,
     tables: &mut Tables,
     site: SiteNo,
     counts: EntryCounts,
@@ -142,7 +140,7 @@ fn is_log_fit(
 // Whether it is the site of this number, and its log is fit.
 fn is_site_fit(
     alloc: Global,
-    index: &Index,
+    index: &Index<'_>,
     tables: &mut Tables,
     site: SiteNo,
     counts: EntryCounts,
@@ -164,7 +162,7 @@ fn is_site_fit(
 /// The least of the places that there are at which isn't the site of that number, or whose log isn't fit.
 pub(crate) fn first_unfit(
     alloc: Global,
-    index: &Index,
+    index: &Index<'_>,
     tables: &mut Tables,
     sites: &[Site],
     counts: &[EntryCounts],
@@ -192,29 +190,4 @@ pub(crate) fn first_unfit(
         }
     }
     Ok(None)
-}
-
-// The lesser, where there is a first.
-fn lesser(least: Option<SiteNo>, site: SiteNo) -> SiteNo
-    ensures { result ≡ lesser least site }
-{
-    match least {
-        Some(least) if least.number() < site.number() => least,
-        _ => site,
-    }
-}
-
-/// The least site of an edge that is beyond those that there are.
-pub(crate) fn first_beyond(handed: &[Handed], sites: usize) -> Option<SiteNo>
-    ensures { IsLeastOf (λ (h : AHanded). h.edge.label.site)
-        (λ (h : AHanded). sites ≤ h.edge.label.site) handed.now result }
-{
-    let mut least = None;
-    for one in handed {
-        let site = one.edge.label.site;
-        if sites <= site.number() as usize {
-            least = Some(lesser(least, site));
-        }
-    }
-    least
 }

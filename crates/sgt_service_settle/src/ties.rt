@@ -4,7 +4,7 @@ ghost use Rattle.std.specs.Prelude.{◌≡◌, ◌<◌, length, IfOk, MatchOptio
 ghost use Rattle.std.specs.Ordering.{nat_cmp};
 ghost use Rattle.std.specs.Cmp.Lexicographic.{slice_cmp};
 ghost use Rattle.sgt_names.specs.Ordered.{IsRisingBy};
-ghost use Rattle.sgt_service_settle.specs.private.Index.{IsPaired};
+ghost use Rattle.sgt_service_settle.specs.private.Index.{IsIndexed, IsPaired};
 ghost use Rattle.sgt_service_settle.specs.private.Joined.{AreItemLinks};
 ghost use Rattle.sgt_service_settle.specs.private.Places.{AreTied, IsAdded, IsTieAdded};
 
@@ -44,7 +44,7 @@ fn add_link(
 
 // The same of an edge whose ends are committed. None also where they aren't.
 fn add_tie(
-    index: &Index,
+    index: &Index<'_>,
     items: &[Holding],
     rows: &mut [Vec<Link>],
     near: usize,
@@ -64,7 +64,7 @@ fn add_tie(
 /// The edges at the site.
 pub(crate) fn ties_at(
     alloc: Global,
-    index: &Index,
+    index: &Index<'_>,
     site: SiteNo,
     items: &[Holding],
 ) -> Result<Ties, AllocError>
@@ -73,7 +73,7 @@ pub(crate) fn ties_at(
     requires rising { IsRisingBy (λ h. h.item) (slice_cmp nat_cmp) items.now }
     ensures long { IfOk result (λ ties. length ties.rows.items ≡ length items.now) }
     ensures links { IfOk result
-        (λ ties. AreItemLinks index.now.links.items site items.now ties.rows.items) }
+        (λ ties. AreItemLinks (IsIndexed index.now) site items.now ties.rows.items) }
     ensures tied { IfOk result
         (λ ties. AreTied index.now site ties.rows.items ties.others.items) }
 {

@@ -19,7 +19,7 @@ use Rattle.sgt_service_settle.specs.declared.link.Link.{Link}
 use Rattle.sgt_service_settle.specs.declared.index.Index.{Index}
 use Rattle.sgt_service_settle.specs.declared.carried.Rows.{Rows}
 use Rattle.sgt_service_settle.specs.private.Words.{At, AreBySite}
-use Rattle.sgt_service_settle.specs.private.Search.{Hold, LinksBy, AreEnds, IsMarked}
+use Rattle.sgt_service_settle.specs.private.Search.{Hold, Passes, IsMarked}
 
 -- the windows name the transaction under the handle
 abbrev pub Names : List (Vec ℕ Global) → Handle → ℕ → Type 0
@@ -56,27 +56,36 @@ AreLinks windows commits handed links =
 abbrev pub CarriesBy : List Call → List Ruling → Cut → ℕ → ℕ → Type 0
 CarriesBy history rulings cut a b = Carries history rulings cut.site cut.item cut.last a b
 
--- the links are those of the edges, and the edges at each site are those of the index
-pub record IsPaired (index : Index) : Type 0 where
-  pub ends : AreEnds index.links.items (length index.commits.items)
-  pub linked : AreLinks index.windows.items index.commits.items index.handed.items
-      index.links.items
-  pub sited : AreBySite index.handed.items index.sited.items
+-- the edge is one that the decisions were handed
+abbrev pub IsHandedIn : Index → Handed → Type 0
+IsHandedIn index h = Contains (handed_in index.history.now) h
+
+-- the link is that of such an edge, between committed transactions
+abbrev pub IsIndexed : Index → Link → Type 0
+IsIndexed index l = (h : Handed) × IsHandedIn index h × IsLinkOf index.windows.items index.commits.items h l
+
+-- such a link that passes leads from a to b
+abbrev pub LinkedBy : Index → Cut → ℕ → ℕ → Type 0
+LinkedBy index cut a b = (l : Link) × IsIndexed index l × (l.from ≡ a) × (l.to ≡ b)
+    × Passes cut l.label l.number
+
+-- the edges at each site are those of the index
+abbrev pub IsPaired : Index → Type 0
+IsPaired index = AreBySite (handed_in index.history.now) index.sited.items
 
 -- the rows have the links, by the transaction that they come from and by the one that they lead to
 pub record AreRows (index : Index) (rows : Rows) : Type 0 where
   pub out_long : length rows.out.items ≡ length index.commits.items
   pub back_long : length rows.back.items ≡ length index.commits.items
-  pub out : Hold rows.out.items (LinksBy index.links.items)
-  pub back : Hold rows.back.items (λ cut a b. LinksBy index.links.items cut b a)
+  pub out : Hold rows.out.items (LinkedBy index)
+  pub back : Hold rows.back.items (λ cut a b. LinkedBy index cut b a)
 
 -- the index is that of the history
 pub record IsIndex (history : List Call) (rulings : List Ruling) (index : Index) : Type 0 where
   pub names : AreNamed history index.windows.items
   pub commits : AreCommits rulings index.commits.items
-  pub handed : index.handed.items ≡ handed_in history
-  pub links : (cut : Cut) (a b : ℕ)
-      → LinksBy index.links.items cut a b ↔ CarriesBy history rulings cut a b
+  pub calls : index.history.now ≡ history
+  pub links : (cut : Cut) (a b : ℕ) → LinkedBy index cut a b ↔ CarriesBy history rulings cut a b
   pub paired : IsPaired index
 
 -- ---- a log
@@ -91,7 +100,7 @@ IsLoggedBy windows log e =
 abbrev pub AreCarried : Index → ℕ → List Entry → Type 0
 AreCarried index site log = (kind : Kind) (x : Name) (a b m n : ℕ) → Conflicts log kind x a b →
     IsIn index.commits.items a m → IsIn index.commits.items b n →
-    Reaches (LinksBy index.links.items (record { site = site; item = x; last = max m n })) a b
+    Reaches (LinkedBy index (record { site = site; item = x; last = max m n })) a b
 
 -- the other entry is another transaction's, committed by a decision of at most this number
 pub record IsDue (commits : List (Option ℕ)) (e f : Entry) (last : ℕ) : Type 0 where
@@ -117,6 +126,6 @@ AllSided log commits cut p e forward backward = (q : ℕ) (f : Entry) → slice_
 abbrev pub IsPlaceCarried : Index → List Entry → Cut → ℕ → Entry → Type 0
 IsPlaceCarried index log cut p e = (q : ℕ) (f : Entry) → slice_get log q ≡ Some f
     → IsDue index.commits.items e f cut.last →
-    IsSided (Reaches (LinksBy index.links.items cut) (tx_of f) (tx_of e))
-    (Reaches (LinksBy index.links.items cut) (tx_of e) (tx_of f))
+    IsSided (Reaches (LinkedBy index cut) (tx_of f) (tx_of e))
+    (Reaches (LinkedBy index cut) (tx_of e) (tx_of f))
     cut.item p q e f

@@ -10,10 +10,10 @@ use Rattle.sgt_service_settle.specs.declared.link.Link.{Link}
 use Rattle.sgt_service_settle.specs.private.Words.{At, IsItemAt}
 use Rattle.sgt_service_settle.specs.private.Deeds.{IsBefore, IsSound}
 
--- at the place of each item stand edges on it at the site, of these links
-abbrev pub AreItemLinks : List Link → ℕ → List Holding → List (Vec Link Global) → Type 0
-AreItemLinks links site items rows = (at n : ℕ) (l : Link) → At rows at n l
-    → Contains links l × (l.label.site ≡ site) × IsItemAt items l.label.item at
+-- at the place of each item stand edges on it at the site, of which P holds
+abbrev pub AreItemLinks : (Link → Type 0) → ℕ → List Holding → List (Vec Link Global) → Type 0
+AreItemLinks P site items rows = (at n : ℕ) (l : Link) → At rows at n l
+    → P l × (l.label.site ≡ site) × IsItemAt items l.label.item at
 
 -- an edge that was handed to a decision of at most this number leads from a to b
 abbrev pub IsHanded : List Link → ℕ → ℕ → ℕ → Type 0

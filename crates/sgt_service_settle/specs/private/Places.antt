@@ -9,7 +9,7 @@ use Rattle.sgt_service_settle.specs.declared.handed.Handed.{Handed}
 use Rattle.sgt_service_settle.specs.declared.index.Index.{Index}
 use Rattle.sgt_service_settle.specs.declared.link.Link.{Link}
 use Rattle.sgt_service_settle.specs.private.Words.{At, IsItemAt, Pushed}
-use Rattle.sgt_service_settle.specs.private.Index.{IsLinkOf}
+use Rattle.sgt_service_settle.specs.private.Index.{IsHandedIn, IsLinkOf}
 
 -- the entries are of the two transactions of the edge, and in a conflict of its kind
 pub record AreEndsOf (e f : Entry) (l : Link) : Type 0 where
@@ -44,7 +44,6 @@ pub record IsTieAdded (index : Index) (items : List Holding) (h : Handed) (old n
 
 -- each edge at the site stands in the rows or among the others, which are edges there
 pub record AreTied (index : Index) (site : ℕ) (rows : List (Vec Link Global)) (others : List Handed) : Type 0 where
-  pub each : (h : Handed) → Contains index.handed.items h → h.edge.label.site ≡ site
+  pub each : (h : Handed) → IsHandedIn index h → h.edge.label.site ≡ site
       → IsTied index rows h ⊎ Contains others h
-  pub some : (h : Handed) → Contains others h
-      → Contains index.handed.items h × (h.edge.label.site ≡ site)
+  pub some : (h : Handed) → Contains others h → IsHandedIn index h × (h.edge.label.site ≡ site)

@@ -10,7 +10,7 @@ search-requires-clause-within c a b e =
     let link =
     (c.requires.rows.out c.args.cut.now a b).0
     (subst (λ rows. InRows rows c.args.cut.now a b) c.as_slice.ensures.value e) in
-    let low = link_within c.args.index.now c.args.cut.now a b c.requires.paired.ends link in
+    let low = link_within c.args.index.now c.args.cut.now a b link in
     omega (arith, low.1, c.requires.rows.out_long, ap length c.as_slice.ensures.value)
 
 pub search-requires-2-clause-within : goal.search-requires-2-clause-within
@@ -18,7 +18,7 @@ search-requires-2-clause-within c a b e =
     let link =
     (c.requires.rows.back c.args.cut.now a b).0
     (subst (λ rows. InRows rows c.args.cut.now a b) c.as_slice-2.ensures.value e) in
-    let low = link_within c.args.index.now c.args.cut.now b a c.requires.paired.ends link in
+    let low = link_within c.args.index.now c.args.cut.now b a link in
     omega (arith, low.0, c.requires.rows.back_long, ap length c.as_slice-2.ensures.value)
 
 pub returns : goal.returns

@@ -1,9 +1,9 @@
-use Rattle.std.proofs.Common.{◌≡◌, ◌≤◌, ◌∙◌, length, sym, subst, arith}
+use Rattle.std.proofs.Common.{◌≡◌, ◌∙◌, length, sym, subst, arith}
 use Rattle.std.specs.Prelude.{slice_get}
 use Rattle.std.proofs.lemmas.Bool.{true≢false}
 use Rattle.sgt_service_settle.specs.Settled.{IsSiteSettled}
-use Rattle.sgt_service_settle.specs.declared.handed.Handed.{Handed as AHanded}
-use Rattle.sgt_service_settle.specs.private.Words.{IsLeastOf}
+use Rattle.sgt_service_settle.specs.Told.{handed_in}
+use Rattle.sgt_service_settle.specs.private.Sites.{IsLeastBeyond}
 use Rattle.sgt_service_settle.proofs.Settling.{fit_settled, settled_counted, settled_fit, beyond_found}
 use Rattle.sgt_certifier.proofs.Counting.{on-err}
 use Rattle.sgt_service_settle.proofs.check.first_differing.Goals as goal
@@ -44,11 +44,11 @@ returns-clause-ok c =
     let counts = c.args.counts.now in
     let index = c.in_ok-index.index in
     let each = rw c.in_default-unfit.is at c.in_ok-unfit.ensures.ok in
-    beyond_found history rulings index sites counts c.first_beyond.result c.in_ok-index.ensures.index
+    beyond_found history rulings sites counts c.first_beyond.result
     (λ k low. fit_settled history rulings index sites counts k c.in_ok-index.ensures.index c.requires.counts low
     (each k low))
-    (subst (λ hs. IsLeastOf (λ (h : AHanded). h.edge.label.site) (λ (h : AHanded). length sites ≤ h.edge.label.site)
-    hs c.first_beyond.result) c.as_slice.ensures.value c.first_beyond.ensures)
+    (subst (λ calls. IsLeastBeyond (length sites) (handed_in calls) c.first_beyond.result) c.history.ensures.is
+    c.first_beyond.ensures)
 
 pub returns-then-not-has_first_counts-clause-ok : goal.returns-then-not-has_first_counts-clause-ok
 returns-then-not-has_first_counts-clause-ok c =

@@ -1,9 +1,10 @@
-use Rattle.std.proofs.Common.{◌≡◌, ◌∙◌, ◌+◌, ◌++◌, ◌∷◌, [], ap, sym, subst, arith, length, take, Contains}
+use Rattle.std.proofs.Common.{◌≡◌, ◌∙◌, ◌+◌, ◌++◌, ◌∷◌, [], ap, sym, subst, arith, length, take}
 use Rattle.std.proofs.lemmas.List.{take_all}
 use Rattle.sgt_names.proofs.Places.{Contains-from_at}
 use Rattle.sgt_names.specs.declared.entry.Label.{Label as ALabel}
 use Rattle.sgt_service_settle.specs.declared.handed.Handed.{Handed as AHanded}
 use Rattle.sgt_service_settle.specs.declared.link.Link.{Link as ALink}
+use Rattle.sgt_service_settle.specs.private.Index.{IsIndexed}
 use Rattle.sgt_service_settle.specs.private.Joined.{AreItemLinks}
 use Rattle.sgt_service_settle.proofs.Rowing.{written_back}
 use Rattle.sgt_service_settle.proofs.Joining.{item_links_next}
@@ -39,13 +40,13 @@ loop-one-preserved c =
       | in-Some w ↦
           let tie = rw c.as_mut_slice.ensures.value at (rw w.in-Some.is at c.in_ok-placed.ensures) in
           let link : ALink = tie.link in
-          let among : Contains index.links.items link = (c.requires.paired.linked link).1 (one, known.0, tie.is) in
+          let indexed : IsIndexed index link = (one, known.0, tie.is) in
           let site : link.label.site ≡ c.args.site = ap (λ (x : ALabel). x.site) tie.is.label ∙ known.1 in
           let tied = tied_hit index items edges others n w.in-Some.at one old.items new here tie inv.tied in
           record {
             long = ap length back ∙ (same ∙ (long ∙ inv.long));
-            links = subst (AreItemLinks index.links.items c.args.site items) (sym back)
-                (item_links_next index.links.items c.args.site items old.items new w.in-Some.at link among site
+            links = subst (AreItemLinks (IsIndexed index) c.args.site items) (sym back)
+                (item_links_next (IsIndexed index) c.args.site items old.items new w.in-Some.at link indexed site
                 tie.added.item tie.added.pushed inv.links);
             tied = rw w.others-is (subst (λ rs. AreTiedOf index (take (n + 1) edges) rs others) (sym back) tied);
           }
@@ -54,7 +55,7 @@ loop-one-preserved c =
           let tied = tied_miss index edges others n one old.items here inv.tied in
           record {
             long = ap length back ∙ (same ∙ (long ∙ inv.long));
-            links = subst (AreItemLinks index.links.items c.args.site items) (sym (back ∙ kept)) inv.links;
+            links = subst (AreItemLinks (IsIndexed index) c.args.site items) (sym (back ∙ kept)) inv.links;
             tied = rw w.others-is
                 (rw w.in_ok-push-in-None.ensures.items
                 (subst (λ rs. AreTiedOf index (take (n + 1) edges) rs (others ++ one ∷ [])) (sym (back ∙ kept)) tied));
