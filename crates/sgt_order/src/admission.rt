@@ -82,8 +82,14 @@ pub(crate) fn admit_in(
     if leads_to_older(new, offered) {
         return Err(Admit::Stale);
     }
-    extend(dag, region, new, offered)?;
+    let wide = extend(dag, region, new, offered)?;
     add_edges(dag.rows.as_mut_slice(), new.generation, offered);
-    open_rows(&mut dag.rows, &dag.nodes, dag.edges.as_slice(), offered);
+    open_rows(
+        &mut dag.rows,
+        &dag.nodes,
+        dag.edges.as_slice(),
+        offered,
+        wide,
+    );
     Ok(())
 }

@@ -14,8 +14,8 @@ use sgt_arena::{Arena, Handle};
 use sgt_edges::Edge;
 use std::alloc::{AllocError, Global};
 
-/// A node with as many edges gets a row.
-const WIDE: usize = 8;
+/// A node with as many edges gets a row. It is looked for where their number comes to a multiple of this.
+pub const WIDE: usize = 32;
 
 // Sets the bit of an edge, if the node that it comes from has a row.
 fn add_edge(rows: &mut [Row], edge: &Edge)
@@ -112,14 +112,24 @@ fn open_row(
     put_row(rows, at, row)
 }
 
-/// Gives the nodes that these edges come from a row, if they have many edges. Where memory is refused they have none.
-pub(crate) fn open_rows(rows: &mut Vec<Row>, nodes: &Arena<Node>, edges: &[Edge], offered: &[Edge])
+/// Gives the nodes that these edges come from a row, if they have many edges; nothing is done where none of them is known
+/// to have come to a length at which a row is looked for. Where memory is refused they have none.
+pub(crate) fn open_rows(
+    rows: &mut Vec<Row>,
+    nodes: &Arena<Node>,
+    edges: &[Edge],
+    offered: &[Edge],
+    wide: bool,
+)
     requires lists { Lists nodes.now edges.now }
     requires window { (n : ℕ) (e : Joint) → slice_get edges.now n ≡ Some e
         → e.from.generation ≡ nodes.now.generation }
     requires rows { RowsCover rows.old.items edges.now }
     ensures { RowsCover rows.new.items edges.now }
 {
+    if !wide {
+        return;
+    }
     for edge in offered {
         if open_row(rows, nodes, edges, edge.from).is_err() {
             return;

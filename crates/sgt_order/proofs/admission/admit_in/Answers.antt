@@ -75,11 +75,11 @@ returns-then-leads_to_older-clause-fault c =
       forward_acyclic _ _ _ (placed_forward _ _ _ _ _ _ c.search.ensures.searched free),
     )
 
-pub returns-in_err-extend-clause-among : goal.returns-in_err-extend-clause-among
-returns-in_err-extend-clause-among c =
+pub returns-in_err-wide-clause-among : goal.returns-in_err-wide-clause-among
+returns-in_err-wide-clause-among c =
     let among = marks_among _ _ _ _ _ _ c.search.ensures.searched _ c.search.ensures.begins in
     let members = subst (λ o. AreAmong (drop c.search.new.region.first o) c.search.new.region.marks.items)
-    (sym c.in_err-extend.ensures.keeps.order) among in
+    (sym c.in_err-wide.ensures.keeps.order) among in
     subst (λ f. AreAmong (drop f c.extend.new.dag.order.items) c.extend.new.region.marks.items)
     (sym c.extend.ensures.region.1)
     (subst (AreAmong (drop c.search.new.region.first c.extend.new.dag.order.items))
@@ -88,7 +88,7 @@ returns-in_err-extend-clause-among c =
 pub returns-clause-first : goal.returns-clause-first
 returns-clause-first c =
     let old = c.args.dag.now.order in
-    let long = ap length c.in_ok-extend.ensures.order
+    let long = ap length c.in_ok-wide.ensures.order
     ∙ length-placed (is_marked c.search.new.region.marks.items) old.items c.args.new in
     omega (arith, c.extend.ensures.region.1, c.search.ensures.first, long, c.extend.new.dag.order.ok, old.ok)
 
@@ -96,7 +96,7 @@ pub returns-clause-among : goal.returns-clause-among
 returns-clause-among c =
     let among = marks_among _ _ _ _ _ _ c.search.ensures.searched _ c.search.ensures.begins in
     let members = among_moved c.search.new.region.first c.args.dag.now.order.items c.extend.new.dag.order.items
-    c.args.new c.search.new.region.marks.items c.in_ok-extend.ensures.moved among in
+    c.args.new c.search.new.region.marks.items c.in_ok-wide.ensures.moved among in
     subst (λ f. AreAmong (drop f c.extend.new.dag.order.items) c.extend.new.region.marks.items)
     (sym c.extend.ensures.region.1)
     (subst (AreAmong (drop c.search.new.region.first c.extend.new.dag.order.items))
@@ -104,7 +104,7 @@ returns-clause-among c =
 
 pub returns-clause-acyclic : goal.returns-clause-acyclic
 returns-clause-acyclic c =
-    subst (λ es. IsAcyclic (Joins es)) c.in_ok-extend.ensures.edges
+    subst (λ es. IsAcyclic (Joins es)) c.in_ok-wide.ensures.edges
     (forward_acyclic _ _ _ c.extend.ensures.sound.forward)
 
 pub returns-clause-order : goal.returns-clause-order
@@ -116,7 +116,7 @@ returns-clause-order c =
     is_placed dag.nodes.generation dag.order.items dag.edges.items (in_window c.args.new c.args.offered.now)
     c.args.new c.search.new.region.marks.items c.search.ensures.searched free in
     subst (IsPlaced (Joins (dag.edges.items ++ in_window c.args.new c.args.offered.now)) dag.order.items c.args.new)
-    (sym c.in_ok-extend.ensures.order) placing
+    (sym c.in_ok-wide.ensures.order) placing
 
 pub open_rows-requires-clause-lists : goal.open_rows-requires-clause-lists
 open_rows-requires-clause-lists c =
