@@ -2,7 +2,7 @@
 
 ghost use Rattle.std.specs.Prelude.{◌≡◌, ◌↔◌, ◌<◌, ◌≤◌, ◌∷◌, [], Some, All, Any, Contains, length, IsTrue, IfOk, IfErr, OnOk};
 ghost use Rattle.sgt_site.specs.State.{SiteState, IsSite, IsVersionWritten};
-ghost use Rattle.sgt_names.specs.Draft.{AreRising, at_site};
+ghost use Rattle.sgt_names.specs.Draft.{AreRising};
 ghost use Rattle.sgt_names.specs.declared.draft.Seen.{Seen as ASeen};
 ghost use Rattle.sgt_edges.specs.Edges.{IsGiven, StandsForAll, SeesTooNew, RefusesEdges, HaveOwnHandles, AreApart};
 ghost use Rattle.sgt_edges.specs.declared.edge.Edge.{Edge as AnEdge};
@@ -12,8 +12,8 @@ use crate::edge::{Edge, EdgeList};
 use crate::fault::EdgeFault;
 use crate::runs::{accesses_at, behind, changes_before, in_front, reads_before};
 use sgt_arena::Handle;
-use sgt_names::{Draft, Kind, Label, Part, SiteNo, Touch};
-use sgt_site::{Accesses, Reader, Site, Writer};
+use sgt_names::{Draft, Kind, Label, SiteNo, Touch};
+use sgt_site::{Accesses, Reader, Site, Writer, touched_near};
 use std::alloc::{AllocError, Global};
 
 /// The conflicts of a draft's reads and changes at a site with the committed transactions there, as edges to and from
@@ -55,29 +55,6 @@ pub fn gather_into(
         Err(_) if sees_too_new(site, here) => Err(EdgeFault::SeenTooNew),
         Err(_) => Err(EdgeFault::Memory),
     }
-}
-
-// Up to how many touched items are gone over, in place of a search for those of a site.
-const NEAR: usize = 16;
-
-// Touched items of the draft, all of those at the site among them: all that it touches, while they are few.
-fn touched_near(draft: &Draft, site: SiteNo) -> &[Touch]
-    ensures here { at_site site result.now ≡ at_site site draft.now.touched }
-    ensures rising { AreRising result.now }
-{
-    let (few, parts) = draft.touched();
-    if are_near(few, parts) {
-        few
-    } else {
-        draft.at(site)
-    }
-}
-
-// Whether a draft with these has no parts, and few items.
-fn are_near(few: &[Touch], parts: &[Part]) -> bool
-    ensures { IsTrue result → length parts.now ≡ 0 }
-{
-    parts.is_empty() && few.len() <= NEAR
 }
 
 // The draft's edges here to and from neighbours: all of them, and nothing else. None where a version in the draft

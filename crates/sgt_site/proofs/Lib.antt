@@ -12,6 +12,7 @@ pub mod LateReads
 pub mod Tails
 pub mod Keeps
 pub mod SitePart
+pub mod Nearby
 pub mod Pledges
 pub mod Refusals
 pub mod Installs

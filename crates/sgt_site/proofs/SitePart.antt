@@ -1,17 +1,16 @@
 -- What a draft touches at one site.
 use Rattle.std.proofs.Common.{◌≡◌, ℕ, Bool, List, [], ◌∷◌, refl, sym, ap, ◌∙◌, subst, arith, inl, inr, All, Some}
 use Rattle.std.specs.Prelude.{slice_get, filter, IsSome, ◌==◌, ◌↔◌}
-use Rattle.std.specs.declared.cmp.Ordering.TheVariants.{Less, Greater}
-use Rattle.std.proofs.lemmas.Cmp.{tied_itself}
+use Rattle.std.specs.declared.cmp.Ordering.TheVariants.{Less}
 use Rattle.std.proofs.lemmas.Bool.{cases_Bool, cases_lt}
 use Rattle.std.proofs.lemmas.Option.{same_Some}
 use Rattle.sgt_names.specs.Name.{Name}
 use Rattle.sgt_names.specs.Ordered.{IsAt, IsGapFor}
-use Rattle.sgt_names.specs.Draft.{Place, AreRising, at_site, kept_in, writing_in, place_of, place_cmp}
+use Rattle.sgt_names.specs.Draft.{AreRising, at_site, kept_in, writing_in, place_of, place_cmp}
 use Rattle.sgt_names.specs.declared.draft.Touch.{Touch}
 use Rattle.sgt_names.proofs.Lists.{Any_at, Any-from_at}
 use Rattle.sgt_names.proofs.Places.{AllPairs_at}
-use Rattle.sgt_names.proofs.Touched.{place_total, less_apart, greater_apart}
+use Rattle.sgt_names.proofs.Touched.{less_apart, greater_apart}
 use Rattle.sgt_site.specs.State.{SiteState, KeepsReads}
 use Rattle.sgt_site.specs.Refused.{IsHere, MayPledge, RefusesPledge}
 use Rattle.sgt_site.specs.private.Cells.{KeepsItem}
@@ -27,6 +26,16 @@ filter-again p (x ∷ xs) = elim (cases_Bool (p x)) [
   | inr miss ↦ rw miss (filter-again p xs)
 ]
 
+-- a pledge is allowed by what of the draft is at the site
+pub may-near : (s : SiteState) (tx : ℕ) (ts near : List Touch) → at_site s.number near ≡ at_site s.number ts
+    → MayPledge s tx near → MayPledge s tx ts
+may-near s tx ts near same may = record {
+  known = subst (λ part. All (λ c. IsHere s c.0) (writing_in part)) same may.known;
+  active = may.active;
+  free = may.free;
+  same = subst (λ part. KeepsReads s.entries tx (kept_in part)) same may.same;
+}
+
 module _ (s : SiteState) (tx : ℕ) (ts here : List Touch) (is : here ≡ at_site s.number ts) where
   again : at_site s.number here ≡ at_site s.number ts
   again = ap (at_site s.number) is ∙ filter-again (λ (t : Touch). t.site == s.number) ts
@@ -39,13 +48,7 @@ module _ (s : SiteState) (tx : ℕ) (ts here : List Touch) (is : here ≡ at_sit
 
   -- a pledge is allowed and refused by what is touched at the site
   pub may-whole : MayPledge s tx here → MayPledge s tx ts
-  may-whole may = record {
-    known = subst Known again may.known;
-    active = may.active;
-    free = may.free;
-    same =
-        subst Same again may.same;
-  }
+  may-whole may = may-near s tx ts here again may
 
   pub refuses-whole : (f : SiteFault) → RefusesPledge s tx here f → RefusesPledge s tx ts f
   refuses-whole UnknownItem refused = λ known. refused (subst Known (sym again) known)

@@ -1,5 +1,5 @@
 -- A commit's part, one touched item after another: room for it, and its notes.
-use Rattle.std.proofs.Common.{◌≡◌, ℕ, ◌+◌, ◌<◌, ◌≤◌, List, length, Option, Some, None, refl, sym, ap, ◌∙◌, subst, arith, inl, inr, All, append-nil}
+use Rattle.std.proofs.Common.{◌≡◌, ℕ, ◌+◌, ◌<◌, ◌≤◌, List, length, Option, Some, None, refl, sym, ap, ◌∙◌, subst, arith, inl, inr, All, Contains, append-nil}
 use Rattle.std.specs.Prelude.{slice_get, option_map}
 use Rattle.std.specs.Ordering.{nat_cmp}
 use Rattle.std.specs.Cmp.Lexicographic.{slice_cmp}
@@ -9,10 +9,12 @@ use Rattle.std.proofs.lemmas.Option.{same_Some, slice_get_within, slice_get-map}
 use Rattle.sgt_names.specs.Name.{Name}
 use Rattle.sgt_names.specs.Ordered.{IsAt}
 use Rattle.sgt_names.specs.declared.draft.Touch.{Touch}
+use Rattle.sgt_names.proofs.Lists.{Any_at, Any-from_at}
 use Rattle.sgt_names.proofs.Places.{All_at, All-from_at, AllPairs_at, Contains-from_at}
 use Rattle.sgt_site.specs.declared.cell.Install.{Install}
-use Rattle.sgt_site.specs.private.Cells.{Contents, items_of, CellsRise, HasItem, ItemsRise, IsTouched, touch_in, AreChanged, ChangesAt, SameButRoom, HasPlace, IsNoted, NotesItem}
+use Rattle.sgt_site.specs.private.Cells.{Contents, items_of, CellsRise, HasItem, ItemsRise, HasSeen, IsThere, IsTouched, touch_in, AreChanged, ChangesAt, SameButRoom, HasPlace, IsNoted, NotesItem}
 use Rattle.sgt_site.proofs.Basics.{less_apart}
+use Rattle.sgt_site.proofs.Found.{has_key, item-there}
 use Rattle.sgt_site.proofs.Changes.{old_at, all-same, changed-twice, changed-one, changed-items, items-rise, items-apart}
 use Rattle.sgt_site.proofs.Parts.{touch-found, touch-there}
 
@@ -47,12 +49,33 @@ module _ (cells new : List Contents) (x : Name) (n : ℕ) (rising : CellsRise ce
         HasRoomOf : Contents → Contents → Type 0
         HasRoomOf c d = (d.item ≡ c.item) × (d.item ≡ x → 0 < d.has_room)
 
--- where no cell is of the item
-pub no_room-asked : (cells : List Contents) (x : Name) → (HasItem cells x → ⊥)
-    → All (λ c. c.item ≡ x → 0 < c.has_room) cells
-no_room-asked cells x absent = All-from_at (λ (c : Contents). c.item ≡ x → 0 < c.has_room) cells (λ n c at same.
-    absurd (absent (Contains-from_at (items_of cells) n x (slice_get-map (λ (c : Contents). c.item) cells n
-    ∙ ap (option_map (λ (c : Contents). c.item)) at ∙ ap Some same))))
+-- what is found of a touched item at its place
+pub there-here : (cells : List Contents) (tx : ℕ) (t : Touch) (n : ℕ) → IsAt (λ c. c.item) cells t.item n
+    → ((c : Contents) → slice_get cells n ≡ Some c → HasSeen tx t c) → IsThere cells tx t
+there-here cells tx t n at seen =
+    let here = has_key (λ (c : Contents). c.item) cells t.item n at in (
+      item-there cells t.item n at,
+      λ s is. Any-from_at (λ (c : Contents). (c.item ≡ t.item)
+          × Contains c.readings (record { tx = tx; seen = s })) cells n here.0 here.1
+          (here.2, seen here.0 here.1 s is),
+    )
+
+-- and was so before room was made
+pub there-before : (old now : List Contents) (tx : ℕ) (t : Touch) → AreChanged SameButRoom old now
+    → IsThere now tx t → IsThere old tx t
+there-before old now tx t changed there = (
+  subst (λ xs. Contains xs t.item)
+      (changed-items SameButRoom (λ c d room. ap (λ (e : Contents). e.item) room.0) old now changed) there.0,
+  λ s is.
+      let d = Any_at (λ (c : Contents). (c.item ≡ t.item)
+      × Contains c.readings (record { tx = tx; seen = s })) now (there.1 s is) in
+      let c = old_at SameButRoom old now changed d.0 d.1 d.2 in
+      let item : d.1.item ≡ c.0.item = ap (λ (e : Contents). e.item) c.2.0 in
+      let readings : d.1.readings ≡ c.0.readings = ap (λ (e : Contents). e.readings) c.2.0 in
+      Any-from_at (λ (c : Contents). (c.item ≡ t.item)
+      × Contains c.readings (record { tx = tx; seen = s })) old d.0 c.0 c.1
+      (sym item ∙ d.3.0, subst (λ ms. Contains ms (record { tx = tx; seen = s })) readings d.3.1),
+)
 
 -- room for the first touched items
 pub record RoomSoFar (part : List Touch) (k : ℕ) (old now : List Contents) : Type 0 where

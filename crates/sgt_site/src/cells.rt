@@ -4,7 +4,7 @@ ghost use Rattle.std.specs.Prelude.{◌≡◌, ◌↔◌, ◌+◌, ◌<◌, ◌�
 ghost use Rattle.std.specs.Ordering.{nat_cmp};
 ghost use Rattle.std.specs.Cmp.Lexicographic.{slice_cmp};
 ghost use Rattle.sgt_names.specs.Ordered.{IsAt};
-ghost use Rattle.sgt_site.specs.private.Cells.{Contents, CellsRise, HasItem, values_of, versions_of, IsFresh, ItemsRise, IsTouched, touch_in, AreChanged, ChangesAt, SameButRoom, HasPlace, IsNoted, NotesItem};
+ghost use Rattle.sgt_site.specs.private.Cells.{Contents, CellsRise, HasItem, values_of, versions_of, IsFresh, ItemsRise, HasSeen, IsThere, IsTouched, touch_in, AreChanged, ChangesAt, SameButRoom, HasPlace, IsNoted, NotesItem};
 
 use crate::cell::{Cell, Install};
 use sgt_names::{Holding, Item, Seen, Touch, Tx};
@@ -45,7 +45,7 @@ impl Cells {
     ghost use Rattle.std.specs.Cmp.Lexicographic.{slice_cmp};
     ghost use Rattle.sgt_names.specs.Ordered.{IsRisingBy, IsAt};
     ghost use Rattle.sgt_names.specs.declared.draft.Seen.{Seen as Answer};
-    ghost use Rattle.sgt_site.specs.private.Cells.{Contents, CellsRise, HasItem, InCells, values_of, versions_of, IsFresh, IsAnswering, AnswersAt, ItemsRise, IsTouched, touch_in, AreChanged, SameButRoom, IsNoted};
+    ghost use Rattle.sgt_site.specs.private.Cells.{Contents, CellsRise, HasItem, InCells, values_of, versions_of, IsFresh, IsAnswering, AnswersAt, ItemsRise, IsThere, IsTouched, touch_in, AreChanged, SameButRoom, IsNoted};
 
     /// Cells of these items, which nobody has written or read.
     pub(crate) fn new(alloc: Global, items: &[Holding]) -> Result<Cells, AllocError>
@@ -114,13 +114,15 @@ impl Cells {
         self.cells[at].answer(tx)
     }
 
-    /// Makes room in the cells of the items that are touched.
-    pub(crate) fn reserve(&mut self, part: &[Touch]) -> bool
+    /// Makes room in the cells of the items that are touched, if all of them are there and each kept read is the
+    /// transaction's. Finds each item once.
+    pub(crate) fn prepare(&mut self, tx: Tx, part: &[Touch]) -> bool
         ensures same { AreChanged SameButRoom self.old self.new }
+        ensures there { IsTrue result → All (IsThere self.old tx) part.now }
         ensures room { IsTrue result
             → All (λ c. IsTouched part.now c.item → 0 < c.has_room) self.new }
     {
-        reserve_all(&mut self.cells, self.hints.as_slice(), part)
+        prepare_all(&mut self.cells, self.hints.as_slice(), tx, part)
     }
 
     /// Notes a commit in the cells of the items that it touches, each once.
@@ -255,46 +257,69 @@ fn order(cell: &Cell, item: &Item) -> Ordering
     cell.item().cmp(item)
 }
 
-// Makes room in the cells of the items.
-fn reserve_all(cells: &mut Vec<Cell>, hints: &[u16], part: &[Touch]) -> bool
+// Makes room in the cells of the items, if all of them are there and each kept read is the transaction's.
+fn prepare_all(cells: &mut Vec<Cell>, hints: &[u16], tx: Tx, part: &[Touch]) -> bool
     requires { CellsRise cells.old.items }
     ensures same { AreChanged SameButRoom cells.old.items cells.new.items }
+    ensures there { IsTrue result → All (IsThere cells.old.items tx) part.now }
     ensures room { IsTrue result
         → All (λ c. IsTouched part.now c.item → 0 < c.has_room) cells.new.items }
 {
     for t in part {
-        if !reserve_for(cells, hints, t.item) {
+        if !prepare_for(cells, hints, tx, t) {
             return false;
         }
     }
     true
 }
 
-// Makes room in the cell of the item, if there is one.
-fn reserve_for(cells: &mut Vec<Cell>, hints: &[u16], item: Item) -> bool
+// Makes room in the cell of the item, if there is one and the kept read is the transaction's.
+fn prepare_for(cells: &mut Vec<Cell>, hints: &[u16], tx: Tx, touch: &Touch) -> bool
     requires { CellsRise cells.old.items }
     ensures same { AreChanged SameButRoom cells.old.items cells.new.items }
-    ensures room { IsTrue result → All (λ c. c.item ≡ item → 0 < c.has_room) cells.new.items }
+    ensures there { IsTrue result → IsThere cells.old.items tx touch.now }
+    ensures room { IsTrue result
+        → All (λ c. c.item ≡ touch.now.item → 0 < c.has_room) cells.new.items }
 {
-    match search(cells.as_slice(), hints, &item) {
-        Some(at) => reserve_at(cells, at),
+    match search(cells.as_slice(), hints, &touch.item) {
+        Some(at) => prepare_at(cells, at, tx, touch),
+        None => false,
+    }
+}
+
+fn prepare_at(cells: &mut Vec<Cell>, at: usize, tx: Tx, touch: &Touch) -> bool
+    requires { at < length cells.old.items }
+    ensures same { ChangesAt SameButRoom at cells.old.items cells.new.items }
+    ensures seen { IsTrue result → (c : Contents) → slice_get cells.old.items at ≡ Some c
+        → HasSeen tx touch.now c }
+    ensures room { IsTrue result → ChangesAt HasPlace at cells.old.items cells.new.items }
+{
+    prepare(&mut cells[at], tx, touch)
+}
+
+fn prepare(cell: &mut Cell, tx: Tx, touch: &Touch) -> bool
+    ensures same { SameButRoom cell.old cell.new }
+    ensures seen { IsTrue result → HasSeen tx touch.now cell.old }
+    ensures room { IsTrue result → HasPlace cell.old cell.new }
+{
+    is_seen(cell, tx, touch) && cell.reserve().is_ok()
+}
+
+// Whether the kept read, if there is one, is the transaction's.
+fn is_seen(cell: &Cell, tx: Tx, touch: &Touch) -> bool
+    ensures { IsTrue result ↔ HasSeen tx touch.now cell.now }
+{
+    match touch.seen {
+        Some(seen) => is_same(cell.seen_by(tx), seen),
         None => true,
     }
 }
 
-fn reserve_at(cells: &mut Vec<Cell>, at: usize) -> bool
-    requires { at < length cells.old.items }
-    ensures same { ChangesAt SameButRoom at cells.old.items cells.new.items }
-    ensures room { IsTrue result → ChangesAt HasPlace at cells.old.items cells.new.items }
+// Whether this is what the transaction was answered.
+pub(crate) fn is_same(there: Option<Seen>, seen: Seen) -> bool
+    ensures { IsTrue result ↔ (there ≡ Some seen) }
 {
-    reserve(&mut cells[at])
-}
-
-fn reserve(cell: &mut Cell) -> bool
-    ensures same { SameButRoom cell.old cell.new }
-    ensures room { IsTrue result → HasPlace cell.old cell.new }
-{
-    cell.reserve().is_ok()
+    there == Some(seen)
 }
 
 // Notes a commit in the cells of the items that it touches, one after another.

@@ -1,7 +1,7 @@
 -- What a site keeps of each item.
 use Rattle.std.specs.Prelude.{◌≡◌, ◌↔◌, ◌⊎◌, ℕ, Bool, true, false, ◌<◌, ◌≤◌, List, [], ◌++◌, length, map, Option, Some, None, Any, AllPairs, Contains, IsSome, find, option_map, option_and_then, slice_get, set}
 use Rattle.std.specs.List.{insert}
-use Rattle.std.specs.Option.{option_to_list}
+use Rattle.std.specs.Option.{option_to_list, ForSome}
 use Rattle.std.specs.Str.{bytes_eq}
 use Rattle.std.specs.Ordering.{nat_cmp}
 use Rattle.std.specs.Cmp.Lexicographic.{slice_cmp}
@@ -123,6 +123,14 @@ HasItem cells x = Contains (items_of cells) x
 abbrev pub InCells : List Contents → ℕ → Name → Seen → Type 0
 InCells cells tx x seen =
     Any (λ c. (c.item ≡ x) × Contains c.readings (record { tx = tx; seen = seen })) cells
+
+-- the cell has the read that the touched item keeps, if it keeps one
+abbrev pub HasSeen : ℕ → Touch → Contents → Type 0
+HasSeen tx t c = ForSome t.seen (λ s. Contains c.readings (record { tx = tx; seen = s }))
+
+-- the touched item is in the cells, and so is the transaction's read that it keeps, if it keeps one
+abbrev pub IsThere : List Contents → ℕ → Touch → Type 0
+IsThere cells tx t = HasItem cells t.item × ForSome t.seen (InCells cells tx t.item)
 
 -- a read of the item of the site is kept
 abbrev pub KeepsItem : List Touch → ℕ → Name → Type 0

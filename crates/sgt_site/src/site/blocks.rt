@@ -1,14 +1,15 @@
 //! The blocks that end a transaction, written under its pledge.
 
 ghost use Rattle.std.specs.Prelude.{◌≡◌, ◌↔◌, ◌+◌, ◌≤◌, ◌++◌, length, map, vec_len, vec_capacity, IsTrue};
-ghost use Rattle.sgt_names.specs.Draft.{writing_in};
+ghost use Rattle.sgt_names.specs.Draft.{at_site, writing_in};
 ghost use Rattle.sgt_site.specs.State.{change_entry, want_entry};
 
 use super::{Site, add_ended, is_pledged};
 use crate::cell::Install;
 use crate::fault::SiteFault;
+use crate::near::touched_near;
 use sgt_arena::Handle;
-use sgt_names::{Change, Draft, Entry, Item, Touch, Tx};
+use sgt_names::{Change, Draft, Entry, Item, SiteNo, Touch, Tx};
 
 impl Site {
     ghost use Rattle.std.specs.Prelude.{◌≡◌, ◌↔◌, ◌∷◌, ◌++◌, [], None, IsOk, OnOk, OnErr, IfErr};
@@ -22,7 +23,8 @@ impl Site {
     ///
     /// - S5: no pledge of the transaction stands, or the draft reads or writes otherwise here than the one that was pledged.
     ///
-    /// Goes over what the draft touches here, with a search of the items for each. Where it read an item, the
+    /// Goes over what the draft touches, while that is little, and else over what it touches here alone, which a
+    /// search finds; and over what it touches here, with a search of the items for each. Where it read an item, the
     /// committed readers of newer versions move by a place.
     pub fn install(&mut self, tx: Tx, handle: Handle, draft: &Draft) -> Result<(), SiteFault>
         ensures ok { OnOk result (self.new ≡ record self.old {
@@ -35,7 +37,8 @@ impl Site {
         ensures succeeds { IsOk result ↔ IsPledgedFor self.old tx draft.now.touched }
         ensures refused { IfErr result (λ f. f ≡ SiteFault.NotPledged) }
     {
-        if !is_pledged(self.pledged, tx) || !are_same(self.part.as_slice(), draft.at(self.number)) {
+        let near = touched_near(draft, self.number);
+        if !is_pledged(self.pledged, tx) || !are_same(self.part.as_slice(), self.number, near) {
             return Err(SiteFault::NotPledged);
         }
         log_changes(&mut self.log, tx, self.part.as_slice());
@@ -51,7 +54,8 @@ impl Site {
     }
 
     /// Ends a transaction as refused, under its pledge for this draft: what it asked for by rising item, and its end.
-    /// No value changes. Takes no memory, and goes over what the draft touches here.
+    /// No value changes. Takes no memory, and goes over what the draft touches, while that is little, and else over
+    /// what it touches here alone, which a search finds.
     ///
     /// - S5: no pledge of the transaction stands, or the draft reads or writes otherwise here than the one that was pledged.
     pub fn refuse(&mut self, tx: Tx, draft: &Draft) -> Result<(), SiteFault>
@@ -64,7 +68,8 @@ impl Site {
         ensures succeeds { IsOk result ↔ IsPledgedFor self.old tx draft.now.touched }
         ensures refused { IfErr result (λ f. f ≡ SiteFault.NotPledged) }
     {
-        if !is_pledged(self.pledged, tx) || !are_same(self.part.as_slice(), draft.at(self.number)) {
+        let near = touched_near(draft, self.number);
+        if !is_pledged(self.pledged, tx) || !are_same(self.part.as_slice(), self.number, near) {
             return Err(SiteFault::NotPledged);
         }
         log_wants(&mut self.log, tx, self.part.as_slice());
@@ -77,15 +82,17 @@ impl Site {
     }
 }
 
-// Whether these are the same.
-fn are_same(part: &[Touch], here: &[Touch]) -> bool
-    ensures { IsTrue result ↔ (part.now ≡ here.now) }
+// Whether the part is what of these is at the site.
+fn are_same(part: &[Touch], number: SiteNo, near: &[Touch]) -> bool
+    ensures { IsTrue result ↔ (part.now ≡ at_site number near.now) }
 {
     let mut rest = part;
-    for t in here {
-        match rest {
-            [first, others @ ..] if same_touch(first, t) => rest = others,
-            _ => return false,
+    for t in near {
+        if t.site == number {
+            match rest {
+                [first, others @ ..] if same_touch(first, t) => rest = others,
+                _ => return false,
+            }
         }
     }
     rest.is_empty()

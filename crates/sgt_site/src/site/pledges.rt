@@ -1,21 +1,22 @@
 //! Pledges: room for the block that is to end a transaction.
 
-ghost use Rattle.std.specs.Prelude.{◌≡◌, ◌↔◌, ◌<◌, Some, [], length, All, IsTrue, IsSome, vec_len, vec_capacity, ◌+◌};
+ghost use Rattle.std.specs.Prelude.{◌≡◌, ◌↔◌, ◌<◌, length, All, IsTrue, IsSome, vec_len, vec_capacity, ◌+◌};
 ghost use Rattle.std.specs.Option.{ForSome};
-ghost use Rattle.sgt_names.specs.Draft.{AreRising};
+ghost use Rattle.sgt_names.specs.Draft.{AreRising, at_site};
 ghost use Rattle.sgt_site.specs.private.Cells.{HasItem, InCells, KeepsItem};
 ghost use Rattle.sgt_site.specs.private.Pending.{items_by};
 
 use super::{Site, has_ended, is_pledged, make_room};
 use crate::cell::Install;
-use crate::cells::Cells;
+use crate::cells::{Cells, is_same};
 use crate::fault::SiteFault;
+use crate::near::touched_near;
 use crate::pending::Pending;
 use crate::site_part::keeps;
-use sgt_names::{Draft, Entry, Item, Seen, SiteNo, Touch, Tx};
+use sgt_names::{Draft, Entry, Item, SiteNo, Touch, Tx};
 
 impl Site {
-    ghost use Rattle.std.specs.Prelude.{◌≡◌, ◌↔◌, Some, None, IsOk, OnOk, OnErr, IfErr};
+    ghost use Rattle.std.specs.Prelude.{◌≡◌, ◌↔◌, Some, None, false, IsTrue, IsOk, OnOk, OnErr, IfErr};
     ghost use Rattle.sgt_names.specs.Draft.{AreRising, at_site};
     ghost use Rattle.sgt_site.specs.declared.fault.SiteFault.{SiteFault};
     ghost use Rattle.sgt_site.specs.State.{IsPledged};
@@ -32,9 +33,10 @@ impl Site {
     /// - S8: the draft's reads here aren't the transaction's in the log, each with its value and version.
     /// - S4: there was no memory.
     ///
-    /// Searches the draft for what it touches here, and goes over that alone, with a search of the items for each.
-    /// For each read of the transaction here it searches what the draft touches here. It doesn't go over the log, nor
-    /// over what the draft touches elsewhere.
+    /// Goes over what the draft touches, while that is little, and else over what it touches here alone, which a
+    /// search finds. Each item that it touches here is searched for once among the items. For each read of the
+    /// transaction here it searches what the draft touches here. It doesn't go over the log. Where it errs, it goes over
+    /// what the draft touches here again for the reason, with up to two more searches of the items for each.
     pub fn pledge(&mut self, tx: Tx, draft: &Draft) -> Result<(), SiteFault>
         ensures ok { OnOk result (self.new ≡ record self.old {
           pledge = Some (record { tx = tx; part = at_site self.old.number draft.now.touched });
@@ -45,20 +47,12 @@ impl Site {
         ensures allowed { OnOk result (MayPledge self.old tx draft.now.touched) }
         ensures refused { IfErr result (RefusesPledge self.old tx draft.now.touched) }
     {
-        let here = draft.at(self.number);
-        self.may_pledge(tx, here)?;
-        self.part.clear();
-        if !copy_part(&mut self.part, here) {
-            return Err(SiteFault::Memory);
+        if self.pledged.is_some() {
+            return Err(self.why_unpledged(tx, draft));
         }
-        let part = self.part.as_slice();
-        if !make_rooms(&mut self.log, &mut self.installed, &mut self.ended, part) {
-            return Err(SiteFault::Memory);
+        if !self.try_pledge(tx, touched_near(draft, self.number)) {
+            return Err(self.why_unpledged(tx, draft));
         }
-        if !self.cells.reserve(part) {
-            return Err(SiteFault::Memory);
-        }
-        self.pledged = Some(tx);
         Ok(())
     }
 
@@ -77,6 +71,47 @@ impl Site {
         self.pledged = None;
         self.part.clear();
         Ok(())
+    }
+
+    // Gives the pledge for what of these is at the site, if it may be given and there is memory.
+    fn try_pledge(&mut self, tx: Tx, near: &[Touch]) -> bool
+        requires rising { AreRising near.now }
+        requires free { self.old.pledge ≡ None }
+        ensures given { IsTrue result → self.new ≡ record self.old {
+          pledge = Some (record { tx = tx; part = at_site self.old.number near.now });
+        } }
+        ensures not { result ≡ false → self.new ≡ self.old }
+        ensures may { IsTrue result → MayPledge self.old tx near.now }
+    {
+        if has_ended(self.ended.as_slice(), tx) {
+            return false;
+        }
+        if !copy_part(&mut self.part, self.number, near) {
+            return false;
+        }
+        let part = self.part.as_slice();
+        if !all_kept(self.pending.items_of(tx), self.number, part) {
+            return false;
+        }
+        if !self.cells.prepare(tx, part) {
+            return false;
+        }
+        if !make_rooms(&mut self.log, &mut self.installed, &mut self.ended, part) {
+            return false;
+        }
+        self.pledged = Some(tx);
+        true
+    }
+
+    // Why a pledge that wasn't given can't be.
+    #[inline(never)]
+    fn why_unpledged(&self, tx: Tx, draft: &Draft) -> SiteFault
+        ensures { RefusesPledge self.now tx draft.now.touched result }
+    {
+        match self.may_pledge(tx, draft.at(self.number)) {
+            Err(fault) => fault,
+            Ok(()) => SiteFault::Memory,
+        }
     }
 
     // Whether a pledge may be given, memory aside.
@@ -162,12 +197,6 @@ fn is_logged(cells: &Cells, tx: Tx, number: SiteNo, touch: &Touch) -> bool
     }
 }
 
-fn is_same(there: Option<Seen>, seen: Seen) -> bool
-    ensures { IsTrue result ↔ (there ≡ Some seen) }
-{
-    there == Some(seen)
-}
-
 // Whether the draft keeps a read of each of these items.
 fn all_kept(own: &[Item], number: SiteNo, touched: &[Touch]) -> bool
     requires { AreRising touched.now }
@@ -181,12 +210,20 @@ fn all_kept(own: &[Item], number: SiteNo, touched: &[Touch]) -> bool
     true
 }
 
-// Copies these.
-fn copy_part(part: &mut Vec<Touch>, here: &[Touch]) -> bool
-    requires { part.old.items ≡ [] }
-    ensures { IsTrue result → part.new.items ≡ here.now }
+// Copies what of these is at the site, in place of what was there.
+fn copy_part(part: &mut Vec<Touch>, number: SiteNo, near: &[Touch]) -> bool
+    ensures { IsTrue result → part.new.items ≡ at_site number near.now }
 {
-    part.extend_from_slice(here).is_ok()
+    part.clear();
+    if part.reserve(near.len()).is_err() {
+        return false;
+    }
+    for touch in near {
+        if touch.site == number {
+            part.push_reserved(*touch);
+        }
+    }
+    true
 }
 
 // Makes room for the block of what is touched, its handle and its end.

@@ -83,7 +83,7 @@ invariant_of-self c =
 
 pub returns-clause-ok : goal.returns-clause-ok
 returns-clause-ok c =
-    let part = rw (c.as_slice.ensures.value, c.at.ensures.part) at (c.if-not-are_same.ensures.0 refl) in
+    let part = rw (c.as_slice.ensures.value, c.touched_near-near.ensures.here) at (c.if-not-are_same.ensures.0 refl) in
     rw (
       ← c.self.view_is,
       c.push_reserved-2.ensures.items,

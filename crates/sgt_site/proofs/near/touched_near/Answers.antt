@@ -3,8 +3,8 @@ use Rattle.std.specs.Prelude.{◌==◌}
 use Rattle.sgt_names.specs.Draft.{AreRising, at_site}
 use Rattle.sgt_names.specs.declared.draft.Touch.{Touch}
 use Rattle.sgt_site.proofs.SitePart.{filter-again}
-use Rattle.sgt_edges.proofs.Touching.{few-all}
-use Rattle.sgt_edges.proofs.gathered.touched_near.Goals as goal
+use Rattle.sgt_site.proofs.Nearby.{few-all}
+use Rattle.sgt_site.proofs.near.touched_near.Goals as goal
 
 pub returns-then-are_near-clause-here : goal.returns-then-are_near-clause-here
 returns-then-are_near-clause-here c =
