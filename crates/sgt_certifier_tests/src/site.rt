@@ -1,8 +1,8 @@
-//! What no clause of a site says: that a pledge is covered.
+//! What no clause of a site says: that a pledge is covered, and which drafts are short.
 
 use crate::common::{Names, handle, is_used_by, opened};
-use sgt_names::{Change, Draft, Holding, Item, Seen, Tx};
-use sgt_site::{Reader, Site, SiteFault, Writer};
+use sgt_names::{Change, Draft, Holding, Item, Seen, SiteNo, Tx};
+use sgt_site::{Reader, Site, SiteFault, Writer, touched_near};
 use std::alloc::Global;
 use std::test::Fail;
 
@@ -111,5 +111,30 @@ fn pledge_holds(rt: HostRuntime) -> Result<(), Fail> {
     assert!(rt; is_used_by(&site, y, &[writer], 0, &[]));
     let after = [Holding { item: x, value: 5 }, Holding { item: y, value: 0 }];
     assert!(rt; ends_with(rt.alloc(), &site, &after));
+    Ok(())
+}
+
+// Writes an item of one letter: whether it did.
+fn put_letter(draft: &mut Draft, site: SiteNo, letter: u8) -> bool {
+    match Item::new(&[letter]) {
+        Ok(item) => draft.put(site, item, 1).is_ok(),
+        Err(_) => false,
+    }
+}
+
+// A draft of sixteen items is gone over as a whole for a site, and one of more by what it touches there.
+#[test]
+fn short_drafts(rt: HostRuntime) -> Result<(), Fail> {
+    let (here, there) = (SiteNo::new(3)?, SiteNo::new(4)?);
+    let mut draft = Draft::new(rt.alloc());
+    let mut kept = true;
+    for letter in b'a'..b'q' {
+        let site = if letter < b'f' { here } else { there };
+        kept = put_letter(&mut draft, site, letter) && kept;
+    }
+    assert!(rt; kept && touched_near(&draft, here).len() == 16);
+    assert!(rt; put_letter(&mut draft, there, b'q'));
+    assert!(rt; touched_near(&draft, here).len() == 5);
+    assert!(rt; touched_near(&draft, there).len() == 12);
     Ok(())
 }
