@@ -9,7 +9,7 @@ use Rattle.std.proofs.lemmas.List.{length-take-le, length-drop, take-append-drop
 use Rattle.std.proofs.lemmas.Slice.Eq.{bytes_eq-Decides}
 use lib.Ieee.Fits.{and_l, and_r}
 
-abbrev AreBytes : List ℕ → Type 0
+abbrev pub AreBytes : List ℕ → Type 0
 AreBytes xs = (i : ℕ) → get_or xs i 0 < 256
 
 -- eight bytes with the number of eight others are those
@@ -18,7 +18,7 @@ same_eight : (xs ys : List ℕ) → length xs ≡ 8 → length ys ≡ 8 → AreB
 same_eight xs ys long other fits fits' e = sym (le_bytes_8 xs (from_le_bytes w64 xs) long fits refl)
     ∙ le_bytes_8 ys (from_le_bytes w64 xs) other fits' e
 
-front-bytes : (xs : List ℕ) (n : ℕ) → n ≤ length xs → AreBytes xs → AreBytes (take n xs)
+pub front-bytes : (xs : List ℕ) (n : ℕ) → n ≤ length xs → AreBytes xs → AreBytes (take n xs)
 front-bytes xs n le fits i =
     elim (cases_lt i n) [
       | inl less ↦ subst (λ b. b < 256) (sym (get_or-take n xs i 0 less)) (fits i)
@@ -26,7 +26,7 @@ front-bytes xs n le fits i =
           (omega arith)
     ]
 
-back-bytes : (xs : List ℕ) (n : ℕ) → AreBytes xs → AreBytes (drop n xs)
+pub back-bytes : (xs : List ℕ) (n : ℕ) → AreBytes xs → AreBytes (drop n xs)
 back-bytes xs n fits i = subst (λ b. b < 256) (sym (get_or-drop n xs i 0)) (fits (n + i))
 
 halves-Decides : (xs ys : List ℕ) → length xs ≡ 16 → length ys ≡ 16 → AreBytes xs → AreBytes ys

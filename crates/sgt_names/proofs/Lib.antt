@@ -5,6 +5,7 @@ pub mod Chosen
 pub mod Increments
 pub mod Kept
 mod Halves
+mod BigEndian
 pub mod Lanes
 pub mod Stored
 pub mod Ranged

@@ -1,7 +1,7 @@
 //! The names of items.
 
 ghost use Rattle.std.specs.Prelude.{◌≡◌, ◌≤◌, ◌-◌, ◌++◌, ◌↔◌, IsTrue, take, drop, replicate};
-ghost use Rattle.std.specs.Int.{w64, from_le_bytes};
+ghost use Rattle.std.specs.Int.{w64, from_be_bytes, from_le_bytes};
 ghost use Rattle.std.specs.List.{prefix_len};
 ghost use Rattle.std.specs.Prelude.{Some, refl, bytes_eq};
 ghost use Rattle.std.specs.Ordering.{nat_cmp};
@@ -141,8 +141,9 @@ impl Ord for Item {
 
     ghost matches_eq = { texts_ties };
 
+    #[inline(always)]
     fn cmp(&self, other: &Item) -> Ordering {
-        self.bytes.cmp(&other.bytes)
+        order(&self.bytes, &other.bytes)
     }
 }
 
@@ -258,6 +259,31 @@ fn halves(bytes: &[u8; 16]) -> (u64, u64)
     match (bytes.first_chunk::<8>(), bytes.last_chunk::<8>()) {
         (Some(front), Some(back)) => (u64::from_le_bytes(*front), u64::from_le_bytes(*back)),
         _ => (0, 0),
+    }
+}
+
+// The number of the first eight bytes, and that of the others, the first byte the most.
+#[inline(always)]
+fn front_and_back(bytes: &[u8; 16]) -> (u64, u64)
+    ensures front { result.0 ≡ from_be_bytes w64 (take 8 bytes.now) }
+    ensures back { result.1 ≡ from_be_bytes w64 (drop 8 bytes.now) }
+{
+    match (bytes.first_chunk::<8>(), bytes.last_chunk::<8>()) {
+        (Some(front), Some(back)) => (u64::from_be_bytes(*front), u64::from_be_bytes(*back)),
+        _ => (0, 0),
+    }
+}
+
+// The order of the bytes, eight at a time.
+#[inline(always)]
+fn order(bytes: &[u8; 16], others: &[u8; 16]) -> Ordering
+    ensures { result ≡ slice_cmp nat_cmp bytes.now others.now }
+{
+    let (front, back) = front_and_back(bytes);
+    let (other_front, other_back) = front_and_back(others);
+    match front.cmp(&other_front) {
+        Ordering::Equal => back.cmp(&other_back),
+        unequal => unequal,
     }
 }
 

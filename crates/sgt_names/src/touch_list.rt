@@ -211,6 +211,7 @@ fn search(touched: &[Touch], site: SiteNo, item: Item) -> Result<usize, usize>
     touched.binary_search_by(|t| order(t, site, &item))
 }
 
+#[inline(always)]
 fn order(t: &Touch, site: SiteNo, item: &Item) -> Ordering
     ensures { result ≡ place_cmp (place_of t.now) (site, item.now) }
 {
@@ -271,6 +272,10 @@ fn insert_touch(touched: &mut Vec<Touch>, at: usize, touch: Touch) -> Result<(),
     ensures succeeds { vec_len touched.old < vec_capacity touched.old → IsOk result }
 {
     touched.reserve(1)?;
-    let _ = touched.insert(at, touch);
+    if at == touched.len() {
+        touched.push_reserved(touch);
+    } else {
+        let _ = touched.insert(at, touch);
+    }
     Ok(())
 }

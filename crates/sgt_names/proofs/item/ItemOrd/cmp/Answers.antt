@@ -5,5 +5,5 @@ use Rattle.sgt_names.proofs.Stored.{stored-order}
 use Rattle.sgt_names.proofs.item.ItemOrd.cmp.Goals as goal
 
 pub returns : goal.returns
-returns c = c.cmp.ensures ∙ stored-order _ _ c.self.invariant c.other.invariant
+returns c = c.order.ensures ∙ stored-order _ _ c.self.invariant c.other.invariant
     ∙ ap₂ (slice_cmp nat_cmp) c.self.view_is c.other.view_is
