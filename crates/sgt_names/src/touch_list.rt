@@ -1,6 +1,6 @@
 //! Touched items in one list.
 
-ghost use Rattle.std.specs.Prelude.{◌≡◌, ◌<◌, ◌≤◌, true, false, leb, nat_lt, length, IfOk, IfErr, IsOk, OnOk, OnErr, vec_len, vec_capacity, insert};
+ghost use Rattle.std.specs.Prelude.{◌≡◌, ◌<◌, ◌≤◌, true, false, leb, nat_lt, length, IfOk, IfErr, IsOk, OnOk, OnErr, vec_len, vec_capacity, insert, take, ◌-◌};
 ghost use Rattle.std.specs.List.Sorted.{IsPartitionPoint};
 ghost use Rattle.sgt_names.specs.Ordered.{IsAt, IsGapFor};
 ghost use Rattle.sgt_names.specs.Draft.{AreRising, place_of, place_cmp, at_site, look_of};
@@ -13,6 +13,9 @@ use crate::site_no::SiteNo;
 use std::alloc::{AllocError, Global};
 use std::cmp::Ordering;
 use std::marker::Model;
+
+// Up to how many touched items are gone over, in place of a search.
+const NEAR: usize = 16;
 
 // Touched items, in one list.
 #[derive(Drop)]
@@ -208,7 +211,42 @@ fn search(touched: &[Touch], site: SiteNo, item: Item) -> Result<usize, usize>
     ensures found { IfOk result (IsAt place_of touched.now (site, item)) }
     ensures absent { IfErr result (IsGapFor place_of place_cmp touched.now (site, item)) }
 {
-    touched.binary_search_by(|t| order(t, site, &item))
+    if touched.len() <= NEAR {
+        return search_near(touched, site, &item);
+    }
+    search_far(touched, site, &item)
+}
+
+// The same, by a binary search.
+#[inline(never)]
+fn search_far(touched: &[Touch], site: SiteNo, item: &Item) -> Result<usize, usize>
+    requires { AreRising touched.now }
+    ensures found { IfOk result (IsAt place_of touched.now (site, item.now)) }
+    ensures absent { IfErr result (IsGapFor place_of place_cmp touched.now (site, item.now)) }
+{
+    touched.binary_search_by(|t| order(t, site, item))
+}
+
+// The same, where few are touched: each that stands in front is gone over.
+#[inline(always)]
+fn search_near(touched: &[Touch], site: SiteNo, item: &Item) -> Result<usize, usize>
+    requires { AreRising touched.now }
+    ensures found { IfOk result (IsAt place_of touched.now (site, item.now)) }
+    ensures absent { IfErr result (IsGapFor place_of place_cmp touched.now (site, item.now)) }
+{
+    let mut at = 0;
+    while at < touched.len() {
+        let touch = &touched[at];
+        if touch.site.number() >= site.number() {
+            match order(touch, site, item) {
+                Ordering::Less => {}
+                Ordering::Equal => return Ok(at),
+                Ordering::Greater => return Err(at),
+            }
+        }
+        at += 1;
+    }
+    Err(at)
 }
 
 #[inline(always)]
@@ -272,10 +310,21 @@ fn insert_touch(touched: &mut Vec<Touch>, at: usize, touch: Touch) -> Result<(),
     ensures succeeds { vec_len touched.old < vec_capacity touched.old → IsOk result }
 {
     touched.reserve(1)?;
-    if at == touched.len() {
-        touched.push_reserved(touch);
-    } else {
-        let _ = touched.insert(at, touch);
-    }
+    touched.push_reserved(touch);
+    put_between(touched.as_mut_slice(), at, &touch);
     Ok(())
+}
+
+// Puts a touched item at its place among those before the last, which move up over it.
+#[inline(always)]
+fn put_between(touched: &mut [Touch], at: usize, touch: &Touch)
+    requires { at < length touched.old }
+    ensures { touched.new ≡ insert (take (length touched.old - 1) touched.old) at touch.now }
+{
+    let mut place = touched.len() - 1;
+    while place > at {
+        touched[place] = touched[place - 1];
+        place -= 1;
+    }
+    touched[at] = *touch;
 }
