@@ -1,5 +1,5 @@
 -- Numbers of up to seven digits, as they are read from eight bytes.
-use Rattle.std.proofs.Common.{◌≡◌, ℕ, ◌<◌, List, [], ◌∷◌, length, take, get_or, ap, ◌∙◌, decimal, arith}
+use Rattle.std.proofs.Common.{◌≡◌, ℕ, ◌<◌, ◌≤◌, List, [], ◌∷◌, length, take, get_or, ap, ◌∙◌, decimal, arith}
 use Rattle.std.proofs.lemmas.List.{get_or-take}
 use Rattle.std.specs.Array.{IsFirstChunk}
 use Rattle.std.specs.Float.Numeral.{digits_len}
@@ -33,7 +33,7 @@ Reads word n value = (xs : List ℕ) → IsEightBytes xs → word ≡ number_l 2
 
 pub short_number : (bytes chunk : List ℕ) (n value : ℕ) → ((k : ℕ) → get_or bytes k 0 < 256)
     → IsFirstChunk bytes chunk 8 → Reads (from_le_bytes w64 chunk) n value
-    → 0 < n → n < 8 → (get_or chunk 0 0 ≡ 48 → ⊥) → IsValue value × Spans bytes 0 (decimal value) n
+    → 0 < n → n < 8 → (get_or chunk 0 0 ≡ 48 → n ≤ 1) → IsValue value × Spans bytes 0 (decimal value) n
 short_number bytes chunk n value fits first reads some few plain =
     let front = take 8 bytes in
     let eight : IsEightBytes front = eight_at bytes 0 fits first.enough in
@@ -45,4 +45,4 @@ short_number bytes chunk n value fits first reads some few plain =
     ∙ get_or-take 8 bytes 0 0 (omega arith) in
     front_digits bytes n value (omega (arith, end, r.0)) (r.1
     ∙ ap (digits_value 10) (take-front bytes n 8 (omega (arith, few)))) some (omega (arith, few))
-    (let enough = first.enough in omega (arith, enough, few)) (λ z. absurd (plain (here ∙ z)))
+    (let enough = first.enough in omega (arith, enough, few)) (λ z. plain (here ∙ z))

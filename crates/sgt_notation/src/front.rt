@@ -94,7 +94,8 @@ fn far_value(bytes: &[u8]) -> Option<(Value, usize)>
     Some((value, n))
 }
 
-/// The number at the front, and how many digits it has. One of up to seven digits, with no zero first, is read at once.
+/// The number at the front, and how many digits it has. One of up to seven digits is read at once, if no zero stands
+/// in front of another digit.
 #[inline(always)]
 fn front_value(bytes: &[u8]) -> Option<(Value, usize)>
     ensures { IfSome result (λ r. IsValue r.0 × Spans bytes.now 0 (decimal r.0) r.1) }
@@ -104,7 +105,7 @@ fn front_value(bytes: &[u8]) -> Option<(Value, usize)>
         if n == 0 {
             return None;
         }
-        if n < 8 && chunk[0] != b'0' {
+        if n < 8 && (chunk[0] != b'0' || n == 1) {
             return Some((value, n));
         }
     }
