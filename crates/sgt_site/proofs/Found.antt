@@ -111,14 +111,6 @@ found_reading readings tx n at =
     let same : m.0 ≡ record { tx = tx; seen = m.0.seen } = λ i. record { tx = m.2 i; seen = m.0.seen } in
     (m.0.seen, subst (Contains readings) same (Contains-from_at readings n m.0 m.1))
 
--- whether there is one
-pub tells_reading : (readings : List Reading) (tx : ℕ) (b : Bool) (o : Option Seen) → b ≡ is_some o
-    → ((seen : Seen) → (o ≡ Some seen) ↔ Contains readings (record { tx = tx; seen = seen }))
-    → IsTrue b ↔ IsAnswering readings tx
-tells_reading readings tx b None is tells =
-    (λ h. absurd (false≢true (sym is ∙ h)), λ has. absurd (let e = (tells has.0).1 has.1 in cc))
-tells_reading readings tx b (Some seen) is tells = (λ h. (seen, (tells seen).0 refl), λ has. is)
-
 -- the cell at a place answers
 pub answers_at : {E : Type 0} (cells : List Contents) (n tx : ℕ) (new : Contents) (r : Result Seen E) {old : Contents}
     → slice_get cells n ≡ Some old → IfOk r (λ seen. seen ≡ answer_of old) → OnOk r (IsAnswered old new tx)

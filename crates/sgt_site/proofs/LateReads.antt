@@ -82,6 +82,11 @@ module _ (front : List Reading) (late : BTreeMap ℕ Seen) (parted : AreParted f
     ],
   )
 
+  -- a transaction that the list answers has been answered
+  pub read-front : IsAnswering front tx → IsAnswering (all_readings front late) tx
+  read-front has =
+      (has.0, Contains-append_left front (map late_reading late.entries) (record { tx = tx; seen = has.0 }) has.1)
+
   -- ---- one more
 
   module _ (seen : Seen) (first : IsAnswering (all_readings front late) tx → ⊥) where

@@ -4,7 +4,7 @@ use Rattle.std.specs.Prelude.{slice_get}
 use Rattle.std.specs.List.Sorted.{IsPartitionPoint}
 use Rattle.std.specs.Ordering.{nat_cmp}
 use Rattle.std.specs.declared.cmp.Ordering.{Ordering}
-use Rattle.std.specs.declared.cmp.Ordering.TheVariants.{Less}
+use Rattle.std.specs.declared.cmp.Ordering.TheVariants.{Less, Greater}
 use Rattle.std.proofs.lemmas.Bool.{cases_lt, cases_order}
 use Rattle.std.proofs.lemmas.Bool.Decides.{nat_tests}
 use Rattle.std.proofs.lemmas.Cmp.{nat_cmp_total}
@@ -63,6 +63,25 @@ below-end key xs k n a rising some within is lt m b before at =
 
 pub below-none : {A : Type 0} (key : A → ℕ) (xs : List A) (k : ℕ) → IsBelow key nat_cmp xs k 0
 below-none key xs k m b before at = absurd (omega (arith, before))
+
+-- in front of an element that is above the key is its place, if all before are below it
+pub gap-before : {A : Type 0} (key : A → ℕ) (xs : List A) (k n : ℕ) (a : A) → IsRisingBy key nat_cmp xs
+    → n < length xs → IsBelow key nat_cmp xs k n → a ≡ get_or xs n a → k < key a → IsGapFor key nat_cmp xs k n
+gap-before key xs k n a rising within below is lt = record {
+  within = omega (arith, within);
+  before = below;
+  after = λ m b le at.
+      let first = element_at xs n a within is in
+      let more : nat_cmp (key a) k ≡ Greater = grind (arith, nat_tests) in
+      elim (cases_order n m) [
+        | inl same ↦ subst (λ c. nat_cmp (key c) k ≡ Greater) (same_Some a b (sym first ∙ ap (slice_get xs) same
+            ∙ at)) more
+        | inr (inl front) ↦
+            let less = AllPairs_at (λ c d. nat_cmp (key c) (key d) ≡ Less) xs n m a b rising front first at in
+            grind (arith, nat_tests)
+        | inr (inr back) ↦ absurd (omega (arith, le, back))
+      ];
+}
 
 -- ---- numbers that don't fall
 

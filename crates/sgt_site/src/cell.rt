@@ -154,15 +154,16 @@ impl Cell {
         self.readings.seen_by(tx)
     }
 
-    /// Whether the transaction has read the item.
-    pub(crate) fn has_read(&self, tx: Tx) -> bool
-        ensures { IsTrue result ↔ IsAnswering self.now.readings tx }
+    /// Where a read of the transaction would go, most likely. None where it has read the item.
+    #[inline(always)]
+    pub(crate) fn unread(&self, tx: Tx) -> Option<usize>
+        ensures { (result ≡ None) ↔ IsAnswering self.now.readings tx }
     {
-        self.readings.seen_by(tx).is_some()
+        self.readings.unread(tx)
     }
 
-    /// Answers a transaction that has not read the item, and keeps the answer.
-    pub(crate) fn answer(&mut self, tx: Tx) -> Result<Seen, AllocError>
+    /// Answers a transaction that has not read the item, and keeps the answer, at this place if it goes there.
+    pub(crate) fn answer(&mut self, tx: Tx, place: usize) -> Result<Seen, AllocError>
         requires { IsAnswering self.old.readings tx → ⊥ }
         ensures value { IfOk result (λ seen. seen ≡ answer_of self.old) }
         ensures ok { OnOk result (IsAnswered self.old self.new tx) }
@@ -172,7 +173,7 @@ impl Cell {
             value: self.value,
             version: self.version(),
         };
-        self.readings.add(tx, seen)?;
+        self.readings.add(tx, seen, place)?;
         Ok(seen)
     }
 

@@ -103,15 +103,16 @@ impl Cells {
         }
     }
 
-    /// Answers a transaction that has not read the item of this cell.
-    pub(crate) fn answer(&mut self, at: usize, tx: Tx) -> Result<Seen, AllocError>
+    /// Answers a transaction that has not read the item of this cell, and keeps the answer at this place, if it goes
+    /// there.
+    pub(crate) fn answer(&mut self, at: usize, tx: Tx, place: usize) -> Result<Seen, AllocError>
         requires within { at < length self.old }
         requires first { (c : Contents) → slice_get self.old at ≡ Some c → IsAnswering c.readings tx
             → ⊥ }
         ensures ok { IfOk result (λ seen. AnswersAt self.old self.new at tx seen) }
         ensures err { OnErr result (self.new ≡ self.old) }
     {
-        self.cells[at].answer(tx)
+        self.cells[at].answer(tx, place)
     }
 
     /// Makes room in the cells of the items that are touched, if all of them are there and each kept read is the

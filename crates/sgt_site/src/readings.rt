@@ -120,16 +120,31 @@ impl Readings {
         }
     }
 
-    /// Keeps the read of a transaction that has none yet. Those of greater transactions that came before it are moved
-    /// by a place, if they are few, and else it is a search of the reads that came so late.
-    pub(crate) fn add(&mut self, tx: Tx, seen: Seen) -> Result<(), AllocError>
+    /// Where a read of the transaction would go, most likely. None where there is one.
+    #[inline(always)]
+    pub(crate) fn unread(&self, tx: Tx) -> Option<usize>
+        ensures { (result ≡ None) ↔ IsAnswering self.now tx }
+    {
+        match search(self.readings.as_slice(), tx) {
+            Ok(_) => None,
+            Err(at) => match late_by(&self.late, tx) {
+                Some(_) => None,
+                None => Some(at),
+            },
+        }
+    }
+
+    /// Keeps the read of a transaction that has none yet, at this place if it goes there. Those of greater transactions
+    /// that came before it are moved by a place, if they are few, and else it is a search of the reads that came so
+    /// late.
+    pub(crate) fn add(&mut self, tx: Tx, seen: Seen, place: usize) -> Result<(), AllocError>
         requires { IsAnswering self.old tx → ⊥ }
         ensures ok { OnOk result (ReadsAlso self.old self.new (record { tx = tx; seen = seen })) }
         ensures err { OnErr result (self.new ≡ self.old) }
     {
         if let Some(short) = Short::new(Reading { tx, seen }) {
-            if let Some(at) = gap_near(self.readings.as_slice(), tx) {
-                return insert_in(&mut self.readings, at, short);
+            if is_gap(self.readings.as_slice(), place, tx) {
+                return insert_in(&mut self.readings, place, short);
             }
         }
         self.late.insert(tx, seen)?;
@@ -137,16 +152,20 @@ impl Readings {
     }
 }
 
-// Where a read of the transaction goes, if it is near the end and there is none.
+// Whether a read of the transaction goes to this place, near the end.
 #[inline(always)]
-fn gap_near(readings: &[Short], tx: Tx) -> Option<usize>
+fn is_gap(readings: &[Short], place: usize, tx: Tx) -> bool
     requires { IsRisingBy (λ m. m.tx) nat_cmp readings.now }
-    ensures { IfSome result (IsGapFor (λ m. m.tx) nat_cmp readings.now tx) }
+    ensures { IsTrue result → IsGapFor (λ m. m.tx) nat_cmp readings.now tx place }
 {
-    match search(readings, tx) {
-        Err(at) if readings.len() - at <= NEAR => Some(at),
-        _ => None,
+    let end = readings.len();
+    if place > end || end - place > NEAR {
+        return false;
     }
+    if !are_below(readings, place, tx) {
+        return false;
+    }
+    place == end || readings[place].tx().number() > tx.number()
 }
 
 // What a late read of the transaction answered. Mostly there are none.

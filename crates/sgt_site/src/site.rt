@@ -186,9 +186,9 @@ impl Site {
         let Some(at) = self.cells.find(item) else {
             return Err(SiteFault::UnknownItem);
         };
-        if self.cells.as_slice()[at].has_read(tx) {
+        let Some(place) = self.cells.as_slice()[at].unread(tx) else {
             return Err(SiteFault::ReadTwice);
-        }
+        };
         if has_ended(self.ended.as_slice(), tx) {
             return Err(SiteFault::Ended);
         }
@@ -203,7 +203,7 @@ impl Site {
         let Ok(()) = self.pending.add(tx, item) else {
             return Err(SiteFault::Memory);
         };
-        match self.cells.answer(at, tx) {
+        match self.cells.answer(at, tx, place) {
             Ok(seen) => {
                 let value = seen.value;
                 self.log.push_reserved(Entry::Read { tx, item, value });

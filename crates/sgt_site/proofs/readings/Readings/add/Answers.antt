@@ -1,3 +1,4 @@
+use Rattle.std.proofs.Common.{refl}
 use Rattle.sgt_site.proofs.LateReads.{also-late, also-tried, parted-late, parted-tried}
 use Rattle.sgt_site.proofs.readings.Readings.add.Goals as goal
 
@@ -5,10 +6,10 @@ pub invariant_of-self : goal.invariant_of-self
 invariant_of-self c =
     parted-tried _ _ c.self.invariant c.args.tx c.args.seen (rw (← c.self.view_is) at c.requires) c.insert_in.result _
     _ (rw c.in-Some.ensures at c.insert_in.ensures.items)
-    (rw c.as_slice.ensures.value at c.in-Some-gap_near.ensures)
+    (rw c.as_slice.ensures.value at (c.if-is_gap.ensures refl))
 
-pub returns-in-Some-gap_near-clause-ok : goal.returns-in-Some-gap_near-clause-ok
-returns-in-Some-gap_near-clause-ok c =
+pub returns-then-is_gap-clause-ok : goal.returns-then-is_gap-clause-ok
+returns-then-is_gap-clause-ok c =
     rw (← c.self.view_is)
     (also-tried _ c.self.inside.late c.self.invariant c.args.tx c.args.seen (rw (← c.self.view_is) at c.requires)
     c.insert_in.result _ _

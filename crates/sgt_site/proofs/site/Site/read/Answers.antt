@@ -1,6 +1,6 @@
 use mathlib.Core.Bool.{false≢true}
 use Rattle.std.proofs.Common.{◌∙◌, ap, length, arith, refl, sym, subst}
-use Rattle.std.proofs.lemmas.Option.{same_Some, slice_get_read}
+use Rattle.std.proofs.lemmas.Option.{none-some, same_Some, slice_get_read}
 use Rattle.sgt_site.specs.private.Cells.{Contents, IsAnswering}
 use Rattle.sgt_site.proofs.Keeps.{found_cell, found_known, reads-here, answered-value, kept-read, kept-roomier, pledged_is, pledged_by, pledged_part}
 use Rattle.sgt_site.specs.State.{HasEnded}
@@ -13,14 +13,14 @@ has_ended-requires c = rw c.as_slice-2.ensures.value c.self.invariant.0.ends_ris
 pub returns-in_default-clause-refused : goal.returns-in_default-clause-refused
 returns-in_default-clause-refused c = rw (← c.self.view_is, ← c.self.invariant.0.names_same) c.in_default.ensures.absent
 
-pub returns-then-has_read-clause-refused : goal.returns-then-has_read-clause-refused
-returns-then-has_read-clause-refused c =
+pub returns-in_default-unread-clause-refused : goal.returns-in_default-unread-clause-refused
+returns-in_default-unread-clause-refused c =
     let cell = found_cell _ _ _ _ _ _ _ c.self.invariant.0.each c.in-Some.ensures.found
     (rw c.as_slice.ensures.cells at c.index-as_slice-at.is) in
     rw (← c.self.view_is) (
       found_known _ _ _ _ c.self.invariant.0.names_same c.in-Some.ensures.found,
       rw cell.0 at ((reads-here _ c.self.invariant.0.site c.index-as_slice-at.result cell.1 c.args.tx).0
-          (c.if-has_read.ensures.0 refl)),
+          (c.in_default-unread.ensures.0 refl)),
     )
 
 pub returns-then-has_ended-clause-refused : goal.returns-then-has_ended-clause-refused
@@ -30,9 +30,8 @@ returns-then-has_ended-clause-refused c =
     rw (← c.self.view_is) (
       (
         found_known _ _ _ _ c.self.invariant.0.names_same c.in-Some.ensures.found,
-        λ read. false≢true
-            (c.if-has_read.ensures.1
-            ((reads-here _ c.self.invariant.0.site c.index-as_slice-at.result cell.1 c.args.tx).1 (rw cell.0 read))),
+        λ read. none-some _ (sym (c.in-Some-unread.ensures.1
+            ((reads-here _ c.self.invariant.0.site c.index-as_slice-at.result cell.1 c.args.tx).1 (rw cell.0 read)))),
       ),
       (c.self.invariant.0.ends c.args.tx).0 (rw c.as_slice-2.ensures.value at (c.if-has_ended.ensures.0 refl)),
     )
@@ -45,9 +44,8 @@ returns-then-is_pledged-clause-refused c =
       (
         (
           found_known _ _ _ _ c.self.invariant.0.names_same c.in-Some.ensures.found,
-          λ read. false≢true
-              (c.if-has_read.ensures.1
-              ((reads-here _ c.self.invariant.0.site c.index-as_slice-at.result cell.1 c.args.tx).1 (rw cell.0 read))),
+          λ read. none-some _ (sym (c.in-Some-unread.ensures.1
+              ((reads-here _ c.self.invariant.0.site c.index-as_slice-at.result cell.1 c.args.tx).1 (rw cell.0 read)))),
         ),
         λ ended. false≢true
             (c.if-has_ended.ensures.1 (rw c.as_slice-2.ensures.value ((c.self.invariant.0.ends c.args.tx).1 ended))),
@@ -65,9 +63,8 @@ returns-then-not-make_room-clause-refused c =
     (rw c.as_slice.ensures.cells at c.index-as_slice-at.is) in
     rw (← c.self.view_is) record {
       known = found_known _ _ _ _ c.self.invariant.0.names_same c.in-Some.ensures.found;
-      first = λ read. false≢true
-          (c.if-has_read.ensures.1
-          ((reads-here _ c.self.invariant.0.site c.index-as_slice-at.result cell.1 c.args.tx).1 (rw cell.0 read)));
+      first = λ read. none-some _ (sym (c.in-Some-unread.ensures.1
+          ((reads-here _ c.self.invariant.0.site c.index-as_slice-at.result cell.1 c.args.tx).1 (rw cell.0 read))));
       active = λ ended. false≢true
           (c.if-has_ended.ensures.1 (rw c.as_slice-2.ensures.value ((c.self.invariant.0.ends c.args.tx).1 ended)));
       free = λ pledge. false≢true
@@ -81,9 +78,8 @@ returns-in_default-add-clause-refused c =
     (rw c.as_slice.ensures.cells at c.index-as_slice-at.is) in
     rw (← c.self.view_is) record {
       known = found_known _ _ _ _ c.self.invariant.0.names_same c.in-Some.ensures.found;
-      first = λ read. false≢true
-          (c.if-has_read.ensures.1
-          ((reads-here _ c.self.invariant.0.site c.index-as_slice-at.result cell.1 c.args.tx).1 (rw cell.0 read)));
+      first = λ read. none-some _ (sym (c.in-Some-unread.ensures.1
+          ((reads-here _ c.self.invariant.0.site c.index-as_slice-at.result cell.1 c.args.tx).1 (rw cell.0 read))));
       active = λ ended. false≢true
           (c.if-has_ended.ensures.1 (rw c.as_slice-2.ensures.value ((c.self.invariant.0.ends c.args.tx).1 ended)));
       free = λ pledge. false≢true
@@ -100,8 +96,8 @@ answer-requires-clause-first c = λ d here answering.
     same_Some _ _
     (sym (slice_get_read _ (length c.self.inside.cells) _ _ refl c.in-Some.ensures.found.within
     (rw c.as_slice.ensures.cells at c.index-as_slice-at.is)) ∙ here) in
-    false≢true
-    (c.if-has_read.ensures.1 (subst (λ (e : Contents). IsAnswering e.readings c.args.tx) (sym same) answering))
+    none-some _ (sym (c.in-Some-unread.ensures.1
+    (subst (λ (e : Contents). IsAnswering e.readings c.args.tx) (sym same) answering)))
 
 pub invariant_of-self : goal.invariant_of-self
 invariant_of-self c =
@@ -133,9 +129,8 @@ invariant_of-self-in-Ok-answer c =
     rw (c.push_reserved.ensures.items, c.make_room.ensures.items) (
       kept-read _ c.args.tx c.args.item c.in-Ok-answer.seen.value c.self.invariant.0.site record {
         known = found_known _ _ _ _ c.self.invariant.0.names_same at;
-        first = λ read. false≢true
-            (c.if-has_read.ensures.1
-            ((reads-here _ c.self.invariant.0.site c.index-as_slice-at.result cell.1 c.args.tx).1 (rw cell.0 read)));
+        first = λ read. none-some _ (sym (c.in-Some-unread.ensures.1
+            ((reads-here _ c.self.invariant.0.site c.index-as_slice-at.result cell.1 c.args.tx).1 (rw cell.0 read))));
         active = active;
         free = λ pledge. false≢true
             (c.if-is_pledged.ensures.1 (pledged_by c.self.inside.pledged c.self.inside.part.items pledge.0 c.args.tx
@@ -184,9 +179,8 @@ returns-in-Ok-answer-clause-allowed c =
     (rw c.as_slice.ensures.cells at c.index-as_slice-at.is) in
     rw (← c.self.view_is) record {
       known = found_known _ _ _ _ c.self.invariant.0.names_same c.in-Some.ensures.found;
-      first = λ read. false≢true
-          (c.if-has_read.ensures.1
-          ((reads-here _ c.self.invariant.0.site c.index-as_slice-at.result cell.1 c.args.tx).1 (rw cell.0 read)));
+      first = λ read. none-some _ (sym (c.in-Some-unread.ensures.1
+          ((reads-here _ c.self.invariant.0.site c.index-as_slice-at.result cell.1 c.args.tx).1 (rw cell.0 read))));
       active = λ ended. false≢true
           (c.if-has_ended.ensures.1 (rw c.as_slice-2.ensures.value ((c.self.invariant.0.ends c.args.tx).1 ended)));
       free = λ pledge. false≢true
@@ -200,9 +194,8 @@ returns-in-Err-clause-refused c =
     (rw c.as_slice.ensures.cells at c.index-as_slice-at.is) in
     rw (← c.self.view_is) record {
       known = found_known _ _ _ _ c.self.invariant.0.names_same c.in-Some.ensures.found;
-      first = λ read. false≢true
-          (c.if-has_read.ensures.1
-          ((reads-here _ c.self.invariant.0.site c.index-as_slice-at.result cell.1 c.args.tx).1 (rw cell.0 read)));
+      first = λ read. none-some _ (sym (c.in-Some-unread.ensures.1
+          ((reads-here _ c.self.invariant.0.site c.index-as_slice-at.result cell.1 c.args.tx).1 (rw cell.0 read))));
       active = λ ended. false≢true
           (c.if-has_ended.ensures.1 (rw c.as_slice-2.ensures.value ((c.self.invariant.0.ends c.args.tx).1 ended)));
       free = λ pledge. false≢true
