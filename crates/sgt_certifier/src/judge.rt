@@ -1,10 +1,11 @@
 //! The judge: a certifier that keeps no history.
 
-ghost use Rattle.std.specs.Prelude.{◌≡◌, false, ◌≤◌, ◌<◌, ◌+◌, ◌^◌, ◌↔◌, length, suc, Some, IfOk, IfErr, OnOk, OnErr, IsTrue, Any, [], ℕ, map, slice_get, ◌++◌, vec_len, vec_capacity};
+ghost use Rattle.std.specs.Prelude.{◌≡◌, false, true, ◌≤◌, ◌<◌, ◌+◌, ◌^◌, ◌↔◌, length, suc, Some, IfOk, IfErr, OnOk, OnErr, IsTrue, Any, [], ℕ, map, slice_get, ◌++◌, vec_len, vec_capacity};
 ghost use Rattle.sgt_names.specs.Limits.{max_sites};
 ghost use Rattle.sgt_arena.specs.declared.handle.Handle.{Handle as AHandle};
 ghost use Rattle.sgt_edges.specs.declared.edge.Edge.{Edge as AnEdge};
 ghost use Rattle.sgt_certifier.specs.declared.call.Call.TheVariants as call;
+ghost use Rattle.sgt_certifier.specs.declared.call.Decided.TheVariants as decided;
 ghost use Rattle.sgt_certifier.specs.declared.call.CertifierFault.TheVariants.{Memory as NoMemory};
 ghost use Rattle.sgt_certifier.specs.Certifier.{opening, serial, certificate_of};
 ghost use Rattle.sgt_certifier.specs.History.{IsActive, IsAllowed, IsKnown, IsNoted, IsInstalling, Fits, Serves, begin, decide, finish, withdraw, close, expect, installed, tx_under};
@@ -298,11 +299,10 @@ impl Judge {
         ensures err { OnErr result (self.new ≡ self.old) }
         ensures memory { IfErr result (λ f. f ≡ NoMemory) }
     {
-        Ok(self.decide_twice(handle, edges)?.0)
+        Ok(self.decide_with(handle, edges, false)?.0)
     }
 
     // Decides as `decide` does, and tells the reply twice: to who asks, and for a history.
-    #[inline(always)]
     pub(crate) fn decide_twice(
         &mut self,
         handle: Handle,
@@ -316,6 +316,29 @@ impl Judge {
         ensures err { OnErr result (self.new ≡ self.old) }
         ensures memory { IfErr result (λ f. f ≡ NoMemory) }
     {
+        let (reply, again) = self.decide_with(handle, edges, true)?;
+        match again {
+            Some(again) => Ok((reply, again)),
+            None => unreachable!(),
+        }
+    }
+
+    // Decides as `decide` does, and tells the reply once more where that is wanted.
+    #[inline(always)]
+    fn decide_with(
+        &mut self,
+        handle: Handle,
+        edges: &EdgeList,
+        twice: bool,
+    ) -> Result<(Decided, Option<Decided>), CertifierFault>
+        requires may { MayDecide self.old handle edges.now }
+        ensures ok { IfOk result
+            (λ replies. Serves self.old (call.Decide handle edges.now replies.0) self.new) }
+        ensures twice { IfOk result (λ replies. twice ≡ true → replies.1 ≡ Some replies.0) }
+        ensures unnoted { OnOk result (self.new.installs ≡ []) }
+        ensures err { OnErr result (self.new ≡ self.old) }
+        ensures memory { IfErr result (λ f. f ≡ NoMemory) }
+    {
         self.rulings.reserve(1)?;
         self.noted.reserve(MAX_SITES as usize)?;
         let _order = self.graph.order();
@@ -325,7 +348,8 @@ impl Judge {
             Ok(()) => {
                 self.step = Some(tx);
                 self.rulings.push_reserved(Ruled::Committed(tx));
-                return Ok((Decided::Committed { number }, Decided::Committed { number }));
+                let again = Some(Decided::Committed { number });
+                return Ok((Decided::Committed { number }, again));
             }
             Err(Admit::Cycle(cycle)) => cycle,
             Err(Admit::Memory) => return Err(CertifierFault::Memory),
@@ -334,16 +358,10 @@ impl Judge {
         let alloc = *self.rulings.allocator();
         let walk = walk_of(alloc, self.before, cycle.as_slice())?;
         let told = walk_of(alloc, self.before, cycle.as_slice())?;
-        let again = walk_of(alloc, self.before, cycle.as_slice())?;
+        let again = refusal_again(alloc, number, self.before, cycle.as_slice(), twice)?;
         self.step = Some(tx);
         self.rulings.push_reserved(Ruled::Refused(tx, walk));
-        Ok((
-            Decided::Refused { number, walk: told },
-            Decided::Refused {
-                number,
-                walk: again,
-            },
-        ))
+        Ok((Decided::Refused { number, walk: told }, again))
     }
 
     // Whether the open step is that of the transaction, which it committed.
@@ -455,6 +473,25 @@ fn walk_of(alloc: Global, before: u32, edges: &[Edge]) -> Result<Walk, AllocErro
         })?;
     }
     Walk::from_vec(alloc, steps)
+}
+
+// The refusal of this number with the steps along these edges, if it is wanted.
+fn refusal_again(
+    alloc: Global,
+    number: u32,
+    before: u32,
+    edges: &[Edge],
+    is_wanted: bool,
+) -> Result<Option<Decided>, AllocError>
+    requires { (n : ℕ) (e : AnEdge) → slice_get edges.now n ≡ Some e → tx_at before e.to < 2 ^ 32 }
+    ensures { IfOk result (λ again. is_wanted ≡ true
+        → again ≡ Some (decided.Refused number (map (step_at before) edges.now))) }
+{
+    if !is_wanted {
+        return Ok(None);
+    }
+    let walk = walk_of(alloc, before, edges)?;
+    Ok(Some(Decided::Refused { number, walk }))
 }
 
 // Adds the transactions under the handles.

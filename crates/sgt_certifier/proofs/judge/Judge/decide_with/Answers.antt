@@ -15,8 +15,8 @@ use Rattle.sgt_certifier.proofs.Flags.{flag_at}
 use Rattle.sgt_certifier.proofs.Numbered.{decided-few}
 use Rattle.sgt_certifier.proofs.Judging.{parts_of, Parts, state_of, no_notes}
 use Rattle.sgt_certifier.proofs.Deciding.{ready_of, offered, active_small, fresh_of, offered_of, walk_small, commits_serves, refuses_serves, committed_kept, refused_kept}
-use Rattle.sgt_certifier.proofs.judge.Judge.decide_twice.Goals as goal
-use Rattle.sgt_certifier.proofs.judge.Judge.decide_twice.Goals.{After-drop-cycle-inside-2}
+use Rattle.sgt_certifier.proofs.judge.Judge.decide_with.Goals as goal
+use Rattle.sgt_certifier.proofs.judge.Judge.decide_with.Goals.{After-drop-cycle-inside-2}
 
 pub tx_of-tx-requires : goal.tx_of-tx-requires
 tx_of-tx-requires c =
@@ -144,8 +144,8 @@ walk_of-requires-2 c n e at =
     (subst (λ xs. slice_get xs n ≡ Some e) (c.as_slice-2.ensures ∙ c.in-Err-Cycle.cycle-is) at) in
     omega (arith, small)
 
-pub walk_of-requires-3 : goal.walk_of-requires-3
-walk_of-requires-3 c n e at =
+pub refusal_again-requires : goal.refusal_again-requires
+refusal_again-requires c n e at =
     let p = parts_of c.self.inside in
     let ready = ready_of c.self.inside _ c.args.handle c.args.edges.now c.self.view_is c.self.invariant.good
     c.requires.may c.order-order.ensures.ordered in
@@ -224,3 +224,9 @@ returns-clause-ok c =
 
 pub returns-clause-unnoted : goal.returns-clause-unnoted
 returns-clause-unnoted c = no_notes (Some c.tx_of-tx.result) c.reserve-2.new.self.items (refused-noted c)
+
+pub returns-clause-twice : goal.returns-clause-twice
+returns-clause-twice c wanted =
+    let same = c.as_slice-3.ensures ∙ sym c.as_slice-2.ensures in
+    c.in_ok-again.ensures wanted ∙ ap (λ w. Some (decided.Refused c.len-number.result w))
+    (ap (map (step_at c.self.inside.before)) same ∙ sym c.in_ok-told.ensures)
