@@ -19,7 +19,7 @@ use Rattle.sgt_step.specs.declared.one_site.Ending.{Ending}
 use Rattle.sgt_core_model.specs.Core.{CoreState, sites_of, is_empty, is_written, noted, installed}
 use Rattle.sgt_core_model.specs.Step.{IsAllowed, MayStep}
 use Rattle.sgt_core_machine.specs.Machine.{Parts, Carries, RunsAt, IsPart, IsPlace, IsStep, StandsFor}
-use Rattle.sgt_core_machine.specs.private.Installing.{Writes, Ends}
+use Rattle.sgt_core_machine.specs.private.Installing.{IsAnotherDue, Writes, Ends}
 use Rattle.sgt_core_model.proofs.Committing.{in_range}
 use Rattle.sgt_core_model.proofs.LegalSteps.{all_pass, empty_is}
 use Rattle.sgt_core_model.proofs.Runs.{is_site}
@@ -31,6 +31,13 @@ use Rattle.sgt_names.proofs.Elements.{get-slice_set_same, get-slice_set_other, c
 -- the block of the open step is still due at the site
 abbrev pub IsDueThere : Place → Type 0
 IsDueThere place = place.part ≡ Due
+
+-- a block that is due at another site is so after one is written
+pub another_left : (verdict : Ending) (m n : Parts) (t slot tx : ℕ) → Writes verdict m n t slot tx
+    → IsAnotherDue m.places t → Any IsDueThere n.places
+another_left verdict m n t slot tx h a =
+    Any-from_at IsDueThere n.places a.other a.place
+    (ap (λ ps. slice_get ps a.other) h.block.is ∙ (get-slice_set_other m.places t a.other _ a.apart ∙ a.there)) a.due
 
 all_true : (p : ℕ → Bool) (xs : List ℕ) → ((x : ℕ) → Contains xs x → p x ≡ true) → list_all p xs ≡ true
 all_true p [] h = refl

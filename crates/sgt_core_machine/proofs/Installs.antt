@@ -81,7 +81,7 @@ undecided_in m c o (phase.Gathering edges) e h = h.0
 undecided_in m c o phase.Committed e h = absurd cc
 undecided_in m c o phase.Refused e h = absurd cc
 
-undecided_by : (m : Parts) (c : CoreState) (o : Option Open) → verdict_of o ≡ None → IsStep m c o
+pub undecided_by : (m : Parts) (c : CoreState) (o : Option Open) → verdict_of o ≡ None → IsStep m c o
     → c.certifier.step ≡ None
 undecided_by m c None e h = h.1
 undecided_by m c (Some o) e h = undecided_in m c o o.phase e h.2
@@ -178,7 +178,7 @@ module _ (m : Parts) (c : CoreState) (s : StandsFor m c) (tx slot : ℕ) (h : Is
         due = due;
       }
 
-      allowed : IsAllowed c (Write tx t)
+      pub allowed : IsAllowed c (Write tx t)
       unfolding to_write
       allowed =
           let hit = here m c s tx slot h t (touched_there m c s verdict tx slot t to_write) in

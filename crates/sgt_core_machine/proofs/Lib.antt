@@ -26,6 +26,7 @@ pub mod Decisions
 pub mod Ruled
 pub mod Unrefused
 pub mod Awaiting
+pub mod Allowed
 pub mod InstallBlocks
 pub mod InstallEnds
 pub mod Installs

@@ -9,6 +9,7 @@ use Rattle.sgt_names.specs.Draft.{at_site, kept_in}
 use Rattle.sgt_names.specs.declared.draft.Touch.{Touch}
 use Rattle.sgt_names.specs.declared.entry.Change.{Change}
 use Rattle.sgt_names.specs.declared.entry.Entry.{Entry}
+use Rattle.sgt_names.proofs.Lists.{within_at}
 use Rattle.sgt_site.specs.State.{KeepsReads}
 use Rattle.sgt_certifier.specs.Certifier.{Arc}
 use Rattle.sgt_core_machine.specs.declared.machine.Place.{Place}
@@ -37,6 +38,26 @@ pub slot_active : (m : Parts) (c : CoreState) (tx slot : ℕ) → StandsFor m c 
     → Contains c.certifier.active tx
 slot_active m c tx slot s h = let r = s.running slot (Some h.1.0) h.1.1 in
     subst (Contains c.certifier.active) (sym h.0) r.active
+
+-- with the same table it has the same place
+pub same_slot : (m n : Parts) (tx slot : ℕ) → IsSlotOf m tx slot → n.before ≡ m.before → n.table ≡ m.table
+    → IsSlotOf n tx slot
+same_slot m n tx slot h before table =
+    (h.0 ∙ ap (λ b. suc (b + slot)) (sym before), (h.1.0, ap (λ ts. slice_get ts slot) table ∙ h.1.1))
+
+-- and at its place of the table stands who is active
+pub active_slot : (m : Parts) (c : CoreState) (tx slot : ℕ) → StandsFor m c → tx ≡ suc (m.before + slot)
+    → tx ≤ c.certifier.begun → Contains c.certifier.active tx → IsSlotOf m tx slot
+active_slot m c tx slot s number le active =
+    let window = s.window in
+    let begun = s.begun in
+    let found = within_at m.table slot (omega (arith, window, begun, number, le)) in
+    (number, by_slot found.0 found.1 (s.running slot found.0 found.1))
+  where
+    by_slot : (o : Option Running) → slice_get m.table slot ≡ Some o → RunsAt c m.before slot o
+        → (r : Running) × (slice_get m.table slot ≡ Some (Some r))
+    by_slot None at h = absurd (h (subst (Contains c.certifier.active) number active))
+    by_slot (Some r) at h = (r, at)
 
 -- a site with the same items, pledge and part, whose log is this one
 pub record IsLike (p q : Place) (es : List Entry) : Type 0 where

@@ -142,6 +142,13 @@ module _ (c : CoreState) (tx : ℕ) (k : IsKept c) (allowed : IsAllowed c (Commi
       gather_by d.step done g s (gather_may d.step done g s m new) reply e
       (subst (λ (x : CoreState). MayStep x (Gather tx s) reply e) h.same step)
 
+  -- the gather at one more site is allowed
+  pub gather_next : (d : CoreState) (done : List ℕ) (s : ℕ) → GathersAll c tx done d → Contains (touched c tx) s
+      → (Contains done s → ⊥) → IsAllowed d (Gather tx s)
+  gather_next d done s h m new =
+      subst (λ (x : CoreState). IsAllowed x (Gather tx s)) (sym h.same)
+      (gather_may d.step done (subst (GathersAll c tx done) h.same h) s m new)
+
   -- ---- the decision
 
   decide_may : (o : Option OpenStep) → GathersAll c tx (touched c tx) (record c { step = o })
@@ -153,6 +160,11 @@ module _ (c : CoreState) (tx : ℕ) (k : IsKept c) (allowed : IsAllowed c (Commi
           → StepIs (λ i. i ≡ tx) o
       own None s out m = absurd (contains-none s m)
       own (Some p) s out m = elim (cases_eq p.tx tx) [ inl is ↦ is | inr other ↦ absurd (out other) ]
+
+  pub decide_next : (d : CoreState) → GathersAll c tx (touched c tx) d → IsAllowed d (Decide tx)
+  decide_next d h =
+      subst (λ (x : CoreState). IsAllowed x (Decide tx)) (sym h.same)
+      (decide_may d.step (subst (GathersAll c tx (touched c tx)) h.same h))
 
 -- the blocks are due at each of the sites
 pub all_due : (c : CoreState) (tx : ℕ) (sites : List ℕ) → AreDistinct sites
@@ -276,6 +288,12 @@ write_by c tx s may (Fault fault.Memory) e step = absurd step.1
 write_by c tx s may (Fault f) e step = absurd (may f step.0.0)
 write_by c tx s may reply e step = absurd step.1
 
+-- a block that is due may be written
+pub write_next : (c : CoreState) (tx s : ℕ) → IsBlockDue c tx s → IsAllowed c (Write tx s)
+write_next c tx s a =
+    write_allowed c tx s (record { active = a.active; begun = a.begun; alone = a.alone }) a.decided
+    (record { inside = a.inside; touched = a.touched; due = a.due })
+
 -- one more block is written
 pub install_gives : (c d : CoreState) (tx : ℕ) (done : List ℕ) (s : ℕ) (rest : List ℕ) → InstallsAll c tx done d
     → AwaitsBlocks d tx (s ∷ rest)
@@ -283,8 +301,7 @@ pub install_gives : (c d : CoreState) (tx : ℕ) (done : List ℕ) (s : ℕ) (re
     × AwaitsBlocks e tx rest
 install_gives c d tx done s rest h all reply e step =
     let a = all.0 in
-    let may = write_allowed d tx s (record { active = a.active; begun = a.begun; alone = a.alone }) a.decided
-    (record { inside = a.inside; touched = a.touched; due = a.due }) in
+    let may = write_next d tx s a in
     let is : e ≡ installed d tx s = write_by d tx s may reply e step in (
       subst (λ (es : List Event). ServesAll c es (map (λ t. Installed) (done ++ s ∷ [])) e)
           (sym (map-push (Write tx) done s))

@@ -1,7 +1,7 @@
 -- The machine goes through the parts of a whole commit.
-use Rattle.std.proofs.Common.{◌≡◌, ◌+◌, ℕ, List, [], take, drop, refl, sym, Contains, Some, None, subst}
+use Rattle.std.proofs.Common.{◌≡◌, ◌<◌, ◌+◌, ℕ, suc, List, [], ◌∷◌, length, take, drop, refl, sym, ◌∙◌, arith, Contains, Option, Some, None, subst}
 use Rattle.std.specs.Prelude.{slice_get}
-use Rattle.sgt_names.proofs.Lists.{drop_next, take_next}
+use Rattle.sgt_names.proofs.Lists.{drop_next, take_next, within_at}
 use Rattle.sgt_names.proofs.Places.{Contains-from_at}
 use Rattle.sgt_notation.specs.declared.event.Event.TheVariants.{Gather, Decide, Install as Write, Commit}
 use Rattle.sgt_core_model.specs.declared.reply.Reply.{Reply}
@@ -9,21 +9,55 @@ use Rattle.sgt_core_model.specs.declared.reply.Reply.TheVariants.{Gathered, Faul
 use Rattle.sgt_core_model.specs.declared.reply.CoreFault.{CoreFault}
 use Rattle.sgt_core_model.specs.declared.reply.CoreFault.TheVariants as fault
 use Rattle.sgt_core_model.specs.Core.{CoreState}
-use Rattle.sgt_core_model.specs.Step.{MayDecide, MayStep}
-use Rattle.sgt_core_machine.specs.Machine.{Parts, StandsFor, GoesOn}
+use Rattle.sgt_core_model.specs.Step.{IsAllowed, MayDecide, MayStep}
+use Rattle.sgt_core_machine.specs.Machine.{Parts, StandsFor, Stands, GoesOn, IsSlotOf}
+use Rattle.sgt_core_machine.specs.private.Installing.{verdict_of, IsAnotherDue}
 use Rattle.sgt_core_machine.specs.private.Whole.{IsWhole, RefusesWhole, GathersAll, AwaitsBlocks, DecidesWhole, InstallsAll}
 use Rattle.sgt_core_model.proofs.Cycles.{AreDistinct}
+use Rattle.sgt_certifier.proofs.Members.{cons_here}
+use Rattle.sgt_step.specs.declared.one_site.Ending.{Ending}
 use Rattle.sgt_core_machine.proofs.Standing.{reached_kept}
-use Rattle.sgt_core_machine.proofs.WholeCommits.{fresh_at, whole_commit, whole_decision, GatherGives, distinct, gathers_none, gather_gives, decide_gives, install_gives, commits_by, awaits_after, decision_of}
+use Rattle.sgt_core_machine.proofs.Redrafting.{active_slot}
+use Rattle.sgt_core_machine.proofs.Installs.{undecided_by}
+use Rattle.sgt_core_machine.proofs.Allowed.{gather_everywhere, decide_everywhere, install_place, install_everywhere}
+use Rattle.sgt_core_machine.proofs.WholeCommits.{fresh_at, whole_commit, whole_decision, GatherGives, distinct, gathers_none, gather_gives, gather_next, decide_next, decide_gives, write_next, install_gives, commits_by, awaits_after, decision_of}
 
 abbrev pub AreWhole : Parts → ℕ → List ℕ → Type 0
 AreWhole m tx sites = (c : CoreState) → StandsFor m c → IsWhole c tx sites
+
+-- some state that the machine stands for awaits these blocks
+abbrev pub AreAwaited : Parts → ℕ → List ℕ → Type 0
+AreAwaited m tx sites = (c : CoreState) × StandsFor m c × AwaitsBlocks c tx sites
 
 -- ---- gathers
 
 pub gathering_none : (m : Parts) (tx : ℕ) (sites : List ℕ) → AreWhole m tx sites
     → GoesOn (λ c d. GathersAll c tx [] d) m m
 gathering_none m tx sites whole c s = (c, gathers_none c tx (reached_kept c s.reached) (whole c s).allowed, s)
+
+-- what is allowed before the next part
+module _ (first mid : Parts) (stands : Stands first) (tx : ℕ) (sites : List ℕ) (whole : AreWhole first tx sites)
+    (slot : ℕ) (h : IsSlotOf mid tx slot) where
+  pub gather_may : (i s : ℕ) → slice_get sites i ≡ Some s → GoesOn (λ c d. GathersAll c tx (take i sites) d) first mid
+      → (d : CoreState) → StandsFor mid d → IsAllowed d (Gather tx s)
+  gather_may i s at run =
+      let c = stands.0 in
+      let a = run c stands.1 in
+      let w = whole c stands.1 in
+      let k = reached_kept c stands.1.reached in
+      let member = subst (λ xs. Contains xs s) w.all (Contains-from_at sites i s at) in
+      let new = fresh_at sites i s (subst AreDistinct (sym w.all) (distinct c tx k w.allowed)) at in
+      gather_everywhere mid a.0 a.2 tx slot h s (gather_next c tx k w.allowed a.0 (take i sites) s a.1 member new)
+
+  pub decide_may : GoesOn (λ c d. GathersAll c tx sites d) first mid → (d : CoreState) → StandsFor mid d
+      → IsAllowed d (Decide tx)
+  decide_may run =
+      let c = stands.0 in
+      let a = run c stands.1 in
+      let w = whole c stands.1 in
+      decide_everywhere mid a.0 a.2 tx slot h
+      (decide_next c tx (reached_kept c stands.1.reached) w.allowed a.0
+      (subst (λ xs. GathersAll c tx xs a.0) w.all a.1))
 
 module _ (first mid last : Parts) (tx : ℕ) (sites : List ℕ) (whole : AreWhole first tx sites) where
   module _ (i s : ℕ) (at : slice_get sites i ≡ Some s) (reply : Reply)
@@ -121,6 +155,13 @@ pub decision_made : (first last : Parts) (tx : ℕ) (sites : List ℕ) (reply : 
     → GoesOn (λ c d. DecidesWhole c tx sites reply d) first last → GoesOn (λ c d. MayDecide c tx reply d) first last
 decision_made first last tx sites reply run c st = let a = run c st in (a.0, decision_of c a.0 tx sites reply a.1, a.2)
 
+-- after a verdict the blocks are awaited
+pub awaiting : (first mid : Parts) (tx : ℕ) (sites : List ℕ) (verdict : Reply) → Stands first
+    → ((f : CoreFault) → verdict ≡ Fault f → ⊥) → GoesOn (λ c d. DecidesWhole c tx sites verdict d) first mid
+    → AreAwaited mid tx sites
+awaiting first mid tx sites verdict stands out run =
+    let a = run stands.0 stands.1 in (a.0, a.2, awaits_after stands.0 a.0 tx sites verdict out a.1)
+
 -- ---- installs
 
 -- some of the blocks are written, and the others still due
@@ -140,3 +181,50 @@ installing_on first mid last tx sites i s at reply run go c st all =
     let due = subst (AwaitsBlocks a.0 tx) (drop_next sites i s at) a.2 in
     let r = install_gives c a.0 tx (take i sites) s (drop (i + 1) sites) a.1 due reply b.0 b.1 in
     (b.0, subst (λ xs. InstallsAll c tx xs b.0) (sym (take_next sites i s at)) r.0, r.1, b.2)
+
+-- what is so of the next block, while some are awaited
+module _ (first mid : Parts) (tx : ℕ) (sites : List ℕ) (some : AreAwaited first tx sites) (slot : ℕ)
+    (h : IsSlotOf mid tx slot) (i s : ℕ) (at : slice_get sites i ≡ Some s) (run : AreInstalling first mid tx sites i)
+  where
+    state : (c : CoreState) × AwaitsBlocks c tx (s ∷ drop (i + 1) sites) × StandsFor mid c
+    state = let a = run some.0 some.1 some.2 in
+        (a.0, subst (AwaitsBlocks a.0 tx) (drop_next sites i s at) a.2, a.3)
+
+    pub install_may : (verdict : Ending) → verdict_of mid.step ≡ Some verdict → (d : CoreState) → StandsFor mid d
+        → IsAllowed d (Write tx s)
+    install_may verdict v =
+        install_everywhere mid state.0 state.2 tx slot h s (write_next state.0 tx s state.1.0) verdict v
+
+    pub another_due : i + 1 < length sites → IsAnotherDue mid.places s
+    another_due more =
+        let next = within_at sites (i + 1) more in
+        let rest : drop (i + 1) sites ≡ next.0 ∷ drop (i + 1 + 1) sites = drop_next sites (i + 1) next.0 next.1 in
+        let awaits = subst (AwaitsBlocks state.0 tx) rest state.1.1.1 in
+        let may = write_next state.0 tx next.0 awaits.0 in
+        let p = install_place mid state.0 state.2 tx slot h next.0 may in
+        record {
+          other = next.0;
+          apart = λ is. state.1.1.0 (subst (λ xs. Contains xs s) (sym rest)
+              (subst (Contains (next.0 ∷ drop (i + 1 + 1) sites)) is (cons_here next.0 (drop (i + 1 + 1) sites))));
+          place = p.0;
+          there = p.1;
+          due = p.2;
+        }
+
+-- whose blocks are awaited is active
+pub awaited_slot : (m : Parts) (tx slot : ℕ) (sites : List ℕ) → tx ≡ suc (m.before + slot) → AreAwaited m tx sites
+    → 0 < length sites → IsSlotOf m tx slot
+awaited_slot m tx slot [] number some any = absurd (omega (arith, any))
+awaited_slot m tx slot (s ∷ ss) number some any =
+    active_slot m some.0 tx slot some.1 number some.2.0.begun some.2.0.active
+
+pub no_verdict : (o : Option Ending) → ((v : Ending) → o ≡ Some v → ⊥) → o ≡ None
+no_verdict None out = refl
+no_verdict (Some v) out = absurd (out v refl)
+
+-- none are before a verdict
+pub none_awaited : (m : Parts) (tx : ℕ) (sites : List ℕ) → verdict_of m.step ≡ None → (c : CoreState) → StandsFor m c
+    → AwaitsBlocks c tx sites → (d : CoreState) × InstallsAll c tx sites d × StandsFor m d
+none_awaited m tx [] none c st all = (c, refl, st)
+none_awaited m tx (s ∷ ss) none c st all =
+    let e : Some tx ≡ None = sym all.0.decided ∙ undecided_by m c m.step none st.step in absurd cc

@@ -1,6 +1,6 @@
 //! A gathered transaction is decided.
 
-ghost use Rattle.std.specs.Prelude.{◌≡◌, ◌↔◌, ◌<◌, ◌≤◌, ◌++◌, ◌∷◌, [], None, Some, Any, length, slice_get, vec_len, vec_capacity, IsTrue, IfOk, IfErr, IfSome, OnErr};
+ghost use Rattle.std.specs.Prelude.{◌≡◌, ◌↔◌, ◌<◌, ◌≤◌, ◌+◌, ◌++◌, ◌∷◌, [], suc, None, Some, Any, length, slice_get, vec_len, vec_capacity, IsTrue, IfOk, IfErr, IfSome, OnErr};
 ghost use Rattle.sgt_notation.specs.declared.event.Event.TheVariants as event;
 ghost use Rattle.sgt_core_model.specs.Core.{CoreState};
 ghost use Rattle.sgt_core_model.specs.Step.{IsAllowed, MayStep};
@@ -42,13 +42,14 @@ impl Machine {
     }
 
     // Decides a transaction that may be decided.
-    fn decide_gathered(&mut self, tx: Tx, slot: usize) -> Reply
+    pub(crate) fn decide_gathered(&mut self, tx: Tx, slot: usize) -> Reply
         requires stands { Stands (parts_of self.old) }
         requires slot { IsSlotOf (parts_of self.old) tx slot }
         requires allowed { (c : CoreState) → StandsFor (parts_of self.old) c
             → IsAllowed c (event.Decide tx) }
-        ensures { GoesOn (λ c d. MayStep c (event.Decide tx) result d) (parts_of self.old)
+        ensures goes { GoesOn (λ c d. MayStep c (event.Decide tx) result d) (parts_of self.old)
             (parts_of self.new) }
+        ensures number { tx ≡ suc (self.new.before + slot) }
     {
         let edges = edges_of(self.alloc, self.step.take());
         match rule(&mut self.certifier, self.running.as_slice(), slot, &edges) {

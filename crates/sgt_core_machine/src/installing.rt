@@ -13,9 +13,11 @@ use sgt_step::{Ending, end};
 
 impl Machine {
     ghost use Rattle.sgt_notation.specs.declared.event.Event.TheVariants as event;
-    ghost use Rattle.sgt_core_model.specs.Step.{MayStep};
-    ghost use Rattle.sgt_core_machine.specs.Machine.{parts_of, Stands, GoesOn};
-    ghost use Rattle.sgt_core_machine.specs.private.Installing.{verdict_of, IsPledgedAt, AwaitsAt, Writes, Ends};
+    ghost use Rattle.std.specs.Prelude.{IsTrue};
+    ghost use Rattle.sgt_core_model.specs.Core.{CoreState};
+    ghost use Rattle.sgt_core_model.specs.Step.{IsAllowed, MayStep};
+    ghost use Rattle.sgt_core_machine.specs.Machine.{parts_of, StandsFor, Stands, GoesOn, IsSlotOf};
+    ghost use Rattle.sgt_core_machine.specs.private.Installing.{verdict_of, IsPledgedAt, AwaitsAt, IsAnotherDue, Writes, Ends};
 
     /// The transaction's block is written at the site, and the transaction ends behind the last block of its step.
     pub(crate) fn install(&mut self, tx: Tx, site: SiteNo) -> Reply
@@ -42,18 +44,42 @@ impl Machine {
             Part::Idle => refused(CoreFault::NotTouched),
             Part::Written => refused(CoreFault::AlreadyDone),
             Part::Due => {
-                self.write(tx, site, slot, verdict);
-                if is_due(self.places.as_slice()) {
-                    return Reply::Installed;
-                }
-                self.end_step(tx, slot);
+                self.install_due(tx, slot, site, verdict, false);
                 Reply::Installed
             }
         }
     }
 
+    // Writes the block of a transaction at a site where it is due. The step ends behind the last, which this isn't
+    // where a block is known to be due at another site.
+    pub(crate) fn install_due(
+        &mut self,
+        tx: Tx,
+        slot: usize,
+        site: SiteNo,
+        verdict: Ending,
+        is_another_due: bool,
+    )
+        requires stands { Stands (parts_of self.old) }
+        requires slot { IsSlotOf (parts_of self.old) tx slot }
+        requires allowed { (c : CoreState) → StandsFor (parts_of self.old) c
+            → IsAllowed c (event.Install tx site) }
+        requires verdict { verdict_of self.old.step ≡ Some verdict }
+        requires another { IsTrue is_another_due → IsAnotherDue self.old.places.items site }
+        ensures goes { GoesOn (λ c d. MayStep c (event.Install tx site) Reply.Installed d)
+            (parts_of self.old) (parts_of self.new) }
+        ensures slot { IsTrue is_another_due → IsSlotOf (parts_of self.new) tx slot }
+        ensures verdict { IsTrue is_another_due → verdict_of self.new.step ≡ Some verdict }
+    {
+        self.write(tx, site, slot, verdict);
+        if is_another_due || is_due(self.places.as_slice()) {
+            return;
+        }
+        self.end_step(tx, slot);
+    }
+
     // What was decided of the open step's transaction.
-    fn verdict(&self) -> Option<Ending>
+    pub(crate) fn verdict(&self) -> Option<Ending>
         ensures { result ≡ verdict_of self.now.step }
     {
         match &self.step {

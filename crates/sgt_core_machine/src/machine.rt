@@ -14,7 +14,7 @@ ghost use Rattle.sgt_core_machine.specs.declared.machine.Part.TheVariants.{Idle}
 ghost use Rattle.sgt_core_machine.specs.declared.machine.Place.{Place as APlace};
 ghost use Rattle.sgt_core_model.specs.Core.{CoreState, fresh};
 ghost use Rattle.sgt_core_machine.specs.Gathered.{GathersAt, MayPledgeAt, AreReleased};
-ghost use Rattle.sgt_core_model.specs.Step.{IsOwnOpen, IsOtherOpen, IsOfSite, tx_in, IsRefused, MayStep};
+ghost use Rattle.sgt_core_model.specs.Step.{IsOwnOpen, IsOtherOpen, IsOfSite, tx_in, IsRefused, IsAllowed, MayStep};
 ghost use Rattle.sgt_core_machine.specs.Machine.{parts_of, StandsFor, Stands, GoesOn, IsSlotOf, RefusesItem, RefusesSites, AreOpened, Redrafts, ChangesTo, ReadsTo, ReadsAt, HasRoomAt, IsOfClose, close_fault};
 ghost use Rattle.sgt_core_machine.specs.private.Looked.{IsItemAt, IsWhy, IsOfRead, read_fault};
 ghost use Rattle.sgt_core_machine.specs.declared.machine.Running.{Running as ARunning};
@@ -316,7 +316,20 @@ impl Machine {
         if !touches(self.running.as_slice(), slot, site) {
             return refused(CoreFault::NotTouched);
         }
-        match self.gather_at(tx, slot, at) {
+        self.gather_allowed(tx, slot, site)
+    }
+
+    // Gathers a transaction at a site where it may be gathered.
+    pub(crate) fn gather_allowed(&mut self, tx: Tx, slot: usize, site: SiteNo) -> Reply
+        requires stands { Stands (parts_of self.old) }
+        requires slot { IsSlotOf (parts_of self.old) tx slot }
+        requires allowed { (c : CoreState) → StandsFor (parts_of self.old) c
+            → IsAllowed c (event.Gather tx site) }
+        ensures goes { GoesOn (λ c d. MayStep c (event.Gather tx site) result d)
+            (parts_of self.old) (parts_of self.new) }
+        ensures slot { IsSlotOf (parts_of self.new) tx slot }
+    {
+        match self.gather_at(tx, slot, site.number() as usize) {
             Ok(()) => Reply::Gathered,
             Err(_) => {
                 self.give_up(tx);

@@ -1,12 +1,12 @@
 //! A transaction is committed or refused as a whole: gathered at each site that it touches, decided, and its block
 //! written there.
 
-ghost use Rattle.std.specs.Prelude.{◌≡◌, ◌<◌, ◌≤◌, Some, None, length, slice_get, IfOk, IfErr, OnOk, OnErr};
+ghost use Rattle.std.specs.Prelude.{◌≡◌, ◌<◌, ◌≤◌, ◌+◌, suc, Some, None, length, slice_get, IfOk, IfErr, OnOk, OnErr};
 ghost use Rattle.sgt_names.specs.Limits.{max_sites};
 ghost use Rattle.sgt_notation.specs.declared.event.Event.TheVariants as event;
 ghost use Rattle.sgt_core_model.specs.Core.{CoreState};
 ghost use Rattle.sgt_core_model.specs.Step.{MayStep, MayDecide};
-ghost use Rattle.sgt_core_machine.specs.Machine.{parts_of, StandsFor, Stands, GoesOn};
+ghost use Rattle.sgt_core_machine.specs.Machine.{parts_of, StandsFor, Stands, GoesOn, IsSlotOf};
 ghost use Rattle.sgt_core_machine.specs.private.Whole.{AreTouched, IsWhole, RefusesWhole, GathersAll, AwaitsBlocks, DecidesWhole, InstallsAll};
 ghost use Rattle.sgt_core_machine.specs.declared.machine.Running.{Running as ARunning};
 
@@ -25,14 +25,14 @@ impl Machine {
             (parts_of self.new) }
     {
         let mut sites = mem::replace(&mut self.sites, Vec::new(self.alloc));
-        match self.whole_sites(tx, &mut sites) {
-            Ok(()) => {}
+        let slot = match self.whole_sites(tx, &mut sites) {
+            Ok(slot) => slot,
             Err(fault) => return refused(fault),
-        }
-        match self.decide_whole(tx, sites.as_slice()) {
+        };
+        match self.decide_whole(tx, slot, sites.as_slice()) {
             Reply::Fault { fault } => refused(fault),
             verdict => {
-                self.install_all(tx, sites.as_slice());
+                self.install_all(tx, slot, sites.as_slice());
                 self.sites = sites;
                 verdict
             }
@@ -46,14 +46,15 @@ impl Machine {
     {
         let mut sites = Vec::new(self.alloc);
         match self.whole_sites(tx, &mut sites) {
-            Ok(()) => self.decide_whole(tx, sites.as_slice()),
+            Ok(slot) => self.decide_whole(tx, slot, sites.as_slice()),
             Err(fault) => refused(fault),
         }
     }
 
-    // Lists the sites that a transaction touches that may be committed.
-    fn whole_sites(&self, tx: Tx, sites: &mut Vec<SiteNo>) -> Result<(), CoreFault>
+    // Lists the sites that a transaction touches that may be committed, and tells its place in the table.
+    fn whole_sites(&self, tx: Tx, sites: &mut Vec<SiteNo>) -> Result<usize, CoreFault>
         requires { Stands (parts_of self.now) }
+        ensures slot { IfOk result (λ slot. IsSlotOf (parts_of self.now) tx slot) }
         ensures ok { OnOk result
             ((c : CoreState) → StandsFor (parts_of self.now) c
             → IsWhole c tx sites.new.items) }
@@ -68,37 +69,41 @@ impl Machine {
             return Err(CoreFault::StepOpen);
         }
         match touched_sites(sites, self.running.as_slice(), slot, self.places.len()) {
-            Ok(()) => Ok(()),
+            Ok(()) => Ok(slot),
             Err(_) => Err(CoreFault::Memory),
         }
     }
 
     // Gathers the transaction at each of its sites, and decides it.
-    fn decide_whole(&mut self, tx: Tx, sites: &[SiteNo]) -> Reply
+    fn decide_whole(&mut self, tx: Tx, slot: usize, sites: &[SiteNo]) -> Reply
         requires stands { Stands (parts_of self.old) }
+        requires slot { IsSlotOf (parts_of self.old) tx slot }
         requires whole { (c : CoreState) → StandsFor (parts_of self.old) c
             → IsWhole c tx sites.now }
-        ensures { GoesOn (λ c d. DecidesWhole c tx sites.now result d) (parts_of self.old)
+        ensures goes { GoesOn (λ c d. DecidesWhole c tx sites.now result d) (parts_of self.old)
             (parts_of self.new) }
+        ensures number { tx ≡ suc (self.new.before + slot) }
     {
-        match self.gather_all(tx, sites) {
-            Ok(()) => self.decide(tx),
+        match self.gather_all(tx, slot, sites) {
+            Ok(()) => self.decide_gathered(tx, slot),
             Err(_) => refused(CoreFault::Memory),
         }
     }
 
     // Gathers the transaction at each of its sites. It errs for want of memory alone, and the step is closed then.
-    fn gather_all(&mut self, tx: Tx, sites: &[SiteNo]) -> Result<(), AllocError>
+    fn gather_all(&mut self, tx: Tx, slot: usize, sites: &[SiteNo]) -> Result<(), AllocError>
         requires stands { Stands (parts_of self.old) }
+        requires slot { IsSlotOf (parts_of self.old) tx slot }
         requires whole { (c : CoreState) → StandsFor (parts_of self.old) c
             → IsWhole c tx sites.now }
         ensures ok { OnOk result
             (GoesOn (λ c d. GathersAll c tx sites.now d) (parts_of self.old) (parts_of self.new)) }
         ensures err { OnErr result
             (GoesOn (λ c d. d ≡ record c { step = None }) (parts_of self.old) (parts_of self.new)) }
+        ensures slot { IsSlotOf (parts_of self.new) tx slot }
     {
         for site in sites {
-            match self.gather(tx, *site) {
+            match self.gather_allowed(tx, slot, *site) {
                 Reply::Gathered => {}
                 _ => return Err(AllocError),
             }
@@ -107,13 +112,19 @@ impl Machine {
     }
 
     // Writes the blocks that are due of the transaction at these sites.
-    fn install_all(&mut self, tx: Tx, sites: &[SiteNo])
-        requires { Stands (parts_of self.old) }
+    fn install_all(&mut self, tx: Tx, slot: usize, sites: &[SiteNo])
+        requires number { tx ≡ suc (self.old.before + slot) }
+        requires awaits { (c : CoreState) × StandsFor (parts_of self.old) c
+            × AwaitsBlocks c tx sites.now }
         ensures { (c : CoreState) → StandsFor (parts_of self.old) c → AwaitsBlocks c tx sites.now
             → (d : CoreState) × InstallsAll c tx sites.now d × StandsFor (parts_of self.new) d }
     {
-        for site in sites {
-            let _installed = self.install(tx, *site);
+        // where nothing is touched the step has ended
+        let Some(verdict) = self.verdict() else {
+            return;
+        };
+        for at in 0..sites.len() {
+            self.install_due(tx, slot, sites[at], verdict, at + 1 < sites.len());
         }
     }
 }

@@ -1,11 +1,11 @@
 -- A block of a decided transaction is written at a site, and its step ends behind the last.
-use Rattle.std.specs.Prelude.{◌≡◌, ℕ, List, Option, Some, None, slice_get, slice_set, length}
+use Rattle.std.specs.Prelude.{◌≡◌, ◌≢◌, ℕ, List, Option, Some, None, slice_get, slice_set, length}
 use Rattle.sgt_site.specs.State.{IsPledgedFor}
 use Rattle.sgt_certifier.specs.History.{IsInstalling}
 use Rattle.sgt_certifier.specs.Certifier.{State}
 use Rattle.sgt_certifier.specs.Judged.{Ends as JudgeEnds, Notes}
 use Rattle.sgt_core_machine.specs.declared.machine.Place.{Place}
-use Rattle.sgt_core_machine.specs.declared.machine.Part.TheVariants.{Idle, Written}
+use Rattle.sgt_core_machine.specs.declared.machine.Part.TheVariants.{Idle, Due, Written}
 use Rattle.sgt_core_machine.specs.declared.machine.Running.{Running}
 use Rattle.sgt_core_machine.specs.declared.machine.Open.{Open}
 use Rattle.sgt_core_machine.specs.declared.machine.Phase.{Phase}
@@ -47,6 +47,14 @@ pub record WritesAt (verdict : Ending) (old new : List Place) (table : List (Opt
 pub record AwaitsAt (certifier : State) (site tx : ℕ) : Type 0 where
   pub installing : IsInstalling certifier tx
   pub awaits : AwaitsInstall certifier tx site
+
+-- a block is due at another site
+pub record IsAnotherDue (places : List Place) (site : ℕ) : Type 0 where
+  pub other : ℕ
+  pub apart : other ≢ site
+  pub place : Place
+  pub there : slice_get places other ≡ Some place
+  pub due : place.part ≡ Due
 
 -- it has noted the install, if there is one
 abbrev pub IsNotedBy : Ending → State → State → ℕ → ℕ → Type 0

@@ -36,8 +36,8 @@ end-requires-clause-step c =
 pub end-requires-clause-slot : goal.end-requires-clause-slot
 end-requires-clause-slot c = slice_get_within c.args.self.now.running.items c.args.slot _ c.requires.slot.1.1
 
-pub returns-after-is_due : goal.returns-after-is_due
-returns-after-is_due c = λ d s.
+pub returns-after-is_due-clause-goes : goal.returns-after-is_due-clause-goes
+returns-after-is_due-clause-goes c = λ d s.
     let m = parts_of c.args.self.now in
     let new = c.rule.new.certifier in
     let decided = c.in-Ok.decided in
@@ -89,8 +89,8 @@ rule-requires-clause-may c =
     (subst (λ (t : List (Option Running)). MayRuleAt m.certifier t c.args.slot (edges_in m.step))
     (sym c.as_slice.ensures.value) may)
 
-pub returns-in-Err-Memory : goal.returns-in-Err-Memory
-returns-in-Err-Memory c = λ d s.
+pub returns-in-Err-Memory-clause-goes : goal.returns-in-Err-Memory-clause-goes
+returns-in-Err-Memory-clause-goes c = λ d s.
     let m = parts_of c.args.self.now in
     let may = c.requires.allowed d s in
     gives_up m d s c.args.tx (λ other. may fault.StepOpen other)

@@ -10,7 +10,7 @@ decide_whole-requires-clause-whole c = subst (λ (xs : List ℕ). AreWhole (part
 pub returns-in-Ok : goal.returns-in-Ok
 returns-in-Ok c =
     decision_made (parts_of c.args.self.now) (parts_of c.decide_whole.new.self) c.args.tx c.as_slice.result.now
-    c.decide_whole.result c.decide_whole.ensures
+    c.decide_whole.result c.decide_whole.ensures.goes
 
 pub returns : goal.returns
 returns c = decision_refused (parts_of c.args.self.now) c.args.tx c.in-Err.fault c.refused.result c.refused.ensures
