@@ -6,13 +6,14 @@ use Rattle.std.proofs.lemmas.Bool.{cases_eq, cases_order}
 use Rattle.std.proofs.lemmas.List.{append-nil, length-append}
 use Rattle.std.proofs.lemmas.List.Elements.{recursion_from_All, All-cons}
 use Rattle.sgt_notation.specs.Spelling.{IsLine, text_of_lines, HasNoLf, line_text}
-use Rattle.sgt_notation.specs.Lines.{Ahead, GaveNext, Gives, Spends, passed, stream}
+use Rattle.sgt_notation.specs.Lines.{Ahead, GaveNext, Gives, Spends, coming, passed, stream}
 use Rattle.sgt_notation.proofs.Fronts.{passed-next}
 use Rattle.sgt_notation.proofs.Short.{line-no_lf, line-short}
 use Rattle.sgt_notation.specs.declared.lines.Next.TheVariants.{Line, Cut, TooLong, End}
 use Rattle.sgt_notation.specs.declared.SectionLine.{SectionLine}
 use Rattle.sgt_audit.specs.declared.faults.Fault.{Fault}
 use Rattle.sgt_audit.specs.declared.kept.Kept.{Kept}
+use Rattle.sgt_audit.specs.declared.kept.Passed.TheVariants as what
 use Rattle.sgt_audit.specs.declared.machine.Progress.{Progress}
 use Rattle.sgt_audit.specs.declared.machine.Progress.TheVariants as at
 use Rattle.sgt_audit.specs.declared.faults.FirstFault as found
@@ -20,7 +21,7 @@ use Rattle.sgt_audit.specs.Faults.{Stage, start, headed, within, complete, lines
 use Rattle.sgt_audit.specs.Kept.{Means, IsStageOf}
 use Rattle.sgt_audit.specs.Reading.{Begun}
 use Rattle.sgt_audit.specs.Progress.{Stands}
-use Rattle.sgt_audit.specs.private.NextLine.{Follows}
+use Rattle.sgt_audit.specs.private.NextLine.{Follows, IsFrontLine, Passes}
 use Rattle.sgt_audit.specs.private.Ending.{EndsWith, IsComplete, limit_of}
 use Rattle.sgt_audit.specs.private.Stops.{Goes, IsJudged, IsRest, IsStop, IsWhole, MeetsFault}
 use Rattle.sgt_audit.proofs.OneFault.{first_fault-excluded, reach-one}
@@ -317,12 +318,26 @@ spends_on (Some xs) None new a b b' c first same later = absurd first
 spends_on (Some xs) (Some ys) None a b b' c first same later = absurd later
 spends_on (Some xs) (Some ys) (Some zs) a b b' c first same later = omega (arith, first, same, later)
 
--- a line that was fed at the front is what comes next
-pub front-gave : (line : SectionLine) (held : List ℕ) (n : ℕ) (lines after : Ahead) (told : Option (List ℕ))
-    → IsLine line → n ≤ length held → take n held ≡ line_text line ++ 10 ∷ [] → held ≡ lines.held
-    → after ≡ passed n lines → GaveNext 50 (stream lines told 0) Line (line_text line) (stream after told 0)
-front-gave line held n lines after told is_line inside front same is =
-    let short = line-short line is_line in
-    subst (λ (a : Ahead). GaveNext 50 (stream lines told 0) Line (line_text line) (stream a told 0)) (sym is)
-    (passed-next 50 n lines told 0 (line_text line) (line-no_lf line is_line) (omega (arith, short))
-    (subst (λ (h : List ℕ). n ≤ length h) same inside) (ap (take n) (sym same) ∙ front))
+-- a line of a section that was read at the front is what comes next
+pub front-gave : (line : SectionLine) (n : ℕ) (lines : Ahead) (told : Option (List ℕ))
+    → IsFrontLine lines.held line n
+    → GaveNext 50 (stream lines told 0) Line (line_text line) (stream (passed n lines) told 0)
+front-gave line n lines told front =
+    passed-next 50 n lines told 0 (line_text line) (line-no_lf line front.is_line)
+    (omega (arith, line-short line front.is_line)) front.within front.reads
+
+-- what was kept stands behind it
+pub front-goes : (all told : Option (List ℕ)) (old new : Kept) (lines : Ahead) (n number reads : ℕ)
+    → Passes lines.held old new (what.Line n) → Goes all (at.Reading old) (coming lines told) number reads
+    → Goes all (at.Reading new) (coming (passed n lines) told) (number + 1) reads
+front-goes all told old new lines n number reads (line, front, follows) goes =
+    after-line all (at.Reading old) (at.Reading new) 50 number (coming lines told) (coming (passed n lines) told)
+    (line_text line) reads reads goes (omega arith) (front-gave line n lines told front).gives follows
+
+-- or it has the first fault of the text
+pub front-fault : (all told : Option (List ℕ)) (old new : Kept) (lines : Ahead) (f : Fault) (number reads : ℕ)
+    → Passes lines.held old new (what.Faulty f) → Goes all (at.Reading old) (coming lines told) number reads
+    → IfSome all (λ bytes. MeetsFault bytes number f reads)
+front-fault all told old new lines f number reads (line, n, front, follows) goes =
+    fault-line all (at.Reading old) (at.Reading new) 50 number (coming lines told) (coming (passed n lines) told)
+    (line_text line) f reads reads goes (omega arith) (front-gave line n lines told front).gives follows

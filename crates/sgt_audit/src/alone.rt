@@ -192,24 +192,24 @@ impl Alone {
             → IfOk result (FollowsAlone certificate.now edges.now b (line_text line) self.new) }
         ensures second { self.new.second ≡ self.old.second }
     {
-        match &line {
+        match line {
             SectionLine::Logged(entry) => {
-                if !is_allowed(self.second, &line) {
+                if !is_allowed(self.second, &SectionLine::Logged(entry)) {
                     return Ok(Some(Fault::Notation));
                 }
-                match self.plain(certificate, entry) {
-                    Some(known) => self.follow_known(&known, entry, true),
-                    None => self.follow(certificate, *entry),
+                match self.plain(certificate, &entry) {
+                    Some(known) => self.follow_known(&known, &entry, true),
+                    None => self.follow(certificate, entry),
                 }
             }
             SectionLine::Initial(holding) => {
-                self.follow_other(&SectionLine::Initial(*holding), true)
+                self.follow_other(&SectionLine::Initial(holding), true)
             }
-            SectionLine::Final(holding) => self.follow_other(&SectionLine::Final(*holding), true),
-            SectionLine::Site(_) => self.follow_other(&line, true),
+            SectionLine::Final(holding) => self.follow_other(&SectionLine::Final(holding), true),
+            SectionLine::Site(site) => self.follow_other(&SectionLine::Site(site), true),
             SectionLine::End => {
                 let met = are_met(certificate, &self.state, edges);
-                self.follow_other(&line, met)
+                self.follow_other(&SectionLine::End, met)
             }
         }
     }
@@ -217,7 +217,11 @@ impl Alone {
     /// The next line, which is no entry: nothing is looked up of it. With the section's last line it is known whether
     /// each of the steps is a conflict in its log.
     #[inline(always)]
-    fn follow_other(&mut self, line: &SectionLine, met: bool) -> Result<Option<Fault>, AllocError>
+    pub(crate) fn follow_other(
+        &mut self,
+        line: &SectionLine,
+        met: bool,
+    ) -> Result<Option<Fault>, AllocError>
         ensures follows { IsLine line.now → ((e : AnyEntry) → line.now ≢ Logged e) → (c : Certificate)
             (edges : List AnyEdge) (b : Begun) → StandsAlone c b self.old → MeetsSteps edges b.current line.now met
             → IfOk result (FollowsAlone c edges b (line_text line.now) self.new) }

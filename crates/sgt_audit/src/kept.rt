@@ -1,17 +1,17 @@
 //! A certificate, and lines of sections behind it, none of which has a fault.
 
-ghost use Rattle.std.specs.Prelude.{◌≡◌, ◌≤◌, ◌↔◌, ℕ, List, length, IsTrue, IfOk, is_some};
+ghost use Rattle.std.specs.Prelude.{◌≡◌, ◌≢◌, ◌≤◌, ◌↔◌, ℕ, List, length, IsTrue, IfOk, is_some};
 ghost use Rattle.sgt_notation.specs.Reading.{SpellsNone};
 ghost use Rattle.sgt_notation.specs.Spelling.{IsLine, line_text};
 
 use crate::alone::Alone;
 use crate::faults::{Fault, FirstFault};
 use crate::format::read_line;
-use crate::sections::{Sections, add_to};
+use crate::sections::{Sections, add_entry_to, add_to};
 use crate::walks::Walks;
 use sgt_audit_decisions::Decided;
 use sgt_names::Entry;
-use sgt_notation::SectionLine;
+use sgt_notation::{SectionLine, front_word_line};
 use std::alloc::AllocError;
 
 /// A certificate and the sections that were read behind it.
@@ -25,13 +25,25 @@ pub struct Kept {
     pub sections: Option<Sections>,
 }
 
+/// What became of the line at the front of bytes.
+#[derive(Drop)]
+pub(crate) enum Passed {
+    /// It was taken, with its LF: so many bytes.
+    Line(usize),
+    /// It has this fault.
+    Faulty(Fault),
+    /// It wasn't read: nothing is said of it.
+    Unread,
+}
+
 impl Kept {
     ghost use Rattle.sgt_audit.specs.Faults.{IsLineIn, Stage, Rule, Breaks, whole};
     ghost use Rattle.sgt_audit.specs.Held.{IsAt};
-    ghost use Rattle.sgt_audit.specs.private.NextLine.{Follows};
+    ghost use Rattle.sgt_audit.specs.private.NextLine.{Follows, Passes};
     ghost use Rattle.sgt_audit.specs.private.Ending.{EndsWith, IsComplete, limit_of};
     ghost use Rattle.sgt_audit.specs.declared.machine.Progress.TheVariants.{Reading};
-    ghost use Rattle.sgt_notation.specs.declared.SectionLine.TheVariants.{Logged};
+    ghost use Rattle.sgt_names.specs.declared.entry.Entry.{Entry as AnyEntry};
+    ghost use Rattle.sgt_notation.specs.declared.SectionLine.TheVariants.{Logged, End};
 
     /// Whether all sections were read.
     #[inline(always)]
@@ -89,6 +101,45 @@ impl Kept {
         }
     }
 
+    /// The next line, which stands at the front of the bytes, where it is no entry: it is read and judged here, so that
+    /// nothing of it goes by memory.
+    #[inline(never)]
+    pub(crate) fn next_word(&mut self, bytes: &[u8]) -> Result<Passed, AllocError>
+        ensures sections { is_some self.new.sections ≡ is_some self.old.sections }
+        ensures passes { IfOk result (Passes bytes.now self.old self.new) }
+    {
+        let Some((line, n)) = front_word_line(bytes) else {
+            return Ok(Passed::Unread);
+        };
+        let found = match line {
+            SectionLine::Initial(holding) => self.next_other(&SectionLine::Initial(holding))?,
+            SectionLine::Final(holding) => self.next_other(&SectionLine::Final(holding))?,
+            _ => self.next_line(line)?,
+        };
+        match found {
+            Some(fault) => Ok(Passed::Faulty(fault)),
+            None => Ok(Passed::Line(n)),
+        }
+    }
+
+    /// The next line, which lists an item or tells a final value.
+    #[inline(always)]
+    fn next_other(&mut self, line: &SectionLine) -> Result<Option<Fault>, AllocError>
+        ensures sections { is_some self.new.sections ≡ is_some self.old.sections }
+        ensures follows { IsLine line.now → ((e : AnyEntry) → line.now ≢ Logged e) → line.now ≢ End
+            → (s : Stage) → IsAt self.old s
+            → IfOk result (Follows s (line_text line.now) (Reading self.new)) }
+    {
+        if self.alone.place.is_complete() {
+            return Ok(Some(Fault::Trailing));
+        }
+        if let Some(fault) = self.alone.follow_other(line, true)? {
+            return Ok(Some(fault));
+        }
+        add_to(&mut self.sections, line)?;
+        Ok(None)
+    }
+
     /// The same of this entry.
     #[inline(always)]
     fn next_entry(&mut self, entry: &Entry) -> Result<Option<Fault>, AllocError>
@@ -103,7 +154,7 @@ impl Kept {
         if let Some(fault) = self.alone.follow_entry(&self.certificate, *entry)? {
             return Ok(Some(fault));
         }
-        add_to(&mut self.sections, &SectionLine::Logged(*entry))?;
+        add_entry_to(&mut self.sections, entry)?;
         Ok(None)
     }
 

@@ -11,10 +11,10 @@ ghost use Rattle.sgt_audit.specs.declared.machine.Progress.TheVariants.{Reading}
 ghost use Rattle.sgt_audit.specs.private.Stops.{BeganBefore, FedHeld, Goes, IsJudged, IsStop, IsWhole};
 
 use crate::faults::{Fault, FirstFault};
-use crate::kept::Kept;
+use crate::kept::{Kept, Passed};
 use crate::machine::{Machine, Progress};
 use sgt_names::{EngineFail, Source};
-use sgt_notation::{Lines, LinesFault, Next, front_line};
+use sgt_notation::{Lines, LinesFault, Next, front_entry_line};
 use std::alloc::{AllocError, Global};
 
 /// Feeds what was kept the lines that are held whole, up to the first fault. The number is that of the next line.
@@ -32,14 +32,23 @@ fn feed_kept(
     ensures bounded { most_left lines.new ≤ most_left lines.old }
     ensures sections { is_some kept.new.sections ≡ is_some kept.old.sections }
 {
-    'lines: while let Some((line, n)) = front_line(lines.held()) {
-        if let Some(fault) = kept.next_read(&line)? {
-            return Ok(Some(fault));
-        }
-        lines.pass(n);
+    'lines: loop {
+        let passed = match front_entry_line(lines.held()) {
+            Some((line, n)) => {
+                if let Some(fault) = kept.next_read(&line)? {
+                    return Ok(Some(fault));
+                }
+                n
+            }
+            None => match kept.next_word(lines.held())? {
+                Passed::Line(n) => n,
+                Passed::Faulty(fault) => return Ok(Some(fault)),
+                Passed::Unread => return Ok(None),
+            },
+        };
+        lines.pass(passed);
         *number += 1;
     }
-    Ok(None)
 }
 
 /// Feeds the machine the lines of sections that are held whole, up to the first fault. The number is that of the next

@@ -3,6 +3,7 @@
 ghost use Rattle.std.specs.Prelude.{◌≡◌, [], OnOk, OnErr, IsTrue, IsSome, IfSome, None, is_some};
 ghost use Rattle.sgt_audit.specs.Reading.{Begun};
 ghost use Rattle.sgt_audit.specs.private.Following.{with_next};
+ghost use Rattle.sgt_notation.specs.declared.SectionLine.TheVariants.{Logged};
 
 use sgt_bundle::SiteLog;
 use sgt_names::{Entry, Holding, Listed};
@@ -87,6 +88,7 @@ impl Model for Sections {
 
 impl Sections {
     ghost use Rattle.sgt_audit.specs.private.Following.{with_next};
+    ghost use Rattle.sgt_notation.specs.declared.SectionLine.TheVariants.{Logged};
 
     /// No line, of the sections of so many sites.
     pub(crate) fn new(alloc: Global, sites: u8) -> Sections
@@ -117,6 +119,22 @@ impl Sections {
         Ok(())
     }
 
+    /// One more line, which is this entry. It goes by memory that only this way touches.
+    #[inline(never)]
+    pub(crate) fn add_entry(&mut self, entry: Entry) -> Result<(), AllocError>
+        ensures sites { self.new.sites ≡ self.old.sites }
+        ensures next { OnOk result
+            (self.new ≡ with_next self.old self.old.current (Logged entry)) }
+    {
+        match &mut self.current {
+            Some(log) => {
+                log.entries.push(entry)?;
+                Ok(())
+            }
+            None => self.add(&SectionLine::Logged(entry)),
+        }
+    }
+
     /// The logs.
     pub(crate) fn into_logs(self) -> Vec<SiteLog>
         ensures { result.items ≡ self.whole }
@@ -135,6 +153,19 @@ pub(crate) fn add_to(sections: &mut Option<Sections>, line: &SectionLine) -> Res
 {
     match sections {
         Some(sections) => sections.add(line),
+        None => Ok(()),
+    }
+}
+
+/// One more line, which is this entry, where the sections are kept.
+#[inline(always)]
+pub(crate) fn add_entry_to(sections: &mut Option<Sections>, entry: &Entry) -> Result<(), AllocError>
+    ensures kept { is_some sections.new ≡ is_some sections.old }
+    ensures next { OnOk result ((b : Begun) → IfSome sections.old (λ s. s ≡ b)
+        → IfSome sections.new (λ s. s ≡ with_next b b.current (Logged entry.now))) }
+{
+    match sections {
+        Some(sections) => sections.add_entry(*entry),
         None => Ok(()),
     }
 }

@@ -2,8 +2,8 @@
 
 use sgt_names::{Entry, Holding, Item, MemSource, SiteNo, Tx};
 use sgt_notation::{
-    Event, EventLine, Lines, Next, SectionLine, behind, front_event, front_line, front_number,
-    held_lines_come_next,
+    Event, EventLine, Lines, Next, SectionLine, behind, front_entry_line, front_event, front_line,
+    front_number, front_word_line, held_lines_come_next,
 };
 use std::test::Fail;
 
@@ -26,6 +26,11 @@ fn each_kind_of_line_is_found(rt: HostRuntime) -> Result<(), Fail> {
             front_line(text.as_bytes()) == Some((SectionLine::Logged(entry), n)),
             "{text}"
         );
+        assert!(rt;
+            front_entry_line(text.as_bytes()) == Some((SectionLine::Logged(entry), n)),
+            "{text}"
+        );
+        assert!(rt; front_word_line(text.as_bytes()).is_none(), "{text}");
     }
     let holding = Holding { item, value: 70 };
     for (text, line, n) in [
@@ -45,6 +50,11 @@ fn each_kind_of_line_is_found(rt: HostRuntime) -> Result<(), Fail> {
         ),
     ] {
         assert!(rt; front_line(text.as_bytes()) == Some((line, n)), "{text}");
+        assert!(rt;
+            front_word_line(text.as_bytes()) == Some((line, n)),
+            "{text}"
+        );
+        assert!(rt; front_entry_line(text.as_bytes()).is_none(), "{text}");
     }
     Ok(())
 }
@@ -84,5 +94,11 @@ fn an_event_is_found(rt: HostRuntime) -> Result<(), Fail> {
     let read = EventLine::One(Event::Read { tx, site, item });
     assert!(rt; front_event(b"r12[3.x_1]\nb\n") == Some((read, 11)));
     assert!(rt; front_event(b"r12[3.x_1]") == None);
+    let site = SiteNo::new(63)?;
+    let read = EventLine::One(Event::Read { tx, site, item });
+    assert!(rt; front_event(b"r12[63.x_1]\n") == Some((read, 12)));
+    assert!(rt; front_event(b"r12[03.x_1]\n") == None);
+    assert!(rt; front_event(b"r12[64.x_1]\n") == None);
+    assert!(rt; front_event(b"r12[063.x_1]\n") == None);
     Ok(())
 }

@@ -21,23 +21,31 @@ pub enum Act {
     Add,
 }
 
-/// What an entry does, if it is an operation.
-pub fn act_of(entry: &Entry) -> Option<Act> {
-    match entry {
-        Entry::Read { .. } => Some(Act::Read),
-        Entry::Write { .. } | Entry::Want { .. } => Some(Act::Put),
-        Entry::Add { .. } | Entry::WantAdd { .. } => Some(Act::Add),
-        _ => None,
-    }
+/// What an entry says: its transaction, the end that it asks for, and what it does to which item, if it is an operation.
+#[derive(Clone, Copy, Debug)]
+pub struct Said {
+    pub tx: Tx,
+    pub fate: Option<Fate>,
+    pub operation: Option<(Item, Act)>,
 }
 
-/// The end that an entry asks for, if it asks for one.
-pub fn fate_of(entry: &Entry) -> Option<Fate> {
-    match entry {
-        Entry::Write { .. } | Entry::Add { .. } | Entry::Commit { .. } => Some(Fate::Commit),
-        Entry::Want { .. } | Entry::WantAdd { .. } | Entry::Refuse { .. } => Some(Fate::Refuse),
-        Entry::Withdraw { .. } => Some(Fate::Withdraw),
-        Entry::Read { .. } => None,
+/// What the entry says.
+#[inline(always)]
+pub fn said_by(entry: &Entry) -> Said {
+    let (tx, fate, operation) = match *entry {
+        Entry::Read { tx, item, .. } => (tx, None, Some((item, Act::Read))),
+        Entry::Write { tx, item, .. } => (tx, Some(Fate::Commit), Some((item, Act::Put))),
+        Entry::Add { tx, item, .. } => (tx, Some(Fate::Commit), Some((item, Act::Add))),
+        Entry::Want { tx, item, .. } => (tx, Some(Fate::Refuse), Some((item, Act::Put))),
+        Entry::WantAdd { tx, item, .. } => (tx, Some(Fate::Refuse), Some((item, Act::Add))),
+        Entry::Commit { tx } => (tx, Some(Fate::Commit), None),
+        Entry::Refuse { tx } => (tx, Some(Fate::Refuse), None),
+        Entry::Withdraw { tx } => (tx, Some(Fate::Withdraw), None),
+    };
+    Said {
+        tx,
+        fate,
+        operation,
     }
 }
 

@@ -20,7 +20,7 @@ mod walks;
 pub use conflicts::{Conflict, kind_of, least_conflict};
 pub use ends::{Before, Front};
 pub use groups::Groups;
-pub use history::{Act, End, Ending, Fate, History, Life, Named, Operation, Place, act_of};
+pub use history::{Act, End, Ending, Fate, History, Life, Named, Operation, Place, Said, said_by};
 pub use lists::{clear_mark, is_marked, number_at, set_mark, set_number, short};
 pub use logs::Logs;
 pub use ranks::rank_order;

@@ -99,6 +99,7 @@ impl<'a> Turns<'a> {
     }
 
     /// The next run of the item has its turn, behind this one.
+    #[inline(always)]
     fn open(&mut self, item: usize, before: Turn) {
         let mut turn = before;
         let mut run = Run { act: None };
@@ -120,6 +121,7 @@ impl<'a> Turns<'a> {
     }
 
     /// The item's run is this far. Where one is left alone, and stands in the next run too, it waits there no longer.
+    #[inline(always)]
     fn put(&mut self, item: usize, turn: Turn) {
         let mut turn = turn;
         if turn.left == 1 && self.follows_itself(&turn) {

@@ -1,6 +1,6 @@
 //! The lines of logs without a certificate, kept for the search. They aren't judged.
 
-use sgt_certify_history::{History, Logs, Named, act_of};
+use sgt_certify_history::{History, Logs, Named, said_by};
 use sgt_names::{Entry, Holding, Item, SiteNo};
 use sgt_notation::SectionLine;
 use std::alloc::{AllocError, Global};
@@ -120,12 +120,13 @@ impl Reader {
         let Some(section) = self.open else {
             return Ok(false);
         };
-        match (entry.item(), act_of(entry)) {
-            (Some(item), Some(act)) => match self.find(section.first, &item) {
-                Some(item) => self.logs.add_operation(entry, act, item, self.line),
+        let said = said_by(entry);
+        match said.operation {
+            Some((item, act)) => match self.find(section.first, &item) {
+                Some(item) => self.logs.add_operation(&said, act, item, self.line),
                 None => Ok(false),
             },
-            _ => self.logs.add_end(entry, self.line),
+            None => self.logs.add_end(&said, self.line),
         }
     }
 }

@@ -52,6 +52,7 @@ impl Machine {
 
     // Writes the block of a transaction at a site where it is due. The step ends behind the last, which this isn't
     // where a block is known to be due at another site.
+    #[inline(always)]
     pub(crate) fn install_due(
         &mut self,
         tx: Tx,

@@ -24,6 +24,7 @@ pub enum Found {
 }
 
 // What the transaction at a place of the table finds of an item without the site.
+#[inline(always)]
 pub(crate) fn find_at(table: &[Option<Running>], slot: usize, site: SiteNo, item: Item) -> Found
     requires { slot < length table.now }
     ensures { (r : ARunning) → slice_get table.now slot ≡ Some (Some r)
@@ -36,6 +37,7 @@ pub(crate) fn find_at(table: &[Option<Running>], slot: usize, site: SiteNo, item
 }
 
 // What the transaction of the draft finds of an item without the site.
+#[inline(always)]
 fn find_in(draft: &Draft, site: SiteNo, item: Item) -> Found
     ensures { IsFound draft.now.touched (site, item) result }
 {

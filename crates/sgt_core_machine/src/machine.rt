@@ -195,6 +195,7 @@ impl Machine {
     }
 
     // The place of a transaction that may change the item now.
+    #[inline(always)]
     fn free_slot(&self, tx: Tx, site: SiteNo, item: Item) -> Result<usize, CoreFault>
         requires { Stands (parts_of self.now) }
         ensures ok { IfOk result (λ slot. IsSlotOf (parts_of self.now) tx slot) }
@@ -320,6 +321,7 @@ impl Machine {
     }
 
     // Gathers a transaction at a site where it may be gathered.
+    #[inline(always)]
     pub(crate) fn gather_allowed(&mut self, tx: Tx, slot: usize, site: SiteNo) -> Reply
         requires stands { Stands (parts_of self.old) }
         requires slot { IsSlotOf (parts_of self.old) tx slot }

@@ -52,6 +52,7 @@ impl Machine {
     }
 
     // Lists the sites that a transaction touches that may be committed, and tells its place in the table.
+    #[inline(always)]
     fn whole_sites(&self, tx: Tx, sites: &mut Vec<SiteNo>) -> Result<usize, CoreFault>
         requires { Stands (parts_of self.now) }
         ensures slot { IfOk result (λ slot. IsSlotOf (parts_of self.now) tx slot) }
@@ -130,6 +131,7 @@ impl Machine {
 }
 
 // Lists the sites below this number that the transaction at a place of the table touches, rising.
+#[inline(always)]
 fn touched_sites(
     sites: &mut Vec<SiteNo>,
     table: &[Option<Running>],

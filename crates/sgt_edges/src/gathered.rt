@@ -196,6 +196,7 @@ fn add_of_change(
 }
 
 // Adds the edges of this kind from writers.
+#[inline(always)]
 fn add_before(
     edges: &mut EdgeList,
     touch: &Touch,

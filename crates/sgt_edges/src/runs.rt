@@ -92,6 +92,7 @@ fn is_read(readers: &[Reader], present: u64) -> bool
 
 /// Of an item's writers those directly in front of a version: the increments of the run there since the last read of
 /// an older version, or the write at its beginning where it is empty.
+#[inline(always)]
 pub(crate) fn in_front<'a>(writers: &'a [Writer], readers: &[Reader], version: u64) -> &'a [Writer]
     requires by_version { AllPairs (λ a b. a.version ≤ b.version) readers.now }
     requires known { version ≤ length writers.now }

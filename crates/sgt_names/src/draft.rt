@@ -226,7 +226,8 @@ impl Draft {
     }
 
     /// What this transaction sees of the item: its private write, or else its kept read with its private increment
-    /// behind it. None where it has an increment alone, or nothing. Binary searches.
+    /// behind it. None where it has an increment alone, or nothing. Goes over the touched items while they are few;
+    /// else binary searches.
     pub fn look(&self, site: SiteNo, item: Item) -> Option<Value>
         ensures { result ≡ option_and_then look_of (touched_at self.now.touched (site, item)) }
     {
@@ -240,7 +241,8 @@ impl Draft {
     }
 
     /// Keeps a read of an item that it has not read. Errs where there was no memory for an item that is new to it.
-    /// Binary searches; a new item moves those of greater names at its site, and of greater places while they are few.
+    /// Searches as `look` does; a new item moves those of greater names at its site, and of greater places while they
+    /// are few.
     pub fn seen(
         &mut self,
         site: SiteNo,
@@ -269,7 +271,7 @@ impl Draft {
     }
 
     /// Keeps a private write, in place of an earlier write or increment. Errs where there was no memory for an item
-    /// that is new to it. Binary searches; a new item moves others as `seen` says.
+    /// that is new to it. Searches as `look` does; a new item moves others as `seen` says.
     pub fn put(&mut self, site: SiteNo, item: Item, value: Value) -> Result<(), AllocError>
         ensures ok { OnOk result (ChangesOnly self.old.touched self.new.touched (record {
           site = site;
@@ -287,8 +289,8 @@ impl Draft {
     }
 
     /// Keeps a private increment. Behind an earlier write or increment it becomes one with it: a write of the sum, or
-    /// an increment by the sum, modulo 2^64. Errs where there was no memory for an item that is new to it. Binary
-    /// searches; a new item moves others as `seen` says.
+    /// an increment by the sum, modulo 2^64. Errs where there was no memory for an item that is new to it. Searches as
+    /// `look` does; a new item moves others as `seen` says.
     pub fn add(&mut self, site: SiteNo, item: Item, value: Value) -> Result<(), AllocError>
         ensures ok { OnOk result (ChangesOnly self.old.touched self.new.touched (record {
           site = site;

@@ -1,6 +1,6 @@
 //! A line of a section, read at the front of bytes that hold more: its LF is not looked for first.
 
-ghost use Rattle.std.specs.Prelude.{◌≡◌, ◌≤◌, ◌++◌, ◌∷◌, [], length, take, drop, IfSome, decimal};
+ghost use Rattle.std.specs.Prelude.{◌≡◌, ◌<◌, ◌≤◌, ◌++◌, ◌∷◌, [], length, take, drop, IfSome, decimal};
 ghost use Rattle.sgt_names.specs.Name.{IsName};
 ghost use Rattle.sgt_notation.specs.Private.{Spans, ending};
 ghost use Rattle.sgt_notation.specs.PrivateEvents.{IsAccess, IsUpdate, access_text, update_text};
@@ -140,13 +140,40 @@ pub(crate) fn tx_at(bytes: &[u8], from: usize) -> Option<(Tx, usize)>
     Some((tx, to))
 }
 
-/// The number of a site, and the place behind it.
+/// The site of this number.
+#[inline(always)]
+fn site_of(number: u64) -> Option<SiteNo>
+    ensures { IfSome result (λ site. (site ≡ number) × IsSite site) }
+{
+    SiteNo::new(number).ok()
+}
+
+/// The number of one digit, and the place behind it.
+#[inline(always)]
+fn digit_at(bytes: &[u8], from: usize) -> Option<(u64, usize)>
+    ensures { IfSome result (λ r. (r.0 < 10) × Spans bytes.now from (decimal r.0) r.1) }
+{
+    let byte = *bytes.get(from)?;
+    if byte < b'0' || byte > b'9' {
+        return None;
+    }
+    let to = byte_at(bytes, from, byte)?;
+    Some(((byte - b'0') as u64, to))
+}
+
+/// The number of a site, which has one digit or two, and the place behind it.
 #[inline(always)]
 pub(crate) fn site_at(bytes: &[u8], from: usize) -> Option<(SiteNo, usize)>
     ensures { IfSome result (λ r. IsSite r.0 × Spans bytes.now from (decimal r.0) r.1) }
 {
-    let (number, to) = value_at(bytes, from)?;
-    let site = SiteNo::new(number).ok()?;
+    let (first, behind) = digit_at(bytes, from)?;
+    let Some((second, to)) = digit_at(bytes, behind) else {
+        return Some((site_of(first)?, behind));
+    };
+    if first == 0 {
+        return None;
+    }
+    let site = site_of(10 * first + second)?;
     Some((site, to))
 }
 
@@ -314,21 +341,25 @@ fn roomy_entry(bytes: &[u8], wants_lf: bool) -> Option<(SectionLine, usize)>
 fn word_line(bytes: &[u8]) -> Option<(SectionLine, usize)>
     ensures { IfSome result (λ r. IsLine r.0 × Spans bytes.now 0 (line_text r.0) r.1) }
 {
-    if let Some(from) = word_at(bytes, 0, b"item ") {
-        let (holding, to) = holding_at(bytes, from)?;
-        return Some((SectionLine::Initial(holding), to));
+    match *bytes.first()? {
+        b'i' => {
+            let (holding, to) = holding_at(bytes, word_at(bytes, 0, b"item ")?)?;
+            Some((SectionLine::Initial(holding), to))
+        }
+        b'f' => {
+            let (holding, to) = holding_at(bytes, word_at(bytes, 0, b"final ")?)?;
+            Some((SectionLine::Final(holding), to))
+        }
+        b's' => {
+            let (number, to) = value_at(bytes, word_at(bytes, 0, b"site ")?)?;
+            let site = SiteNo::new(number).ok()?;
+            Some((SectionLine::Site(site), to))
+        }
+        _ => {
+            let to = word_at(bytes, 0, b"end")?;
+            Some((SectionLine::End, to))
+        }
     }
-    if let Some(from) = word_at(bytes, 0, b"final ") {
-        let (holding, to) = holding_at(bytes, from)?;
-        return Some((SectionLine::Final(holding), to));
-    }
-    if let Some(from) = word_at(bytes, 0, b"site ") {
-        let (number, to) = value_at(bytes, from)?;
-        let site = SiteNo::new(number).ok()?;
-        return Some((SectionLine::Site(site), to));
-    }
-    let to = word_at(bytes, 0, b"end")?;
-    Some((SectionLine::End, to))
 }
 
 /// The same, or the place behind its LF.
@@ -350,16 +381,35 @@ fn last_word(bytes: &[u8], wants_lf: bool) -> Option<(SectionLine, usize)>
     ended_word(bytes, wants_lf)
 }
 
+/// The same, by way of memory that only this way touches.
+#[inline(always)]
+fn far_last(bytes: &[u8], wants_lf: bool) -> Option<(SectionLine, usize)>
+    ensures { IfSome result
+        (λ r. IsLine r.0 × Spans bytes.now 0 (line_text r.0 ++ ending wants_lf) r.1) }
+{
+    let (line, to) = last_word(bytes, wants_lf)?;
+    Some((line, to))
+}
+
 /// The same. Where there is room for every such line, none of its places needs a test.
-#[inline(never)]
-fn front_word(bytes: &[u8], wants_lf: bool) -> Option<(SectionLine, usize)>
+#[inline(always)]
+fn roomy_word(bytes: &[u8], wants_lf: bool) -> Option<(SectionLine, usize)>
     ensures { IfSome result
         (λ r. IsLine r.0 × Spans bytes.now 0 (line_text r.0 ++ ending wants_lf) r.1) }
 {
     match bytes.first_chunk::<ROOM>() {
         Some(room) => ended_word(room, wants_lf),
-        None => last_word(bytes, wants_lf),
+        None => far_last(bytes, wants_lf),
     }
+}
+
+/// The same, wherever it is called from.
+#[inline(never)]
+fn front_word(bytes: &[u8], wants_lf: bool) -> Option<(SectionLine, usize)>
+    ensures { IfSome result
+        (λ r. IsLine r.0 × Spans bytes.now 0 (line_text r.0 ++ ending wants_lf) r.1) }
+{
+    roomy_word(bytes, wants_lf)
 }
 
 /// The same, by way of memory that only this way touches.
@@ -393,4 +443,24 @@ pub fn front_line(bytes: &[u8]) -> Option<(SectionLine, usize)>
         × (take r.1 bytes.now ≡ line_text r.0 ++ 10 ∷ [])) }
 {
     front_section(bytes, true)
+}
+
+/// As `front_line`, of entries alone.
+#[inline(always)]
+pub fn front_entry_line(bytes: &[u8]) -> Option<(SectionLine, usize)>
+    ensures { IfSome result
+        (λ r. IsLine r.0 × (r.1 ≤ length bytes.now)
+        × (take r.1 bytes.now ≡ line_text r.0 ++ 10 ∷ [])) }
+{
+    roomy_entry(bytes, true)
+}
+
+/// As `front_line`, of lines that are no entry's.
+#[inline(always)]
+pub fn front_word_line(bytes: &[u8]) -> Option<(SectionLine, usize)>
+    ensures { IfSome result
+        (λ r. IsLine r.0 × (r.1 ≤ length bytes.now)
+        × (take r.1 bytes.now ≡ line_text r.0 ++ 10 ∷ [])) }
+{
+    roomy_word(bytes, true)
 }

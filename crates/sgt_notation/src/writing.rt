@@ -86,6 +86,7 @@ fn push_long(out: &mut Vec<u8>, number: u64) -> Result<(), AllocError>
 }
 
 /// Writes the number in decimal digits behind what is there. Err: memory ran out, and nothing is written.
+#[inline(always)]
 pub fn push_number(out: &mut Vec<u8>, number: u64) -> Result<(), AllocError>
     ensures ok { OnOk result (out.new.items ≡ out.old.items ++ decimal number) }
     ensures err { OnErr result (out.new.items ≡ out.old.items) }
@@ -128,6 +129,7 @@ pub fn write_section(out: &mut Vec<u8>, line: &SectionLine) -> Result<(), AllocE
 }
 
 /// As `write_section`, with an LF behind the line.
+#[inline(always)]
 pub fn write_section_line(out: &mut Vec<u8>, line: &SectionLine) -> Result<(), AllocError>
     ensures ok { OnOk result
         (out.new.items ≡ out.old.items ++ text_of_lines (line_text line.now ∷ [])) }

@@ -105,6 +105,7 @@ impl Cells {
 
     /// Answers a transaction that has not read the item of this cell, and keeps the answer at this place, if it goes
     /// there.
+    #[inline(always)]
     pub(crate) fn answer(&mut self, at: usize, tx: Tx, place: usize) -> Result<Seen, AllocError>
         requires within { at < length self.old }
         requires first { (c : Contents) → slice_get self.old at ≡ Some c → IsAnswering c.readings tx
@@ -191,7 +192,7 @@ fn hints_of(alloc: Global, items: &[Holding]) -> Result<Vec<u16>, AllocError> {
     Ok(hints)
 }
 
-#[inline(never)]
+#[inline(always)]
 fn is_of(cell: &Cell, item: &Item) -> bool
     ensures { IsTrue result ↔ (cell.now.item ≡ item.now) }
 {

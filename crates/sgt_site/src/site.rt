@@ -434,6 +434,7 @@ fn has_ended(ended: &[Tx], tx: Tx) -> bool
 }
 
 // The transaction has its end.
+#[inline(always)]
 fn add_ended(ended: &mut Vec<Tx>, tx: Tx)
     requires rising { IsRisingBy (λ t. t) nat_cmp ended.old.items }
     requires first { Contains ended.old.items tx → ⊥ }

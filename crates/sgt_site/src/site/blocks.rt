@@ -83,6 +83,7 @@ impl Site {
 }
 
 // Whether the part is what of these is at the site.
+#[inline(always)]
 fn are_same(part: &[Touch], number: SiteNo, near: &[Touch]) -> bool
     ensures { IsTrue result ↔ (part.now ≡ at_site number near.now) }
 {

@@ -26,6 +26,6 @@ returns-in-Some-clause-follows k is s (b, before, h, stage) =
 
 pub returns-clause-follows : goal.returns-clause-follows
 returns-clause-follows k is s (b, before, h, stage) =
-    line-goes k.args.self.now k.follow_entry.new.self k.add_to.new.sections [] b before (Logged k.args.entry.now) s
+    line-goes k.args.self.now k.follow_entry.new.self k.add_entry_to.new.sections [] b before (Logged k.args.entry.now) s
     k.follow_entry.ensures.second h stage is.0 (λ same. cc)
-    (rw k.in_default.is at k.in_ok-fault.ensures.follows is [] b h.stands) (k.in_ok-add_to.ensures.next b h.sections)
+    (rw k.in_default.is at k.in_ok-fault.ensures.follows is [] b h.stands) (k.in_ok-add_entry_to.ensures.next b h.sections)

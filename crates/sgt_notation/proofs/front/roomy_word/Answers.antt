@@ -2,7 +2,7 @@ use Rattle.std.specs.Prelude.{◌++◌}
 use Rattle.sgt_notation.specs.Private.{ending}
 use Rattle.sgt_notation.specs.Spelling.{IsLine, line_text}
 use Rattle.sgt_notation.proofs.Fronts.{room_found}
-use Rattle.sgt_notation.proofs.front.front_word.Goals as goal
+use Rattle.sgt_notation.proofs.front.roomy_word.Goals as goal
 
 pub returns-in-Some : goal.returns-in-Some
 returns-in-Some c =
