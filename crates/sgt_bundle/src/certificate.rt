@@ -1,5 +1,6 @@
 //! What a certifier decided of each transaction.
 
+use crate::walk::Walk;
 use sgt_names::{Label, Listed, Tx};
 
 /// A step of a walk: a conflict, and the transaction that it leads to.
@@ -15,7 +16,7 @@ pub enum Decision {
     /// It is committed, at this place of the serial order.
     Commit { tx: Tx, rank: u32 },
     /// It is refused, since this walk of conflicts leads from it back to it.
-    Refuse { tx: Tx, walk: Listed<Step> },
+    Refuse { tx: Tx, walk: Walk },
     /// It was withdrawn.
     Withdraw { tx: Tx },
 }

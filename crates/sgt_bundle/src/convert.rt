@@ -8,6 +8,7 @@ ghost use Rattle.sgt_bundle.specs.Private.{refuse_in, step_in, text_at, tx_at, w
 
 use crate::certificate::{Certificate, Decision, Step};
 use crate::shape::{shows_commit, shows_refuse};
+use crate::walk::Walk;
 use serde_json::Value;
 use sgt_names::{Item, Kind, Label, Listed, MAX_SITES, SiteNo, Tx};
 use std::alloc::{AllocError, Global};
@@ -151,7 +152,7 @@ fn refuse(alloc: Global, value: &Value, sites: u8) -> Result<Option<Decision>, A
     };
     Ok(Some(Decision::Refuse {
         tx,
-        walk: Listed::new(walk),
+        walk: Walk::from_vec(alloc, walk)?,
     }))
 }
 

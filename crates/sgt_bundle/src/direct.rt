@@ -11,6 +11,7 @@ ghost use Rattle.sgt_bundle.specs.Private.{with_commas};
 ghost use Rattle.sgt_bundle.specs.Text.{IsDecision, IsStep, certificate_text, decision_data, items_data, kind_name, step_data};
 
 use crate::certificate::{Certificate, Decision, Step};
+use crate::walk::Walk;
 use sgt_names::{Item, Kind, Label, Listed, MAX_SITES, SiteNo, Tx};
 use sgt_notation::{behind, front_number};
 use std::alloc::{AllocError, Global};
@@ -172,7 +173,7 @@ fn refusal(alloc: Global, bytes: &[u8]) -> Result<Option<(Decision, &[u8])>, All
     let Some(rest) = behind(rest, b"}") else {
         return Ok(None);
     };
-    let walk = Listed::new(walk);
+    let walk = Walk::from_vec(alloc, walk)?;
     Ok(Some((Decision::Refuse { tx, walk }, rest)))
 }
 

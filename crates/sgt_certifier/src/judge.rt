@@ -12,11 +12,11 @@ ghost use Rattle.sgt_certifier.specs.History.{IsActive, IsAllowed, IsKnown, IsNo
 ghost use Rattle.sgt_certifier.specs.Judged.{Denies, Ends, Notes};
 ghost use Rattle.sgt_certifier.specs.Kept.{IsTold, MayDecide, step_at, tx_at};
 
-use crate::call::{CertifierFault, Decided, Walk};
+use crate::call::{CertifierFault, Decided};
 use crate::install::is_among;
 use crate::ranking::{Ruled, decisions_of, rank_all, tx_of};
 use sgt_arena::{Handle, MAX_PLACES};
-use sgt_bundle::{Certificate, Step};
+use sgt_bundle::{Certificate, Step, Walk};
 use sgt_edges::{Edge, EdgeList};
 use sgt_names::{Listed, MAX_SITES, SiteNo, Tx};
 use sgt_order::{Admit, Graph};

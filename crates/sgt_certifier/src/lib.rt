@@ -11,7 +11,7 @@ mod laws;
 mod ranking;
 mod row;
 
-pub use call::{Call, CertifierFault, Decided, Walk};
+pub use call::{Call, CertifierFault, Decided};
 pub use certifier::Certifier;
 pub use handed::{HandedEdges, Incident};
 pub use judge::Judge;

@@ -5,10 +5,9 @@ ghost use Rattle.sgt_certifier.specs.Certifier.{ruled};
 ghost use Rattle.sgt_certifier.specs.Judged.{ruling_from};
 ghost use Rattle.sgt_certifier.specs.Kept.{with_rank_in, tx_at};
 
-use crate::call::Walk;
 use sgt_arena::Handle;
-use sgt_bundle::Decision;
-use sgt_names::{Listed, Tx};
+use sgt_bundle::{Decision, Walk};
+use sgt_names::Tx;
 use std::alloc::{AllocError, Global};
 
 /// A decision, without the rank, which may still move.
@@ -59,7 +58,7 @@ fn decision_of(alloc: Global, ruling: &Ruled, ranks: &[u32]) -> Result<Decision,
             let steps = Vec::from_slice(alloc, walk.as_slice())?;
             Ok(Decision::Refuse {
                 tx: *tx,
-                walk: Listed::new(steps),
+                walk: Walk::from_vec(alloc, steps)?,
             })
         }
         Ruled::Withdrawn(tx) => Ok(Decision::Withdraw { tx: *tx }),

@@ -9,7 +9,7 @@ ghost use Rattle.sgt_certify_faults.specs.private.Asked.{asked_end, asking_with,
 
 use crate::lines::split_read;
 use sgt_audit_decisions::Decided;
-use sgt_bundle::{Certificate, Decision};
+use sgt_bundle::{Certificate, Decision, Walk};
 use sgt_names::{Entry, Listed, Tx};
 use sgt_notation::SectionLine;
 use std::alloc::{AllocError, Global};
@@ -64,17 +64,17 @@ impl Asking {
     }
 
     /// A decision of the kind that is asked for first.
-    fn decision(&self, alloc: Global) -> Decision
-        ensures { result ≡ decision_of self.now }
+    fn decision(&self, alloc: Global) -> Result<Decision, AllocError>
+        ensures { IfOk result (λ decision. decision ≡ decision_of self.now) }
     {
         let tx = self.tx;
         match self.end {
-            Some(Asked::Commit) => Decision::Commit { tx, rank: 0 },
-            Some(Asked::Refusal) => Decision::Refuse {
+            Some(Asked::Commit) => Ok(Decision::Commit { tx, rank: 0 }),
+            Some(Asked::Refusal) => Ok(Decision::Refuse {
                 tx,
-                walk: Listed::new(Vec::new(alloc)),
-            },
-            Some(Asked::Withdrawal) | None => Decision::Withdraw { tx },
+                walk: Walk::from_vec(alloc, Vec::new(alloc))?,
+            }),
+            Some(Asked::Withdrawal) | None => Ok(Decision::Withdraw { tx }),
         }
     }
 }
@@ -137,7 +137,7 @@ impl Askings {
     {
         let mut decisions = Vec::new(alloc);
         for asking in self.list.as_slice() {
-            decisions.push(asking.decision(alloc))?;
+            decisions.push(asking.decision(alloc)?)?;
         }
         Ok(decisions)
     }

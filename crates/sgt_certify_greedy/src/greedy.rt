@@ -10,7 +10,7 @@ use crate::pairs::Pair;
 use crate::sets::{note_if, place_of, take_out};
 use crate::sorting::predecessor;
 use crate::walks::walk_back;
-use sgt_bundle::{Decision, SiteLog};
+use sgt_bundle::{Decision, SiteLog, Walk};
 use sgt_certify_logs::stands_in;
 use sgt_names::{Entry, Tx};
 use std::alloc::{AllocError, Global};
@@ -57,7 +57,10 @@ fn decision_on(
     }
     if stands_in(sites, &Entry::Refuse { tx }) {
         return match walk_back(alloc, sites, known.conflicts.as_slice(), commits, tx)? {
-            Some(walk) => Ok(Some(Decision::Refuse { tx, walk })),
+            Some(walk) => {
+                let walk = Walk::from_vec(alloc, walk.into_vec())?;
+                Ok(Some(Decision::Refuse { tx, walk }))
+            }
             None => Ok(None),
         };
     }

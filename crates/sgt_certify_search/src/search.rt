@@ -1,12 +1,12 @@
 //! The search for a certificate of what the logs say.
 
-use sgt_bundle::{Decision, Step};
+use sgt_bundle::{Decision, Step, Walk};
 use sgt_certify_history::{
     Asked, Before, Bounds, Fate, Front, History, Link, Marks, Spread, Targets, Waiting, ask,
     clear_mark, is_marked, met_from, number_at, rank_order, set_mark, set_number, short, walk_of,
 };
 use sgt_certify_stuck::{Circle, StuckSet};
-use sgt_names::{Listed, Tx};
+use sgt_names::Tx;
 use std::alloc::{AllocError, Global};
 use std::collections::BTreeMap;
 
@@ -265,7 +265,7 @@ impl Greedy {
                 }
                 Some(Fate::Refuse) => Decision::Refuse {
                     tx: life.tx,
-                    walk: Listed::new(steps_of(alloc, history, walk.as_slice())?),
+                    walk: Walk::from_vec(alloc, steps_of(alloc, history, walk.as_slice())?)?,
                 },
                 _ => Decision::Withdraw { tx: life.tx },
             };
