@@ -19,6 +19,8 @@ pub struct Dag {
     pub rows: Vec<Row>,
     /// Where the edges of a node stand, by its index. A node with few edges may have none.
     pub hints: Vec<Hints>,
+    /// The room that the edges of a closed window had, for those of the next one. What stands in it is no edge.
+    pub spare: Vec<Edge>,
 }
 
 impl Dag {

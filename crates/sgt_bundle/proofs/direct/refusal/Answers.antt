@@ -7,9 +7,9 @@ use Rattle.sgt_bundle.proofs.direct.refusal.Goals as goal
 pub returns : goal.returns
 returns c =
     let steps = all-in_range (IsStep max_sites) c.in_ok-walk.walk.items c.in_ok-rest.field-0 c.in-Some-2.rest
-    c.add_steps.new.walk.items c.new-walk.result c.in_ok-walk.ensures.items c.in-Some-2.is
-    c.in_ok-rest.ensures.in_range c.new-walk.ensures in
+    c.add_steps.new.walk.items c.in_ok-walk-2.walk c.in_ok-walk.ensures.items c.in-Some-2.is
+    c.in_ok-rest.ensures.in_range c.in_ok-walk-2.ensures in
     let text =
     all-read step_data c.in_ok-walk.walk.items _ c.in_ok-rest.field-0 c.in-Some-2.rest c.add_steps.new.walk.items
-    c.new-walk.result c.in_ok-walk.ensures.items c.in-Some-2.is c.in_ok-rest.ensures.text c.new-walk.ensures in
+    c.in_ok-walk-2.walk c.in_ok-walk.ensures.items c.in-Some-2.is c.in_ok-rest.ensures.text c.in_ok-walk-2.ensures in
     search (rules, refuse-front, steps, text)
