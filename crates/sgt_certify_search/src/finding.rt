@@ -10,7 +10,7 @@ use sgt_certify_history::History;
 use sgt_certify_logs::{ConflictStep, EndStep};
 use sgt_certify_stuck::StuckSet;
 use sgt_names::{Listed, Tx};
-use sgt_notation::{SectionLine, front_line, read_section, split_line};
+use sgt_notation::{SectionLine, front_entry_line, front_line, read_section, split_line};
 use std::alloc::{AllocError, Global};
 
 /// What shows that there is no certificate.
@@ -65,16 +65,46 @@ fn split_section(text: &[u8]) -> Option<(SectionLine, &[u8])>
     }
 }
 
-/// Feeds the reader all lines of the text, which are lines of sections. Whether it found a place for each.
+/// What became of the front of a text.
+enum Fed<'a> {
+    /// The line there was read, and this stands behind it.
+    Line(&'a [u8]),
+    /// There is no place for the line.
+    Misplaced,
+    /// There is no line.
+    Unread,
+}
+
+/// Feeds the reader the line at the front of the text, whichever it is.
+#[inline(never)]
+fn feed_line<'a>(reader: &mut Reader, text: &'a [u8]) -> Result<Fed<'a>, AllocError> {
+    let Some((line, behind)) = split_section(text) else {
+        return Ok(Fed::Unread);
+    };
+    if !reader.next(&line)? {
+        return Ok(Fed::Misplaced);
+    }
+    Ok(Fed::Line(behind))
+}
+
+/// Feeds the reader all lines of the text, which are lines of sections. Whether it found a place for each. Most are
+/// entries, so that these are looked for first.
 fn feed(reader: &mut Reader, text: &[u8]) -> Result<bool, AllocError> {
     let mut ahead = text;
-    'lines: while let Some((line, behind)) = split_section(ahead) {
-        if !reader.next(&line)? {
-            return Ok(false);
+    'lines: loop {
+        if let Some((line, n)) = front_entry_line(ahead) {
+            if !reader.next_entry(&line)? {
+                return Ok(false);
+            }
+            ahead = &ahead[n..];
+            continue;
         }
-        ahead = behind;
+        match feed_line(reader, ahead)? {
+            Fed::Line(behind) => ahead = behind,
+            Fed::Misplaced => return Ok(false),
+            Fed::Unread => return Ok(ahead.is_empty()),
+        }
     }
-    Ok(ahead.is_empty())
 }
 
 /// The number of the sites.

@@ -36,7 +36,7 @@ impl Reader {
     /// Behind the first line of a text of so many bytes.
     pub fn new(alloc: Global, bytes: usize) -> Result<Reader, AllocError> {
         Ok(Reader {
-            logs: Logs::new(alloc, bytes),
+            logs: Logs::new(alloc, bytes)?,
             open: None,
             slots: vec![in alloc; 0u16; SLOTS]?,
             line: 1,
@@ -61,6 +61,16 @@ impl Reader {
                 self.open = None;
                 Ok(true)
             }
+        }
+    }
+
+    /// The next line, where it is an entry's. Whether it is, and there is a place for it.
+    #[inline(always)]
+    pub fn next_entry(&mut self, line: &SectionLine) -> Result<bool, AllocError> {
+        self.line = self.line.saturating_add(1);
+        match line {
+            SectionLine::Logged(entry) => self.log(entry),
+            _ => Ok(false),
         }
     }
 
@@ -103,6 +113,7 @@ impl Reader {
     }
 
     /// The number of the item, if it is one of those of the section that begin here.
+    #[inline(always)]
     fn find(&self, first: usize, item: &Item) -> Option<usize> {
         let here = self.logs.items.as_slice().get(first..)?;
         if let Some(place) = self.guess(here, item) {
@@ -116,6 +127,7 @@ impl Reader {
     }
 
     /// An operation on an item of the open section, or an end.
+    #[inline(always)]
     fn log(&mut self, entry: &Entry) -> Result<bool, AllocError> {
         let Some(section) = self.open else {
             return Ok(false);
