@@ -4,10 +4,14 @@ use Rattle.std.specs.Prelude.{◌≡◌, ◌≢◌, ◌<◌, ◌≤◌, ◌+◌,
 use Rattle.sgt_names.specs.Limits.{max_sites}
 use Rattle.sgt_certifier.specs.declared.ranking.Ruled.{Ruled}
 use Rattle.sgt_certifier.specs.declared.ranking.Ruled.TheVariants as ruled_as
+use Rattle.sgt_arena.specs.declared.handle.Handle.{Handle}
+use Rattle.sgt_edges.specs.declared.edge.Edge.{Edge}
+use Rattle.sgt_certifier.specs.declared.call.Call.TheVariants as call
+use Rattle.sgt_certifier.specs.declared.call.Decided.{Decided}
 use Rattle.sgt_certifier.specs.declared.call.CertifierFault.{CertifierFault}
 use Rattle.sgt_certifier.specs.Certifier.{State, Install, Ruling, committed, refused, withdrawn, with_finished, with_install}
-use Rattle.sgt_certifier.specs.History.{Request, IsAllowed, finish, installed}
-use Rattle.sgt_certifier.specs.Kept.{IsTold}
+use Rattle.sgt_certifier.specs.History.{Request, IsAllowed, Serves, finish, installed}
+use Rattle.sgt_certifier.specs.Kept.{IsTold, is_committed}
 use Rattle.sgt_certifier.specs.Sound.{IsGoodState}
 
 -- the decision that is kept
@@ -41,6 +45,12 @@ pub record Ends (old : State) (tx : ℕ) (new : State) : Type 0 where
 pub record Notes (old : State) (tx site : ℕ) (new : State) : Type 0 where
   pub allowed : IsAllowed old (installed tx site)
   pub after : new ≡ with_install old tx site []
+
+-- the transaction is decided with these edges, and told is whether it is committed
+pub record Rules (old : State) (h : Handle) (edges : List Edge) (told : Bool) (new : State) : Type 0 where
+  pub reply : Decided
+  pub serves : Serves old (call.Decide h edges reply) new
+  pub is : told ≡ is_committed reply
 
 -- ---- what is always true of the parts
 

@@ -9,12 +9,12 @@ ghost use Rattle.sgt_certifier.specs.declared.call.Decided.TheVariants as decide
 ghost use Rattle.sgt_certifier.specs.declared.call.CertifierFault.TheVariants.{Memory as NoMemory};
 ghost use Rattle.sgt_certifier.specs.Certifier.{opening, serial, certificate_of};
 ghost use Rattle.sgt_certifier.specs.History.{IsActive, IsAllowed, IsKnown, IsNoted, IsInstalling, Fits, Serves, begin, decide, finish, withdraw, close, expect, installed, tx_under};
-ghost use Rattle.sgt_certifier.specs.Judged.{Denies, Ends, Notes};
+ghost use Rattle.sgt_certifier.specs.Judged.{Denies, Ends, Notes, Rules};
 ghost use Rattle.sgt_certifier.specs.Kept.{IsTold, MayDecide, step_at, tx_at};
 
 use crate::call::{CertifierFault, Decided};
 use crate::install::is_among;
-use crate::ranking::{Ruled, decisions_of, rank_all, tx_of};
+use crate::ranking::{Ruled, decisions_from, decisions_of, rank_all, tx_of};
 use sgt_arena::{Handle, MAX_PLACES};
 use sgt_bundle::{Certificate, Step, Walk};
 use sgt_edges::{Edge, EdgeList};
@@ -86,6 +86,20 @@ impl Judge {
     {
         let ranks = self.ranks(alloc)?;
         let decisions = decisions_of(alloc, self.rulings.as_slice(), ranks.as_slice())?;
+        Ok(Certificate {
+            sites,
+            decisions: Listed::new(decisions),
+        })
+    }
+
+    /// The certificate, as `certificate` has it, of a judge that is given up: the walks of its refusals are moved there,
+    /// and not copied. It errs where memory is refused. Linear in the decisions.
+    pub fn into_certificate(self, alloc: Global, sites: u8) -> Result<Certificate, AllocError>
+        ensures { IfOk result (λ c. c ≡ certificate_of self sites) }
+    {
+        let ranks = self.ranks(alloc)?;
+        let Judge { rulings, .. } = self;
+        let decisions = decisions_from(alloc, rulings, ranks.as_slice())?;
         Ok(Certificate {
             sites,
             decisions: Listed::new(decisions),
@@ -299,7 +313,23 @@ impl Judge {
         ensures err { OnErr result (self.new ≡ self.old) }
         ensures memory { IfErr result (λ f. f ≡ NoMemory) }
     {
-        Ok(self.decide_with(handle, edges, false)?.0)
+        let (_, reply, _) = self.decide_with(handle, edges, true, false)?;
+        match reply {
+            Some(reply) => Ok(reply),
+            None => unreachable!(),
+        }
+    }
+
+    /// Decides as `decide` does, and tells only whether the transaction is committed. So of a refusal it makes one walk,
+    /// which it keeps, and none to tell. It errs as `decide`.
+    pub fn rule(&mut self, handle: Handle, edges: &EdgeList) -> Result<bool, CertifierFault>
+        requires may { MayDecide self.old handle edges.now }
+        ensures ok { IfOk result (λ told. Rules self.old handle edges.now told self.new) }
+        ensures unnoted { OnOk result (self.new.installs ≡ []) }
+        ensures err { OnErr result (self.new ≡ self.old) }
+        ensures memory { IfErr result (λ f. f ≡ NoMemory) }
+    {
+        Ok(self.decide_with(handle, edges, false, false)?.0)
     }
 
     // Decides as `decide` does, and tells the reply twice: to who asks, and for a history.
@@ -316,25 +346,27 @@ impl Judge {
         ensures err { OnErr result (self.new ≡ self.old) }
         ensures memory { IfErr result (λ f. f ≡ NoMemory) }
     {
-        let (reply, again) = self.decide_with(handle, edges, true)?;
-        match again {
-            Some(again) => Ok((reply, again)),
-            None => unreachable!(),
+        let (_, reply, again) = self.decide_with(handle, edges, true, true)?;
+        match (reply, again) {
+            (Some(reply), Some(again)) => Ok((reply, again)),
+            _ => unreachable!(),
         }
     }
 
-    // Decides as `decide` does, and tells the reply once more where that is wanted.
+    // Decides as `decide` does. It tells whether the transaction is committed; the reply, where that is wanted; and the
+    // reply once more, where it is wanted twice.
     #[inline(always)]
     fn decide_with(
         &mut self,
         handle: Handle,
         edges: &EdgeList,
+        is_wanted: bool,
         twice: bool,
-    ) -> Result<(Decided, Option<Decided>), CertifierFault>
+    ) -> Result<(bool, Option<Decided>, Option<Decided>), CertifierFault>
         requires may { MayDecide self.old handle edges.now }
-        ensures ok { IfOk result
-            (λ replies. Serves self.old (call.Decide handle edges.now replies.0) self.new) }
-        ensures twice { IfOk result (λ replies. twice ≡ true → replies.1 ≡ Some replies.0) }
+        ensures ok { IfOk result (λ told. (rules : Rules self.old handle edges.now told.0 self.new)
+            × (is_wanted ≡ true → told.1 ≡ Some rules.reply)
+            × (twice ≡ true → told.2 ≡ Some rules.reply)) }
         ensures unnoted { OnOk result (self.new.installs ≡ []) }
         ensures err { OnErr result (self.new ≡ self.old) }
         ensures memory { IfErr result (λ f. f ≡ NoMemory) }
@@ -348,8 +380,9 @@ impl Judge {
             Ok(()) => {
                 self.step = Some(tx);
                 self.rulings.push_reserved(Ruled::Committed(tx));
+                let reply = Some(Decided::Committed { number });
                 let again = Some(Decided::Committed { number });
-                return Ok((Decided::Committed { number }, again));
+                return Ok((true, reply, again));
             }
             Err(Admit::Cycle(cycle)) => cycle,
             Err(Admit::Memory) => return Err(CertifierFault::Memory),
@@ -357,11 +390,11 @@ impl Judge {
         };
         let alloc = *self.rulings.allocator();
         let walk = walk_of(alloc, self.before, cycle.as_slice())?;
-        let told = walk_of(alloc, self.before, cycle.as_slice())?;
-        let again = refusal_again(alloc, number, self.before, cycle.as_slice(), twice)?;
+        let reply = refusal_if(alloc, number, self.before, cycle.as_slice(), is_wanted)?;
+        let again = refusal_if(alloc, number, self.before, cycle.as_slice(), twice)?;
         self.step = Some(tx);
         self.rulings.push_reserved(Ruled::Refused(tx, walk));
-        Ok((Decided::Refused { number, walk: told }, again))
+        Ok((false, reply, again))
     }
 
     // Whether the open step is that of the transaction, which it committed.
@@ -476,7 +509,7 @@ fn walk_of(alloc: Global, before: u32, edges: &[Edge]) -> Result<Walk, AllocErro
 }
 
 // The refusal of this number with the steps along these edges, if it is wanted.
-fn refusal_again(
+fn refusal_if(
     alloc: Global,
     number: u32,
     before: u32,
@@ -484,8 +517,8 @@ fn refusal_again(
     is_wanted: bool,
 ) -> Result<Option<Decided>, AllocError>
     requires { (n : ℕ) (e : AnEdge) → slice_get edges.now n ≡ Some e → tx_at before e.to < 2 ^ 32 }
-    ensures { IfOk result (λ again. is_wanted ≡ true
-        → again ≡ Some (decided.Refused number (map (step_at before) edges.now))) }
+    ensures { IfOk result (λ reply. is_wanted ≡ true
+        → reply ≡ Some (decided.Refused number (map (step_at before) edges.now))) }
 {
     if !is_wanted {
         return Ok(None);

@@ -65,6 +65,21 @@ fn decision_of(alloc: Global, ruling: &Ruled, ranks: &[u32]) -> Result<Decision,
     }
 }
 
+// A ruling that is given up as a decision, with its rank in the table. It takes no memory.
+fn decision_from(ruling: Ruled, ranks: &[u32]) -> Decision
+    requires { ruled (ruling_from ruling) < length ranks.now }
+    ensures { result ≡ with_rank_in ranks.now (ruling_from ruling) }
+{
+    match ruling {
+        Ruled::Committed(tx) => Decision::Commit {
+            tx,
+            rank: ranks[tx.number() as usize],
+        },
+        Ruled::Refused(tx, walk) => Decision::Refuse { tx, walk },
+        Ruled::Withdrawn(tx) => Decision::Withdraw { tx },
+    }
+}
+
 // The rulings as decisions, in their order.
 pub fn decisions_of(
     alloc: Global,
@@ -78,6 +93,23 @@ pub fn decisions_of(
     let mut decisions = Vec::with_capacity(alloc, rulings.len())?;
     for ruling in rulings {
         decisions.push(decision_of(alloc, ruling, ranks)?)?;
+    }
+    Ok(decisions)
+}
+
+// Rulings that are given up as decisions, in their order. No walk is copied.
+pub fn decisions_from(
+    alloc: Global,
+    rulings: Vec<Ruled>,
+    ranks: &[u32],
+) -> Result<Vec<Decision>, AllocError>
+    requires { All (λ r. ruled (ruling_from r) < length ranks.now) rulings.items }
+    ensures { IfOk result
+        (λ ds. ds.items ≡ map (λ r. with_rank_in ranks.now (ruling_from r)) rulings.items) }
+{
+    let mut decisions = Vec::with_capacity(alloc, rulings.len())?;
+    for ruling in rulings {
+        decisions.push(decision_from(ruling, ranks))?;
     }
     Ok(decisions)
 }

@@ -1,8 +1,9 @@
-use Rattle.std.proofs.Common.{◌≡◌, ◌≤◌, ◌++◌, ◌∷◌, [], length, map, refl, sym, ap, ap₂, ◌∙◌, subst, arith, Some, true}
+use Rattle.std.proofs.Common.{◌≡◌, ◌≤◌, ◌++◌, ◌∷◌, List, [], length, map, refl, sym, ap, ◌∙◌, subst, arith, Some, true}
 use Rattle.std.specs.Prelude.{slice_get, vec_capacity}
 use Rattle.std.proofs.lemmas.List.{length-map, map-append}
 use Rattle.std.proofs.lemmas.Option.{slice_get_within}
 use Rattle.sgt_names.specs.Limits.{max_sites}
+use Rattle.sgt_edges.specs.declared.edge.Edge.{Edge}
 use Rattle.sgt_order.specs.SerializationGraph.{IsCycleThrough, AdmitRefuses}
 use Rattle.sgt_certifier.specs.declared.call.Call.TheVariants as call
 use Rattle.sgt_certifier.specs.declared.call.Decided.TheVariants as decided
@@ -110,10 +111,17 @@ invariant_of-self-in-Ok c =
     sites_spare
 
 pub returns-in-Ok-clause-ok : goal.returns-in-Ok-clause-ok
-returns-in-Ok-clause-ok c =
-    subst (λ (v : State). Serves v
-    (call.Decide c.args.handle c.args.edges.now (decided.Committed c.len-number.result)) (state_of (committed_parts c)))
-    c.self.view_is (committed-serves c)
+returns-in-Ok-clause-ok c = (
+  record {
+    reply = decided.Committed c.len-number.result;
+    serves = subst (λ (v : State). Serves v
+        (call.Decide c.args.handle c.args.edges.now (decided.Committed c.len-number.result))
+        (state_of (committed_parts c))) c.self.view_is (committed-serves c);
+    is = refl;
+  },
+  λ wanted. refl,
+  λ wanted. refl,
+)
 
 pub returns-in-Ok-clause-unnoted : goal.returns-in-Ok-clause-unnoted
 returns-in-Ok-clause-unnoted c = no_notes (Some c.tx_of-tx.result) c.reserve-2.new.self.items (committed-noted c)
@@ -132,8 +140,8 @@ walk_of-requires c n e at =
     (subst (λ xs. slice_get xs n ≡ Some e) (c.as_slice.ensures ∙ c.in-Err-Cycle.cycle-is) at) in
     omega (arith, small)
 
-pub walk_of-requires-2 : goal.walk_of-requires-2
-walk_of-requires-2 c n e at =
+pub refusal_if-requires : goal.refusal_if-requires
+refusal_if-requires c n e at =
     let p = parts_of c.self.inside in
     let ready = ready_of c.self.inside _ c.args.handle c.args.edges.now c.self.view_is c.self.invariant.good
     c.requires.may c.order-order.ensures.ordered in
@@ -144,8 +152,8 @@ walk_of-requires-2 c n e at =
     (subst (λ xs. slice_get xs n ≡ Some e) (c.as_slice-2.ensures ∙ c.in-Err-Cycle.cycle-is) at) in
     omega (arith, small)
 
-pub refusal_again-requires : goal.refusal_again-requires
-refusal_again-requires c n e at =
+pub refusal_if-requires-2 : goal.refusal_if-requires-2
+refusal_if-requires-2 c n e at =
     let p = parts_of c.self.inside in
     let ready = ready_of c.self.inside _ c.args.handle c.args.edges.now c.self.view_is c.self.invariant.good
     c.requires.may c.order-order.ensures.ordered in
@@ -176,7 +184,7 @@ refused-noted c =
     c.in_ok-reserve-2.ensures.items ∙ c.self.invariant.closed ready.may.idle
 
 refused-serves : (c : After-drop-cycle-inside-2) → Serves (state_of (parts_of c.self.inside))
-    (call.Decide c.args.handle c.args.edges.now (decided.Refused c.len-number.result c.in_ok-told.told))
+    (call.Decide c.args.handle c.args.edges.now (decided.Refused c.len-number.result c.in_ok-walk.walk))
     (state_of (refused_parts c))
 refused-serves c =
     let p = parts_of c.self.inside in
@@ -197,36 +205,42 @@ refused-serves c =
     c.in-Err-Cycle.ensures.fault in
     let walk_is = c.in_ok-walk.ensures ∙ ap (map (step_at c.self.inside.before)) (c.as_slice.ensures
     ∙ c.in-Err-Cycle.cycle-is) in
-    let told_is = c.in_ok-told.ensures ∙ ap (map (step_at c.self.inside.before)) (c.as_slice-2.ensures
-    ∙ c.in-Err-Cycle.cycle-is) in
-    let rulings : q.rulings ≡ p.rulings ++ refused (tx_at p.before c.args.handle) c.in_ok-told.told ∷ [] =
+    let rulings : q.rulings ≡ p.rulings ++ refused (tx_at p.before c.args.handle) c.in_ok-walk.walk ∷ [] =
     ap (map ruling_from) (c.push_reserved-2.ensures.items
     ∙ ap (λ z. z ++ Refused c.tx_of-tx.result c.in_ok-walk.walk ∷ []) c.in_ok-reserve.ensures.items)
     ∙ (map-append ruling_from c.self.inside.rulings.items (Refused c.tx_of-tx.result c.in_ok-walk.walk ∷ [])
-    ∙ ap₂ (λ t w. p.rulings ++ refused t w ∷ []) c.tx_of-tx.ensures (walk_is ∙ sym told_is)) in
+    ∙ ap (λ t. p.rulings ++ refused t c.in_ok-walk.walk ∷ []) c.tx_of-tx.ensures) in
     let same = c.in-Err-Cycle.ensures.err in
-    refuses_serves p q c.args.handle c.args.edges.now c.in-Err-Cycle.cycle c.in_ok-told.told c.len-number.result
-    ready count cycle told_is refl refl same.generation refl refl same.order same.edges
+    refuses_serves p q c.args.handle c.args.edges.now c.in-Err-Cycle.cycle c.in_ok-walk.walk c.len-number.result
+    ready count cycle walk_is refl refl same.generation refl refl same.order same.edges
     (ap Some c.tx_of-tx.ensures) rulings was (refused-noted c)
 
 pub invariant_of-self-2 : goal.invariant_of-self-2
 invariant_of-self-2 c =
     let sites_spare : max_sites ≤ vec_capacity c.reserve-2.new.self = omega (arith, c.in_ok-reserve-2.ensures.ok) in
-    refused_kept (parts_of c.self.inside) (refused_parts c) c.args.handle c.args.edges.now c.in_ok-told.told
+    refused_kept (parts_of c.self.inside) (refused_parts c) c.args.handle c.args.edges.now c.in_ok-walk.walk
     c.len-number.result _ _ _ _ _ c.self.invariant (refused-serves c) refl (refused-noted c)
     (ap length c.in-Err-Cycle.ensures.err.transactions) sites_spare
 
+-- the reply that is made of the slice of the cycle is that of the walk
+same-reply : (c : After-drop-cycle-inside-2) (xs : List Edge) → xs ≡ c.as_slice.result.now
+    → Some (decided.Refused c.len-number.result (map (step_at c.self.inside.before) xs))
+    ≡ Some (decided.Refused c.len-number.result c.in_ok-walk.walk)
+same-reply c xs same = ap (λ w. Some (decided.Refused c.len-number.result w))
+    (ap (map (step_at c.self.inside.before)) same ∙ sym c.in_ok-walk.ensures)
+
 pub returns-clause-ok : goal.returns-clause-ok
-returns-clause-ok c =
-    subst (λ (v : State). Serves v
-    (call.Decide c.args.handle c.args.edges.now (decided.Refused c.len-number.result c.in_ok-told.told))
-    (state_of (refused_parts c))) c.self.view_is (refused-serves c)
+returns-clause-ok c = (
+  record {
+    reply = decided.Refused c.len-number.result c.in_ok-walk.walk;
+    serves = subst (λ (v : State). Serves v
+        (call.Decide c.args.handle c.args.edges.now (decided.Refused c.len-number.result c.in_ok-walk.walk))
+        (state_of (refused_parts c))) c.self.view_is (refused-serves c);
+    is = refl;
+  },
+  λ wanted. c.in_ok-reply.ensures wanted ∙ same-reply c _ (c.as_slice-2.ensures ∙ sym c.as_slice.ensures),
+  λ wanted. c.in_ok-again.ensures wanted ∙ same-reply c _ (c.as_slice-3.ensures ∙ sym c.as_slice.ensures),
+)
 
 pub returns-clause-unnoted : goal.returns-clause-unnoted
 returns-clause-unnoted c = no_notes (Some c.tx_of-tx.result) c.reserve-2.new.self.items (refused-noted c)
-
-pub returns-clause-twice : goal.returns-clause-twice
-returns-clause-twice c wanted =
-    let same = c.as_slice-3.ensures ∙ sym c.as_slice-2.ensures in
-    c.in_ok-again.ensures wanted ∙ ap (λ w. Some (decided.Refused c.len-number.result w))
-    (ap (map (step_at c.self.inside.before)) same ∙ sym c.in_ok-told.ensures)
