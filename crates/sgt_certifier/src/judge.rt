@@ -497,7 +497,7 @@ fn walk_of(alloc: Global, before: u32, edges: &[Edge]) -> Result<Walk, AllocErro
     requires { (n : ℕ) (e : AnEdge) → slice_get edges.now n ≡ Some e → tx_at before e.to < 2 ^ 32 }
     ensures { IfOk result (λ walk. walk ≡ map (step_at before) edges.now) }
 {
-    let mut steps = Vec::new(alloc);
+    let mut steps = Vec::with_capacity(alloc, edges.len())?;
     for edge in edges {
         let to = tx_of(before as u64, edge.to);
         steps.push(Step {
