@@ -1,6 +1,7 @@
 pub mod WholeCommits
 pub mod WholeGoing
 pub mod TouchedSites
+pub mod FewSites
 pub mod PledgedSites
 pub mod FirstFound
 pub mod Withdrawals

@@ -1,7 +1,8 @@
 //! A transaction is committed or refused as a whole: gathered at each site that it touches, decided, and its block
 //! written there.
 
-ghost use Rattle.std.specs.Prelude.{◌≡◌, ◌<◌, ◌≤◌, ◌+◌, suc, Some, None, length, slice_get, IfOk, IfErr, OnOk, OnErr};
+ghost use Rattle.std.specs.Prelude.{◌≡◌, ◌<◌, ◌≤◌, ◌+◌, suc, Some, None, All, length, slice_get, IfOk, IfErr, OnOk, OnErr};
+ghost use Rattle.sgt_names.specs.Draft.{AreRising, IsUsed};
 ghost use Rattle.sgt_names.specs.Limits.{max_sites};
 ghost use Rattle.sgt_notation.specs.declared.event.Event.TheVariants as event;
 ghost use Rattle.sgt_core_model.specs.Core.{CoreState};
@@ -12,7 +13,7 @@ ghost use Rattle.sgt_core_machine.specs.declared.machine.Running.{Running as ARu
 
 use crate::machine::{Machine, Running, refused};
 use sgt_core_model::{CoreFault, Reply};
-use sgt_names::{SiteNo, Tx};
+use sgt_names::{Draft, SiteNo, Touch, Tx};
 use sgt_step::TouchedSites;
 use std::alloc::AllocError;
 use std::mem;
@@ -144,7 +145,37 @@ fn touched_sites(
         → OnOk result (AreTouched r.draft.touched count sites.new.items) }
 {
     match &table[slot] {
-        Some(running) => TouchedSites::of(&running.draft).list_below(sites, count),
+        Some(running) => list_touched(sites, &running.draft, count),
         None => Ok(()),
     }
+}
+
+// Lists the sites below this number that the draft touches, rising. While it is one list, that is gone over.
+fn list_touched(sites: &mut Vec<SiteNo>, draft: &Draft, count: usize) -> Result<(), AllocError>
+    requires { count ≤ max_sites }
+    ensures { OnOk result (AreTouched draft.now.touched count sites.new.items) }
+{
+    let (few, parts) = draft.touched();
+    if parts.is_empty() {
+        return list_few(sites, few, count);
+    }
+    TouchedSites::of(draft).list_below(sites, count)
+}
+
+// Lists the sites below this number of these touched items, rising.
+fn list_few(sites: &mut Vec<SiteNo>, touched: &[Touch], count: usize) -> Result<(), AllocError>
+    requires rising { AreRising touched.now }
+    requires used { All IsUsed touched.now }
+    ensures { OnOk result (AreTouched touched.now count sites.new.items) }
+{
+    sites.clear();
+    let mut next = 0;
+    for touch in touched {
+        let number = touch.site.number() as usize;
+        if next <= number && number < count {
+            sites.push(touch.site)?;
+            next = number + 1;
+        }
+    }
+    Ok(())
 }
