@@ -1,5 +1,5 @@
 -- What a machine stands for once a transaction is decided: its blocks are due, or it ends since it touches nothing.
-use Rattle.std.proofs.Common.{◌≡◌, ◌<◌, ◌≤◌, ◌+◌, ℕ, suc, true, false, List, [], ◌∷◌, length, refl, sym, ◌∙◌, arith, inl, inr, Contains, Option, Some, None, subst, ap}
+use Rattle.std.proofs.Common.{◌≡◌, ◌<◌, ◌≤◌, ◌+◌, ℕ, suc, Bool, true, false, List, [], ◌∷◌, length, refl, sym, ◌∙◌, arith, inl, inr, Contains, Option, Some, None, subst, ap}
 use Rattle.std.specs.Prelude.{slice_get, slice_set, not, ◌==◌, ◌&&◌}
 use Rattle.std.specs.List.{list_all}
 use Rattle.std.proofs.lemmas.Bool.{cases_Bool, cases_eq, eq-eqb, ne_eqb, true≢false}
@@ -11,7 +11,6 @@ use Rattle.sgt_names.specs.declared.entry.Entry.{Entry}
 use Rattle.sgt_names.proofs.Lists.{within_at}
 use Rattle.sgt_site.specs.declared.cell.Install.{Install}
 use Rattle.sgt_certifier.specs.Certifier.{State, with_finished}
-use Rattle.sgt_certifier.specs.declared.call.Decided.{Decided}
 use Rattle.sgt_certifier.proofs.Members.{filter_member, member_filter}
 use Rattle.sgt_notation.specs.declared.event.Event.TheVariants.{Decide}
 use Rattle.sgt_core_machine.specs.declared.machine.Place.{Place}
@@ -35,7 +34,7 @@ use Rattle.sgt_core_machine.proofs.Noting.{ended_noted}
 use Rattle.sgt_names.proofs.Elements.{get-slice_set_same, get-slice_set_other, contains-none}
 
 -- what the model's decision leaves, where the machine's certifier was left so
-pub record IsDecision (c : CoreState) (tx : ℕ) (new : State) (reply : Decided) : Type 0 where
+pub record IsDecision (c : CoreState) (tx : ℕ) (new : State) (told : Bool) : Type 0 where
   pub certifier : State
   pub due : ℕ → List Entry
   pub carries : Carries new certifier
@@ -48,16 +47,16 @@ pub record IsDecision (c : CoreState) (tx : ℕ) (new : State) (reply : Decided)
   }
   pub order : (i : ℕ) → Contains c.certifier.order i → Contains certifier.order i
   pub phase : (n : Parts) (d : CoreState) (o : Open) → d.certifier ≡ certifier → o.tx ≡ tx
-      → IsPhase n d o (phase_after reply)
+      → IsPhase n d o (phase_after told)
   pub some : (s : ℕ) → touches c tx s ≡ true → due s ≡ [] → ⊥
   pub none : (s : ℕ) → touches c tx s ≡ false → due s ≡ []
   pub due_by : (n : Parts) (d : CoreState) (touched : List Touch) (s : ℕ) → d.due ≡ due → d.changes ≡ c.changes
       → touches c tx s ≡ true
-      → (phase_after reply ≡ Committed → AwaitsInstall n.certifier tx s) → IsDueBy n d tx touched (phase_after reply) s
-  pub may : MayStep c (Decide tx) (reply_after reply) (decided c tx certifier due)
+      → (phase_after told ≡ Committed → AwaitsInstall n.certifier tx s) → IsDueBy n d tx touched (phase_after told) s
+  pub may : MayStep c (Decide tx) (reply_after told) (decided c tx certifier due)
 
-abbrev pub decided_parts : Parts → ℕ → State → Decided → Parts
-decided_parts m tx new reply = record m { certifier = new; step = Some (record { tx = tx; phase = phase_after reply }) }
+abbrev pub decided_parts : Parts → ℕ → State → Bool → Parts
+decided_parts m tx new told = record m { certifier = new; step = Some (record { tx = tx; phase = phase_after told }) }
 
 abbrev pub decided_state : CoreState → State → (ℕ → List Entry) → CoreState
 decided_state c certifier due = record c { certifier = certifier; due = due }
@@ -77,8 +76,8 @@ closes c i none = rw (all_empty c.due (sites_of c) none) refl
 
 module _ (m : Parts) (c : CoreState) (s : StandsFor m c) (tx slot : ℕ) (h : IsSlotOf m tx slot)
     (no_other : IsOtherOpen c tx → ⊥) (undecided : c.certifier.step ≡ None)
-    (everywhere : (t : ℕ) → touches c tx t ≡ true → Contains (gathered_in c.step) t) (new : State) (reply : Decided)
-    (v : IsDecision c tx new reply) where
+    (everywhere : (t : ℕ) → touches c tx t ≡ true → Contains (gathered_in c.step) t) (new : State) (told : Bool)
+    (v : IsDecision c tx new told) where
   abbrev k : IsKept c
   k = reached_kept c s.reached
 
@@ -121,10 +120,10 @@ module _ (m : Parts) (c : CoreState) (s : StandsFor m c) (tx slot : ℕ) (h : Is
 
   -- ---- where a block is due
 
-  module _ (r : Running) (runs : slice_get m.table slot ≡ Some (Some r)) (awaits : phase_after reply ≡ Committed
+  module _ (r : Running) (runs : slice_get m.table slot ≡ Some (Some r)) (awaits : phase_after told ≡ Committed
       → (t : ℕ) → AwaitsInstall new tx t) where
     abbrev n : Parts
-    n = decided_parts m tx new reply
+    n = decided_parts m tx new told
 
     abbrev d : CoreState
     d = decided_state c v.certifier v.due
@@ -151,7 +150,7 @@ module _ (m : Parts) (c : CoreState) (s : StandsFor m c) (tx slot : ℕ) (h : Is
         let same : r ≡ a.running =
         same_Some r a.running (same_Some (Some r) (Some a.running) (sym runs
         ∙ (ap (slice_get m.table) (sym same_place) ∙ a.there))) in (
-          record { tx = tx; phase = phase_after reply },
+          record { tx = tx; phase = phase_after told },
           record {
             open_step = refl;
             place = a.place;
@@ -178,30 +177,30 @@ module _ (m : Parts) (c : CoreState) (s : StandsFor m c) (tx slot : ℕ) (h : Is
         }
 
     open_there : (o : Option Open) → IsStep m c o → (q : Open) → o ≡ Some q
-        → IsStep n d (Some (record { tx = tx; phase = phase_after reply }))
+        → IsStep n d (Some (record { tx = tx; phase = phase_after told }))
     open_there None is q e = absurd cc
     open_there (Some o) is q e =
         let mine : o.tx ≡ tx = step_own m c tx no_other (Some o) is o refl in (
           is.0,
           is.1 ∙ ap (λ i. Some (record { tx = i; gathered = is.0 })) mine,
-          v.phase n d (record { tx = tx; phase = phase_after reply }) refl refl,
+          v.phase n d (record { tx = tx; phase = phase_after told }) refl refl,
         )
 
     pub decision_due : (t : ℕ) (p : Place) → slice_get m.places t ≡ Some p → p.part ≡ Due
-        → (e : CoreState) × MayStep c (Decide tx) (reply_after reply) e
-        × StandsFor (record m { certifier = new; step = Some (record { tx = tx; phase = phase_after reply }) }) e
+        → (e : CoreState) × MayStep c (Decide tx) (reply_after told) e
+        × StandsFor (record m { certifier = new; step = Some (record { tx = tx; phase = phase_after told }) }) e
     decision_due t p at is =
         let here : (o : Open) × IsDueAt m c t p o = subst (IsPart m c t p) is (s.places t p at).part in
         let count = site_count m c s in
         let lt = slice_get_within m.places t p at in
         let open_still : decided c tx v.certifier v.due ≡ d =
         stays_open d tx t (omega (arith, lt, count)) (v.some t (due_touched t p here.0 here.1)) in
-        let may : MayStep c (Decide tx) (reply_after reply) d =
-        subst (MayStep c (Decide tx) (reply_after reply)) open_still v.may in (
+        let may : MayStep c (Decide tx) (reply_after told) d =
+        subst (MayStep c (Decide tx) (reply_after told)) open_still v.may in (
           d,
           may,
           record {
-            reached = reached_more c (Decide tx) (reply_after reply) d s.reached may;
+            reached = reached_more c (Decide tx) (reply_after told) d s.reached may;
             sites = s.sites;
             items = s.items;
             certifier = v.carries;
@@ -305,16 +304,16 @@ module _ (m : Parts) (c : CoreState) (s : StandsFor m c) (tx slot : ℕ) (h : Is
             below : (n t : ℕ) → (n ≤ t → ⊥) → t < n
             below n t out = omega (arith, out)
 
-    pub decision_ends : (e : CoreState) × MayStep c (Decide tx) (reply_after reply) e
+    pub decision_ends : (e : CoreState) × MayStep c (Decide tx) (reply_after told) e
         × StandsFor (record m { certifier = last; table = slice_set m.table slot None; step = None }) e
     decision_ends =
         let closed : decided c tx v.certifier v.due ≡ f = closes (decided_state c v.certifier v.due) tx nowhere_due in
-        let may : MayStep c (Decide tx) (reply_after reply) f =
-        subst (MayStep c (Decide tx) (reply_after reply)) closed v.may in (
+        let may : MayStep c (Decide tx) (reply_after told) f =
+        subst (MayStep c (Decide tx) (reply_after told)) closed v.may in (
           f,
           may,
           record {
-            reached = reached_more c (Decide tx) (reply_after reply) f s.reached may;
+            reached = reached_more c (Decide tx) (reply_after told) f s.reached may;
             sites = s.sites;
             items = s.items;
             certifier = subst (λ (st : State). Carries st (with_finished v.certifier tx)) (sym finishes)

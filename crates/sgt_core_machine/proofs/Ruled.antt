@@ -1,5 +1,5 @@
 -- The certifier's decision of a gathered transaction is one of the model.
-use Rattle.std.proofs.Common.{◌≡◌, ◌+◌, arith, ℕ, suc, true, cond, List, [], ◌∷◌, ◌++◌, refl, sym, ◌∙◌, ◌⊎◌, inl, inr, Contains, Option, Some, None, subst, ap}
+use Rattle.std.proofs.Common.{◌≡◌, ◌+◌, arith, ℕ, suc, Bool, true, false, cond, List, [], refl, sym, ◌∙◌, ◌⊎◌, inl, inr, Contains, Option, Some, None, subst, ap}
 use Rattle.std.specs.Prelude.{slice_set, Any}
 use Rattle.sgt_names.specs.declared.entry.Entry.{Entry}
 use Rattle.sgt_names.proofs.Lists.{Any_at, Any-from_at}
@@ -9,6 +9,8 @@ use Rattle.sgt_site.specs.State.{commit_block, refuse_block}
 use Rattle.sgt_edges.specs.declared.edge.Edge.{Edge}
 use Rattle.sgt_certifier.specs.Certifier.{State, Commits, Refuses, with_finished}
 use Rattle.sgt_certifier.specs.History.{IsNoted, Serves as CertifierServes, tx_under, arcs_of}
+use Rattle.sgt_certifier.specs.Judged.{Rules}
+use Rattle.sgt_certifier.specs.Kept.{is_committed}
 use Rattle.sgt_certifier.specs.declared.call.Call.TheVariants as call
 use Rattle.sgt_certifier.specs.declared.call.Decided.{Decided}
 use Rattle.sgt_certifier.specs.declared.call.Decided.TheVariants as verdict
@@ -93,7 +95,7 @@ module _ (m : Parts) (c : CoreState) (s : StandsFor m c) (tx slot : ℕ) (number
   module _ (new : State) (handle : Handle) (named : tx_under m.certifier handle ≡ tx) (edges : List Edge)
       (gathered : AreGathered m.certifier c tx edges) where
     committed_one : Commits m.certifier tx (arcs_of m.certifier edges) new → (number : ℕ)
-        → IsDecision c tx new (verdict.Committed number)
+        → IsDecision c tx new true
     committed_one d number = record {
       certifier = all_committed c tx d.places;
       due = committed_block c tx;
@@ -130,7 +132,7 @@ module _ (m : Parts) (c : CoreState) (s : StandsFor m c) (tx slot : ℕ) (number
     }
 
     refused_one : (walk : List Step) → Refuses m.certifier tx (arcs_of m.certifier edges) walk new → (number : ℕ)
-        → IsDecision c tx new (verdict.Refused number walk)
+        → IsDecision c tx new false
     refused_one walk d number = record {
       certifier = all_refused c tx walk;
       due = refused_block c tx;
@@ -165,21 +167,22 @@ module _ (m : Parts) (c : CoreState) (s : StandsFor m c) (tx slot : ℕ) (number
     }
 
     by_verdict : (reply : Decided) → CertifierServes m.certifier (call.Decide handle edges reply) new
-        → IsDecision c tx new reply
+        → IsDecision c tx new (is_committed reply)
     by_verdict (verdict.Committed number) serves =
         committed_one (subst (λ i. Commits m.certifier i (arcs_of m.certifier edges) new) named serves.1.1) number
     by_verdict (verdict.Refused number walk) serves =
         refused_one walk (subst (λ i. Refuses m.certifier i (arcs_of m.certifier edges) walk new) named serves.1.1)
         number
 
-  pub ruled_one : (new : State) (handle : Handle) → tx_under m.certifier handle ≡ tx → (reply : Decided)
-      → CertifierServes m.certifier (call.Decide handle (edges_in m.step) reply) new → IsDecision c tx new reply
-  ruled_one new handle named reply serves =
-      by_verdict new handle named (edges_in m.step) (gathered_in_step m.step s.step) reply serves
+  pub ruled_one : (new : State) (handle : Handle) → tx_under m.certifier handle ≡ tx → (told : Bool)
+      → Rules m.certifier handle (edges_in m.step) told new → IsDecision c tx new told
+  ruled_one new handle named told rules =
+      subst (IsDecision c tx new) (sym rules.is)
+      (by_verdict new handle named (edges_in m.step) (gathered_in_step m.step s.step) rules.reply rules.serves)
 
 module _ (m : Parts) (c : CoreState) (s : StandsFor m c) (tx slot : ℕ) (h : IsSlotOf m tx slot)
-    (allowed : IsAllowed c (Decide tx)) (new : State) (reply : Decided)
-    (r : RulesAt m.certifier new m.table slot (edges_in m.step) reply) where
+    (allowed : IsAllowed c (Decide tx)) (new : State) (told : Bool)
+    (r : RulesAt m.certifier new m.table slot (edges_in m.step) told) where
   named : tx_under m.certifier r.running.handle ≡ tx
   named =
       let own = s.running slot (Some r.running) r.runs in
@@ -188,8 +191,8 @@ module _ (m : Parts) (c : CoreState) (s : StandsFor m c) (tx slot : ℕ) (h : Is
       let before = s.before in
       omega (arith, index, first, before, h.0)
 
-  v : IsDecision c tx new reply
-  v = ruled_one m c s tx slot h.0 allowed new r.running.handle named reply r.serves
+  v : IsDecision c tx new told
+  v = ruled_one m c s tx slot h.0 allowed new r.running.handle named told r.rules
 
   pub ruled_open : new.step ≡ Some tx
   ruled_open = sym (ap (λ (st : State). st.step) v.carries.same) ∙ ap (λ (st : State). st.step) v.same
@@ -198,14 +201,14 @@ module _ (m : Parts) (c : CoreState) (s : StandsFor m c) (tx slot : ℕ) (h : Is
   out other = allowed fault.StepOpen other
 
   pub rules_due : Any (λ (p : Place). p.part ≡ Due) m.places → (after : Parts)
-      → after ≡ record m { certifier = new; step = Some (record { tx = tx; phase = phase_after reply }) }
-      → (answer : Reply) → answer ≡ reply_after reply → (e : CoreState) × MayStep c (Decide tx) answer e
+      → after ≡ record m { certifier = new; step = Some (record { tx = tx; phase = phase_after told }) }
+      → (answer : Reply) → answer ≡ reply_after told → (e : CoreState) × MayStep c (Decide tx) answer e
       × StandsFor after e
   rules_due some after is answer same =
       let p = Any_at (λ (p : Place). p.part ≡ Due) m.places some in
       let goes =
       decision_due m c s tx slot h out (undecided m c s tx slot h.0 allowed)
-      (everywhere m c s tx slot h.0 allowed) new reply v r.running r.runs
+      (everywhere m c s tx slot h.0 allowed) new told v r.running r.runs
       (λ e t. subst (λ i. AwaitsInstall new i t) named (r.awaits e t)) p.0 p.1 p.2 p.3 in (
         goes.0,
         subst (λ q. MayStep c (Decide tx) q goes.0) (sym same) goes.1,
@@ -214,14 +217,14 @@ module _ (m : Parts) (c : CoreState) (s : StandsFor m c) (tx slot : ℕ) (h : Is
 
   pub rules_end : (Any (λ (p : Place). p.part ≡ Due) m.places → ⊥) → (mid after : Parts)
       → mid ≡ record m { certifier = new; step = None } → EndsAt mid after tx slot
-      → (answer : Reply) → answer ≡ reply_after reply → (e : CoreState) × MayStep c (Decide tx) answer e
+      → (answer : Reply) → answer ≡ reply_after told → (e : CoreState) × MayStep c (Decide tx) answer e
       × StandsFor after e
   rules_end none mid after is ends answer same =
       let finishes : after.certifier ≡ record (with_finished new tx) { installs = [] } = ends.ends.after
       ∙ ap (λ (w : Parts). record (with_finished w.certifier tx) { installs = [] }) is in
       let goes =
       decision_ends m c s tx slot h out (undecided m c s tx slot h.0 allowed)
-      (everywhere m c s tx slot h.0 allowed) new reply v after.certifier finishes
+      (everywhere m c s tx slot h.0 allowed) new told v after.certifier finishes
       (λ t p at due. none (Any-from_at (λ (q : Place). q.part ≡ Due) m.places t p at due)) in
       let all : after ≡ record m { certifier = after.certifier; table = slice_set m.table slot None; step = None } =
       ends.is ∙ ap (λ (w : Parts). record w { certifier = after.certifier; table = slice_set w.table slot None })

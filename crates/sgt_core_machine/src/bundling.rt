@@ -33,8 +33,8 @@ impl Machine {
         }
     }
 
-    /// The same of a machine that is given up: each site but for its log, and the certifier once there is a
-    /// certificate.
+    /// The same of a machine that is given up: each site but for its log, and the certifier, whose walks are moved into
+    /// the certificate.
     pub(crate) fn into_bundle(self, alloc: Global) -> Result<Bundle, CoreFault>
         requires { Stands (parts_of self) }
         ensures ok { IfOk result
@@ -50,10 +50,9 @@ impl Machine {
         let Ok(logs) = logs_from(alloc, places) else {
             return Err(CoreFault::Memory);
         };
-        let Ok(certificate) = certifier.certificate(alloc, count) else {
+        let Ok(certificate) = certifier.into_certificate(alloc, count) else {
             return Err(CoreFault::Memory);
         };
-        drop(certifier);
         match Bundle::new(certificate, logs) {
             Some(bundle) => Ok(bundle),
             None => unreachable!(),

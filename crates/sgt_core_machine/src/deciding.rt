@@ -11,7 +11,7 @@ ghost use Rattle.sgt_core_machine.specs.declared.machine.Running.{Running as ARu
 
 use crate::gathering::misses;
 use crate::machine::{DRAFTS, Machine, Open, Part, Phase, Place, Running, refused};
-use sgt_certifier::{CertifierFault, Decided, Judge};
+use sgt_certifier::{CertifierFault, Judge};
 use sgt_core_model::{CoreFault, Reply};
 use sgt_edges::EdgeList;
 use sgt_names::{Draft, Tx};
@@ -53,17 +53,17 @@ impl Machine {
     {
         let edges = edges_of(self.alloc, self.step.take());
         match rule(&mut self.certifier, self.running.as_slice(), slot, &edges) {
-            Ok(decided) => {
+            Ok(is_committed) => {
                 self.spare = edges;
                 if is_due(self.places.as_slice()) {
                     self.step = Some(Open {
                         tx,
-                        phase: phase_of(&decided),
+                        phase: phase_of(is_committed),
                     });
                 } else {
                     self.end(tx, slot);
                 }
-                reply_of(&decided)
+                reply_of(is_committed)
             }
             Err(CertifierFault::Memory) => {
                 self.give_up(tx);
@@ -131,42 +131,40 @@ fn edges_of(alloc: Global, step: Option<Open>) -> EdgeList
     }
 }
 
-// Decides the transaction at a place of the table. It errs for want of memory alone.
+// Decides the transaction at a place of the table, and tells whether it is committed. It errs for want of memory alone.
 fn rule(
     certifier: &mut Judge,
     table: &[Option<Running>],
     slot: usize,
     edges: &EdgeList,
-) -> Result<Decided, CertifierFault>
+) -> Result<bool, CertifierFault>
     requires slot { (r : ARunning) × (slice_get table.now slot ≡ Some (Some r)) }
     requires may { MayRuleAt certifier.old table.now slot edges.now }
     ensures ok { IfOk result
-        (λ decided. RulesAt certifier.old certifier.new table.now slot edges.now decided) }
+        (λ told. RulesAt certifier.old certifier.new table.now slot edges.now told) }
     ensures err { OnErr result (certifier.new ≡ certifier.old) }
     ensures memory { IfErr result (λ f. f ≡ CertifierFault.Memory) }
 {
     match &table[slot] {
-        Some(running) => certifier.decide(running.handle, edges),
+        Some(running) => certifier.rule(running.handle, edges),
         None => unreachable!(),
     }
 }
 
-fn phase_of(decided: &Decided) -> Phase
-    ensures { result ≡ phase_after decided.now }
+fn phase_of(is_committed: bool) -> Phase
+    ensures { result ≡ phase_after is_committed }
 {
-    match decided {
-        Decided::Committed { .. } => Phase::Committed,
-        Decided::Refused { .. } => Phase::Refused,
+    if is_committed {
+        Phase::Committed
+    } else {
+        Phase::Refused
     }
 }
 
-fn reply_of(decided: &Decided) -> Reply
-    ensures { result ≡ reply_after decided.now }
+fn reply_of(is_committed: bool) -> Reply
+    ensures { result ≡ reply_after is_committed }
 {
-    match decided {
-        Decided::Committed { .. } => Reply::Yes,
-        Decided::Refused { .. } => Reply::No,
-    }
+    if is_committed { Reply::Yes } else { Reply::No }
 }
 
 // Whether a block of the open step is still due. Blocks are mostly written by rising site, so the last sites are

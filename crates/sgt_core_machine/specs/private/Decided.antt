@@ -1,14 +1,11 @@
 -- A gathered transaction is decided: what the certifier is asked and answers, and what the step is
 -- afterwards.
-use Rattle.std.specs.Prelude.{◌≡◌, ◌⊎◌, ℕ, List, [], Option, Some, None, slice_get, slice_set}
+use Rattle.std.specs.Prelude.{◌≡◌, ◌⊎◌, ℕ, Bool, true, false, List, [], Option, Some, None, slice_get, slice_set}
 use Rattle.sgt_edges.specs.declared.edge.Edge.{Edge}
 use Rattle.sgt_certifier.specs.Certifier.{State}
-use Rattle.sgt_certifier.specs.History.{Serves, tx_under}
-use Rattle.sgt_certifier.specs.Judged.{Ends as JudgeEnds}
+use Rattle.sgt_certifier.specs.History.{tx_under}
+use Rattle.sgt_certifier.specs.Judged.{Ends as JudgeEnds, Rules}
 use Rattle.sgt_certifier.specs.Kept.{MayDecide}
-use Rattle.sgt_certifier.specs.declared.call.Call.TheVariants as call
-use Rattle.sgt_certifier.specs.declared.call.Decided.{Decided}
-use Rattle.sgt_certifier.specs.declared.call.Decided.TheVariants as verdict
 use Rattle.sgt_core_machine.specs.declared.machine.Running.{Running}
 use Rattle.sgt_core_machine.specs.declared.machine.Open.{Open}
 use Rattle.sgt_core_machine.specs.declared.machine.Phase.{Phase}
@@ -31,28 +28,28 @@ abbrev pub IsRuled : Option Open → Type 0
 IsRuled None = ⊥
 IsRuled (Some o) = (o.phase ≡ Committed) ⊎ (o.phase ≡ Refused)
 
--- what a decision makes of the step, and its answer
-abbrev pub phase_after : Decided → Phase
-phase_after (verdict.Committed number) = Committed
-phase_after (verdict.Refused number walk) = Refused
+-- what a decision makes of the step, and its answer, by whether the transaction is committed
+abbrev pub phase_after : Bool → Phase
+phase_after true = Committed
+phase_after false = Refused
 
-abbrev pub reply_after : Decided → Reply
-reply_after (verdict.Committed number) = Yes
-reply_after (verdict.Refused number walk) = No
+abbrev pub reply_after : Bool → Reply
+reply_after true = Yes
+reply_after false = No
 
 -- the certifier refuses no decision of the transaction at this place of the table with these edges
 abbrev pub MayRuleAt : State → List (Option Running) → ℕ → List Edge → Type 0
 MayRuleAt s table slot edges = (r : Running) → slice_get table slot ≡ Some (Some r)
     → MayDecide s r.handle edges
 
--- the transaction at this place of the table is decided with these edges, and each of its installs
--- can be noted
+-- the transaction at this place of the table is decided with these edges, told is whether it is
+-- committed, and each of its installs can be noted
 pub record RulesAt (old new : State) (table : List (Option Running)) (slot : ℕ) (edges : List Edge)
-    (decided : Decided) : Type 0 where
+    (told : Bool) : Type 0 where
   pub running : Running
   pub runs : slice_get table slot ≡ Some (Some running)
-  pub serves : Serves old (call.Decide running.handle edges decided) new
-  pub awaits : phase_after decided ≡ Committed → (s : ℕ)
+  pub rules : Rules old running.handle edges told new
+  pub awaits : phase_after told ≡ Committed → (s : ℕ)
       → AwaitsInstall new (tx_under old running.handle) s
 
 -- the transaction at this place of the table ends with its step

@@ -25,13 +25,13 @@ end-requires-clause-step c =
     let m = parts_of c.args.self.now in
     let s = c.requires.stands in
     let new = c.rule.new.certifier in
-    let on_table : RulesAt m.certifier new m.table c.args.slot c.edges_of-edges.result c.in-Ok.decided =
+    let on_table : RulesAt m.certifier new m.table c.args.slot c.edges_of-edges.result c.in-Ok.is_committed =
     subst (λ (t : List (Option Running)). RulesAt m.certifier new t c.args.slot c.edges_of-edges.result
-    c.in-Ok.decided) c.as_slice.ensures.value c.in-Ok.ensures.ok in
-    let rules : RulesAt m.certifier new m.table c.args.slot (edges_in m.step) c.in-Ok.decided =
-    subst (λ (es : List Edge). RulesAt m.certifier new m.table c.args.slot es c.in-Ok.decided)
+    c.in-Ok.is_committed) c.as_slice.ensures.value c.in-Ok.ensures.ok in
+    let rules : RulesAt m.certifier new m.table c.args.slot (edges_in m.step) c.in-Ok.is_committed =
+    subst (λ (es : List Edge). RulesAt m.certifier new m.table c.args.slot es c.in-Ok.is_committed)
     (c.edges_of-edges.ensures ∙ ap edges_in c.take.ensures.value) on_table in
-    ruled_open m s.0 s.1 c.args.tx c.args.slot c.requires.slot (c.requires.allowed s.0 s.1) new c.in-Ok.decided rules
+    ruled_open m s.0 s.1 c.args.tx c.args.slot c.requires.slot (c.requires.allowed s.0 s.1) new c.in-Ok.is_committed rules
 
 pub end-requires-clause-slot : goal.end-requires-clause-slot
 end-requires-clause-slot c = slice_get_within c.args.self.now.running.items c.args.slot _ c.requires.slot.1.1
@@ -40,12 +40,12 @@ pub returns-after-is_due-clause-goes : goal.returns-after-is_due-clause-goes
 returns-after-is_due-clause-goes c = λ d s.
     let m = parts_of c.args.self.now in
     let new = c.rule.new.certifier in
-    let decided = c.in-Ok.decided in
-    let on_table : RulesAt m.certifier new m.table c.args.slot c.edges_of-edges.result decided =
-    subst (λ (t : List (Option Running)). RulesAt m.certifier new t c.args.slot c.edges_of-edges.result decided)
+    let told = c.in-Ok.is_committed in
+    let on_table : RulesAt m.certifier new m.table c.args.slot c.edges_of-edges.result told =
+    subst (λ (t : List (Option Running)). RulesAt m.certifier new t c.args.slot c.edges_of-edges.result told)
     c.as_slice.ensures.value c.in-Ok.ensures.ok in
-    let rules : RulesAt m.certifier new m.table c.args.slot (edges_in m.step) decided =
-    subst (λ (es : List Edge). RulesAt m.certifier new m.table c.args.slot es decided) (c.edges_of-edges.ensures
+    let rules : RulesAt m.certifier new m.table c.args.slot (edges_in m.step) told =
+    subst (λ (es : List Edge). RulesAt m.certifier new m.table c.args.slot es told) (c.edges_of-edges.ensures
     ∙ ap edges_in c.take.ensures.value) on_table in
     let may = c.requires.allowed d s in
     let some = λ (is : Rattle.std.specs.Prelude.IsTrue c.is_due.result). subst (Any (λ (p : Place). p.part ≡ Due))
@@ -54,15 +54,15 @@ returns-after-is_due-clause-goes c = λ d s.
     λ (phase : Phase). record m { certifier = new; step = Some (record { tx = c.args.tx; phase = phase }) } in
     elim c.if-is_due.branch [
       | then-is_due+in-Some+in-Gathering-1 w ↦
-          rules_due m d s c.args.tx c.args.slot c.requires.slot may new decided rules (some w.if-is_due.true)
+          rules_due m d s c.args.tx c.args.slot c.requires.slot may new told rules (some w.if-is_due.true)
           (parts_of c.if-is_due.self)
           (ap parts_of w.self-is ∙ ap held w.phase_of.ensures) c.reply_of.result c.reply_of.ensures
       | then-is_due+in-Some+in-Committed-1 w ↦
-          rules_due m d s c.args.tx c.args.slot c.requires.slot may new decided rules (some w.if-is_due.true)
+          rules_due m d s c.args.tx c.args.slot c.requires.slot may new told rules (some w.if-is_due.true)
           (parts_of c.if-is_due.self)
           (ap parts_of w.self-is ∙ ap held w.phase_of.ensures) c.reply_of.result c.reply_of.ensures
       | then-is_due+in-None-1 w ↦
-          rules_due m d s c.args.tx c.args.slot c.requires.slot may new decided rules (some w.if-is_due.true)
+          rules_due m d s c.args.tx c.args.slot c.requires.slot may new told rules (some w.if-is_due.true)
           (parts_of c.if-is_due.self)
           (ap parts_of w.self-is ∙ ap held w.phase_of.ensures) c.reply_of.result c.reply_of.ensures
       | else-is_due w ↦
@@ -70,7 +70,7 @@ returns-after-is_due-clause-goes c = λ d s.
           not_true _ w.if-is_due.false
           (c.is_due.ensures.1 (subst (Any (λ (p : Place). p.part ≡ Due)) (sym c.as_slice-in-Ok.ensures.value)
           any)) in
-          rules_end m d s c.args.tx c.args.slot c.requires.slot may new decided rules none
+          rules_end m d s c.args.tx c.args.slot c.requires.slot may new told rules none
           (record m { certifier = new; step = c.take.new.self }) (parts_of c.if-is_due.self)
           (ap (λ (o : Option Open). record m { certifier = new; step = o }) c.take.ensures.after)
           (subst (λ (after : Parts). Rattle.sgt_core_machine.specs.private.Decided.EndsAt
