@@ -1,10 +1,11 @@
-//! A judge on its happy path.
+//! A judge on its happy path, and with a refusal.
 
 use crate::common::Names;
 use sgt_arena::Handle;
 use sgt_bundle::Decision;
 use sgt_certifier::{CertifierFault, Decided, Judge};
 use sgt_edges::EdgeList;
+use sgt_names::Kind;
 use std::test::Fail;
 
 // Whether the transaction is committed, where it may be decided.
@@ -47,6 +48,35 @@ fn judged(rt: HostRuntime) -> Result<(), Fail> {
     assert!(rt;
         match decisions.last() {
             Some(Decision::Withdraw { tx }) => *tx == two,
+            _ => false,
+        }
+    );
+    Ok(())
+}
+
+// The first of two is committed, and the second refused for a cycle through both, by the call that tells no walk. The
+// certificate takes the judge.
+#[test]
+fn ruled(rt: HostRuntime) -> Result<(), Fail> {
+    let (alloc, names) = (rt.alloc(), Names::at(0)?);
+    let mut judge = Judge::new(alloc);
+    let (one, first) = judge.begin()?;
+    let (two, second) = judge.begin()?;
+    let mut edges = EdgeList::new(alloc);
+    judge.may_decide(first, &edges)?;
+    assert!(rt; judge.rule(first, &edges)?);
+    judge.finish_step(one)?;
+    edges.push(names.edge(first, second, Kind::Wr))?;
+    edges.push(names.edge(second, first, Kind::Rw))?;
+    judge.may_decide(second, &edges)?;
+    assert!(rt; !judge.rule(second, &edges)?);
+    judge.finish_step(two)?;
+    let certificate = judge.into_certificate(alloc, 1)?;
+    let decisions = certificate.decisions.as_slice();
+    assert!(rt; decisions.len() == 2);
+    assert!(rt;
+        match decisions.last() {
+            Some(Decision::Refuse { tx, walk }) => *tx == two && walk.as_slice().len() == 2,
             _ => false,
         }
     );
