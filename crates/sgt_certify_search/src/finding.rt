@@ -66,9 +66,9 @@ fn split_section(text: &[u8]) -> Option<(SectionLine, &[u8])>
 }
 
 /// What became of the front of a text.
-enum Fed<'a> {
-    /// The line there was read, and this stands behind it.
-    Line(&'a [u8]),
+enum Fed {
+    /// The line there was read, of so many bytes with its LF.
+    Line(usize),
     /// There is no place for the line.
     Misplaced,
     /// There is no line.
@@ -77,14 +77,14 @@ enum Fed<'a> {
 
 /// Feeds the reader the line at the front of the text, whichever it is.
 #[inline(never)]
-fn feed_line<'a>(reader: &mut Reader, text: &'a [u8]) -> Result<Fed<'a>, AllocError> {
+fn feed_line(reader: &mut Reader, text: &[u8]) -> Result<Fed, AllocError> {
     let Some((line, behind)) = split_section(text) else {
         return Ok(Fed::Unread);
     };
     if !reader.next(&line)? {
         return Ok(Fed::Misplaced);
     }
-    Ok(Fed::Line(behind))
+    Ok(Fed::Line(text.len().saturating_sub(behind.len())))
 }
 
 /// Feeds the reader all lines of the text, which are lines of sections. Whether it found a place for each. Most are
@@ -92,18 +92,23 @@ fn feed_line<'a>(reader: &mut Reader, text: &'a [u8]) -> Result<Fed<'a>, AllocEr
 fn feed(reader: &mut Reader, text: &[u8]) -> Result<bool, AllocError> {
     let mut ahead = text;
     'lines: loop {
-        if let Some((line, n)) = front_entry_line(ahead) {
-            if !reader.next_entry(&line)? {
-                return Ok(false);
+        let passed = match front_entry_line(ahead) {
+            Some((line, n)) => {
+                if !reader.next_entry(&line)? {
+                    return Ok(false);
+                }
+                n
             }
-            ahead = &ahead[n..];
-            continue;
+            None => match feed_line(reader, ahead)? {
+                Fed::Line(n) => n,
+                Fed::Misplaced => return Ok(false),
+                Fed::Unread => return Ok(ahead.is_empty()),
+            },
+        };
+        if passed == 0 || passed > ahead.len() {
+            return Ok(false);
         }
-        match feed_line(reader, ahead)? {
-            Fed::Line(behind) => ahead = behind,
-            Fed::Misplaced => return Ok(false),
-            Fed::Unread => return Ok(ahead.is_empty()),
-        }
+        ahead = &ahead[passed..];
     }
 }
 
