@@ -5,7 +5,7 @@ use Rattle.std.specs.List.{AllByRecursion}
 use Rattle.std.proofs.lemmas.Bool.{cases_eq, cases_order}
 use Rattle.std.proofs.lemmas.List.{append-nil, length-append}
 use Rattle.std.proofs.lemmas.List.Elements.{recursion_from_All, All-cons}
-use Rattle.sgt_notation.specs.Spelling.{IsLine, text_of_lines, HasNoLf, line_text}
+use Rattle.sgt_notation.specs.Spelling.{text_of_lines, HasNoLf, line_text}
 use Rattle.sgt_notation.specs.Lines.{Ahead, GaveNext, Gives, Spends, coming, passed, stream}
 use Rattle.sgt_notation.proofs.Fronts.{passed-next}
 use Rattle.sgt_notation.proofs.Short.{line-no_lf, line-short}

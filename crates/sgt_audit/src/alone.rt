@@ -29,6 +29,8 @@ pub struct Alone {
     pub state: SiteState,
     /// Whether each step of a walk at its site is a conflict in its log, once that is whole.
     pub met: bool,
+    /// Where the item of the last entry is listed, if it has one.
+    pub latest: usize,
 }
 
 impl Alone {
@@ -58,6 +60,7 @@ impl Alone {
             place: Place::new(alloc, sites),
             state: SiteState::new(alloc, certificate.decisions().len())?,
             met: true,
+            latest: 0,
         })
     }
 
@@ -177,6 +180,7 @@ impl Alone {
         }
         enter(&mut self.state, known, entry, plain)?;
         self.place.enter_entry(entry);
+        self.latest = known.place.unwrap_or(0);
         Ok(None)
     }
 

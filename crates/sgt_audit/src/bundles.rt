@@ -11,6 +11,7 @@ use crate::format::{read_format, read_line};
 use crate::place::Place;
 use crate::sections::Sections;
 use sgt_bundle::{Bundle, CertFault, from_line};
+use sgt_compact::site_logs;
 use sgt_names::EngineFail;
 use sgt_notation::split_line;
 use std::alloc::{AllocError, Global};
@@ -92,7 +93,10 @@ pub fn read_bundle(alloc: Global, bytes: &[u8]) -> Result<Option<Bundle>, Engine
         Err(CertFault::Range) => return Ok(None),
     };
     match read_sections(alloc, second, certificate.sites, rest) {
-        Ok(Some(sections)) => Ok(Bundle::new(certificate, sections.into_logs())),
+        Ok(Some(sections)) => match site_logs(alloc, sections.into_logs()) {
+            Ok(logs) => Ok(Bundle::new(certificate, logs)),
+            Err(_) => Err(EngineFail::Memory),
+        },
         Ok(None) => Ok(None),
         Err(_) => Err(EngineFail::Memory),
     }

@@ -11,7 +11,7 @@ use crate::faults::Fault;
 use crate::kept::Kept;
 use crate::reading::judge;
 use crate::verdict::{Verdict, verdict_on};
-use sgt_bundle::Bundle;
+use sgt_compact::CompactBundle;
 use sgt_names::{Asks, Bytes, EngineFail, Nowhere, Sink, Source, write_all};
 use std::alloc::Global;
 
@@ -19,7 +19,7 @@ use std::alloc::Global;
 #[derive(Drop)]
 pub enum Audited {
     /// This valid bundle.
-    Valid(Bundle),
+    Valid(CompactBundle),
     /// No valid bundle: it has a fault, at this line first. Lines are counted from 1.
     No { line: u64, fault: Fault },
 }
@@ -51,10 +51,7 @@ pub fn audit_bundle<R: Source>(alloc: Global, reader: &mut R) -> Result<Audited,
             };
             let logs = sections.into_logs();
             let certificate = certificate.into_certificate();
-            match Bundle::new(certificate, logs) {
-                Some(bundle) => Ok(Audited::Valid(bundle)),
-                None => unreachable!(),
-            }
+            Ok(Audited::Valid(CompactBundle::new(certificate, logs)))
         }
         Ok(Err(first)) => Ok(Audited::No {
             line: first.line,

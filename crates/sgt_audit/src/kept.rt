@@ -154,7 +154,7 @@ impl Kept {
         if let Some(fault) = self.alone.follow_entry(&self.certificate, *entry)? {
             return Ok(Some(fault));
         }
-        add_entry_to(&mut self.sections, entry)?;
+        add_entry_to(&mut self.sections, entry, self.alone.latest)?;
         Ok(None)
     }
 

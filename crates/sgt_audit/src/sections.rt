@@ -2,70 +2,24 @@
 
 ghost use Rattle.std.specs.Prelude.{◌≡◌, [], OnOk, OnErr, IsTrue, IsSome, IfSome, None, is_some};
 ghost use Rattle.sgt_audit.specs.Reading.{Begun};
-ghost use Rattle.sgt_audit.specs.private.Following.{with_next};
+ghost use Rattle.sgt_audit.specs.private.Following.{with_line, with_next};
 ghost use Rattle.sgt_notation.specs.declared.SectionLine.TheVariants.{Logged};
 
-use sgt_bundle::SiteLog;
-use sgt_names::{Entry, Holding, Listed};
+use sgt_compact::CompactLog;
+use sgt_names::Entry;
 use sgt_notation::SectionLine;
 use std::alloc::{AllocError, Global};
 use std::marker::Model;
 
-/// The log of the site whose section is open, as far as it was read.
-#[derive(Drop)]
-pub struct OpenLog {
-    items: Vec<Holding>,
-    entries: Vec<Entry>,
-    finals: Vec<Holding>,
-}
-
-impl Model for OpenLog {
-    ghost use Rattle.sgt_bundle.specs.declared.bundle.SiteLog.{SiteLog};
-
-    ghost Value = { SiteLog };
-
-    ghost view = { λ s. record { items = s.items.items; entries = s.entries.items; finals = s.finals.items } };
-}
-
-impl OpenLog {
-    ghost use Rattle.sgt_audit.specs.private.Following.{no_log, with_line};
-
-    fn new(alloc: Global) -> OpenLog
-        ensures { result ≡ no_log }
-    {
-        OpenLog {
-            items: Vec::new(alloc),
-            entries: Vec::new(alloc),
-            finals: Vec::new(alloc),
-        }
-    }
-
-    fn add(&mut self, line: &SectionLine) -> Result<(), AllocError>
-        ensures ok { OnOk result (self.new ≡ with_line self.old line.now) }
-        ensures err { OnErr result (self.new ≡ self.old) }
-    {
-        match line {
-            SectionLine::Initial(holding) => self.items.push(*holding)?,
-            SectionLine::Logged(entry) => self.entries.push(*entry)?,
-            SectionLine::Final(holding) => self.finals.push(*holding)?,
-            SectionLine::Site(_) | SectionLine::End => (),
-        }
-        Ok(())
-    }
-
-    fn into_log(self) -> SiteLog
-        ensures { result ≡ self }
-    {
-        let OpenLog {
-            items,
-            entries,
-            finals,
-        } = self;
-        SiteLog {
-            items: Listed::new(items),
-            entries: Listed::new(entries),
-            finals: Listed::new(finals),
-        }
+/// One more line of the log whose section is open.
+fn add_line(log: &mut CompactLog, line: &SectionLine) -> Result<(), AllocError>
+    ensures { OnOk result (log.new ≡ with_line log.old line.now) }
+{
+    match line {
+        SectionLine::Initial(holding) => log.add_item(*holding),
+        SectionLine::Logged(entry) => log.add_entry_by_name(*entry),
+        SectionLine::Final(holding) => log.add_final(*holding),
+        SectionLine::Site(_) | SectionLine::End => Ok(()),
     }
 }
 
@@ -74,8 +28,8 @@ impl OpenLog {
 pub struct Sections {
     alloc: Global,
     sites: u8,
-    whole: Vec<SiteLog>,
-    current: Option<OpenLog>,
+    whole: Vec<CompactLog>,
+    current: Option<CompactLog>,
 }
 
 impl Model for Sections {
@@ -109,34 +63,32 @@ impl Sections {
     {
         if let Some(log) = &mut self.current {
             if !matches!(line, SectionLine::End) {
-                return log.add(line);
+                return add_line(log, line);
             }
         }
         match self.current.take() {
-            Some(log) => self.whole.push(log.into_log())?,
-            None => self.current = Some(OpenLog::new(self.alloc)),
+            Some(log) => self.whole.push(log)?,
+            None => self.current = Some(CompactLog::new(self.alloc)),
         }
         Ok(())
     }
 
-    /// One more line, which is this entry. It goes by memory that only this way touches.
+    /// One more line, which is this entry. Its item is listed at this place, or else it takes more room. It goes by
+    /// memory that only this way touches.
     #[inline(never)]
-    pub(crate) fn add_entry(&mut self, entry: Entry) -> Result<(), AllocError>
+    pub(crate) fn add_entry(&mut self, entry: Entry, place: usize) -> Result<(), AllocError>
         ensures sites { self.new.sites ≡ self.old.sites }
         ensures next { OnOk result
             (self.new ≡ with_next self.old self.old.current (Logged entry)) }
     {
         match &mut self.current {
-            Some(log) => {
-                log.entries.push(entry)?;
-                Ok(())
-            }
+            Some(log) => log.add_entry(entry, place),
             None => self.add(&SectionLine::Logged(entry)),
         }
     }
 
     /// The logs.
-    pub(crate) fn into_logs(self) -> Vec<SiteLog>
+    pub(crate) fn into_logs(self) -> Vec<CompactLog>
         ensures { result.items ≡ self.whole }
     {
         let Sections { whole, .. } = self;
@@ -157,15 +109,19 @@ pub(crate) fn add_to(sections: &mut Option<Sections>, line: &SectionLine) -> Res
     }
 }
 
-/// One more line, which is this entry, where the sections are kept.
+/// One more line, which is this entry, where the sections are kept. Its item is listed at this place.
 #[inline(always)]
-pub(crate) fn add_entry_to(sections: &mut Option<Sections>, entry: &Entry) -> Result<(), AllocError>
+pub(crate) fn add_entry_to(
+    sections: &mut Option<Sections>,
+    entry: &Entry,
+    place: usize,
+) -> Result<(), AllocError>
     ensures kept { is_some sections.new ≡ is_some sections.old }
     ensures next { OnOk result ((b : Begun) → IfSome sections.old (λ s. s ≡ b)
         → IfSome sections.new (λ s. s ≡ with_next b b.current (Logged entry.now))) }
 {
     match sections {
-        Some(sections) => sections.add_entry(*entry),
+        Some(sections) => sections.add_entry(*entry, place),
         None => Ok(()),
     }
 }

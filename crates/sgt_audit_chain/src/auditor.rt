@@ -4,7 +4,7 @@ use crate::counts::Counts;
 use crate::faults::ChainFault;
 use crate::going_on::{first_break, values_left};
 use sgt_audit::{Audited, audit_bundle};
-use sgt_bundle::Bundle;
+use sgt_compact::CompactBundle;
 use sgt_names::{EngineFail, Holding, Listed, Source};
 use std::alloc::{AllocError, Global};
 
@@ -37,15 +37,15 @@ impl ChainAuditor {
     }
 
     /// One more bundle, which is valid, where it goes on; else its first line that doesn't.
-    fn follow(&mut self, bundle: Bundle) -> Result<Option<u64>, AllocError>
+    fn follow(&mut self, bundle: CompactBundle) -> Result<Option<u64>, AllocError>
         ensures follows { IsValid bundle → (bundles : List Parts) → KeepsOf self.old bundles
             → IfOk result (λ found. FollowsIn self.new bundles bundle found) }
         ensures same { IfOk result (λ found. OnSome found (self.new ≡ self.old)) }
         ensures err { OnErr result (self.new ≡ self.old) }
     {
-        let sites = bundle.sites();
+        let logs = bundle.logs();
         if let Some(left) = &self.left {
-            if let Some(line) = first_break(left.as_slice(), sites) {
+            if let Some(line) = first_break(left.as_slice(), logs) {
                 return Ok(Some(line));
             }
         }

@@ -6,7 +6,7 @@ ghost use Rattle.sgt_audit_chain.specs.Break.{FirstBreak};
 ghost use Rattle.sgt_audit_chain.specs.Chain.{final_of, initial_of};
 ghost use Rattle.sgt_audit_chain.specs.Sums.{in_64_bits};
 
-use sgt_bundle::SiteLog;
+use sgt_compact::CompactLog;
 use sgt_names::{Holding, Listed};
 use std::alloc::{AllocError, Global};
 
@@ -30,12 +30,12 @@ fn first_difference(items: &[Holding], left: &[Holding]) -> Option<usize>
 }
 
 /// How many lines the section of a log has.
-fn lines_of(log: &SiteLog) -> u64
+fn lines_of(log: &CompactLog) -> u64
     ensures { (k : ℕ) → result ≡ in_64_bits (length (section_lines k log.now)) }
 {
-    let items = log.items.as_slice().len() as u64;
-    let entries = log.entries.as_slice().len() as u64;
-    let finals = log.finals.as_slice().len() as u64;
+    let items = log.items().len() as u64;
+    let entries = log.entries().len() as u64;
+    let finals = log.finals().len() as u64;
     items
         .saturating_add(entries)
         .saturating_add(finals)
@@ -43,7 +43,7 @@ fn lines_of(log: &SiteLog) -> u64
 }
 
 /// The first line of a bundle with these logs that doesn't go on from what was left.
-pub(crate) fn first_break(left: &[Listed<Holding>], logs: &[SiteLog]) -> Option<u64>
+pub(crate) fn first_break(left: &[Listed<Holding>], logs: &[CompactLog]) -> Option<u64>
     ensures none { IfNone result (map initial_of logs.now ≡ left.now) }
     ensures some { IfSome result (λ line. (n : ℕ) × FirstBreak left.now logs.now n
         × (line ≡ in_64_bits n)) }
@@ -53,7 +53,7 @@ pub(crate) fn first_break(left: &[Listed<Holding>], logs: &[SiteLog]) -> Option<
         let Some(values) = left.get(site) else {
             return Some(line);
         };
-        if let Some(place) = first_difference(log.items.as_slice(), values.as_slice()) {
+        if let Some(place) = first_difference(log.items(), values.as_slice()) {
             return Some(line.saturating_add(place as u64).saturating_add(1));
         }
         line = line.saturating_add(lines_of(log));
@@ -68,14 +68,13 @@ pub(crate) fn first_break(left: &[Listed<Holding>], logs: &[SiteLog]) -> Option<
 /// The final values of the logs, which are let go.
 pub(crate) fn values_left(
     alloc: Global,
-    logs: Vec<SiteLog>,
+    logs: Vec<CompactLog>,
 ) -> Result<Vec<Listed<Holding>>, AllocError>
     ensures { IfOk result (λ left. left.items ≡ map final_of logs.items) }
 {
     let mut left = Vec::new(alloc);
     for log in logs {
-        let SiteLog { finals, .. } = log;
-        left.push(finals)?;
+        left.push(log.into_finals())?;
     }
     Ok(left)
 }

@@ -3,7 +3,8 @@
 use crate::bundles::{INCREMENTS, ONLY_CYCLE, OWN_READ_BEFORE_WRITE, READER_TORN};
 use sgt_audit::{Audited, Auditor, Fault, Verdict, audit_bundle, read_bundle};
 use sgt_bundle::from_line;
-use sgt_names::MemSource;
+use sgt_compact::CompactLog;
+use sgt_names::{Entry, Holding, Item, MemSource, Tx};
 use sgt_notation::find_lf;
 use std::alloc::Global;
 use std::test::Fail;
@@ -80,7 +81,7 @@ fn bundles_are_handed_out(rt: HostRuntime) -> Result<(), Fail> {
         let mut reader = MemSource::new(text.as_bytes(), 7, None);
         match audit_bundle(alloc, &mut reader)? {
             Audited::Valid(bundle) => assert!(rt;
-                bundle.to_text(alloc)?.as_slice() == text.as_bytes()
+                bundle.into_bundle(alloc)?.to_text(alloc)?.as_slice() == text.as_bytes()
             ),
             Audited::No { line, .. } => assert!(rt; line == 0),
         }
@@ -111,5 +112,41 @@ fn no_bundle_is_spelled(rt: HostRuntime) -> Result<(), Fail> {
     // A bundle that isn't valid is spelled all the same.
     let refused = ONLY_CYCLE.replace(rt.alloc(), "r1[x]=5", "r1[x]=4")?;
     assert!(rt; read_bundle(rt.alloc(), refused.as_bytes())?.is_some());
+    Ok(())
+}
+
+#[test]
+fn logs_are_held_small(rt: HostRuntime) -> Result<(), Fail> {
+    let alloc = rt.alloc();
+    let (tx, other) = (Tx::new(1)?, Tx::new(2)?);
+    let (item, unlisted) = (Item::new(b"x")?, Item::new(b"y")?);
+    let holding = Holding { item, value: 5 };
+    let read = Entry::Read { tx, item, value: 5 };
+    let write = Entry::Write { tx, item, value: 6 };
+    let add = Entry::Add {
+        tx: other,
+        item: unlisted,
+        value: 7,
+    };
+    let commit = Entry::Commit { tx };
+    let mut log = CompactLog::new(alloc);
+    log.add_item(holding)?;
+    log.add_entry(read, 0)?;
+    log.add_entry(write, 9)?;
+    log.add_entry_by_name(add)?;
+    log.add_entry_by_name(commit)?;
+    log.add_final(holding)?;
+    let entries = log.entries();
+    assert_eq!(rt; entries.len(), 4);
+    assert!(rt; entries.at(1) == write && entries.at(3) == commit);
+    assert!(rt; entries.tx_at(2) == other);
+    assert!(rt; entries.read_at(0) == Some((&item, 5)) && entries.read_at(1).is_none());
+    assert!(rt; entries.written_at(1) == Some((&item, 6)) && entries.written_at(2).is_none());
+    assert!(rt; entries.added_at(2) == Some((&unlisted, 7)) && entries.added_at(3).is_none());
+    assert!(rt; log.items() == [holding].as_slice() && log.finals() == [holding].as_slice());
+    let whole = log.into_log(alloc)?;
+    assert!(rt; whole.entries.as_slice() == [read, write, add, commit].as_slice());
+    let finals = CompactLog::of(alloc, &whole)?.into_finals();
+    assert!(rt; finals.as_slice() == [holding].as_slice());
     Ok(())
 }

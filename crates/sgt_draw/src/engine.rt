@@ -28,7 +28,7 @@ pub fn answer_to(alloc: Global, wanted: Wanted, audited: Audited) -> Result<Answ
     match audited {
         Audited::Valid(bundle) => Ok(Answer {
             outcome: Outcome::Yes,
-            text: picture(alloc, wanted, &bundle)?,
+            text: picture(alloc, wanted, &bundle.into_bundle(alloc)?)?,
         }),
         Audited::No { line, fault } => {
             let verdict = Verdict::No { line, fault }.to_line(alloc)?;

@@ -22,7 +22,6 @@ use Rattle.sgt_names.specs.declared.entry.Holding.{Holding}
 use Rattle.sgt_names.proofs.Places.{AllPairs_at, AllPairs-tail}
 use Rattle.sgt_bundle.specs.Parts.{ComesBefore}
 use Rattle.sgt_serial.specs.private.Values.{IsRising}
-use Rattle.sgt_audit.proofs.SiteStates.{less-equal}
 use Rattle.sgt_names.proofs.Elements.{bytes_eq-other}
 
 -- how the bytes of two names compare
@@ -36,6 +35,9 @@ before : (hs : List Holding) → IsRising hs → (i j : ℕ) (g h : Holding) →
     → slice_get hs j ≡ Some h → name_cmp g.item h.item ≡ Less
 before hs rising i j g h lt at_i at_j =
     AllPairs_at ComesBefore (names hs) i j g.item h.item rising lt (name_at hs i g at_i) (name_at hs j h at_j)
+
+less-equal : Less ≡ Equal → ⊥
+less-equal e = cc
 
 Greater≢Equal : Greater ≡ Equal → ⊥
 Greater≢Equal e = cc

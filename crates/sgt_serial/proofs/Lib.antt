@@ -12,6 +12,7 @@ mod Lines
 mod Logged
 mod Passing
 mod Places
+mod Reading
 mod Running
 mod Sorting
 mod Spans

@@ -1,5 +1,5 @@
 -- Lines, written one after another.
-use Rattle.std.proofs.Common.{◌≡◌, ℕ, ◌+◌, ◌<◌, List, [], ◌∷◌, ◌++◌, length, get_or, take, map, Option, Some, sym, ap, ◌∙◌, append_assoc}
+use Rattle.std.proofs.Common.{◌≡◌, ℕ, ◌+◌, ◌<◌, List, [], ◌∷◌, ◌++◌, length, get_or, take, map, Option, Some, None, refl, sym, ap, ◌∙◌, append_assoc}
 use Rattle.std.proofs.lemmas.List.{map-append, append-nil}
 use Rattle.std.proofs.lemmas.List.Concat.{flat_map-append}
 use Rattle.std.specs.Prelude.{slice_get}
@@ -33,6 +33,9 @@ writes-line line xs i x within is before out new so_far wrote =
 module _ {A B : Type 0} (line : B → List ℕ) (pick : A → Option B) where
   abbrev pub picked_text : List A → List ℕ
   picked_text xs = text_of_lines (map line (filter_map pick xs))
+
+  pub picked-none : (x : A) → pick x ≡ None → picked_text (x ∷ []) ≡ []
+  picked-none x none = rw none refl
 
   pub picked-append : (xs ys : List A) → picked_text (xs ++ ys) ≡ picked_text xs ++ picked_text ys
   picked-append xs ys =

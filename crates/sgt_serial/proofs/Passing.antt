@@ -1,12 +1,11 @@
 -- Bytes that are passed on to a writer.
-use Rattle.std.proofs.Common.{◌≡◌, ℕ, suc, ◌+◌, List, [], ◌∷◌, ◌++◌, length, take, Option, Some, None, Result, Ok, Err, refl, sym, ap, ◌∙◌, subst, arith, append_assoc, append-nil, length-append}
-use Rattle.std.proofs.lemmas.List.{take-append-le}
+use Rattle.std.proofs.Common.{◌≡◌, ℕ, List, [], ◌++◌, Option, Result, Ok, Err, refl, sym, ap, ◌∙◌, subst, append_assoc, append-nil}
 use Rattle.std.specs.Prelude.{OnErr}
 use Rattle.std.specs.Io.KnownBytes.{Appends}
-use Rattle.sgt_names.specs.Device.{AppendsOrForgets, WritesFront}
+use Rattle.sgt_names.specs.Device.{WritesFront}
 use Rattle.sgt_names.proofs.Devices.{appends_on}
 use Rattle.sgt_serial.specs.private.Written.{PassesOn}
-use Rattle.sgt_names.proofs.Elements.{front-longer, appends_then, take-behind, appends_none, front-second}
+use Rattle.sgt_names.proofs.Elements.{front-longer, appends_none, front-second}
 
 -- nothing is passed on
 pub nothing : (a : Option (List ℕ)) (held : List ℕ) → PassesOn a a held [] held
@@ -62,6 +61,12 @@ passes-more a b c held mid left piece rest more whole e one two = (
   joined a b c held one.0 mid piece left one.1 two,
   append_assoc one.0 piece more ∙ ap (λ xs. one.0 ++ xs) (sym e) ∙ one.2,
 )
+
+-- no byte more is to be passed on
+pub passes-past : (a b : Option (List ℕ)) (held mid piece rest more whole : List ℕ) → rest ≡ piece ++ more
+    → piece ≡ [] → IsPassed a b held mid rest whole → IsPassed a b held mid more whole
+passes-past a b held mid piece rest more whole e none one =
+    subst (λ r. IsPassed a b held mid r whole) (e ∙ ap (λ p. p ++ more) none) one
 
 pub passes-all : (a b : Option (List ℕ)) (held left rest whole : List ℕ) → rest ≡ []
     → IsPassed a b held left rest whole → PassesOn a b held whole left

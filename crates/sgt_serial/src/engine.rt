@@ -13,7 +13,7 @@ ghost use Rattle.sgt_serial.specs.Text.{report_text};
 
 use crate::written::Plan;
 use sgt_audit::{Audited, Fault, Verdict, audit_bundle};
-use sgt_bundle::Bundle;
+use sgt_compact::CompactBundle;
 use sgt_names::{EngineFail, Outcome, Sink, Source, write_all};
 use std::alloc::Global;
 
@@ -39,7 +39,11 @@ fn write_fault<W: Sink>(
 }
 
 /// Writes the run of the bundle.
-fn write_serial<W: Sink>(alloc: Global, writer: &mut W, bundle: Bundle) -> Result<(), EngineFail>
+fn write_serial<W: Sink>(
+    alloc: Global,
+    writer: &mut W,
+    bundle: CompactBundle,
+) -> Result<(), EngineFail>
     ensures ok { OnOk result
         (Appends (W.holds writer.old) (W.holds writer.new) (report_text (report_of bundle))) }
     ensures front { IsErrOf result EngineFail.WriteFault

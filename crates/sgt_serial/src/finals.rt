@@ -5,19 +5,19 @@ ghost use Rattle.sgt_names.specs.Limits.{max_sites};
 ghost use Rattle.sgt_serial.specs.Report.{final_at, finals_of};
 
 use crate::report::SiteValue;
-use sgt_bundle::SiteLog;
+use sgt_compact::CompactLog;
 use sgt_names::{Holding, SiteNo};
 use std::alloc::{AllocError, Global};
 
 /// The recorded final values of all sites, by site and then by name.
-pub fn finals(alloc: Global, sites: &[SiteLog]) -> Result<Vec<SiteValue>, AllocError>
+pub fn finals(alloc: Global, sites: &[CompactLog]) -> Result<Vec<SiteValue>, AllocError>
     requires { length sites.now ≤ max_sites }
     ensures { IfOk result (λ finals. finals.items ≡ finals_of sites.now) }
 {
     let mut finals = Vec::new(alloc);
     for (number, log) in sites.iter().enumerate() {
         let site = SiteNo::new(number as u64).unwrap();
-        add_finals(&mut finals, site, log.finals.as_slice())?;
+        add_finals(&mut finals, site, log.finals())?;
     }
     Ok(finals)
 }

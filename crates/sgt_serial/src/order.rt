@@ -7,7 +7,8 @@ ghost use Rattle.sgt_bundle.specs.Parts.{FitTogether};
 ghost use Rattle.sgt_bundle.specs.declared.certificate.Decision.{Decision as AnyDecision};
 ghost use Rattle.sgt_serial.specs.private.Order.{ranked_in};
 
-use sgt_bundle::{Bundle, Decision, SiteLog};
+use sgt_bundle::Decision;
+use sgt_compact::{CompactBundle, CompactLog};
 use sgt_names::Tx;
 use std::alloc::{AllocError, Global};
 
@@ -56,7 +57,7 @@ fn in_order(alloc: Global, ranked: Vec<Ranked>) -> Result<Vec<Tx>, AllocError>
 }
 
 /// The logs of the bundle. Its certificate is let go.
-fn into_sites(bundle: Bundle) -> Vec<SiteLog>
+fn into_sites(bundle: CompactBundle) -> Vec<CompactLog>
     ensures { result.items ≡ bundle.sites }
 {
     let (_certificate, sites) = bundle.into_parts();
@@ -65,13 +66,16 @@ fn into_sites(bundle: Bundle) -> Vec<SiteLog>
 
 /// The committed transactions of the bundle by rank, as `serial_order` has them, and its logs. Its
 /// certificate is let go before they are sorted.
-pub fn order_and_sites(alloc: Global, bundle: Bundle) -> Result<(Vec<Tx>, Vec<SiteLog>), AllocError>
+pub fn order_and_sites(
+    alloc: Global,
+    bundle: CompactBundle,
+) -> Result<(Vec<Tx>, Vec<CompactLog>), AllocError>
     ensures order { IfOk result (λ r. r.0.items ≡ by_rank bundle.certificate.decisions) }
     ensures sites { IfOk result (λ r. r.1.items ≡ bundle.sites) }
     ensures fit { IfOk result (λ r. FitTogether bundle) }
 {
     let ranked = commits(alloc, bundle.certificate().decisions())?;
-    let _sites = bundle.sites();
+    let _logs = bundle.logs();
     let sites = into_sites(bundle);
     let order = in_order(alloc, ranked)?;
     Ok((order, sites))

@@ -15,8 +15,9 @@ use crate::order::serial_order;
 use crate::report::{SerialFail, SerialReport, SerialTx};
 use crate::store::Store;
 use sgt_bundle::{Bundle, SiteLog};
+use sgt_compact::CompactLog;
 use sgt_names::{Listed, Tx};
-use std::alloc::Global;
+use std::alloc::{AllocError, Global};
 
 /// Compares the transaction's reads with the store, and makes its changes.
 fn run_one(store: &mut Store, run: &SerialTx) -> Result<(), SerialFail>
@@ -41,7 +42,7 @@ fn run_one(store: &mut Store, run: &SerialTx) -> Result<(), SerialFail>
 /// Runs these transactions one after another.
 fn run_all(
     alloc: Global,
-    sites: &[SiteLog],
+    sites: &[CompactLog],
     order: &[Tx],
     store: &mut Store,
 ) -> Result<Vec<SerialTx>, SerialFail>
@@ -63,6 +64,17 @@ fn run_all(
     Ok(runs)
 }
 
+/// The logs, as the auditor hands them out.
+fn compact_logs(alloc: Global, sites: &[SiteLog]) -> Result<Vec<CompactLog>, AllocError>
+    ensures { IfOk result (λ logs. logs.items ≡ sites.now) }
+{
+    let mut logs = Vec::new(alloc);
+    for log in sites {
+        logs.push(CompactLog::of(alloc, log)?)?;
+    }
+    Ok(logs)
+}
+
 /// Runs the bundle's committed transactions, and compares the final values.
 fn run_bundle(alloc: Global, bundle: &Bundle) -> Result<SerialReport, SerialFail>
     ensures agrees { OnOk result (SerialAgrees bundle.now) }
@@ -70,7 +82,8 @@ fn run_bundle(alloc: Global, bundle: &Bundle) -> Result<SerialReport, SerialFail
     ensures differs { (tx : Option ℕ) (s : ℕ) (x : Name) → result ≡ Err (SerialFail.Differs tx s x)
         → IsFirstDifference bundle.now tx s x }
 {
-    let sites = bundle.sites();
+    let logs = compact_logs(alloc, bundle.sites())?;
+    let sites = logs.as_slice();
     let order = serial_order(alloc, bundle.certificate().decisions.as_slice())?;
     let mut store = Store::initial(alloc, sites)?;
     let runs = run_all(alloc, sites, order.as_slice(), &mut store)?;

@@ -7,12 +7,15 @@ ghost use Rattle.sgt_names.specs.Limits.{max_sites};
 ghost use Rattle.sgt_bundle.specs.declared.bundle.SiteLog.{SiteLog};
 ghost use Rattle.sgt_serial.specs.declared.operations.Operations.TheVariants as operations;
 ghost use Rattle.sgt_serial.specs.private.Operations.{entry_at, owner, is_by};
-ghost use Rattle.sgt_serial.specs.private.Grouped.{IsSortedOf, entries_in};
+ghost use Rattle.sgt_serial.specs.declared.entries.SiteEntry.{SiteEntry as AnySiteEntry};
+ghost use Rattle.sgt_serial.specs.private.Grouped.{IsSortedOf, StandsAt, entries_in};
+ghost use Rattle.sgt_serial.specs.private.Reads.{read_by};
 
-use crate::entries::SiteEntry;
+use crate::entries::{SiteEntry, read_of};
 use crate::operations::Span;
-use sgt_bundle::SiteLog;
-use sgt_names::{Entry, SiteNo, Tx};
+use crate::report::SiteValue;
+use sgt_compact::{CompactEntries, CompactLog};
+use sgt_names::{SiteNo, Tx};
 use std::alloc::{AllocError, Global};
 use std::marker::Model;
 
@@ -46,14 +49,18 @@ fn count_below(entries: &[SiteEntry], number: u64) -> usize
 }
 
 /// Adds the entries of a site's log.
-fn add_site(entries: &mut Vec<SiteEntry>, site: SiteNo, logged: &[Entry]) -> Result<(), AllocError>
+fn add_site(
+    entries: &mut Vec<SiteEntry>,
+    site: SiteNo,
+    logged: &CompactEntries,
+) -> Result<(), AllocError>
     ensures { OnOk result
         (entries.new.items ≡ entries.old.items ++ map (entry_at site) logged.now) }
 {
-    for entry in logged {
+    for at in 0..logged.len() {
         entries.push(SiteEntry {
             site,
-            entry: *entry,
+            entry: logged.at(at),
         })?;
     }
     Ok(())
@@ -61,14 +68,14 @@ fn add_site(entries: &mut Vec<SiteEntry>, site: SiteNo, logged: &[Entry]) -> Res
 
 impl Sorted {
     /// Those of these logs.
-    pub fn new(alloc: Global, sites: &[SiteLog]) -> Result<Sorted, AllocError>
+    pub fn new(alloc: Global, sites: &[CompactLog]) -> Result<Sorted, AllocError>
         requires { length sites.now ≤ max_sites }
         ensures { IfOk result (IsSortedOf sites.now) }
     {
         let mut entries = Vec::new(alloc);
         for (number, log) in sites.iter().enumerate() {
             let site = SiteNo::new(number as u64).unwrap();
-            add_site(&mut entries, site, log.entries.as_slice())?;
+            add_site(&mut entries, site, log.entries())?;
         }
         entries.sort_by_key(|own| own.entry.tx().number())?;
         Ok(Sorted { entries })
@@ -95,10 +102,18 @@ impl Sorted {
     /// The entry at a place.
     pub fn at(&self, place: usize) -> SiteEntry
         requires { place < length self.now }
-        ensures { (logs : List SiteLog) (from : ℕ) → from ≤ place
-            → entries_in logs (operations.Sorted self.now) from (place + 1)
-            ≡ entries_in logs (operations.Sorted self.now) from place ++ result ∷ [] }
+        ensures { (logs : List SiteLog) → StandsAt logs (operations.Sorted self.now) place result }
     {
         self.entries[place]
+    }
+
+    /// What the entry at a place reads, if it is a read.
+    pub fn read_at(&self, place: usize) -> Option<SiteValue>
+        requires { place < length self.now }
+        ensures { (e : AnySiteEntry) × ((logs : List SiteLog)
+            → StandsAt logs (operations.Sorted self.now) place e)
+            × (result ≡ read_by e) }
+    {
+        read_of(&self.entries[place])
     }
 }

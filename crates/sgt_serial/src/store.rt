@@ -9,7 +9,7 @@ ghost use Rattle.sgt_serial.specs.Difference.{Has, Knows, IsFirstWithout};
 ghost use Rattle.sgt_serial.specs.private.Values.{IsRising, store_of, is_of, with_all};
 
 use crate::report::{SiteChange, SiteValue};
-use sgt_bundle::SiteLog;
+use sgt_compact::CompactLog;
 use sgt_names::{Change, Holding, Item, SiteNo, Value};
 use std::alloc::{AllocError, Global};
 use std::marker::Model;
@@ -98,13 +98,13 @@ impl Model for Store {
 
 impl Store {
     /// The initial values.
-    pub fn initial(alloc: Global, sites: &[SiteLog]) -> Result<Store, AllocError>
+    pub fn initial(alloc: Global, sites: &[CompactLog]) -> Result<Store, AllocError>
         requires { All IsShapedLog sites.now }
         ensures { IfOk result (λ store. store ≡ map (λ log. log.items) sites.now) }
     {
         let mut stores = Vec::new(alloc);
         for log in sites {
-            stores.push(SiteStore::new(alloc, log.items.as_slice())?)?;
+            stores.push(SiteStore::new(alloc, log.items())?)?;
         }
         Ok(Store { sites: stores })
     }

@@ -1,6 +1,6 @@
 //! The text of a bundle's serial run, written a block at a time.
 
-ghost use Rattle.std.specs.Prelude.{◌≤◌, ◌+◌, ◌++◌, [], map, codes, decimal, vec_len, vec_capacity, OnOk, OnErr, IfOk};
+ghost use Rattle.std.specs.Prelude.{◌≡◌, ◌≤◌, ◌+◌, ◌++◌, [], map, codes, decimal, vec_len, vec_capacity, OnOk, OnErr, IfOk};
 ghost use Rattle.std.specs.List.{flat_map};
 ghost use Rattle.std.specs.Io.KnownBytes.{Appends};
 ghost use Rattle.sgt_names.specs.Device.{CountsFailures, WritesFront};
@@ -9,15 +9,16 @@ ghost use Rattle.sgt_notation.specs.Spelling.{text_of_lines};
 ghost use Rattle.sgt_serial.specs.Report.{reads_of, writes_of, run_of, report_of};
 ghost use Rattle.sgt_serial.specs.Text.{operation_line, change_line, run_lines, final_line, report_text};
 ghost use Rattle.sgt_serial.specs.private.Grouped.{AreOperationsOf};
+ghost use Rattle.sgt_serial.specs.declared.entries.SiteEntry.{SiteEntry};
+ghost use Rattle.sgt_serial.specs.private.Reads.{change_by, read_by};
 ghost use Rattle.sgt_serial.specs.private.Written.{IsPlanOf, PassesOn, with_lf, text_of_read, text_of_change};
 
-use crate::entries::{SiteEntry, read_of, write_of};
 use crate::finals::finals;
 use crate::operations::Operations;
 use crate::order::order_and_sites;
-use crate::report::SiteValue;
+use crate::report::{SiteChange, SiteValue};
 use crate::text::{push_change, push_final, push_head, push_read};
-use sgt_bundle::{Bundle, SiteLog};
+use sgt_compact::{CompactBundle, CompactLog};
 use sgt_names::{Failed, Sink, Tx, write_all};
 use sgt_notation::LINE_ROOM;
 use std::alloc::{AllocError, Global};
@@ -28,7 +29,7 @@ const BLOCK: usize = 65_536;
 /// All that the writing of a run needs, so that nothing is allocated once it begins.
 #[derive(Drop)]
 pub struct Plan {
-    sites: Vec<SiteLog>,
+    sites: Vec<CompactLog>,
     order: Vec<Tx>,
     operations: Operations,
     finals: Vec<SiteValue>,
@@ -62,17 +63,19 @@ fn write_read<W: Sink>(
     writer: &mut W,
     out: &mut Vec<u8>,
     tx: Tx,
-    own: &SiteEntry,
+    read: Option<SiteValue>,
 ) -> Result<(), Failed>
     requires { 65600 ≤ vec_capacity out.old }
-    ensures ok { OnOk result (PassesOn (W.holds writer.old) (W.holds writer.new) out.old.items
-        (text_of_read tx own.now) out.new.items) }
-    ensures err { OnErr result (WritesFront (W.holds writer.old) (W.holds writer.new)
-        (out.old.items ++ text_of_read tx own.now)) }
+    ensures ok { (e : SiteEntry) → read ≡ read_by e
+        → OnOk result (PassesOn (W.holds writer.old) (W.holds writer.new) out.old.items
+        (text_of_read tx e) out.new.items) }
+    ensures err { (e : SiteEntry) → read ≡ read_by e
+        → OnErr result (WritesFront (W.holds writer.old) (W.holds writer.new)
+        (out.old.items ++ text_of_read tx e)) }
     ensures capacity { vec_capacity out.old ≤ vec_capacity out.new }
     ensures fails { CountsFailures result (W.failures writer.old) (W.failures writer.new) }
 {
-    match read_of(own) {
+    match read {
         Some(read) => {
             make_room(writer, out)?;
             push_read(out, tx, &read).unwrap();
@@ -88,17 +91,19 @@ fn write_change<W: Sink>(
     writer: &mut W,
     out: &mut Vec<u8>,
     tx: Tx,
-    own: &SiteEntry,
+    change: Option<SiteChange>,
 ) -> Result<(), Failed>
     requires { 65600 ≤ vec_capacity out.old }
-    ensures ok { OnOk result (PassesOn (W.holds writer.old) (W.holds writer.new) out.old.items
-        (text_of_change tx own.now) out.new.items) }
-    ensures err { OnErr result (WritesFront (W.holds writer.old) (W.holds writer.new)
-        (out.old.items ++ text_of_change tx own.now)) }
+    ensures ok { (e : SiteEntry) → change ≡ change_by e
+        → OnOk result (PassesOn (W.holds writer.old) (W.holds writer.new) out.old.items
+        (text_of_change tx e) out.new.items) }
+    ensures err { (e : SiteEntry) → change ≡ change_by e
+        → OnErr result (WritesFront (W.holds writer.old) (W.holds writer.new)
+        (out.old.items ++ text_of_change tx e)) }
     ensures capacity { vec_capacity out.old ≤ vec_capacity out.new }
     ensures fails { CountsFailures result (W.failures writer.old) (W.failures writer.new) }
 {
-    match write_of(own) {
+    match change {
         Some(write) => {
             make_room(writer, out)?;
             push_change(out, tx, &write).unwrap();
@@ -142,7 +147,7 @@ fn write_final<W: Sink>(writer: &mut W, out: &mut Vec<u8>, value: &SiteValue) ->
 fn write_reads<W: Sink>(
     writer: &mut W,
     out: &mut Vec<u8>,
-    logs: &[SiteLog],
+    logs: &[CompactLog],
     operations: &Operations,
     tx: Tx,
 ) -> Result<(), Failed>
@@ -157,8 +162,9 @@ fn write_reads<W: Sink>(
 {
     let span = operations.span(tx);
     for place in span.from..span.to {
-        let own = operations.at(logs, place);
-        write_read(writer, out, tx, &own)?;
+        if operations.is_read(logs, place) {
+            write_read(writer, out, tx, operations.read_at(logs, place))?;
+        }
     }
     Ok(())
 }
@@ -167,7 +173,7 @@ fn write_reads<W: Sink>(
 fn write_changes<W: Sink>(
     writer: &mut W,
     out: &mut Vec<u8>,
-    logs: &[SiteLog],
+    logs: &[CompactLog],
     operations: &Operations,
     tx: Tx,
 ) -> Result<(), Failed>
@@ -182,8 +188,9 @@ fn write_changes<W: Sink>(
 {
     let span = operations.span(tx);
     for place in span.from..span.to {
-        let own = operations.at(logs, place);
-        write_change(writer, out, tx, &own)?;
+        if operations.is_change(logs, place) {
+            write_change(writer, out, tx, operations.change_at(logs, place))?;
+        }
     }
     Ok(())
 }
@@ -192,7 +199,7 @@ fn write_changes<W: Sink>(
 fn write_run<W: Sink>(
     writer: &mut W,
     out: &mut Vec<u8>,
-    logs: &[SiteLog],
+    logs: &[CompactLog],
     operations: &Operations,
     tx: Tx,
 ) -> Result<(), Failed>
@@ -215,7 +222,7 @@ fn write_run<W: Sink>(
 fn write_runs<W: Sink>(
     writer: &mut W,
     out: &mut Vec<u8>,
-    logs: &[SiteLog],
+    logs: &[CompactLog],
     operations: &Operations,
     order: &[Tx],
 ) -> Result<(), Failed>
@@ -256,7 +263,7 @@ fn write_finals<W: Sink>(
 
 impl Plan {
     /// That of the bundle's run. The bundle's certificate is let go.
-    pub fn new(alloc: Global, bundle: Bundle) -> Result<Plan, AllocError>
+    pub fn new(alloc: Global, bundle: CompactBundle) -> Result<Plan, AllocError>
         ensures { IfOk result (IsPlanOf bundle 65600) }
     {
         let (order, sites) = order_and_sites(alloc, bundle)?;

@@ -1,17 +1,14 @@
 -- What was judged of a text that a reader tells.
-use Rattle.std.specs.Prelude.{◌≡◌, ◌<◌, ◌≤◌, ◌+◌, ◌⊎◌, ℕ, List, [], ◌∷◌, ◌++◌, length, take, Option, Some, None, Result, Ok, Err, IfSome, ⊤}
-use Rattle.sgt_notation.specs.Spelling.{text_of_lines, HasNoLf, IsLine, line_text}
+use Rattle.std.specs.Prelude.{◌≡◌, ◌<◌, ◌≤◌, ◌+◌, ◌⊎◌, ℕ, List, [], ◌++◌, length, Option, Some, None, Result, Ok, Err, IfSome, ⊤}
+use Rattle.sgt_notation.specs.Spelling.{text_of_lines, HasNoLf}
 use Rattle.sgt_notation.specs.Lines.{Ahead, coming}
-use Rattle.sgt_notation.specs.declared.SectionLine.{SectionLine}
 use Rattle.sgt_audit.specs.declared.faults.Fault.{Fault}
 use Rattle.sgt_audit.specs.declared.kept.Kept.{Kept}
 use Rattle.sgt_audit.specs.declared.machine.Progress.{Progress}
-use Rattle.sgt_audit.specs.declared.machine.Progress.TheVariants.{Reading}
 use Rattle.sgt_audit.specs.declared.faults.FirstFault as found
 use Rattle.sgt_audit.specs.Faults.{Stage, FirstFault, lines_so_far, reach}
 use Rattle.sgt_audit.specs.Held.{IsAt}
 use Rattle.sgt_audit.specs.private.Ending.{IsComplete, limit_of}
-use Rattle.sgt_audit.specs.private.NextLine.{Follows}
 use Rattle.sgt_audit.specs.Progress.{Stands}
 
 -- the bytes are the lines of the stage and then what comes

@@ -1,13 +1,11 @@
 -- The entries of all logs, each with its site.
 use Rattle.std.specs.Prelude.{ℕ, List, map, Bool, ◌==◌}
-use Rattle.std.specs.List.{filter, filter_map}
 use Rattle.sgt_names.specs.Entry.{tx_of}
 use Rattle.sgt_names.specs.declared.entry.Entry.{Entry}
 use Rattle.sgt_bundle.specs.Serial.{entries_of}
 use Rattle.sgt_bundle.specs.declared.bundle.SiteLog.{SiteLog}
 use Rattle.sgt_serial.specs.declared.entries.SiteEntry.{SiteEntry}
-use Rattle.sgt_serial.specs.declared.report.SerialTx.{SerialTx}
-use Rattle.sgt_serial.specs.Report.{by_site, read_at, write_at}
+use Rattle.sgt_serial.specs.Report.{by_site}
 
 abbrev pub entry_at : ℕ → Entry → SiteEntry
 entry_at s e = record { site = s; entry = e }

@@ -4,21 +4,13 @@ use Rattle.std.specs.List.{filter_map}
 use Rattle.std.specs.Io.KnownBytes.{Appends}
 use Rattle.sgt_bundle.specs.Parts.{Parts}
 use Rattle.sgt_bundle.specs.Certificate.{by_rank}
-use Rattle.sgt_serial.specs.declared.report.SiteChange.{SiteChange}
-use Rattle.sgt_serial.specs.declared.report.SiteValue.{SiteValue}
 use Rattle.sgt_serial.specs.declared.written.Plan.{Plan}
 use Rattle.sgt_serial.specs.declared.entries.SiteEntry.{SiteEntry}
 use Rattle.sgt_notation.specs.Spelling.{text_of_lines}
-use Rattle.sgt_serial.specs.Report.{finals_of, read_at, write_at}
+use Rattle.sgt_serial.specs.Report.{finals_of}
 use Rattle.sgt_serial.specs.Text.{operation_line, change_line}
 use Rattle.sgt_serial.specs.private.Grouped.{AreOperationsOf}
-
--- what is read, and what is changed, by entries with their sites
-abbrev pub read_by : SiteEntry → Option SiteValue
-read_by e = read_at e.site e.entry
-
-abbrev pub change_by : SiteEntry → Option SiteChange
-change_by e = write_at e.site e.entry
+use Rattle.sgt_serial.specs.private.Reads.{change_by, read_by}
 
 -- the line of an entry, if it is a read; and if it is a write or an increment
 abbrev pub text_of_read : ℕ → SiteEntry → List ℕ

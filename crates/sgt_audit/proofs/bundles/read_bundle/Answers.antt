@@ -1,3 +1,4 @@
+use Rattle.std.proofs.Common.{◌∙◌}
 use Rattle.sgt_audit.proofs.SpelledLines.{some-line, first-is, some-second, second-is, spells-sections, read-spells, read-only, bundle-answers}
 use Rattle.sgt_audit.proofs.bundles.read_bundle.Goals as goal
 
@@ -50,17 +51,17 @@ returns-in-Ok-None-clause-bundle c b s =
     c.in-Some-split_line.ensures.some.0 c.in-Some-split_line.ensures.some.1 _ c.in-Ok.certificate
     c.in-Some-read_format.ensures.some same)
 
-pub returns-in-Ok-Some-clause-bundle : goal.returns-in-Ok-Some-clause-bundle
-returns-in-Ok-Some-clause-bundle c =
+pub returns-in-Ok-site_logs-clause-bundle : goal.returns-in-Ok-site_logs-clause-bundle
+returns-in-Ok-site_logs-clause-bundle c =
     let read = rw c.in-Ok-Some.field-0-is at c.in-Ok-Some.ensures in
     let format = c.in-Some-read_format.ensures.some in
     let first = c.in-Some.ensures.some in
     let next = c.in-Some-split_line.ensures.some in
     bundle-answers c.args.bytes.now c.new.result _ c.new.ensures
     (read-spells _ _ _ _ _ _ c.in-Ok.certificate c.in-Ok-Some.sections _ first.1 format next.1 c.in-Ok.ensures.ok.1
-    read.1 read.0 c.into_logs.ensures c.in-Ok.ensures.ok.0)
+    read.1 read.0 (c.in-Ok-site_logs.ensures ∙ c.into_logs.ensures) c.in-Ok.ensures.ok.0)
     (λ b s miss.
     let second = second-is _ b s _ _ first.0 first.1 _ _ next.0 next.1 in
     read-only _ _ _ _ _ _ c.in-Ok.certificate c.in-Ok-Some.sections _ first.1 format next.1 c.in-Ok.ensures.ok.1
-    read.1 read.0 c.into_logs.ensures b s first.0 next.0 (c.in-Ok.ensures.only b.certificate s.certificate second)
+    read.1 read.0 (c.in-Ok-site_logs.ensures ∙ c.into_logs.ensures) b s first.0 next.0 (c.in-Ok.ensures.only b.certificate s.certificate second)
     miss)

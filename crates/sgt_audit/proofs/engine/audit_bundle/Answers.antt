@@ -17,32 +17,32 @@ pub unreachable-requires : goal.unreachable-requires
 unreachable-requires g c = let kept = rw c.in-Ok-Ok.field-0-is at (c.in-Ok-Ok.ensures.kept refl) in
     none-kept _ kept c.in_default.is
 
-pub unreachable-requires-in-None : goal.unreachable-requires-in-None
-unreachable-requires-in-None g c =
+pub new-requires : goal.new-requires
+new-requires g c =
     let k = c.in-Ok-Ok.kept in
     let all = whole-bundle k (rw c.in-Ok-Ok.field-0-is at c.in-Ok-Ok.ensures.all) in
     let sections = kept-sections k all.1 c.in-Some.sections all.2.0 c.in-Some.is in
     let same = ap₂ parts-of c.into_certificate-certificate.ensures (c.into_logs-logs.ensures
     ∙ ap (λ (s : Begun). s.whole) sections) in
-    c.in-None.ensures (subst FitTogether (sym same) (kept-fit k all.0 all.1 all.2))
+    subst FitTogether (sym same) (kept-fit k all.0 all.1 all.2)
 
-pub returns-in-Some-new-clause-audited : goal.returns-in-Some-new-clause-audited
-returns-in-Some-new-clause-audited g c =
+pub returns-in-Some-clause-audited : goal.returns-in-Some-clause-audited
+returns-in-Some-clause-audited g c =
     let k = c.in-Ok-Ok.kept in
     let told = rw c.in-Ok-Ok.field-0-is at c.in-Ok-Ok.ensures.judged in
-    told-map (IsJudged (Ok k)) (λ bytes. Spells bytes c.in-Some-new.bundle × IsValid c.in-Some-new.bundle) _
+    told-map (IsJudged (Ok k)) (λ bytes. Spells bytes c.new.result × IsValid c.new.result) _
     (λ bytes j.
     let b = judged-bundle k bytes j in
     let sections = kept-sections k b.0 c.in-Some.sections b.1.0 c.in-Some.is in
     let same = ap₂ parts-of c.into_certificate-certificate.ensures (c.into_logs-logs.ensures
     ∙ ap (λ (s : Begun). s.whole) sections) in
-    subst (λ p. Spells bytes p × IsValid p) (sym (c.in-Some-new.ensures.1 ∙ same)) (b.1.1, b.1.2)) told
+    subst (λ p. Spells bytes p × IsValid p) (sym (c.new.ensures ∙ same)) (b.1.1, b.1.2)) told
 
-pub returns-in-Some-new-clause-valid : goal.returns-in-Some-new-clause-valid
-returns-in-Some-new-clause-valid g c =
+pub returns-in-Some-clause-valid : goal.returns-in-Some-clause-valid
+returns-in-Some-clause-valid g c =
     let k = c.in-Ok-Ok.kept in
     let all = whole-bundle k (rw c.in-Ok-Ok.field-0-is at c.in-Ok-Ok.ensures.all) in
     let sections = kept-sections k all.1 c.in-Some.sections all.2.0 c.in-Some.is in
     let same = ap₂ parts-of c.into_certificate-certificate.ensures (c.into_logs-logs.ensures
     ∙ ap (λ (s : Begun). s.whole) sections) in
-    subst IsValid (sym (c.in-Some-new.ensures.1 ∙ same)) all.2.2
+    subst IsValid (sym (c.new.ensures ∙ same)) all.2.2

@@ -1,7 +1,6 @@
 use Rattle.std.specs.Prelude.{is_some}
-use Rattle.std.proofs.Common.{◌≡◌, None, sym, ◌∙◌, ap, refl, subst, arith}
-use Rattle.sgt_audit.specs.declared.kept.Kept.{Kept}
-use Rattle.sgt_audit.specs.declared.kept.Passed.TheVariants.{Line, Faulty}
+use Rattle.std.proofs.Common.{◌≡◌, None, ◌∙◌, refl, arith}
+use Rattle.sgt_audit.specs.declared.kept.Passed.TheVariants.{Line}
 use Rattle.sgt_audit.specs.private.NextLine.{Passes}
 use Rattle.sgt_audit.proofs.ReaderAtStage.{front-fault, front-gave, front-goes}
 use Rattle.sgt_audit.proofs.reading.feed_kept.Goals as goal

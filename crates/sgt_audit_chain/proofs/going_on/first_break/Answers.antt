@@ -32,9 +32,9 @@ returns-in-Some-first_difference-clause-some c =
         site = n;
         before = c.loop-site.invariant.1;
         here = breaks-at _ _ log.items values (site_line logs n) place (items-at logs n log at) there
-            (ap (take place) (sym c.as_slice.ensures) ∙ found.0 ∙ ap (take place) c.as_slice-in-loop-site.ensures)
-            (λ same. found.1 (ap (λ xs. slice_get xs place) c.as_slice.ensures ∙ same
-            ∙ sym (ap (λ xs. slice_get xs place) c.as_slice-in-loop-site.ensures)));
+            (ap (take place) (sym c.items.ensures) ∙ found.0 ∙ ap (take place) c.as_slice.ensures)
+            (λ same. found.1 (ap (λ xs. slice_get xs place) c.items.ensures ∙ same
+            ∙ sym (ap (λ xs. slice_get xs place) c.as_slice.ensures)));
       },
       line,
     )
@@ -48,7 +48,7 @@ loop-site-preserved c =
     let values = c.in-Some.values.now in
     let at = element_at logs n log c.loop-site-test.true c.index-logs-site.is in
     let there = element_at left n values c.in-Some.ensures.lookup.3.0 c.in-Some.ensures.lookup.1 in
-    let same = sym c.as_slice.ensures ∙ c.in_default-first_difference.ensures.none ∙ c.as_slice-in-loop-site.ensures in
+    let same = sym c.items.ensures ∙ c.in_default-first_difference.ensures.none ∙ c.as_slice.ensures in
     let next = line-next logs n log at in
     let long = c.lines_of.ensures (length (take n logs)) in (
       omega (arith, next, long, c.loop-site.invariant.0, c.saturating_add-line.ensures),

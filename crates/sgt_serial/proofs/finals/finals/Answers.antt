@@ -16,4 +16,4 @@ loop-number-preserved c =
     site_more (λ s o. map (final_at s) (finals_at o)) sites n log at c.loop-number.finals.items
     c.add_finals.new.finals.items c.loop-number.invariant c.unwrap-site.result site.1
     (c.in_ok-add_finals.ensures
-    ∙ ap (λ hs. c.loop-number.finals.items ++ map (final_at c.unwrap-site.result) hs) c.as_slice.ensures)
+    ∙ ap (λ hs. c.loop-number.finals.items ++ map (final_at c.unwrap-site.result) hs) c.finals.ensures)

@@ -1,10 +1,14 @@
-use Rattle.std.proofs.Common.{◌≡◌, ◌≤◌, ◌<◌, ◌+◌, ◌∙◌, [], ◌∷◌, map, refl, arith}
+use Rattle.std.proofs.Common.{sym, ap, subst, Vec, vec_capacity, ℕ, ◌≡◌, ◌≤◌, ◌<◌, ◌+◌, ◌∙◌, [], ◌∷◌, map, refl, arith}
 use Rattle.sgt_notation.specs.Spelling.{text_of_lines}
 use Rattle.sgt_serial.specs.Report.{picked_of, write_at}
 use Rattle.sgt_serial.specs.Text.{change_line}
-use Rattle.sgt_serial.proofs.Lines.{picked_text}
-use Rattle.sgt_serial.proofs.Passing.{on-err, passes-none, passes-more, passes-all, passes-front}
+use Rattle.sgt_serial.proofs.Lines.{picked-none, picked_text}
+use Rattle.sgt_serial.proofs.Passing.{on-err, passes-none, passes-more, passes-past, IsPassed, passes-all, passes-front}
 use Rattle.sgt_serial.proofs.Spans.{by, text_in, text-next, text-none, text-all}
+use Rattle.std.specs.declared.alloc.Global.{Global}
+use Rattle.sgt_serial.specs.private.Reads.{change_by}
+use Rattle.sgt_serial.proofs.Reading.{none-of}
+use Rattle.sgt_serial.proofs.written.write_changes.Goals.{then-is_change+in_ok-write_change, else-is_change}
 use Rattle.sgt_serial.proofs.written.write_changes.Goals as goal
 
 pub loop-place-init : goal.loop-place-init
@@ -30,20 +34,47 @@ loop-place-preserved g c =
     let o = c.args.operations.now in
     let place = c.loop-place.place in
     let to = c.span-span.result.to in
-    let own = c.at-own.result in
+    let whole = (text_of_lines (map line (picked_of write_at logs c.args.tx))) in
+    let rest = text_in line write_at logs o place to in
+    let more = text_in line write_at logs o (place + 1) to in
+    let held = c.args.out.now.items in
+    let first = holds c.args.writer.now in
     let so_far = c.loop-place.invariant in
-    let call = c.in_ok-write_change.ensures in
     let within : place < to = omega arith in
     let start : place ≤ place = omega arith in
     record {
-      passed = passes-more (holds c.args.writer.now) (holds c.loop-place.writer) (holds c.write_change.new.writer)
-          c.args.out.now.items c.loop-place.out.items c.write_change.new.out.items
-          (picked_text line (by line write_at logs o) (own ∷ [])) (text_in line write_at logs o place to)
-          (text_in line write_at logs o (place + 1) to)
-          (text_of_lines (map line (picked_of write_at logs c.args.tx)))
-          (text-next line write_at logs o place to own within (c.at-own.ensures place start)) so_far.passed call.ok;
-      capacity = omega (arith, so_far.capacity, call.capacity);
-      quiet = call.fails ∙ so_far.quiet;
+      passed = elim c.if-is_change.branch [
+        | then-is_change+in_ok-write_change w ↦
+            let own = w.change_at.ensures.0 in
+            subst (λ writer. IsPassed first (holds writer) held c.if-is_change.out.items more whole) (sym w.writer-is)
+            (subst (λ (out : Vec ℕ Global). IsPassed first (holds w.write_change.new.writer) held out.items more whole) (sym w.out-is)
+            (passes-more first (holds c.loop-place.writer) (holds w.write_change.new.writer) held c.loop-place.out.items
+            w.write_change.new.out.items (picked_text line (by line write_at logs o) (own ∷ [])) rest more whole
+            (text-next line write_at logs o place to own within (w.change_at.ensures.1 place start)) so_far.passed
+            (w.in_ok-write_change.ensures.ok own w.change_at.ensures.2)))
+        | else-is_change w ↦
+            let own = c.is_change.ensures.0 in
+            subst (λ writer. IsPassed first (holds writer) held c.if-is_change.out.items more whole) (sym w.writer-is)
+            (subst (λ (out : Vec ℕ Global). IsPassed first (holds c.loop-place.writer) held out.items more whole) (sym w.out-is)
+            (passes-past first (holds c.loop-place.writer) held c.loop-place.out.items
+            (picked_text line (by line write_at logs o) (own ∷ [])) rest more whole
+            (text-next line write_at logs o place to own within (c.is_change.ensures.1 place start))
+            (picked-none line (by line write_at logs o) own (none-of (change_by own) (sym c.is_change.ensures.2 ∙ w.if-is_change.false)))
+            so_far.passed))
+      ];
+      capacity = elim c.if-is_change.branch [
+        | then-is_change+in_ok-write_change w ↦
+            let same = ap (λ (out : Vec ℕ Global). vec_capacity out) w.out-is in
+            omega (arith, same, so_far.capacity, w.in_ok-write_change.ensures.capacity)
+        | else-is_change w ↦
+            let same = ap (λ (out : Vec ℕ Global). vec_capacity out) w.out-is in
+            omega (arith, same, so_far.capacity)
+      ];
+      quiet = elim c.if-is_change.branch [
+        | then-is_change+in_ok-write_change w ↦
+            ap g.W.Sink.failures w.writer-is ∙ w.in_ok-write_change.ensures.fails ∙ so_far.quiet
+        | else-is_change w ↦ ap g.W.Sink.failures w.writer-is ∙ so_far.quiet
+      ];
     }
 
 pub returns-in_err-write_change-clause-err : goal.returns-in_err-write_change-clause-err
@@ -54,7 +85,8 @@ returns-in_err-write_change-clause-err g c =
     let o = c.args.operations.now in
     let place = c.loop-place.place in
     let to = c.span-span.result.to in
-    let own = c.at-own.result in
+    let found = c.change_at.ensures in
+    let own = found.0 in
     let within : place < to = omega arith in
     let start : place ≤ place = omega arith in
     on-err c.from_residual.result
@@ -63,9 +95,9 @@ returns-in_err-write_change-clause-err g c =
     (picked_text line (by line write_at logs o) (own ∷ [])) (text_in line write_at logs o place to)
     (text_in line write_at logs o (place + 1) to)
     (text_of_lines (map line (picked_of write_at logs c.args.tx)))
-    (text-next line write_at logs o place to own within (c.at-own.ensures place start))
+    (text-next line write_at logs o place to own within (found.1 place start))
     c.loop-place.invariant.passed
-    c.in_err-write_change.ensures.err)
+    (c.in_err-write_change.ensures.err own found.2))
 
 pub returns-clause-ok : goal.returns-clause-ok
 returns-clause-ok g c =

@@ -29,6 +29,7 @@ returns-clause-follows c is cert edges b known s =
       place = c.enter_entry.new.self;
       state = c.enter.new.state;
       met = old.met;
+      latest = c.unwrap_or-self.result;
     } in
     let judged = c.judge_next_entry-found.ensures cert b s.once s.ranked s.sites s.begun s.place s.open_site known in
     let kept = judged-all cert (lines_read b) line None (rw c.in_default.is at judged).0 in (

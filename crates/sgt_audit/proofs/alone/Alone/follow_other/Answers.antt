@@ -28,6 +28,7 @@ returns-clause-follows c is other cert edges b s meets =
       place = c.enter.new.self;
       state = c.enter_line.new.state;
       met = c.args.met;
+      latest = c.args.self.now.latest;
     } in
     let judged = c.in_default.ensures cert b s.once s.ranked s.sites s.begun s.place s.open_site known in
     let kept = judged-all cert (lines_read b) line None judged.0 in (

@@ -2,14 +2,14 @@ use Rattle.std.proofs.Common.{◌≡◌, ◌++◌, ◌∷◌, [], IfSome, None, 
 use Rattle.sgt_notation.specs.Spelling.{line_text}
 use Rattle.sgt_notation.specs.declared.SectionLine.{SectionLine}
 use Rattle.sgt_notation.specs.declared.SectionLine.TheVariants.{End}
-use Rattle.sgt_bundle.specs.Text.{AreSections, Begins}
+use Rattle.sgt_bundle.specs.Text.{Begins}
 use Rattle.sgt_audit_decisions.specs.Steps.{AreStepsAt}
 use Rattle.sgt_audit_decisions.proofs.Loops.{refuted}
 use Rattle.sgt_audit.specs.Alone.{FollowsAlone}
 use Rattle.sgt_audit.specs.declared.faults.Fault.TheVariants as fault
 use Rattle.sgt_audit.specs.declared.kept.Kept.{Kept}
 use Rattle.sgt_audit.specs.declared.machine.Progress.TheVariants.{Reading}
-use Rattle.sgt_audit.specs.Kept.{IsStageOf, Means, MeansMet}
+use Rattle.sgt_audit.specs.Kept.{IsStageOf, Means}
 use Rattle.sgt_audit.specs.Reading.{lines_read}
 use Rattle.sgt_audit.specs.private.Following.{with_next}
 use Rattle.sgt_audit.specs.private.NextLine.{Follows}

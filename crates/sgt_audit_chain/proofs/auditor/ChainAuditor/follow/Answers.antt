@@ -17,21 +17,21 @@ returns-clause-follows c valid bundles audited =
     let on : (left : List (List Holding)) → values_behind bundles ≡ Some left → initial_values b ≡ left =
     λ left was. elim c.match-self.branch [
       | in-Some+in_default-first_break w ↦
-          ap (map initial_of) (sym c.sites-sites.ensures.logs) ∙ w.in_default-first_break.ensures.none
+          ap (map initial_of) (sym c.logs-logs.ensures.logs) ∙ w.in_default-first_break.ensures.none
           ∙ w.as_slice.ensures.value
           ∙ same_Some w.in-Some.left.items left (sym (ap (option_map (λ left. left.items)) w.in-Some.is)
           ∙ audited.left ∙ was)
       | in_default w ↦ absurd (none-some left (sym (ap (option_map (λ left. left.items)) w.in_default.is)
           ∙ audited.left ∙ was))
     ] in
-    let left = c.in_ok-left.ensures ∙ ap (map final_of) c.into_parts-certificate.ensures.sites in
+    let left = c.in_ok-left.ensures ∙ ap (map final_of) c.into_parts-certificate.ensures.logs in
     let same = c.decisions.ensures
     ∙ ap (λ (d : Certificate). d.decisions) c.into_parts-certificate.ensures.certificate in
     let was : c.match-self.self ≡ c.args.self.now =
     elim c.match-self.branch [ in-Some+in_default-first_break w ↦ w.self-is | in_default w ↦ w.self-is ] in
     record {
       chain = chain-next bundles b audited.chain valid on;
-      fit = All-push FitTogether bundles b audited.fit c.sites-sites.ensures.fit;
+      fit = All-push FitTogether bundles b audited.fit c.logs-logs.ensures.fit;
       left = ap Some left ∙ sym (behind-next bundles b);
       counts = counts-next bundles b c.match-self.self.counts c.with-self.result c.decisions.result.now same
           (ap (λ (a : ChainAuditor). a.counts) was ∙ audited.counts)

@@ -16,12 +16,12 @@ loop-place-preserved c =
     let place = c.loop-place.place in
     let to = c.span-span.result.to in
     let own = c.loop-place.own.items in
-    let e = c.at.result in
+    let e = c.at-site.result in
     let within : place < to = omega arith in
     let start : place ≤ place = omega arith in
     ap (λ es. es ++ entries_in logs o (place + 1) to) c.in_ok-push.ensures.items
     ∙ append_assoc own (e ∷ []) (entries_in logs o (place + 1) to)
-    ∙ ap (λ es. own ++ es) (sym (next-in logs o place to e within (c.at.ensures place start))) ∙ c.loop-place.invariant
+    ∙ ap (λ es. own ++ es) (sym (next-in logs o place to e within (c.at-site.ensures place start))) ∙ c.loop-place.invariant
 
 pub returns : goal.returns
 returns c =

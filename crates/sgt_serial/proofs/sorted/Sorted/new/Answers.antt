@@ -23,7 +23,7 @@ loop-number-preserved c =
     site_more (λ s o. map (entry_at s) (entries_at o)) sites n log at c.loop-number.entries.items
     c.add_site.new.entries.items c.loop-number.invariant c.unwrap-site.result site.1
     (c.in_ok-add_site.ensures
-    ∙ ap (λ es. c.loop-number.entries.items ++ map (entry_at c.unwrap-site.result) es) c.as_slice.ensures)
+    ∙ ap (λ es. c.loop-number.entries.items ++ map (entry_at c.unwrap-site.result) es) c.entries.ensures)
 
 pub invariant_of-result : goal.invariant_of-result
 invariant_of-result c =

@@ -1,0 +1,15 @@
+use Rattle.std.proofs.Common.{◌≡◌, ◌+◌, ◌++◌, [], ◌∷◌, sym, subst}
+use Rattle.sgt_serial.specs.declared.operations.Operations.{Operations}
+use Rattle.sgt_serial.specs.private.Grouped.{entries_in}
+use Rattle.sgt_serial.proofs.operations.Operations.read_at.Goals as goal
+
+pub returns-in-Sorted : goal.returns-in-Sorted
+returns-in-Sorted c =
+    let logs = c.args.logs.now in
+    let place = c.args.place in
+    let found = c.read_at-in-Sorted.ensures in (
+      found.0,
+      λ from le. subst (λ (o : Operations). entries_in logs o from (place + 1) ≡ entries_in logs o from place
+          ++ found.0 ∷ []) (sym c.in-Sorted.is) (found.1 logs from le),
+      found.2,
+    )
