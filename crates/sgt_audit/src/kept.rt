@@ -7,7 +7,7 @@ ghost use Rattle.sgt_notation.specs.Spelling.{IsLine, line_text};
 use crate::alone::Alone;
 use crate::faults::{Fault, FirstFault};
 use crate::format::read_line;
-use crate::sections::{Sections, add_entry_to, add_to};
+use crate::sections::{Sections, add_entry_to, add_line_to, add_to};
 use crate::walks::Walks;
 use sgt_audit_decisions::Decided;
 use sgt_names::Entry;
@@ -174,7 +174,7 @@ impl Kept {
         if let Some(fault) = self.alone.next_line(&self.certificate, edges, line)? {
             return Ok(Some(fault));
         }
-        add_to(&mut self.sections, &line)?;
+        add_line_to(&mut self.sections, &line, self.alone.latest)?;
         match line {
             SectionLine::End => (),
             _ => return Ok(None),

@@ -1,6 +1,6 @@
 //! The sections of a bundle, line by line.
 
-ghost use Rattle.std.specs.Prelude.{◌≡◌, [], OnOk, OnErr, IsTrue, IsSome, IfSome, None, is_some};
+ghost use Rattle.std.specs.Prelude.{◌≡◌, [], OnOk, IsTrue, IsSome, IfSome, None, is_some};
 ghost use Rattle.sgt_audit.specs.Reading.{Begun};
 ghost use Rattle.sgt_audit.specs.private.Following.{with_line, with_next};
 ghost use Rattle.sgt_notation.specs.declared.SectionLine.TheVariants.{Logged};
@@ -123,6 +123,23 @@ pub(crate) fn add_entry_to(
     match sections {
         Some(sections) => sections.add_entry(*entry, place),
         None => Ok(()),
+    }
+}
+
+/// One more line, where the sections are kept. The item of an entry is listed at this place.
+#[inline(always)]
+pub(crate) fn add_line_to(
+    sections: &mut Option<Sections>,
+    line: &SectionLine,
+    place: usize,
+) -> Result<(), AllocError>
+    ensures kept { is_some sections.new ≡ is_some sections.old }
+    ensures next { OnOk result ((b : Begun) → IfSome sections.old (λ s. s ≡ b)
+        → IfSome sections.new (λ s. s ≡ with_next b b.current line.now)) }
+{
+    match line {
+        SectionLine::Logged(entry) => add_entry_to(sections, entry, place),
+        _ => add_to(sections, line),
     }
 }
 

@@ -51,6 +51,32 @@ fn push_finals(out: &mut Vec<u8>, finals: &[Holding]) -> Result<(), AllocError>
     Ok(())
 }
 
+/// Writes the front of a site's section: its number, and its items with their first values. Err: memory ran out, and
+/// some of it may be written.
+pub fn begin_section(out: &mut Vec<u8>, site: SiteNo, items: &[Holding]) -> Result<(), AllocError>
+    ensures text { OnOk result
+        (out.new.items
+        ≡ out.old.items
+        ++ text_of_lines (map line_text (SectionLine.Site site ∷ map SectionLine.Initial items.now))) }
+    ensures in_range { OnOk result (All IsHolding items.now) }
+{
+    write_section_line(out, &SectionLine::Site(site))?;
+    push_items(out, items)
+}
+
+/// Writes the end of a site's section: its items with their last values, and the last line. Err: memory ran out, and
+/// some of it may be written.
+pub fn end_section(out: &mut Vec<u8>, finals: &[Holding]) -> Result<(), AllocError>
+    ensures text { OnOk result
+        (out.new.items
+        ≡ out.old.items
+        ++ text_of_lines (map line_text (map SectionLine.Final finals.now ++ SectionLine.End ∷ []))) }
+    ensures in_range { OnOk result (All IsHolding finals.now) }
+{
+    push_finals(out, finals)?;
+    write_section_line(out, &SectionLine::End)
+}
+
 /// Writes the section of a site: its items with their first values, its entries, and its items with their last
 /// values. Err: memory ran out, and some of it may be written.
 pub fn push_section(
@@ -68,11 +94,9 @@ pub fn push_section(
     ensures in_range { OnOk result
         (IsLog (record { items = items.now; entries = entries.now; finals = finals.now })) }
 {
-    write_section_line(out, &SectionLine::Site(site))?;
-    push_items(out, items)?;
+    begin_section(out, site, items)?;
     push_entries(out, entries)?;
-    push_finals(out, finals)?;
-    write_section_line(out, &SectionLine::End)
+    end_section(out, finals)
 }
 
 fn push_log(out: &mut Vec<u8>, site: u64, log: &SiteLog) -> Result<(), AllocError>

@@ -1,11 +1,13 @@
 //! Bundles: what they are made of, and their texts.
 
 use sgt_bundle::{
-    Bundle, Certificate, SiteLog, any_increment, bundles_are_spelled_in_their_formats,
-    committed_transactions_run, from_line, no_bytes_spell_two_bundles, push_head, push_section,
-    ranks_are_distinct, serial_order_is_by_rank, valid_bundles_run_serially,
+    Bundle, Certificate, SiteLog, any_increment, begin_section,
+    bundles_are_spelled_in_their_formats, committed_transactions_run, end_section, from_line,
+    no_bytes_spell_two_bundles, push_head, push_section, ranks_are_distinct,
+    serial_order_is_by_rank, valid_bundles_run_serially,
 };
 use sgt_names::{Entry, Holding, Item, Listed, SiteNo, Tx};
+use sgt_notation::{SectionLine, write_section_line};
 use std::alloc::{AllocError, Global};
 use std::test::Fail;
 
@@ -101,6 +103,21 @@ fn text_of_parts(rt: HostRuntime) -> Result<(), Fail> {
         entries,
         log.finals.as_slice(),
     )?;
+    assert!(rt; text.as_slice() == TEXT.as_bytes());
+    Ok(())
+}
+
+#[test]
+fn section_in_parts(rt: HostRuntime) -> Result<(), Fail> {
+    let log = increments(rt.alloc())?;
+    let certificate = from_line(rt.alloc(), LINE.as_bytes())?;
+    let mut text = Vec::new(rt.alloc());
+    push_head(&mut text, true, &certificate)?;
+    begin_section(&mut text, SiteNo::new(0)?, log.items.as_slice())?;
+    for entry in log.entries.as_slice() {
+        write_section_line(&mut text, &SectionLine::Logged(*entry))?;
+    }
+    end_section(&mut text, log.finals.as_slice())?;
     assert!(rt; text.as_slice() == TEXT.as_bytes());
     Ok(())
 }

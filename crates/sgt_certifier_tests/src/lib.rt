@@ -9,6 +9,8 @@ mod certifier;
 #[cfg(test)]
 mod common;
 #[cfg(test)]
+mod entry_log;
+#[cfg(test)]
 mod faults;
 #[cfg(test)]
 mod graph;

@@ -5,7 +5,7 @@ use crate::common::{Names, handle, opened, random};
 use sgt_arena::Handle;
 use sgt_edges::gather;
 use sgt_names::{Change, Draft, Entry, Item, SiteNo, Touch, Tx};
-use sgt_site::Site;
+use sgt_site::{EntryLog, Site};
 use std::alloc::Global;
 use std::test::Fail;
 
@@ -86,9 +86,16 @@ fn add_if_conflicting(edges: &mut [u64; 64], first: &Operation, second: &Operati
     }
 }
 
-fn add_logged(edges: &mut [u64; 64], first: &Operation, later: &[Entry], counted: u64) {
-    for entry in later {
-        if let Some(second) = operation_of(entry, counted) {
+// The edges to the operations of the log from this place on.
+fn add_logged(
+    edges: &mut [u64; 64],
+    first: &Operation,
+    log: &EntryLog,
+    start: usize,
+    counted: u64,
+) {
+    for place in start..log.len() {
+        if let Some(second) = operation_of(&log.at(place), counted) {
             add_if_conflicting(edges, first, &second);
         }
     }
@@ -118,9 +125,9 @@ fn all_edges(site: &Site, draft: &Draft, me: u32, committed: u64) -> [u64; 64] {
     let mut edges = [0; 64];
     let counted = committed | bit(me);
     let log = site.log();
-    for at in 0..log.len() {
-        if let Some(first) = operation_of(&log[at], counted) {
-            add_logged(&mut edges, &first, &log[at..], counted);
+    for place in 0..log.len() {
+        if let Some(first) = operation_of(&log.at(place), counted) {
+            add_logged(&mut edges, &first, log, place, counted);
             add_private(&mut edges, &first, draft, me);
         }
     }

@@ -106,7 +106,7 @@ fn worked_site(rt: HostRuntime) -> Result<(), Fail> {
         Entry::Write { tx, item, value: 6 },
         Entry::Commit { tx },
     ];
-    assert!(rt; site.log() == log.as_slice());
+    assert!(rt; site.log().to_vec(alloc)?.as_slice() == log.as_slice());
     let (writer, reader) = (
         Writer {
             tx,

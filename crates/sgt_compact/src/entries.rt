@@ -2,9 +2,9 @@
 
 ghost use Rattle.std.specs.Prelude.{◌≡◌, ◌++◌, List, Some, IfOk, IsTrue, slice_get};
 ghost use Rattle.sgt_names.specs.Name.{Name};
-ghost use Rattle.sgt_compact.specs.private.Compact.{IsNumberOf};
+ghost use Rattle.sgt_compact_entry.specs.Compact.{IsNumberOf};
 
-use crate::entry::{Act, CompactEntry, compact, entry_of};
+use sgt_compact_entry::{Act, CompactEntry, compact, entry_of};
 use sgt_names::{Entry, Item, Tx, Value};
 use std::alloc::{AllocError, Global};
 use std::marker::Model;
@@ -20,7 +20,7 @@ pub struct CompactEntries {
 impl Model for CompactEntries {
     ghost use Rattle.std.specs.Prelude.{List, All, map};
     ghost use Rattle.sgt_names.specs.declared.entry.Entry.{Entry};
-    ghost use Rattle.sgt_compact.specs.private.Compact.{IsNumbered, named};
+    ghost use Rattle.sgt_compact_entry.specs.Compact.{IsNumbered, named};
 
     ghost Value = { List Entry };
 

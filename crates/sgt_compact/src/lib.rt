@@ -3,7 +3,6 @@
 
 mod bundle;
 mod entries;
-mod entry;
 mod log;
 
 pub use bundle::{CompactBundle, site_logs};

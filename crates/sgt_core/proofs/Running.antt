@@ -10,7 +10,6 @@ use Rattle.sgt_notation.specs.declared.event.SiteLine.{SiteLine}
 use Rattle.sgt_site.specs.State.{AreItems}
 use Rattle.sgt_site.specs.declared.fault.SiteFault.{SiteFault}
 use Rattle.sgt_site.specs.declared.fault.SiteFault.TheVariants as site_fault
-use Rattle.sgt_bundle.specs.Parts.{Parts as Logs}
 use Rattle.sgt_bundle.specs.Text.{text_of}
 use Rattle.sgt_bundle.specs.Valid.{IsValid}
 use Rattle.sgt_notation.specs.Events.{IsSiteLine}
@@ -96,17 +95,16 @@ replies-one m n line reply out out' answers after c stands =
     )
 
 -- the run ends with the bundle
-pub ends-valid : (m : Parts) (b : Logs) (out mid bytes : List ℕ) → ((c : CoreState) → StandsFor m c → b ≡ bundle_of c)
-    → IsValid b
-    → ((c : CoreState) → StandsFor m c → c.certifier.active ≡ []) → bytes ≡ text_of b → mid ≡ out ++ codes "---\n"
+pub ends-valid : (m : Parts) (out mid bytes : List ℕ) → ((c : CoreState) → StandsFor m c → IsValid (bundle_of c))
+    → ((c : CoreState) → StandsFor m c → c.certifier.active ≡ [])
+    → ((c : CoreState) → StandsFor m c → bytes ≡ text_of (bundle_of c)) → mid ≡ out ++ codes "---\n"
     → (c : CoreState) → StandsFor m c → (ending : List ℕ) × EndsWith c outcome.Yes ending
     × (mid ++ bytes ≡ out ++ ending)
-ends-valid m b out mid bytes same valid idle spelled first c stands =
-    let e = same c stands in (
-      codes "---\n" ++ text_of (bundle_of c),
-      (idle c stands, subst IsValid e valid, refl),
-      ap₂ (λ p q. p ++ q) first (spelled ∙ ap text_of e) ∙ append_assoc out (codes "---\n") (text_of (bundle_of c)),
-    )
+ends-valid m out mid bytes valid idle spelled first c stands = (
+  codes "---\n" ++ text_of (bundle_of c),
+  (idle c stands, valid c stands, refl),
+  ap₂ (λ p q. p ++ q) first (spelled c stands) ∙ append_assoc out (codes "---\n") (text_of (bundle_of c)),
+)
 
 -- ---- the sites of an input are items that a core is made of
 

@@ -34,12 +34,12 @@ fn write_ending(alloc: Global, core: Core, out: &mut Vec<u8>) -> Result<Ending, 
         → (ending : List ℕ) × EndsWith c end.outcome ending
         × (out.new.items ++ end.bundle.items ≡ out.old.items ++ ending)) }
 {
-    match core.into_bundle(alloc) {
+    match core.into_text(alloc) {
         Ok(bundle) => {
             out.extend_from_slice(b"---\n")?;
             Ok(Ending {
                 outcome: Outcome::Yes,
-                bundle: bundle.into_text(alloc)?,
+                bundle,
             })
         }
         Err(CoreFault::ActiveLeft) => {

@@ -1,6 +1,6 @@
 -- The logs of the machine's sites, as those of the bundle.
 use Rattle.std.proofs.Common.{◌≡◌, ◌≤◌, ◌+◌, ℕ, suc, List, [], ◌∷◌, length, map, refl, sym, ◌∙◌, arith, Option, Some, None, subst, ap, ap₂}
-use Rattle.std.specs.Prelude.{slice_get, unwrap_or, SomeIff, Result, Ok, Err, IfOk}
+use Rattle.std.specs.Prelude.{slice_get, unwrap_or, SomeIff, Result, Ok, Err, IfOk, OnOk}
 use Rattle.std.specs.List.{enumerate_from}
 use Rattle.std.proofs.lemmas.List.{length-map}
 use Rattle.std.proofs.lemmas.List.FromFn.{length-enumerate_from}
@@ -98,6 +98,13 @@ pub all_valid : (r : Result BundleParts CoreFault) (c : CoreState) → IsKept c 
     → IfOk r (λ b. b ≡ bundle_of c) → IfOk r IsValid
 all_valid (Ok b) c k none is = subst IsValid (sym is) (valid-bundle c k.sound none)
 all_valid (Err f) c k none is = tt
+
+-- the bundle of a core in which nobody is active is valid, also where it is only written
+pub valid_ok : {A : Type 0} (r : Result A CoreFault) (m : Parts)
+    → ((c : CoreState) → StandsFor m c → IsKept c × (c.certifier.active ≡ []))
+    → OnOk r ((c : CoreState) → StandsFor m c → IsValid (bundle_of c))
+valid_ok (Ok a) m idle = λ c s. valid-bundle c (idle c s).0.sound (idle c s).1
+valid_ok (Err f) m idle = tt
 
 pub if_ok_at : (r : Result BundleParts CoreFault) (m : Parts) (c : CoreState) → StandsFor m c
     → IfOk r (λ b. (d : CoreState) → StandsFor m d → b ≡ bundle_of d) → IfOk r (λ b. b ≡ bundle_of c)

@@ -1,5 +1,5 @@
 -- The text of the sites' logs, and their last values, as those of the bundle.
-use Rattle.std.proofs.Common.{◌≡◌, ◌≤◌, ℕ, List, [], ◌∷◌, ◌++◌, length, map, refl, sym, ◌∙◌, ap, subst, arith, Bool, All, AllPairs}
+use Rattle.std.proofs.Common.{◌≡◌, ◌≤◌, ℕ, List, [], ◌∷◌, ◌++◌, ◌+◌, length, map, drop, Some, slice_get, refl, sym, ◌∙◌, ap, subst, arith, Bool, All, AllPairs}
 use Rattle.std.proofs.lemmas.Grind.{common_steps}
 use Rattle.std.proofs.lemmas.List.{length-map}
 use Rattle.std.specs.Ordering.{nat_cmp}
@@ -7,14 +7,16 @@ use Rattle.std.specs.Cmp.Lexicographic.{slice_cmp}
 use Rattle.std.specs.declared.cmp.Ordering.TheVariants.{Less}
 use Rattle.sgt_names.specs.Limits.{max_sites}
 use Rattle.sgt_names.specs.Log.{names}
-use Rattle.sgt_names.proofs.Lists.{map_at}
+use Rattle.sgt_names.proofs.Lists.{drop_next, map_at}
 use Rattle.sgt_names.proofs.Places.{All_at, All-from_at, AllPairs_at, AllPairs-from_at}
 use Rattle.sgt_site.specs.State.{AreItems}
 use Rattle.sgt_site.specs.declared.fault.SiteFault.{SiteFault}
 use Rattle.sgt_site.specs.declared.fault.SiteFault.TheVariants as site_fault
 use Rattle.sgt_bundle.specs.Parts.{ComesBefore, IsShapedLog, FitTogether}
 use Rattle.sgt_core_model.specs.Runs.{AreSites}
+use Rattle.sgt_names.specs.declared.entry.Entry.{Entry}
 use Rattle.sgt_names.specs.declared.entry.Holding.{Holding}
+use Rattle.sgt_notation.specs.declared.SectionLine.TheVariants.{Logged}
 use Rattle.sgt_notation.specs.Spelling.{line_text, text_of_lines}
 use Rattle.sgt_bundle.specs.Text.{certificate_text, format_line, has_increments, sections_from, text_of}
 use Rattle.sgt_bundle.specs.declared.bundle.SiteLog.{SiteLog}
@@ -45,6 +47,18 @@ whole_text out mid last second cert sites none head rest is =
     (text_of_lines (map line_text (sections_from 0 sites)))) in
     subst (λ (b : Bool). last ≡ text_of_lines (format_line b ∷ certificate_text cert ∷ map line_text
     (sections_from 0 sites))) is all
+
+-- one more entry of a log is written
+pub next_entry : (base out new : List ℕ) (es : List Entry) (n : ℕ) (e : Entry) → slice_get es n ≡ Some e
+    → new ≡ out ++ text_of_lines (line_text (Logged e) ∷ [])
+    → out ++ text_of_lines (map line_text (map Logged (drop n es))) ≡ base
+    → new ++ text_of_lines (map line_text (map Logged (drop (n + 1) es))) ≡ base
+next_entry base out new es n e at is text =
+    let rest = drop (n + 1) es in
+    let step : (out ++ text_of_lines (line_text (Logged e) ∷ [])) ++ text_of_lines (map line_text (map Logged rest))
+    ≡ out ++ text_of_lines (map line_text (map Logged (e ∷ rest))) = grind (arith, common_steps) in
+    ap (λ o. o ++ text_of_lines (map line_text (map Logged rest))) is
+    ∙ step ∙ ap (λ us. out ++ text_of_lines (map line_text (map Logged us))) (sym (drop_next es n e at)) ∙ text
 
 -- so of a machine
 pub text_there : (m : Parts) (c : CoreState) (cert : Certificate) (count : ℕ) (text : List ℕ) → StandsFor m c

@@ -4,3 +4,4 @@ pub mod Whole
 pub mod Withdrawing
 pub mod Installing
 pub mod Looked
+pub mod Records

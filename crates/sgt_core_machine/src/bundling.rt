@@ -10,7 +10,7 @@ use sgt_bundle::{Bundle, SiteLog};
 use sgt_core_model::CoreFault;
 use sgt_names::Listed;
 use sgt_site::{Site, SiteFault};
-use std::alloc::{AllocError, Global};
+use std::alloc::Global;
 
 impl Machine {
     /// The logs with the certificate. It errs where there is no memory.
@@ -32,32 +32,6 @@ impl Machine {
             None => unreachable!(),
         }
     }
-
-    /// The same of a machine that is given up: each site but for its log, and the certifier, whose walks are moved into
-    /// the certificate.
-    pub(crate) fn into_bundle(self, alloc: Global) -> Result<Bundle, CoreFault>
-        requires { Stands (parts_of self) }
-        ensures ok { IfOk result
-            (λ b. (c : CoreState) → StandsFor (parts_of self) c → b ≡ bundle_of c) }
-        ensures refused { IfErr result (λ f. f ≡ NoMemory) }
-    {
-        let Machine {
-            places,
-            certifier,
-            ..
-        } = self;
-        let count = places.len() as u8;
-        let Ok(logs) = logs_from(alloc, places) else {
-            return Err(CoreFault::Memory);
-        };
-        let Ok(certificate) = certifier.into_certificate(alloc, count) else {
-            return Err(CoreFault::Memory);
-        };
-        match Bundle::new(certificate, logs) {
-            Some(bundle) => Ok(bundle),
-            None => unreachable!(),
-        }
-    }
 }
 
 // The log of a site with its items, before and after it.
@@ -67,7 +41,7 @@ fn log_of(alloc: Global, site: &Site) -> Result<SiteLog, SiteFault>
     let Ok(items) = Vec::from_slice(alloc, site.items()) else {
         return Err(SiteFault::Memory);
     };
-    let Ok(entries) = Vec::from_slice(alloc, site.log()) else {
+    let Ok(entries) = site.log().to_vec(alloc) else {
         return Err(SiteFault::Memory);
     };
     match site.final_values(alloc) {
@@ -93,38 +67,6 @@ fn logs_of(alloc: Global, places: &[Place]) -> Result<Vec<SiteLog>, SiteFault>
         match log_of(alloc, &place.site) {
             Ok(log) => logs.push_reserved(log),
             Err(fault) => return Err(fault),
-        }
-    }
-    Ok(logs)
-}
-
-// The log of a site that is given up, with its items, before and after it.
-fn log_from(alloc: Global, site: Site) -> Result<SiteLog, SiteFault>
-    ensures { IfOk result (λ log. log ≡ site_log site.items site.entries) }
-{
-    match site.final_values(alloc) {
-        Ok(finals) => {
-            let (items, entries) = site.into_log();
-            Ok(SiteLog {
-                items: Listed::new(items),
-                entries: Listed::new(entries),
-                finals: Listed::new(finals),
-            })
-        }
-        Err(fault) => Err(fault),
-    }
-}
-
-// The logs of sites that are given up, by number. It errs where there is no memory.
-fn logs_from(alloc: Global, places: Vec<Place>) -> Result<Vec<SiteLog>, AllocError>
-    ensures { IfOk result
-        (λ logs. logs.items ≡ map (λ p. site_log p.site.items p.site.entries) places.items) }
-{
-    let mut logs = Vec::new(alloc);
-    for place in places {
-        match log_from(alloc, place.site) {
-            Ok(log) => logs.push(log)?,
-            Err(_) => return Err(AllocError),
         }
     }
     Ok(logs)

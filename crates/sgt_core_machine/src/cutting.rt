@@ -1,16 +1,18 @@
 //! The text of the bundle of what was logged, written from the sites, and the last values of their items.
 
-ghost use Rattle.std.specs.Prelude.{◌≡◌, ◌++◌, ◌≤◌, IfOk, OnOk, length, map};
-ghost use Rattle.std.specs.List.{list_any};
+ghost use Rattle.std.specs.Prelude.{◌≡◌, ◌++◌, ◌≤◌, IfOk, IfErr, OnOk, length, map};
 ghost use Rattle.sgt_names.specs.Limits.{max_sites};
 ghost use Rattle.sgt_notation.specs.Spelling.{line_text, text_of_lines};
 ghost use Rattle.sgt_bundle.specs.Text.{has_increments, section_lines, sections_from, text_of};
 ghost use Rattle.sgt_core_model.specs.Core.{CoreState, bundle_of, finals_of, site_log};
+ghost use Rattle.sgt_core_model.specs.declared.reply.CoreFault.TheVariants.{Memory as NoMemory};
 ghost use Rattle.sgt_core_machine.specs.Cut.{finals_at, last_values, logs_at};
 ghost use Rattle.sgt_core_machine.specs.Machine.{parts_of, StandsFor, Stands};
 
 use crate::machine::{Machine, Place};
-use sgt_bundle::{any_increment, push_head, push_section};
+use crate::records::{ENTRY_ROOM, push_site, records_from, records_text};
+use sgt_bundle::push_head;
+use sgt_core_model::CoreFault;
 use sgt_names::{Holding, Listed, SiteNo};
 use std::alloc::{AllocError, Global};
 
@@ -43,12 +45,35 @@ impl Machine {
         let finals = push_sections(alloc, &mut text, places)?;
         Ok(Written { text, finals })
     }
+
+    /// The text of the bundle of a machine that is given up: of each site its log is kept and no more, and each log is
+    /// let go once it is written. Of the certifier the walks are moved into the certificate.
+    pub(crate) fn into_text(self, alloc: Global) -> Result<Vec<u8>, CoreFault>
+        requires { Stands (parts_of self) }
+        ensures ok { IfOk result
+            (λ text. (c : CoreState) → StandsFor (parts_of self) c → text.items ≡ text_of (bundle_of c)) }
+        ensures refused { IfErr result (λ f. f ≡ NoMemory) }
+    {
+        let Machine {
+            places,
+            certifier,
+            ..
+        } = self;
+        let count = places.len() as u8;
+        let Ok(records) = records_from(alloc, places) else {
+            return Err(CoreFault::Memory);
+        };
+        let Ok(certificate) = certifier.into_certificate(alloc, count) else {
+            return Err(CoreFault::Memory);
+        };
+        match records_text(alloc, certificate, records) {
+            Ok(text) => Ok(text),
+            Err(_) => Err(CoreFault::Memory),
+        }
+    }
 }
 
-// The bytes that an entry takes in memory.
-const ENTRY_ROOM: usize = 32;
-
-// How much room a text is made with: for each entry as much as it takes in memory. The text may outgrow it.
+// How much room a text is made with. The text may outgrow it.
 fn room_for(places: &[Place]) -> usize {
     let mut room = 64usize;
     for place in places {
@@ -63,7 +88,7 @@ fn any_site_increments(places: &[Place]) -> bool
     ensures { result ≡ has_increments (logs_at places.now) }
 {
     for place in places {
-        if any_increment(place.site.log()) {
+        if place.site.log().any_increment() {
             return true;
         }
     }
@@ -88,7 +113,7 @@ fn push_place(
     let Ok(finals) = place.site.final_values(alloc) else {
         return Err(AllocError);
     };
-    push_section(
+    push_site(
         out,
         site,
         place.site.items(),

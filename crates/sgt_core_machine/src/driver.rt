@@ -137,11 +137,12 @@ impl Core {
         self.machine.bundle(alloc)
     }
 
-    /// As `bundle`, of a core that is given up, also where it errs: the bundle's logs are the sites' own, and the
-    /// decisions go once there is a certificate.
-    pub fn into_bundle(self, alloc: Global) -> Result<Bundle, CoreFault>
-        ensures ok { IfOk result (λ b. (c : CoreState) → StandsFor self c → b ≡ bundle_of c) }
-        ensures valid { IfOk result IsValid }
+    /// The text of the bundle of a core that is given up, also where it errs. Of each site its log is kept and no more,
+    /// and each log is let go once it is written; the decisions go once line 2 is. It errs as `bundle` does.
+    pub fn into_text(self, alloc: Global) -> Result<Vec<u8>, CoreFault>
+        ensures text { IfOk result
+            (λ text. (c : CoreState) → StandsFor self c → text.items ≡ text_of (bundle_of c)) }
+        ensures valid { OnOk result ((c : CoreState) → StandsFor self c → IsValid (bundle_of c)) }
         ensures idle { OnOk result ((c : CoreState) → StandsFor self c → c.certifier.active ≡ []) }
         ensures refused { IfErr result
             (λ f. (c : CoreState) → StandsFor self c → RefusesBundle c f) }
@@ -150,7 +151,7 @@ impl Core {
         if machine.certifier.active() > 0 {
             return Err(CoreFault::ActiveLeft);
         }
-        machine.into_bundle(alloc)
+        machine.into_text(alloc)
     }
 
     /// What a cut gives here: the text of the bundle, and a core over the last values, to which nothing has happened.

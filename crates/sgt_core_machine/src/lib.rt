@@ -9,6 +9,7 @@ mod gathering;
 mod installing;
 mod looking;
 mod machine;
+mod records;
 mod whole;
 mod withdrawing;
 

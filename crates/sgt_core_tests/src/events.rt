@@ -357,6 +357,34 @@ const FAULTS: [CoreFault; 12] = [
     CoreFault::NotTouched,
 ];
 
+const WRITTEN: &str = "sgt 1
+{\"decisions\":[{\"commit\":1,\"rank\":0}],\"sites\":2}
+site 0
+item x=5
+r1[x]=5
+w1[x]=6
+c1
+final x=6
+end
+site 1
+item y=2
+final y=2
+end
+";
+
+#[test]
+fn text_of_a_core_given_up(rt: HostRuntime) -> Result<(), Fail> {
+    let mut core = opened(rt.alloc(), "site 0 x=5\nsite 1 y=2\n").ok_or("a core")?;
+    for line in ["b", "r1[0.x]", "w1[0.x]=6", "c1"] {
+        assert!(rt; serve(&mut core, line).is_some());
+    }
+    match core.into_text(rt.alloc()) {
+        Ok(text) => assert!(rt; text.as_slice() == WRITTEN.as_bytes()),
+        Err(_) => assert!(rt; false),
+    }
+    Ok(())
+}
+
 /// Whether the fault's text begins with this number.
 fn begins_with(alloc: Global, fault: CoreFault, number: u64) -> Result<bool, AllocError> {
     let text = format!(in alloc; "{fault}")?;

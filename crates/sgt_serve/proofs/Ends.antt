@@ -2,7 +2,6 @@
 use Rattle.std.proofs.Common.{◌≡◌, ◌≢◌, ℕ, List, [], ◌∷◌, ◌++◌, length, map, refl, sym, ◌∙◌, ap, subst, inl, inr, Option, Some, None, Ok, Err}
 use Rattle.std.specs.List.{range_with_len}
 use Rattle.std.proofs.lemmas.List.{append-nil}
-use Rattle.sgt_bundle.specs.Parts.{Parts as Logs}
 use Rattle.sgt_bundle.specs.Text.{text_of}
 use Rattle.sgt_notation.specs.declared.event.Event.{Event}
 use Rattle.sgt_notation.specs.declared.event.Event.TheVariants.{Withdraw}
@@ -115,15 +114,14 @@ closed_none m begun kept count none c stands = (
   sym (append-nil kept.answers),
 )
 
-pub handed_out : (m : Parts) (b : Logs) (text : List ℕ) (number : ℕ) (kept kept' : Handed)
-    → ((c : CoreState) → StandsFor m c → b ≡ bundle_of c)
-    → ((c : CoreState) → StandsFor m c → c.certifier.active ≡ []) → text ≡ text_of b
-    → kept'.items ≡ kept.items ++ (number, text) ∷ [] → kept'.answers ≡ kept.answers ++ Ok number ∷ []
+pub handed_out : (m : Parts) (text lent : List ℕ) (number : ℕ) (kept kept' : Handed)
+    → ((c : CoreState) → StandsFor m c → text ≡ text_of (bundle_of c))
+    → ((c : CoreState) → StandsFor m c → c.certifier.active ≡ []) → lent ≡ text
+    → kept'.items ≡ kept.items ++ (number, lent) ∷ [] → kept'.answers ≡ kept.answers ++ Ok number ∷ []
     → (c : CoreState) → StandsFor m c → HandsOut Done c kept kept'
-handed_out m b text number kept kept' same idle spelled more says c stands = (
+handed_out m text lent number kept kept' spelled idle same more says c stands = (
   idle c stands,
   number,
-  more ∙ ap (λ (t : List ℕ). kept.items ++ (number, t) ∷ []) (spelled
-      ∙ ap text_of (same c stands)),
+  more ∙ ap (λ (t : List ℕ). kept.items ++ (number, t) ∷ []) (same ∙ spelled c stands),
   says,
 )

@@ -73,10 +73,7 @@ fn hand_out<B: Bundles>(alloc: Global, core: Core, bundles: &mut B) -> Last
     ensures { (c : CoreState) → StandsFor core c
         → HandsOut result c (B.handed bundles.old) (B.handed bundles.new) }
 {
-    let Ok(bundle) = core.into_bundle(alloc) else {
-        return Last::Memory;
-    };
-    let Ok(text) = bundle.into_text(alloc) else {
+    let Ok(text) = core.into_text(alloc) else {
         return Last::Memory;
     };
     match bundles.keep(text.as_slice()) {

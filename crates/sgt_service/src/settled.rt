@@ -217,7 +217,7 @@ fn log_of(alloc: Global, site: &Site) -> Result<SiteLog, AllocError>
     ensures site { IsSite site.now }
 {
     let items = Vec::from_slice(alloc, site.items())?;
-    let entries = Vec::from_slice(alloc, site.log())?;
+    let entries = site.log().to_vec(alloc)?;
     let Ok(finals) = site.final_values(alloc) else {
         return Err(AllocError);
     };

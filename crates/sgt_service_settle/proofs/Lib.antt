@@ -11,6 +11,7 @@ pub mod Leasts
 pub mod Ticketing
 pub mod Rising
 pub mod Fitting
+pub mod Counting
 pub mod Tallying
 pub mod Tabling
 pub mod Placing

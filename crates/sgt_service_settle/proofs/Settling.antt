@@ -22,27 +22,29 @@ log_settled : (history : List Call) (rulings : List Ruling) (index : Index) (k :
 log_settled history rulings index k c log is fit = record {
   counted = fit.counted;
   edges = λ h contains site.
-      let e = fit.edges h (subst (λ calls. Contains (handed_in calls) h) (sym is.calls) contains) site in
+      let e = fit.handed.edges h (subst (λ calls. Contains (handed_in calls) h) (sym is.calls) contains) site in
       (e.0, e.1, (is.names h.edge.from e.0).0 e.2, (is.names h.edge.to e.1).0 e.3, e.4);
   conflicts = λ kind x a b m n conflict first second.
       reaches_map (LinkedBy index (record { site = k; item = x; last = max m n }))
       (Carries history rulings k x (max m n))
       (λ from to. (is.links (record { site = k; item = x; last = max m n }) from to).0) a b
-      (fit.conflicts kind x a b m n conflict ((is.commits a m).1 first) ((is.commits b n).1 second));
+      (fit.handed.conflicts kind x a b m n conflict ((is.commits a m).1 first) ((is.commits b n).1 second));
 }
 
 log_fit : (history : List Call) (rulings : List Ruling) (index : Index) (k : ℕ) (c : EntryCounts) (log : List Entry)
     → IsIndex history rulings index → IsLogSettled history rulings k c log → IsLogFit index k c log
 log_fit history rulings index k c log is settled = record {
   counted = settled.counted;
-  edges = λ h contains site.
-      let e = settled.edges h (subst (λ calls. Contains (handed_in calls) h) is.calls contains) site in
-      (e.0, e.1, (is.names h.edge.from e.0).1 e.2, (is.names h.edge.to e.1).1 e.3, e.4);
-  conflicts = λ kind x a b m n conflict first second.
-      reaches_map (Carries history rulings k x (max m n))
-      (LinkedBy index (record { site = k; item = x; last = max m n }))
-      (λ from to. (is.links (record { site = k; item = x; last = max m n }) from to).1) a b
-      (settled.conflicts kind x a b m n conflict ((is.commits a m).0 first) ((is.commits b n).0 second));
+  handed = record {
+    edges = λ h contains site.
+        let e = settled.edges h (subst (λ calls. Contains (handed_in calls) h) is.calls contains) site in
+        (e.0, e.1, (is.names h.edge.from e.0).1 e.2, (is.names h.edge.to e.1).1 e.3, e.4);
+    conflicts = λ kind x a b m n conflict first second.
+        reaches_map (Carries history rulings k x (max m n))
+        (LinkedBy index (record { site = k; item = x; last = max m n }))
+        (λ from to. (is.links (record { site = k; item = x; last = max m n }) from to).1) a b
+        (settled.conflicts kind x a b m n conflict ((is.commits a m).0 first) ((is.commits b n).0 second));
+  };
 }
 
 -- ---- sites that are there

@@ -6,15 +6,15 @@ ghost use Rattle.std.specs.Cmp.Lexicographic.{slice_cmp};
 ghost use Rattle.sgt_names.specs.Limits.{max_sites};
 ghost use Rattle.sgt_names.specs.Ordered.{IsRisingBy};
 ghost use Rattle.sgt_names.specs.declared.entry.Entry.{Entry as AnEntry};
-ghost use Rattle.sgt_service_settle.specs.Settled.{AreEntriesCounted, AreCountedAt, IsCounted};
+ghost use Rattle.sgt_service_settle.specs.Settled.{AreCountedAt, IsCounted};
 ghost use Rattle.sgt_service_settle.specs.private.Index.{IsPaired};
 ghost use Rattle.sgt_service_settle.specs.private.Joined.{AreUnder};
 ghost use Rattle.sgt_service_settle.specs.private.Acts.{AreKnown, AreActs, AreByActor};
-ghost use Rattle.sgt_service_settle.specs.private.Sites.{AreLogged, IsLogFit, IsSiteFit, IsFitAt};
+ghost use Rattle.sgt_service_settle.specs.private.Sites.{AreLogged, AreConflictsHanded, IsSiteFit, IsFitAt};
 
 use crate::acts::{Act, acts_of};
 use crate::carried::are_carried;
-use crate::counts::has_counts;
+use crate::counts::is_counted;
 use crate::course::Marks;
 use crate::deeds::tracks_of;
 use crate::handed::Handed;
@@ -97,13 +97,12 @@ fn unshown<'a>(shown: bool, edges: &'a [Handed], ties: &'a Ties) -> &'a [Handed]
     if shown { ties.others.as_slice() } else { edges }
 }
 
-// Whether the log of the site has the counted entries, and its conflicts are those that the decisions were handed.
-fn is_log_fit(
+// Whether the conflicts of the site's log are those that the decisions were handed.
+fn are_conflicts_handed(
     alloc: Global,
     index: &Index<'_>,
     tables: &mut Tables,
     site: SiteNo,
-    counts: EntryCounts,
     items: &[Holding],
     log: &[Entry],
 ) -> Result<bool, AllocError>
@@ -112,13 +111,9 @@ fn is_log_fit(
     requires under { AreUnder tables.old.marks (tables.old.marks.step + 1) }
     requires rising { IsRisingBy (λ h. h.item) (slice_cmp nat_cmp) items.now }
     requires known { AreKnown items.now log.now }
-    ensures ok { IfOk result (λ yes. IsTrue yes ↔ IsLogFit index.now site counts log.now) }
-    ensures err { OnErr result (AreEntriesCounted counts log.now) }
+    ensures ok { IfOk result (λ yes. IsTrue yes ↔ AreConflictsHanded index.now site log.now) }
     ensures under { AreUnder tables.new.marks (tables.new.marks.step + 1) }
 {
-    if !has_counts(log, counts) {
-        return Ok(false);
-    }
     let tracks = tracks_of(alloc, index.commits.as_slice(), site, items, log)?;
     let ties = ties_at(alloc, index, site, items)?;
     let deeds = tracks.as_slice();
@@ -153,10 +148,11 @@ fn is_site_fit(
     ensures err { OnErr result (IsCounted site counts held.now) }
     ensures under { AreUnder tables.new.marks (tables.new.marks.step + 1) }
 {
-    if held.number() != site {
+    if !is_counted(held, site.number(), counts) {
         return Ok(false);
     }
-    is_log_fit(alloc, index, tables, site, counts, held.items(), held.log())
+    let log = held.log().to_vec(alloc)?;
+    are_conflicts_handed(alloc, index, tables, site, held.items(), log.as_slice())
 }
 
 /// The least of the places that there are at which isn't the site of that number, or whose log isn't fit.

@@ -101,7 +101,8 @@ fn withdrawn(rt: HostRuntime) -> Result<(), Fail> {
     };
     let log = [read, Entry::Withdraw { tx }];
     for site in settled.sites() {
-        assert_eq!(rt; site.log(), log.as_slice());
+        let entries = site.log().to_vec(alloc)?;
+        assert_eq!(rt; entries.as_slice(), log.as_slice());
     }
     Ok(())
 }

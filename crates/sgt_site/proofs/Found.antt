@@ -58,12 +58,17 @@ at-place cells x n c = record {
   is = λ d here. ap (λ (e : Contents). e.item) (same_Some d c.0 (sym here ∙ c.1)) ∙ c.2;
 }
 
--- an item that was found is there
-pub item-there : (cells : List Contents) (x : Name) (n : ℕ) → IsAt (λ c. c.item) cells x n → HasItem cells x
-item-there cells x n at =
+-- an item that was found is among the items at that place
+pub named_at : (cells : List Contents) (x : Name) (n : ℕ) → IsAt (λ c. c.item) cells x n
+    → slice_get (items_of cells) n ≡ Some x
+named_at cells x n at =
     let c = has_key (λ (c : Contents). c.item) cells x n at in
-    Contains-from_at (items_of cells) n x (slice_get-map (λ (c : Contents). c.item) cells n
-    ∙ ap (option_map (λ (c : Contents). c.item)) c.1 ∙ ap Some c.2)
+    slice_get-map (λ (c : Contents). c.item) cells n
+    ∙ ap (option_map (λ (c : Contents). c.item)) c.1 ∙ ap Some c.2
+
+-- so it is there
+pub item-there : (cells : List Contents) (x : Name) (n : ℕ) → IsAt (λ c. c.item) cells x n → HasItem cells x
+item-there cells x n at = Contains-from_at (items_of cells) n x (named_at cells x n at)
 
 -- two elements of one key are one
 pub same_key : {A K : Type 0} (key : A → K) (cmp : K → K → Ordering) → IsTotalOrder cmp → (xs : List A)

@@ -418,9 +418,9 @@ module _ (s : SiteState) (tx : ℕ) (x : Name) (v : ℕ) (site : IsSite s) (may 
   pub kept-read : (cells new : List Contents) (ended : List ℕ) (spare more : Spare) (n : ℕ) (seen : Seen)
       → CellsRise cells → IsKept s cells ended spare → IsAt (λ c. c.item) cells x n → v ≡ seen.value
       → AnswersAt cells new n tx seen
-      → ForSome s.pledge (λ p. length p.part < more.log) → spare.installed ≤ more.installed → spare.ended ≤ more.ended
+      → ForSome s.pledge (λ p. length p.part < more.log) → spare.ended ≤ more.ended
       → IsKept (record s { entries = s.entries ++ one }) new ended more
-  kept-read cells new ended spare more n seen rising kept at value answers log installed ends =
+  kept-read cells new ended spare more n seen rising kept at value answers log ends =
       let after = read_cells cells new n seen rising kept.each at value answers in
       record {
         site = site-quiet s one tx site may.active read_quiet s.pledge
@@ -439,7 +439,6 @@ module _ (s : SiteState) (tx : ℕ) (x : Name) (v : ℕ) (site : IsSite s) (may 
         room = λ p is. let old = kept.room p is in
             record {
               log = log p is;
-              installed = omega (arith, old.installed, installed);
               ended =
                   omega (arith, old.ended, ends);
               touched = touched-set p old;
@@ -558,9 +557,9 @@ pledged_part (Some t) part p h = ap (λ (q : Pledge). q.part) (same_Some _ p h)
 
 -- more room changes nothing
 pub kept-roomier : (s : SiteState) (cells : List Contents) (ended : List ℕ) (spare more : Spare)
-    → IsKept s cells ended spare → spare.log ≤ more.log → spare.installed ≤ more.installed → spare.ended ≤ more.ended
+    → IsKept s cells ended spare → spare.log ≤ more.log → spare.ended ≤ more.ended
     → IsKept s cells ended more
-kept-roomier s cells ended spare more kept log installed ends = record {
+kept-roomier s cells ended spare more kept log ends = record {
   site = kept.site;
   names_same = kept.names_same;
   each = kept.each;
@@ -568,8 +567,6 @@ kept-roomier s cells ended spare more kept log installed ends = record {
   ends = kept.ends;
   room = λ p is. let old = kept.room p is in record {
     log = omega (arith, old.log, log);
-    installed =
-        omega (arith, old.installed, installed);
     ended = omega (arith, old.ended, ends);
     touched = old.touched;
   };

@@ -17,6 +17,7 @@ pub mod Pledges
 pub mod Refusals
 pub mod Installs
 pub mod Fresh
+pub mod Short
 pub mod Versions
 pub mod Inserts
 pub mod Examples

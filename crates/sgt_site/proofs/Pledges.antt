@@ -32,6 +32,15 @@ some_is None a h = absurd cc
 some_is (Some b) a h = refl
 
 -- the part of a draft at a site
+-- what the changes ask, of each that is touched
+pub known-touched : (P : Name → Type 0) (ts : List Touch) → All (λ w. P w.0) (writing_in ts)
+    → All (λ t. IsSome t.change → P t.item) ts
+known-touched P ts all = All-from_at (λ (t : Touch). IsSome t.change → P t.item) ts (λ k t at some.
+    let v = IsSome-value t.change some in
+    let of : writing_of t ≡ Some (t.item, v.0) = ap (option_and_then (λ u. Some (t.item, u))) v.1 in
+    All_at (λ (w : Name × Change). P w.0) (writing_in ts) (count_before writing_of ts k) (t.item, v.0) all
+    (chosen_from writing_of ts k t (t.item, v.0) at of))
+
 module _ (n : ℕ) where
   filter_at : (ts : List Touch) (k : ℕ) (t : Touch) → slice_get (at_site n ts) k ≡ Some t → Contains ts t × (t.site ≡ n)
   filter_at [] k t at = absurd cc
@@ -73,12 +82,9 @@ module _ (n : ℕ) where
 
   pub known-whole : (P : Name → Type 0) (ts : List Touch) → All (λ w. P w.0) (writing_in (at_site n ts))
       → All (λ t. t.site ≡ n → IsSome t.change → P t.item) ts
-  known-whole P ts all = All-from_at (λ (t : Touch). t.site ≡ n → IsSome t.change → P t.item) ts (λ k t at here some.
-      let v = IsSome-value t.change some in
-      let has = Contains_at (at_site n ts) t (at_filter ts k t at here) in
-      let of : writing_of t ≡ Some (t.item, v.0) = ap (option_and_then (λ u. Some (t.item, u))) v.1 in
-      All_at (λ (w : Name × Change). P w.0) (writing_in (at_site n ts)) (count_before writing_of (at_site n ts) has.0)
-      (t.item, v.0) all (chosen_from writing_of (at_site n ts) has.0 t (t.item, v.0) has.1 of))
+  known-whole P ts all = All-from_at (λ (t : Touch). t.site ≡ n → IsSome t.change → P t.item) ts (λ k t at here.
+      All_in (λ (u : Touch). IsSome u.change → P u.item) (at_site n ts) t (known-touched P (at_site n ts) all)
+      (at_filter ts k t at here))
 
   -- a kept read of the part, and one of the draft
   pub kept-from : (ts : List Touch) (x : Name) (v m : ℕ) → Contains (kept_in (at_site n ts)) (x, v, m)

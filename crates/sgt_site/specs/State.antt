@@ -37,6 +37,14 @@ pub record SiteState : Type 0 where
   pub installed : List Install
   pub pledge : Option Pledge
 
+-- what contracts see of a site's log: the names of its items, its entries, each commit in it with the handle that was
+-- given for it, and how many more entries take no memory
+pub record LogState : Type 0 where
+  pub items : List Name
+  pub entries : List Entry
+  pub installed : List Install
+  pub spare : ℕ
+
 -- the items that a site may be made of: at most so many, by rising name
 pub record AreItems (items : List Holding) : Type 0 where
   pub room : length items ≤ max_items

@@ -3,6 +3,7 @@
 
 mod cell;
 mod cells;
+mod entry_log;
 mod fault;
 mod laws;
 mod near;
@@ -12,6 +13,7 @@ mod site;
 mod site_part;
 
 pub use cell::{Accesses, Install, Reader, Writer};
+pub use entry_log::EntryLog;
 pub use fault::SiteFault;
 pub use laws::{items_are_refused_once, pledges_are_refused_once, reads_are_refused_once};
 pub use near::touched_near;

@@ -16,8 +16,9 @@ ghost use Rattle.sgt_site.specs.private.Tails.{IsBelow};
 mod blocks;
 mod pledges;
 
-use crate::cell::{Accesses, Cell, Install, Writer};
+use crate::cell::{Accesses, Cell, Writer};
 use crate::cells::Cells;
+use crate::entry_log::EntryLog;
 use crate::fault::SiteFault;
 use crate::pending::Pending;
 use crate::readings::insert;
@@ -32,8 +33,7 @@ pub struct Site {
     number: SiteNo,
     items: Vec<Holding>,
     cells: Cells,
-    log: Vec<Entry>,
-    installed: Vec<Install>,
+    log: EntryLog,
     // the transactions that have their end here, rising
     ended: Vec<Tx>,
     // whose pledge stands, and what its draft touches here
@@ -44,7 +44,8 @@ pub struct Site {
 }
 
 impl Model for Site {
-    ghost use Rattle.std.specs.Prelude.{◌-◌, vec_len, vec_capacity};
+    ghost use Rattle.std.specs.Prelude.{◌≡◌, ◌-◌, vec_len, vec_capacity};
+    ghost use Rattle.sgt_names.specs.Log.{names};
     ghost use Rattle.sgt_site.specs.State.{SiteState};
     ghost use Rattle.sgt_site.specs.private.Kept.{pledge_of, IsKept};
     ghost use Rattle.sgt_site.specs.private.Pending.{ArePending};
@@ -54,22 +55,21 @@ impl Model for Site {
     ghost view = { λ s. record {
       number = s.number;
       items = s.items.items;
-      entries = s.log.items;
-      installed = s.installed.items;
+      entries = s.log.entries;
+      installed = s.log.installed;
       pledge = pledge_of s.pledged s.part.items;
     } };
 
     ghost invariant = { λ s. IsKept (record {
       number = s.number;
       items = s.items.items;
-      entries = s.log.items;
-      installed = s.installed.items;
+      entries = s.log.entries;
+      installed = s.log.installed;
       pledge = pledge_of s.pledged s.part.items;
     }) s.cells s.ended.items (record {
-      log = vec_capacity s.log - vec_len s.log;
-      installed = vec_capacity s.installed - vec_len s.installed;
+      log = s.log.spare;
       ended = vec_capacity s.ended - vec_len s.ended;
-    }) × ArePending s.pending s.log.items };
+    }) × ArePending s.pending s.log.entries × (s.log.items ≡ names s.items.items) };
 }
 
 impl Site {
@@ -100,12 +100,14 @@ impl Site {
         let Ok(cells) = Cells::new(alloc, items) else {
             return Err(SiteFault::Memory);
         };
+        let Ok(log) = EntryLog::new(alloc, items) else {
+            return Err(SiteFault::Memory);
+        };
         Ok(Site {
             number,
             items: kept,
             cells,
-            log: Vec::new(alloc),
-            installed: Vec::new(alloc),
+            log,
             ended: Vec::new(alloc),
             pledged: None,
             part: Vec::new(alloc),
@@ -139,19 +141,19 @@ impl Site {
     }
 
     /// The entries of the log, the oldest first.
-    pub fn log(&self) -> &[Entry]
-        ensures entries { result.now ≡ self.now.entries }
+    pub fn log(&self) -> &EntryLog
+        ensures entries { result.now.entries ≡ self.now.entries }
         ensures orderly { IsOrderly self.now.items self.now.entries }
         ensures legal { ReadsAreLegal self.now.items self.now.entries }
         ensures site { IsSite self.now }
     {
-        self.log.as_slice()
+        &self.log
     }
 
     /// Gives the site up but for its items with their first values and the entries of its log. Copies nothing.
-    pub fn into_log(self) -> (Vec<Holding>, Vec<Entry>)
+    pub fn into_log(self) -> (Vec<Holding>, EntryLog)
         ensures items { result.0.items ≡ self.items }
-        ensures entries { result.1.items ≡ self.entries }
+        ensures entries { result.1.entries ≡ self.entries }
     {
         let Site { items, log, .. } = self;
         (items, log)
@@ -197,7 +199,7 @@ impl Site {
         }
         // the block of a pledge that stands, and the read
         let room = self.part.len() + 2;
-        if !make_room(&mut self.log, room) {
+        if !self.log.make_room(room) {
             return Err(SiteFault::Memory);
         }
         let Ok(()) = self.pending.add(tx, item) else {
@@ -206,7 +208,7 @@ impl Site {
         match self.cells.answer(at, tx, place) {
             Ok(seen) => {
                 let value = seen.value;
-                self.log.push_reserved(Entry::Read { tx, item, value });
+                self.log.push(Entry::Read { tx, item, value }, at);
                 Ok(seen)
             }
             Err(_) => {
@@ -234,7 +236,7 @@ impl Site {
         if !is_pledged(self.pledged, tx) {
             return Err(SiteFault::NotPledged);
         }
-        self.log.push_reserved(Entry::Withdraw { tx });
+        self.log.push_end(Entry::Withdraw { tx });
         add_ended(&mut self.ended, tx);
         self.pending.drop_reads(tx);
         self.pledged = None;

@@ -14,13 +14,16 @@ use Rattle.sgt_service_settle.specs.private.Index.{IsHandedIn, IsLoggedBy, AreCa
 abbrev pub AreLogged : List (Vec ℕ Global) → List Handed → List Entry → Type 0
 AreLogged windows edges log = (h : Handed) → Contains edges h → IsLoggedBy windows log h.edge
 
--- the log of the site has the counted entries, and its conflicts are those that the decisions were
--- handed
-pub record IsLogFit (index : Index) (site : ℕ) (counts : EntryCounts) (log : List Entry) : Type 0 where
-  pub counted : AreEntriesCounted counts log
+-- the conflicts of the site's log are those that the decisions were handed
+pub record AreConflictsHanded (index : Index) (site : ℕ) (log : List Entry) : Type 0 where
   pub edges : (h : Handed) → IsHandedIn index h → h.edge.label.site ≡ site
       → IsLoggedBy index.windows.items log h.edge
   pub conflicts : AreCarried index site log
+
+-- so they are, and the log has the counted entries
+pub record IsLogFit (index : Index) (site : ℕ) (counts : EntryCounts) (log : List Entry) : Type 0 where
+  pub counted : AreEntriesCounted counts log
+  pub handed : AreConflictsHanded index site log
 
 -- it is the site of this number, with such a log
 abbrev pub IsSiteFit : Index → ℕ → EntryCounts → SiteState → Type 0

@@ -22,16 +22,14 @@ pub record IsCell (items : List Holding) (installed : List Install) (entries : L
   pub readings : (m : Reading)
       → Contains c.readings m ↔ LogsRead entries m.tx c.item m.seen.value m.seen.version
 
--- how many more entries, handles and ended transactions fit
+-- how many more entries and ended transactions fit
 pub record Spare : Type 0 where
   pub log : ℕ
-  pub installed : ℕ
   pub ended : ℕ
 
 -- there is room for the block and the lists of what a pledge covers
 pub record HasRoom (part : List Touch) (cells : List Contents) (spare : Spare) : Type 0 where
   pub log : length part < spare.log
-  pub installed : 0 < spare.installed
   pub ended : 0 < spare.ended
   pub touched : All (λ c. IsTouched part c.item → 0 < c.has_room) cells
 

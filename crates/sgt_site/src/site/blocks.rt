@@ -1,11 +1,15 @@
 //! The blocks that end a transaction, written under its pledge.
 
-ghost use Rattle.std.specs.Prelude.{◌≡◌, ◌↔◌, ◌+◌, ◌≤◌, ◌++◌, length, map, vec_len, vec_capacity, IsTrue};
+ghost use Rattle.std.specs.Prelude.{◌≡◌, ◌↔◌, ◌+◌, ◌<◌, ◌≤◌, ◌++◌, ◌∷◌, [], Some, length, map, All, IsSome, IsTrue};
+ghost use Rattle.sgt_names.specs.Entry.{item_of};
 ghost use Rattle.sgt_names.specs.Draft.{at_site, writing_in};
 ghost use Rattle.sgt_site.specs.State.{change_entry, want_entry};
+ghost use Rattle.sgt_site.specs.private.Cells.{HasItem, items_of};
 
 use super::{Site, add_ended, is_pledged};
 use crate::cell::Install;
+use crate::cells::Cells;
+use crate::entry_log::EntryLog;
 use crate::fault::SiteFault;
 use crate::near::touched_near;
 use sgt_arena::Handle;
@@ -41,11 +45,10 @@ impl Site {
         if !is_pledged(self.pledged, tx) || !are_same(self.part.as_slice(), self.number, near) {
             return Err(SiteFault::NotPledged);
         }
-        log_changes(&mut self.log, tx, self.part.as_slice());
-        self.log.push_reserved(Entry::Commit { tx });
+        log_changes(&mut self.log, &self.cells, tx, self.part.as_slice());
+        self.log.push_commit(tx, handle);
         let install = Install { tx, handle };
         self.cells.note(&install, self.part.as_slice());
-        self.installed.push_reserved(install);
         add_ended(&mut self.ended, tx);
         self.pending.drop_reads(tx);
         self.pledged = None;
@@ -72,8 +75,8 @@ impl Site {
         if !is_pledged(self.pledged, tx) || !are_same(self.part.as_slice(), self.number, near) {
             return Err(SiteFault::NotPledged);
         }
-        log_wants(&mut self.log, tx, self.part.as_slice());
-        self.log.push_reserved(Entry::Refuse { tx });
+        log_wants(&mut self.log, &self.cells, tx, self.part.as_slice());
+        self.log.push_end(Entry::Refuse { tx });
         add_ended(&mut self.ended, tx);
         self.pending.drop_reads(tx);
         self.pledged = None;
@@ -105,17 +108,38 @@ fn same_touch(a: &Touch, b: &Touch) -> bool
     a.site == b.site && a.item == b.item && a.seen == b.seen && a.change == b.change
 }
 
+// Logs an entry of an item that is at the site.
+#[inline(always)]
+fn push_known(log: &mut EntryLog, cells: &Cells, item: Item, entry: Entry)
+    requires room { 0 < log.old.spare }
+    requires listed { items_of cells.now ≡ log.old.items }
+    requires known { HasItem cells.now item }
+    requires item { item_of entry ≡ Some item }
+    ensures entries { log.new.entries ≡ log.old.entries ++ entry ∷ [] }
+    ensures items { log.new.items ≡ log.old.items }
+    ensures installed { log.new.installed ≡ log.old.installed }
+    ensures spare { log.old.spare ≤ log.new.spare + 1 }
+{
+    let Some(place) = cells.find(item) else {
+        unreachable!();
+    };
+    log.push(entry, place);
+}
+
 // Logs the writes and increments.
-fn log_changes(log: &mut Vec<Entry>, tx: Tx, part: &[Touch])
-    requires { vec_len log.old + length part.now ≤ vec_capacity log.old }
-    ensures entries { log.new.items
-        ≡ log.old.items ++ map (λ c. change_entry tx c.0 c.1) (writing_in part.now) }
-    ensures len { vec_len log.new ≤ vec_len log.old + length part.now }
-    ensures capacity { vec_capacity log.new ≡ vec_capacity log.old }
+fn log_changes(log: &mut EntryLog, cells: &Cells, tx: Tx, part: &[Touch])
+    requires room { length part.now ≤ log.old.spare }
+    requires listed { items_of cells.now ≡ log.old.items }
+    requires known { All (λ t. IsSome t.change → HasItem cells.now t.item) part.now }
+    ensures entries { log.new.entries
+        ≡ log.old.entries ++ map (λ c. change_entry tx c.0 c.1) (writing_in part.now) }
+    ensures items { log.new.items ≡ log.old.items }
+    ensures installed { log.new.installed ≡ log.old.installed }
+    ensures spare { log.old.spare ≤ log.new.spare + length part.now }
 {
     for t in part {
         if let Some(change) = t.change {
-            log.push_reserved(change_of(tx, t.item, change));
+            push_known(log, cells, t.item, change_of(tx, t.item, change));
         }
     }
 }
@@ -130,16 +154,19 @@ fn change_of(tx: Tx, item: Item, change: Change) -> Entry
 }
 
 // Logs what was asked for.
-fn log_wants(log: &mut Vec<Entry>, tx: Tx, part: &[Touch])
-    requires { vec_len log.old + length part.now ≤ vec_capacity log.old }
-    ensures entries { log.new.items
-        ≡ log.old.items ++ map (λ c. want_entry tx c.0 c.1) (writing_in part.now) }
-    ensures len { vec_len log.new ≤ vec_len log.old + length part.now }
-    ensures capacity { vec_capacity log.new ≡ vec_capacity log.old }
+fn log_wants(log: &mut EntryLog, cells: &Cells, tx: Tx, part: &[Touch])
+    requires room { length part.now ≤ log.old.spare }
+    requires listed { items_of cells.now ≡ log.old.items }
+    requires known { All (λ t. IsSome t.change → HasItem cells.now t.item) part.now }
+    ensures entries { log.new.entries
+        ≡ log.old.entries ++ map (λ c. want_entry tx c.0 c.1) (writing_in part.now) }
+    ensures items { log.new.items ≡ log.old.items }
+    ensures installed { log.new.installed ≡ log.old.installed }
+    ensures spare { log.old.spare ≤ log.new.spare + length part.now }
 {
     for t in part {
         if let Some(change) = t.change {
-            log.push_reserved(want_of(tx, t.item, change));
+            push_known(log, cells, t.item, want_of(tx, t.item, change));
         }
     }
 }

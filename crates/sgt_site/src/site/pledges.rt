@@ -7,8 +7,8 @@ ghost use Rattle.sgt_site.specs.private.Cells.{HasItem, InCells, KeepsItem};
 ghost use Rattle.sgt_site.specs.private.Pending.{items_by};
 
 use super::{Site, has_ended, is_pledged, make_room};
-use crate::cell::Install;
 use crate::cells::{Cells, is_same};
+use crate::entry_log::EntryLog;
 use crate::fault::SiteFault;
 use crate::near::touched_near;
 use crate::pending::Pending;
@@ -96,7 +96,7 @@ impl Site {
         if !self.cells.prepare(tx, part) {
             return false;
         }
-        if !make_rooms(&mut self.log, &mut self.installed, &mut self.ended, part) {
+        if !make_rooms(&mut self.log, &mut self.ended, part) {
             return false;
         }
         self.pledged = Some(tx);
@@ -226,20 +226,14 @@ fn copy_part(part: &mut Vec<Touch>, number: SiteNo, near: &[Touch]) -> bool
     true
 }
 
-// Makes room for the block of what is touched, its handle and its end.
-fn make_rooms(
-    log: &mut Vec<Entry>,
-    installed: &mut Vec<Install>,
-    ended: &mut Vec<Tx>,
-    part: &[Touch],
-) -> bool
-    ensures log { (log.new.items ≡ log.old.items) × (vec_len log.new ≡ vec_len log.old) }
-    ensures installed { (installed.new.items ≡ installed.old.items)
-        × (vec_len installed.new ≡ vec_len installed.old) }
+// Makes room for the block of what is touched, and its end.
+fn make_rooms(log: &mut EntryLog, ended: &mut Vec<Tx>, part: &[Touch]) -> bool
+    ensures items { log.new.items ≡ log.old.items }
+    ensures entries { log.new.entries ≡ log.old.entries }
+    ensures installed { log.new.installed ≡ log.old.installed }
     ensures ended { (ended.new.items ≡ ended.old.items) × (vec_len ended.new ≡ vec_len ended.old) }
-    ensures log_room { IsTrue result → vec_len log.old + length part.now < vec_capacity log.new }
-    ensures installed_room { IsTrue result → vec_len installed.old < vec_capacity installed.new }
+    ensures log_room { IsTrue result → length part.now < log.new.spare }
     ensures ended_room { IsTrue result → vec_len ended.old < vec_capacity ended.new }
 {
-    make_room(log, part.len() + 1) && make_room(installed, 1) && make_room(ended, 1)
+    log.make_room(part.len() + 1) && make_room(ended, 1)
 }

@@ -8,7 +8,7 @@ returns-in-Ok-final_values c =
     let entries = c.args.site.now.entries in
     same_log _ _ _ items entries
     (c.new.ensures ∙ (c.in-Ok.ensures.items ∙ c.items.ensures.items))
-    (c.new-in-Ok-final_values.ensures ∙ (c.in-Ok-from_slice.ensures.items ∙ c.log.ensures.entries))
+    (c.new-in-Ok-final_values.ensures ∙ (c.in-Ok-to_vec.ensures ∙ c.log.ensures.entries))
     (c.new-in-Ok-final_values-2.ensures
     ∙ finals_are items entries items c.in-Ok-final_values.finals.items c.in-Ok-final_values.ensures.items
     c.in-Ok-final_values.ensures.values)

@@ -11,7 +11,7 @@ returns-clause-text c =
     let entries = c.args.place.now.site.entries in
     let finals = c.as_slice.ensures.value
     ∙ finals_are items entries items c.in-Ok.finals.items c.in-Ok.ensures.items c.in-Ok.ensures.values in
-    c.in_ok-push_section.ensures.text
+    c.in_ok-push_site.ensures
     ∙ ap (λ (log : SiteLog). c.args.out.now.items ++ text_of_lines (map line_text (section_lines c.args.site log)))
     (same_log _ _ _ items entries c.items.ensures.items c.log.ensures.entries finals)
 

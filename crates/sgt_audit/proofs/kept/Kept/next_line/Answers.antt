@@ -41,9 +41,9 @@ returns-in-Some-clause-follows k is s (b, before, h, stage) =
 
 pub returns-in_default-line-clause-follows : goal.returns-in_default-line-clause-follows
 returns-in_default-line-clause-follows k is s (b, before, h, stage) =
-    line-goes k.args.self.now k.next_line.new.self k.add_to.new.sections k.at-edges.result.now b before k.args.line s
+    line-goes k.args.self.now k.next_line.new.self k.add_line_to.new.sections k.at-edges.result.now b before k.args.line s
     k.next_line.ensures.second h stage is k.in_default-line.not-End
-    (rw k.in_default.is at k.in_ok-fault.ensures.follows is b h.stands) (k.in_ok-add_to.ensures.next b h.sections)
+    (rw k.in_default.is at k.in_ok-fault.ensures.follows is b h.stands) (k.in_ok-add_line_to.ensures.next b h.sections)
 
 pub returns-then-not-self-clause-follows : goal.returns-then-not-self-clause-follows
 returns-then-not-self-clause-follows k is s (b, before, h, stage) =
@@ -72,7 +72,7 @@ returns-then-not-self-clause-follows k is s (b, before, h, stage) =
     let new : Kept = record k.args.self.now {
       alone = alone;
       walks = k.pass.new.self;
-      sections = k.add_to.new.sections;
+      sections = k.add_line_to.new.sections;
     } in
     subst (λ (l : SectionLine). Follows s (line_text l) (Reading new) (Some fault.WalkStep)) (sym k.in-End.is)
     (line-breaks _ _ _ before _ _ _ m open_yet read refl (walks-broken _ _ _ next before _ m sites lines all miss kept) s
@@ -96,12 +96,12 @@ returns-clause-follows k is s (b, before, h, stage) =
     let walks = k.pass.ensures c.decisions b edges (begins-follow b End begins)
     (subst (λ n. AreStepsAt c.decisions n edges) h.stands.place.whole
     (k.at-edges.ensures c.decisions h.walks.steps)) meets h.walks in
-    let sections = subst (λ (l : SectionLine). IfSome k.add_to.new.sections (λ r. r ≡ with_next b b.current l)) k.in-End.is
-    (k.in_ok-add_to.ensures.next b h.sections) in
+    let sections = subst (λ (l : SectionLine). IfSome k.add_line_to.new.sections (λ r. r ≡ with_next b b.current l)) k.in-End.is
+    (k.in_ok-add_line_to.ensures.next b h.sections) in
     let new : Kept = record k.args.self.now {
       alone = alone;
       walks = k.pass.new.self;
-      sections = k.add_to.new.sections;
+      sections = k.add_line_to.new.sections;
     } in
     let done = k.is_complete-2.ensures next stands.begun stands.place in
     subst (λ (l : SectionLine). Follows s (line_text l) (Reading new) None) (sym k.in-End.is)

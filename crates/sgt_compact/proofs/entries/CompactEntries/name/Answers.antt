@@ -1,5 +1,5 @@
 use Rattle.std.proofs.Common.{[], ◌∷◌}
-use Rattle.sgt_compact.proofs.Naming.{entries-kept}
+use Rattle.sgt_compact_entry.proofs.Naming.{entries-kept}
 use Rattle.sgt_compact.proofs.entries.CompactEntries.name.Goals as goal
 
 pub returns : goal.returns

@@ -1,6 +1,6 @@
 use Rattle.std.proofs.Common.{map, ap, ◌∙◌, subst}
-use Rattle.sgt_compact.specs.private.Compact.{IsNumberOf, named}
-use Rattle.sgt_compact.proofs.Naming.{always, entries-kept, entries-pushed, numbers-pushed}
+use Rattle.sgt_compact_entry.specs.Compact.{IsNumberOf, named}
+use Rattle.sgt_compact_entry.proofs.Naming.{always, entries-kept, entries-pushed, numbers-pushed}
 use Rattle.sgt_compact.proofs.entries.CompactEntries.push.Goals as goal
 
 pub returns-in_err-number-clause-err : goal.returns-in_err-number-clause-err

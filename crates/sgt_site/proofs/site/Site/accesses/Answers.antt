@@ -8,13 +8,13 @@ returns-in-Some-clause-writers c =
     let cell = found_cell _ _ _ _ _ _ _ c.self.invariant.0.each c.in-Some.ensures.found
     (rw c.as_slice.ensures.cells at c.index-as_slice-at.is) in
     rw (← c.self.view_is) (c.accesses.ensures.writers ∙ cell.1.writers
-    ∙ ap (writers_of c.self.inside.installed.items c.self.inside.log.items) cell.0)
+    ∙ ap (writers_of c.self.inside.log.installed c.self.inside.log.entries) cell.0)
 
 pub returns-in-Some-clause-written : goal.returns-in-Some-clause-written
 returns-in-Some-clause-written c =
     let cell = found_cell _ _ _ _ _ _ _ c.self.invariant.0.each c.in-Some.ensures.found
     (rw c.as_slice.ensures.cells at c.index-as_slice-at.is) in
-    let same = cell.1.writers ∙ ap (writers_of c.self.inside.installed.items c.self.inside.log.items) cell.0 in
+    let same = cell.1.writers ∙ ap (writers_of c.self.inside.log.installed c.self.inside.log.entries) cell.0 in
     rw (← c.self.view_is) (subst (λ ws. IsVersionWritten ws c.accesses.result.version_written) same
     c.accesses.ensures.written)
 

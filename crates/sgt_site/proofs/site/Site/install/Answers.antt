@@ -1,4 +1,6 @@
-use Rattle.std.proofs.Common.{ap, refl, arith, append_assoc, length}
+use Rattle.std.proofs.Common.{All, Contains, ap, refl, sym, subst, ◌∙◌, arith, append_assoc, length}
+use Rattle.sgt_site.specs.private.Cells.{HasItem}
+use Rattle.sgt_site.proofs.Pledges.{known-touched}
 use Rattle.sgt_site.proofs.Keeps.{pledged_is}
 use Rattle.sgt_names.specs.Draft.{writing_in}
 use Rattle.sgt_names.specs.declared.entry.Entry.TheVariants.{Commit}
@@ -9,21 +11,33 @@ use Rattle.sgt_site.proofs.Parts.{part-rises}
 use Rattle.sgt_site.proofs.PendingReads.{pending-ended}
 use Rattle.sgt_site.proofs.site.Site.install.Goals as goal
 
-pub log_changes-requires : goal.log_changes-requires
-log_changes-requires c =
+pub log_changes-requires-clause-room : goal.log_changes-requires-clause-room
+log_changes-requires-clause-room c =
     let pledge =
     pledged_is c.self.inside.pledged c.self.inside.part.items c.args.tx (c.if-not-is_pledged.ensures.0 refl) in
     let room = (c.self.invariant.0.room _ pledge).log in
     let same = ap length c.as_slice-2.ensures.value in
     omega (arith, room, same)
 
-pub push_reserved-requires : goal.push_reserved-requires
-push_reserved-requires c =
+pub log_changes-requires-clause-listed : goal.log_changes-requires-clause-listed
+log_changes-requires-clause-listed c = c.self.invariant.0.names_same ∙ sym c.self.invariant.2
+
+pub log_changes-requires-clause-known : goal.log_changes-requires-clause-known
+log_changes-requires-clause-known c =
+    let pledge =
+    pledged_is c.self.inside.pledged c.self.inside.part.items c.args.tx (c.if-not-is_pledged.ensures.0 refl) in
+    let covered = c.self.invariant.0.site.pledged _ pledge in
+    rw c.as_slice-2.ensures.value (known-touched (HasItem c.self.inside.cells) c.self.inside.part.items
+    (subst (λ xs. All (λ w. Contains xs w.0) (writing_in c.self.inside.part.items)) (sym c.self.invariant.0.names_same)
+    covered.known))
+
+pub push_commit-requires : goal.push_commit-requires
+push_commit-requires c =
     let pledge =
     pledged_is c.self.inside.pledged c.self.inside.part.items c.args.tx (c.if-not-is_pledged.ensures.0 refl) in
     let room = (c.self.invariant.0.room _ pledge).log in
     let same = ap length c.as_slice-2.ensures.value in
-    omega (arith, room, same, c.log_changes.ensures.len, c.log_changes.ensures.capacity)
+    omega (arith, room, same, c.log_changes.ensures.spare)
 
 pub note-requires-clause-once : goal.note-requires-clause-once
 note-requires-clause-once c =
@@ -37,13 +51,6 @@ note-requires-clause-room c =
     let pledge =
     pledged_is c.self.inside.pledged c.self.inside.part.items c.args.tx (c.if-not-is_pledged.ensures.0 refl) in
     rw c.as_slice-3.ensures.value (c.self.invariant.0.room _ pledge).touched
-
-pub push_reserved-requires-2 : goal.push_reserved-requires-2
-push_reserved-requires-2 c =
-    let pledge =
-    pledged_is c.self.inside.pledged c.self.inside.part.items c.args.tx (c.if-not-is_pledged.ensures.0 refl) in
-    let room = (c.self.invariant.0.room _ pledge).installed in
-    omega (arith, room)
 
 pub add_ended-requires-clause-first : goal.add_ended-requires-clause-first
 add_ended-requires-clause-first c = λ has.
@@ -66,9 +73,9 @@ invariant_of-self c =
     let noted = rw c.as_slice-3.ensures.value at c.note.ensures in
     let changes = writing_in c.self.inside.part.items in
     rw (
-      c.push_reserved-2.ensures.items,
-      c.push_reserved.ensures.items,
+      c.push_commit.ensures,
       c.log_changes.ensures.entries,
+      c.log_changes.ensures.installed,
       append_assoc,
       c.as_slice-2.ensures.value,
     ) (
@@ -79,6 +86,7 @@ invariant_of-self c =
           (block_alone change_entry Commit commits-blocks c.args.tx changes)
           (no_reads change_entry Commit commits-blocks c.args.tx changes)
           c.drop_reads.ensures.own c.drop_reads.ensures.others,
+      c.log_changes.ensures.items ∙ c.self.invariant.2,
     )
 
 pub returns-clause-ok : goal.returns-clause-ok
@@ -86,9 +94,9 @@ returns-clause-ok c =
     let part = rw (c.as_slice.ensures.value, c.touched_near-near.ensures.here) at (c.if-not-are_same.ensures.0 refl) in
     rw (
       ← c.self.view_is,
-      c.push_reserved-2.ensures.items,
-      c.push_reserved.ensures.items,
+      c.push_commit.ensures,
       c.log_changes.ensures.entries,
+      c.log_changes.ensures.installed,
       append_assoc,
       c.as_slice-2.ensures.value,
       ← part,

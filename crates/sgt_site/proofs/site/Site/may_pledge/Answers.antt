@@ -53,7 +53,7 @@ returns-then-not-keeps_reads-clause-refused c =
 
 pub returns-clause-allowed : goal.returns-clause-allowed
 returns-clause-allowed c =
-    let active : HasEnded c.self.inside.log.items c.args.tx
+    let active : HasEnded c.self.inside.log.entries c.args.tx
     → ⊥ = λ ended. false≢true
     (c.if-has_ended.ensures.1 (rw c.as_slice.ensures.value ((c.self.invariant.0.ends c.args.tx).1 ended))) in
     rw (← c.self.view_is) record {

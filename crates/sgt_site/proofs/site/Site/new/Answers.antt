@@ -5,8 +5,9 @@ use Rattle.sgt_site.proofs.site.Site.new.Goals as goal
 
 pub invariant_of-result : goal.invariant_of-result
 invariant_of-result c =
-    rw (c.in-Ok.ensures, c.new-2.ensures.items, c.new-3.ensures.items, c.new-4.ensures.items) (
+    rw (c.in-Ok-new-2.ensures.entries, c.in-Ok-new-2.ensures.installed, c.in-Ok.ensures, c.new-3.ensures.items) (
       kept-fresh c.args.number c.args.items.now c.in-Ok-new.cells _ (c.if-not-are_items.ensures.0 refl)
           c.in-Ok-new.ensures.items c.in-Ok-new.ensures.fresh,
-      pending-fresh c.new-6.result c.new-6.ensures,
+      pending-fresh c.new-5.result c.new-5.ensures,
+      c.in-Ok-new-2.ensures.items,
     )

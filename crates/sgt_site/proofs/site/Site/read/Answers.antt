@@ -5,6 +5,7 @@ use Rattle.sgt_site.specs.private.Cells.{Contents, IsAnswering}
 use Rattle.sgt_site.proofs.Keeps.{found_cell, found_known, reads-here, answered-value, kept-read, kept-roomier, pledged_is, pledged_by, pledged_part}
 use Rattle.sgt_site.specs.State.{HasEnded}
 use Rattle.sgt_site.proofs.PendingReads.{added-back, pending-read, pending-same}
+use Rattle.sgt_site.proofs.Found.{named_at}
 use Rattle.sgt_site.proofs.site.Site.read.Goals as goal
 
 pub has_ended-requires : goal.has_ended-requires
@@ -99,20 +100,31 @@ answer-requires-clause-first c = λ d here answering.
     none-some _ (sym (c.in-Some-unread.ensures.1
     (subst (λ (e : Contents). IsAnswering e.readings c.args.tx) (sym same) answering)))
 
+pub push-requires-clause-room : goal.push-requires-clause-room
+push-requires-clause-room c = omega (arith, c.if-not-make_room.ensures.room refl)
+
+pub push-requires-clause-placed : goal.push-requires-clause-placed
+push-requires-clause-placed c = (
+  c.args.item,
+  refl,
+  rw c.make_room.ensures.items (rw (c.self.invariant.2, ← c.self.invariant.0.names_same)
+      (named_at c.self.inside.cells c.args.item c.in-Some.at c.in-Some.ensures.found)),
+)
+
 pub invariant_of-self : goal.invariant_of-self
 invariant_of-self c =
-    rw c.make_room.ensures.items (
-      kept-roomier _ _ _ _ _ c.self.invariant.0 (omega (arith, c.make_room.ensures.len, c.make_room.ensures.capacity))
-          (omega arith) (omega arith),
+    rw (c.make_room.ensures.entries, c.make_room.ensures.installed) (
+      kept-roomier _ _ _ _ _ c.self.invariant.0 (omega (arith, c.make_room.ensures.spare)) (omega arith),
       c.self.invariant.1,
+      c.make_room.ensures.items ∙ c.self.invariant.2,
     )
 
 pub invariant_of-self-in_default-add : goal.invariant_of-self-in_default-add
 invariant_of-self-in_default-add c =
-    rw c.make_room.ensures.items (
-      kept-roomier _ _ _ _ _ c.self.invariant.0 (omega (arith, c.make_room.ensures.len, c.make_room.ensures.capacity))
-          (omega arith) (omega arith),
+    rw (c.make_room.ensures.entries, c.make_room.ensures.installed) (
+      kept-roomier _ _ _ _ _ c.self.invariant.0 (omega (arith, c.make_room.ensures.spare)) (omega arith),
       pending-same c.self.inside.pending c.add.new.self _ c.self.invariant.1 c.in_default-add.ensures.err,
+      c.make_room.ensures.items ∙ c.self.invariant.2,
     )
 
 pub invariant_of-self-in-Ok-answer : goal.invariant_of-self-in-Ok-answer
@@ -123,10 +135,10 @@ invariant_of-self-in-Ok-answer c =
     let answers = c.in-Ok-answer.ensures.ok in
     let value = answered-value _ c.self.invariant.0.site _ _ c.args.item _ _ _ c.self.invariant.0.each at answers in
     let had_room = c.if-not-make_room.ensures.room refl in
-    let active : HasEnded c.self.inside.log.items c.args.tx
+    let active : HasEnded c.self.inside.log.entries c.args.tx
     → ⊥ = λ ended. false≢true
     (c.if-has_ended.ensures.1 (rw c.as_slice-2.ensures.value ((c.self.invariant.0.ends c.args.tx).1 ended))) in
-    rw (c.push_reserved.ensures.items, c.make_room.ensures.items) (
+    rw (c.push.ensures, c.make_room.ensures.entries, c.make_room.ensures.installed) (
       kept-read _ c.args.tx c.args.item c.in-Ok-answer.seen.value c.self.invariant.0.site record {
         known = found_known _ _ _ _ c.self.invariant.0.names_same at;
         first = λ read. none-some _ (sym (c.in-Some-unread.ensures.1
@@ -137,26 +149,20 @@ invariant_of-self-in-Ok-answer c =
             pledge.1));
       } value.0 _ _ _ _ _ _ _ c.as_slice.ensures.rising c.self.invariant.0 at refl answers (λ p is.
           let same = ap length (pledged_part c.self.inside.pledged c.self.inside.part.items p is) in
-          omega (
-            arith,
-            same,
-            had_room,
-            c.push_reserved.ensures.len,
-            c.push_reserved.ensures.capacity,
-            c.make_room.ensures.len,
-          )) (omega arith) (omega arith),
+          omega (arith, same, had_room)) (omega arith),
       pending-read c.self.inside.pending c.add.new.self _ c.args.tx c.args.item c.in-Ok-answer.seen.value
           c.self.invariant.1 active c.in-Ok.ensures.ok,
+      c.make_room.ensures.items ∙ c.self.invariant.2,
     )
 
 pub invariant_of-self-in-Err : goal.invariant_of-self-in-Err
 invariant_of-self-in-Err c =
-    rw (c.make_room.ensures.items, c.in-Err.ensures.err) (
-      kept-roomier _ _ _ _ _ c.self.invariant.0 (omega (arith, c.make_room.ensures.len, c.make_room.ensures.capacity))
-          (omega arith) (omega arith),
+    rw (c.make_room.ensures.entries, c.make_room.ensures.installed, c.in-Err.ensures.err) (
+      kept-roomier _ _ _ _ _ c.self.invariant.0 (omega (arith, c.make_room.ensures.spare)) (omega arith),
       pending-same c.self.inside.pending c.take_back.new.self _ c.self.invariant.1
           (added-back c.self.inside.pending c.add.new.self c.take_back.new.self c.args.tx c.args.item c.in-Ok.ensures.ok
           c.take_back.ensures.own c.take_back.ensures.others),
+      c.make_room.ensures.items ∙ c.self.invariant.2,
     )
 
 pub returns-in-Ok-answer-clause-value : goal.returns-in-Ok-answer-clause-value
@@ -171,7 +177,7 @@ returns-in-Ok-answer-clause-version c =
 
 pub returns-in-Ok-answer-clause-logged : goal.returns-in-Ok-answer-clause-logged
 returns-in-Ok-answer-clause-logged c =
-    rw (← c.self.view_is, c.push_reserved.ensures.items, c.make_room.ensures.items) refl
+    rw (← c.self.view_is, c.push.ensures, c.make_room.ensures.entries, c.make_room.ensures.installed) refl
 
 pub returns-in-Ok-answer-clause-allowed : goal.returns-in-Ok-answer-clause-allowed
 returns-in-Ok-answer-clause-allowed c =

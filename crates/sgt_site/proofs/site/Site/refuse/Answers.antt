@@ -1,28 +1,42 @@
-use Rattle.std.proofs.Common.{ap, refl, arith, append_assoc, length}
+use Rattle.std.proofs.Common.{All, Contains, ap, refl, sym, subst, ◌∙◌, arith, append_assoc, length}
 use Rattle.sgt_names.specs.Draft.{writing_in}
 use Rattle.sgt_names.specs.declared.entry.Entry.TheVariants.{Refuse}
 use Rattle.sgt_site.specs.State.{want_entry}
 use Rattle.sgt_site.proofs.Blocks.{refusals-blocks, block_ends, block_alone, no_reads}
+use Rattle.sgt_site.specs.private.Cells.{HasItem}
+use Rattle.sgt_site.proofs.Pledges.{known-touched}
 use Rattle.sgt_site.proofs.Keeps.{pledged_is}
 use Rattle.sgt_site.proofs.PendingReads.{pending-ended}
 use Rattle.sgt_site.proofs.Refusals.{kept-refuse}
 use Rattle.sgt_site.proofs.site.Site.refuse.Goals as goal
 
-pub log_wants-requires : goal.log_wants-requires
-log_wants-requires c =
+pub log_wants-requires-clause-room : goal.log_wants-requires-clause-room
+log_wants-requires-clause-room c =
     let pledge =
     pledged_is c.self.inside.pledged c.self.inside.part.items c.args.tx (c.if-not-is_pledged.ensures.0 refl) in
     let room = (c.self.invariant.0.room _ pledge).log in
     let same = ap length c.as_slice-2.ensures.value in
     omega (arith, room, same)
 
-pub push_reserved-requires : goal.push_reserved-requires
-push_reserved-requires c =
+pub log_wants-requires-clause-listed : goal.log_wants-requires-clause-listed
+log_wants-requires-clause-listed c = c.self.invariant.0.names_same ∙ sym c.self.invariant.2
+
+pub log_wants-requires-clause-known : goal.log_wants-requires-clause-known
+log_wants-requires-clause-known c =
+    let pledge =
+    pledged_is c.self.inside.pledged c.self.inside.part.items c.args.tx (c.if-not-is_pledged.ensures.0 refl) in
+    let covered = c.self.invariant.0.site.pledged _ pledge in
+    rw c.as_slice-2.ensures.value (known-touched (HasItem c.self.inside.cells) c.self.inside.part.items
+    (subst (λ xs. All (λ w. Contains xs w.0) (writing_in c.self.inside.part.items)) (sym c.self.invariant.0.names_same)
+    covered.known))
+
+pub push_end-requires-clause-room : goal.push_end-requires-clause-room
+push_end-requires-clause-room c =
     let pledge =
     pledged_is c.self.inside.pledged c.self.inside.part.items c.args.tx (c.if-not-is_pledged.ensures.0 refl) in
     let room = (c.self.invariant.0.room _ pledge).log in
     let same = ap length c.as_slice-2.ensures.value in
-    omega (arith, room, same, c.log_wants.ensures.len, c.log_wants.ensures.capacity)
+    omega (arith, room, same, c.log_wants.ensures.spare)
 
 pub add_ended-requires-clause-first : goal.add_ended-requires-clause-first
 add_ended-requires-clause-first c = λ has.
@@ -43,7 +57,7 @@ invariant_of-self c =
     pledged_is c.self.inside.pledged c.self.inside.part.items c.args.tx (c.if-not-is_pledged.ensures.0 refl) in
     let covered = c.self.invariant.0.site.pledged _ pledge in
     let changes = writing_in c.self.inside.part.items in
-    rw (c.push_reserved.ensures.items, c.log_wants.ensures.entries, append_assoc, c.as_slice-2.ensures.value) (
+    rw (c.push_end.ensures, c.log_wants.ensures.entries, c.log_wants.ensures.installed, append_assoc, c.as_slice-2.ensures.value) (
       kept-refuse _ _ covered c.self.inside.cells _ _ _ _ c.self.invariant.0 record {
         rising =
             c.add_ended.ensures.rising;
@@ -54,4 +68,5 @@ invariant_of-self c =
           (block_alone want_entry Refuse refusals-blocks c.args.tx changes)
           (no_reads want_entry Refuse refusals-blocks c.args.tx changes)
           c.drop_reads.ensures.own c.drop_reads.ensures.others,
+      c.log_wants.ensures.items ∙ c.self.invariant.2,
     )

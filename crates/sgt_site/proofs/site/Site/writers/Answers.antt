@@ -8,7 +8,7 @@ returns-in-Some-clause-ok c =
     let cell = found_cell _ _ _ _ _ _ _ c.self.invariant.0.each c.in-Some.ensures.found
     (rw c.as_slice.ensures.cells at c.index-as_slice-at.is) in
     rw (← c.self.view_is) (c.writers.ensures ∙ cell.1.writers
-    ∙ ap (writers_of c.self.inside.installed.items c.self.inside.log.items) cell.0)
+    ∙ ap (writers_of c.self.inside.log.installed c.self.inside.log.entries) cell.0)
 
 pub returns-in-Some-clause-allowed : goal.returns-in-Some-clause-allowed
 returns-in-Some-clause-allowed c =

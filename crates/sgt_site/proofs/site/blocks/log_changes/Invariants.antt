@@ -1,4 +1,4 @@
-use Rattle.std.proofs.Common.{◌≡◌, ◌+◌, ◌≤◌, ◌++◌, drop, map, vec_len, vec_capacity}
+use Rattle.std.proofs.Common.{◌≡◌, ◌+◌, ◌≤◌, ◌++◌, drop, map}
 use Rattle.sgt_names.specs.Draft.{writing_in}
 use Rattle.sgt_site.specs.State.{change_entry}
 use Rattle.sgt_site.proofs.site.blocks.log_changes.Given as goal
@@ -6,8 +6,9 @@ use Rattle.sgt_site.proofs.site.blocks.log_changes.Given as goal
 -- what is logged, and what is left to log
 abbrev pub invariant-loop-t : goal.invariant-loop-t
 invariant-loop-t l = record {
-  logged : l.log.items ++ map (λ w. change_entry l.tx w.0 w.1) (writing_in (drop l.t-index l.part)) ≡ l.fn.log.items
+  logged : l.log.entries ++ map (λ w. change_entry l.tx w.0 w.1) (writing_in (drop l.t-index l.part)) ≡ l.fn.log.entries
       ++ map (λ w. change_entry l.tx w.0 w.1) (writing_in l.part);
-  len : vec_len l.log ≤ vec_len l.fn.log + l.t-index;
-  capacity : vec_capacity l.log ≡ vec_capacity l.fn.log;
+  items : l.log.items ≡ l.fn.log.items;
+  installed : l.log.installed ≡ l.fn.log.installed;
+  spare : l.fn.log.spare ≤ l.log.spare + l.t-index;
 }

@@ -3,9 +3,9 @@ use Rattle.std.specs.Prelude.{◌≡◌, ℕ, ◌<◌, List, [], length, Option,
 use Rattle.sgt_names.specs.Name.{Name}
 use Rattle.sgt_names.specs.declared.entry.Entry.{Entry}
 use Rattle.sgt_names.specs.declared.entry.Entry.TheVariants as entry
-use Rattle.sgt_compact.specs.declared.entry.CompactEntry.{CompactEntry}
-use Rattle.sgt_compact.specs.declared.entry.Act.{Act}
-use Rattle.sgt_compact.specs.declared.entry.Act.TheVariants.{Read, Write, Add, Want, WantAdd, Commit, Refuse, Withdraw}
+use Rattle.sgt_compact_entry.specs.declared.entry.CompactEntry.{CompactEntry}
+use Rattle.sgt_compact_entry.specs.declared.entry.Act.{Act}
+use Rattle.sgt_compact_entry.specs.declared.entry.Act.TheVariants.{Read, Write, Add, Want, WantAdd, Commit, Refuse, Withdraw}
 
 -- the item that is found, and no name where none is
 abbrev pub or_none : Option Name → Name

@@ -7,10 +7,10 @@ use Rattle.sgt_names.specs.declared.entry.Entry.{Entry}
 use Rattle.sgt_names.specs.declared.entry.Entry.TheVariants as entry
 use Rattle.sgt_names.proofs.Elements.{map-push}
 use Rattle.sgt_names.proofs.Lists.{front_at, within_at}
-use Rattle.sgt_compact.specs.declared.entry.Act.{Act}
-use Rattle.sgt_compact.specs.declared.entry.Act.TheVariants.{Read, Write, Add, Want, WantAdd, Commit, Refuse, Withdraw}
-use Rattle.sgt_compact.specs.declared.entry.CompactEntry.{CompactEntry}
-use Rattle.sgt_compact.specs.private.Compact.{HasNumber, IsNumbered, entry_of, named, or_none}
+use Rattle.sgt_compact_entry.specs.declared.entry.Act.{Act}
+use Rattle.sgt_compact_entry.specs.declared.entry.Act.TheVariants.{Read, Write, Add, Want, WantAdd, Commit, Refuse, Withdraw}
+use Rattle.sgt_compact_entry.specs.declared.entry.CompactEntry.{CompactEntry}
+use Rattle.sgt_compact_entry.specs.Compact.{HasNumber, IsNumbered, entry_of, named, or_none}
 
 -- what holds in any case
 pub always : {X E : Type 0} {P : Type 0} (r : Result X E) → P → OnErr r P

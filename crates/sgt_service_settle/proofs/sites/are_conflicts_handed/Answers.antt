@@ -5,7 +5,7 @@ use Rattle.sgt_service_settle.specs.private.Joined.{AreSound, AreTracksCarried}
 use Rattle.sgt_service_settle.specs.private.Places.{AreShown}
 use Rattle.sgt_service_settle.proofs.Joining.{all_carried}
 use Rattle.sgt_service_settle.proofs.Tying.{left_logged}
-use Rattle.sgt_service_settle.proofs.sites.is_log_fit.Goals as goal
+use Rattle.sgt_service_settle.proofs.sites.are_conflicts_handed.Goals as goal
 
 pub are_shown-shown-requires : goal.are_shown-shown-requires
 are_shown-shown-requires c = ap length c.as_slice-deeds.ensures.value
@@ -56,7 +56,6 @@ returns-then-joined-clause-ok c =
     let by_tracks : AreTracksCarried ties.rows.items tracks =
     subst (AreTracksCarried ties.rows.items) c.as_slice-deeds.ensures.value by_rows in (
       λ yes. record {
-        counted = c.has_counts.ensures.0 c.if-not-has_counts.false;
         edges = left.0 (told.0 c.if-not-told.false);
         conflicts =
             all_carried index c.args.site items log tracks ties.rows.items c.requires.known c.in_ok-ties.ensures.links
@@ -75,7 +74,6 @@ returns-clause-ok c =
     (λ yes. subst (AreShown log) c.as_slice-rows.ensures.value (c.are_shown-shown.ensures yes))
     c.edges_at.ensures c.unshown-edges.ensures.yes c.unshown-edges.ensures.no in (
       λ yes. record {
-        counted = c.has_counts.ensures.0 c.if-not-has_counts.false;
         edges = left.0 (told.0 c.if-not-told.false);
         conflicts = c.in_ok-carried.ensures.0 yes;
       },

@@ -1,16 +1,15 @@
-//! An entry in 24 bytes: its item is told by a number.
+//! An entry of a log, whose item is told by a number.
 
-ghost use Rattle.std.specs.Prelude.{◌≡◌};
-ghost use Rattle.std.specs.Prelude.{List};
+ghost use Rattle.std.specs.Prelude.{◌≡◌, List};
 ghost use Rattle.sgt_names.specs.Name.{Name};
 ghost use Rattle.sgt_names.specs.Entry.{item_of};
-ghost use Rattle.sgt_compact.specs.private.Compact.{IsNumberOf, IsNumbered, named};
+ghost use Rattle.sgt_compact_entry.specs.Compact.{IsNumberOf, IsNumbered, named};
 
 use sgt_names::{Entry, Item, Tx, Value};
 
 /// What an entry says.
 #[derive(Clone, Copy)]
-pub(crate) enum Act {
+pub enum Act {
     Read,
     Write,
     Add,
@@ -23,20 +22,21 @@ pub(crate) enum Act {
 
 /// An entry whose item is told by its number in a list of items. Of an end the number and the value mean nothing.
 #[derive(Clone, Copy)]
-pub(crate) struct CompactEntry {
-    pub(crate) value: Value,
-    pub(crate) item: usize,
-    pub(crate) tx: Tx,
-    pub(crate) act: Act,
+pub struct CompactEntry {
+    pub value: Value,
+    pub item: usize,
+    pub tx: Tx,
+    pub act: Act,
 }
 
 /// The entry, whose item has this number, if it has one.
 #[inline(always)]
-pub(crate) fn compact(entry: &Entry, item: usize) -> CompactEntry
+pub fn compact(entry: &Entry, item: usize) -> CompactEntry
     ensures numbered { (items : List Name) → IsNumberOf items (item_of entry.now) item
         → IsNumbered items result }
     ensures same { (items : List Name) → IsNumberOf items (item_of entry.now) item
         → named items result ≡ entry.now }
+    ensures number { result.item ≡ item }
 {
     let (act, tx, value) = match *entry {
         Entry::Read { tx, value, .. } => (Act::Read, tx, value),
@@ -58,7 +58,7 @@ pub(crate) fn compact(entry: &Entry, item: usize) -> CompactEntry
 
 /// The entry itself.
 #[inline(always)]
-pub(crate) fn entry_of(items: &[Item], entry: &CompactEntry) -> Entry
+pub fn entry_of(items: &[Item], entry: &CompactEntry) -> Entry
     requires { IsNumbered items.now entry.now }
     ensures { result ≡ named items.now entry.now }
 {
