@@ -1,10 +1,11 @@
 //! The text of a bundle.
 
-ghost use Rattle.std.specs.Prelude.{◌≡◌, ◌++◌, ◌∷◌, [], ◌<◌, ◌≤◌, ◌+◌, All, IfOk, OnOk, length, map};
+ghost use Rattle.std.specs.Prelude.{◌≡◌, ◌++◌, ◌∷◌, [], ◌<◌, ◌≤◌, ◌+◌, All, IfOk, OnOk, OnErr, length, map};
 ghost use Rattle.sgt_names.specs.Limits.{max_sites};
 ghost use Rattle.sgt_notation.specs.Spelling.{line_text, text_of_lines, IsEntry, IsHolding, IsLine};
 ghost use Rattle.sgt_notation.specs.declared.SectionLine.{SectionLine};
 ghost use Rattle.std.specs.List.{list_any};
+ghost use Rattle.std.specs.Io.{StartsWith};
 ghost use Rattle.sgt_names.specs.Entry.{is_increment};
 ghost use Rattle.sgt_bundle.specs.Text.{certificate_text, format_line, has_increments, sections_from, section_lines, text_of, IsDecision, IsLog};
 
@@ -20,6 +21,7 @@ fn push_items(out: &mut Vec<u8>, items: &[Holding]) -> Result<(), AllocError>
         (out.new.items
         ≡ out.old.items ++ text_of_lines (map line_text (map SectionLine.Initial items.now))) }
     ensures in_range { OnOk result (All IsHolding items.now) }
+    ensures err { OnErr result (StartsWith out.new.items out.old.items) }
 {
     for item in items {
         write_section_line(out, &SectionLine::Initial(*item))?;
@@ -32,6 +34,7 @@ fn push_entries(out: &mut Vec<u8>, entries: &[Entry]) -> Result<(), AllocError>
         (out.new.items
         ≡ out.old.items ++ text_of_lines (map line_text (map SectionLine.Logged entries.now))) }
     ensures in_range { OnOk result (All IsEntry entries.now) }
+    ensures err { OnErr result (StartsWith out.new.items out.old.items) }
 {
     for entry in entries {
         write_section_line(out, &SectionLine::Logged(*entry))?;
@@ -44,6 +47,7 @@ fn push_finals(out: &mut Vec<u8>, finals: &[Holding]) -> Result<(), AllocError>
         (out.new.items
         ≡ out.old.items ++ text_of_lines (map line_text (map SectionLine.Final finals.now))) }
     ensures in_range { OnOk result (All IsHolding finals.now) }
+    ensures err { OnErr result (StartsWith out.new.items out.old.items) }
 {
     for item in finals {
         write_section_line(out, &SectionLine::Final(*item))?;
@@ -59,6 +63,7 @@ pub fn begin_section(out: &mut Vec<u8>, site: SiteNo, items: &[Holding]) -> Resu
         ≡ out.old.items
         ++ text_of_lines (map line_text (SectionLine.Site site ∷ map SectionLine.Initial items.now))) }
     ensures in_range { OnOk result (All IsHolding items.now) }
+    ensures err { OnErr result (StartsWith out.new.items out.old.items) }
 {
     write_section_line(out, &SectionLine::Site(site))?;
     push_items(out, items)
@@ -72,6 +77,7 @@ pub fn end_section(out: &mut Vec<u8>, finals: &[Holding]) -> Result<(), AllocErr
         ≡ out.old.items
         ++ text_of_lines (map line_text (map SectionLine.Final finals.now ++ SectionLine.End ∷ []))) }
     ensures in_range { OnOk result (All IsHolding finals.now) }
+    ensures err { OnErr result (StartsWith out.new.items out.old.items) }
 {
     push_finals(out, finals)?;
     write_section_line(out, &SectionLine::End)
@@ -93,6 +99,7 @@ pub fn push_section(
         (record { items = items.now; entries = entries.now; finals = finals.now })))) }
     ensures in_range { OnOk result
         (IsLog (record { items = items.now; entries = entries.now; finals = finals.now })) }
+    ensures err { OnErr result (StartsWith out.new.items out.old.items) }
 {
     begin_section(out, site, items)?;
     push_entries(out, entries)?;
