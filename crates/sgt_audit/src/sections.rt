@@ -126,7 +126,8 @@ pub(crate) fn add_entry_to(
     }
 }
 
-/// One more line, where the sections are kept. The item of an entry is listed at this place.
+/// One more line, where the sections are kept. The item of an entry is listed at this place, or else the entry takes
+/// more room.
 #[inline(always)]
 pub(crate) fn add_line_to(
     sections: &mut Option<Sections>,
