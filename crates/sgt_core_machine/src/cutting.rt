@@ -10,7 +10,7 @@ ghost use Rattle.sgt_core_machine.specs.Cut.{finals_at, last_values, logs_at};
 ghost use Rattle.sgt_core_machine.specs.Machine.{parts_of, StandsFor, Stands};
 
 use crate::machine::{Machine, Place};
-use crate::records::{ENTRY_ROOM, push_site, records_from, records_text};
+use crate::records::{push_site, records_from, records_text, with_room_for};
 use sgt_bundle::push_head;
 use sgt_core_model::CoreFault;
 use sgt_names::{Holding, Listed, SiteNo};
@@ -46,8 +46,9 @@ impl Machine {
         Ok(Written { text, finals })
     }
 
-    /// The text of the bundle of a machine that is given up: of each site its log is kept and no more, and each log is
-    /// let go once it is written. Of the certifier the walks are moved into the certificate.
+    /// The text of the bundle of a machine that is given up: of each site its items, its log and its last values are
+    /// kept and no more, and they are let go once they are written. The certifier's walks are moved into the
+    /// certificate.
     pub(crate) fn into_text(self, alloc: Global) -> Result<Vec<u8>, CoreFault>
         requires { Stands (parts_of self) }
         ensures ok { IfOk result
@@ -77,8 +78,7 @@ impl Machine {
 fn room_for(places: &[Place]) -> usize {
     let mut room = 64usize;
     for place in places {
-        let entries = place.site.log().len();
-        room = room.saturating_add(entries.saturating_mul(ENTRY_ROOM));
+        room = with_room_for(room, place.site.log());
     }
     room
 }

@@ -137,8 +137,9 @@ impl Core {
         self.machine.bundle(alloc)
     }
 
-    /// The text of the bundle of a core that is given up, also where it errs. Of each site its log is kept and no more,
-    /// and each log is let go once it is written; the decisions go once line 2 is. It errs as `bundle` does.
+    /// The text of the bundle of a core that is given up, also where it errs. Of each site its items, its log and its
+    /// last values are kept and no more, and they are let go once they are written; the decisions go once line 2 is
+    /// written. It errs as `bundle` does.
     pub fn into_text(self, alloc: Global) -> Result<Vec<u8>, CoreFault>
         ensures text { IfOk result
             (λ text. (c : CoreState) → StandsFor self c → text.items ≡ text_of (bundle_of c)) }

@@ -25,8 +25,8 @@ pub(crate) struct SiteRecord {
     pub(crate) finals: Vec<Holding>,
 }
 
-/// How many bytes a text has room for at first, for each entry.
-pub(crate) const ENTRY_ROOM: usize = 32;
+// How many bytes a text has room for at first, for each entry.
+const ENTRY_ROOM: usize = 32;
 
 /// The records of sites that are given up, by number. Err: memory ran out.
 pub(crate) fn records_from(alloc: Global, places: Vec<Place>) -> Result<Vec<SiteRecord>, AllocError>
@@ -68,9 +68,14 @@ fn any_record_increments(records: &[SiteRecord]) -> bool
 fn room_for(records: &[SiteRecord]) -> usize {
     let mut room = 64usize;
     for kept in records {
-        room = room.saturating_add(kept.log.len().saturating_mul(ENTRY_ROOM));
+        room = with_room_for(room, &kept.log);
     }
     room
+}
+
+/// So many bytes, and how many a text has room for at first for this log.
+pub(crate) fn with_room_for(room: usize, log: &EntryLog) -> usize {
+    room.saturating_add(log.len().saturating_mul(ENTRY_ROOM))
 }
 
 /// The text of a certificate and of logs that are given up: each is let go once it is written. Err: memory ran out.
@@ -152,7 +157,7 @@ fn push_entries(out: &mut Vec<u8>, log: &EntryLog) -> Result<(), AllocError>
     Ok(())
 }
 
-// Writes an entry. What most entries are is asked here, where it is known already.
+// Writes an entry. The kinds that most entries are of are asked for here, so that each is written by code of its own.
 #[inline(always)]
 fn push_entry(out: &mut Vec<u8>, entry: Entry) -> Result<(), AllocError>
     ensures { OnOk result

@@ -1,6 +1,7 @@
 -- What a pledge asks of a draft, and what its room leaves.
-use Rattle.std.proofs.Common.{◌≡◌, ℕ, zero, suc, List, [], ◌∷◌, get_or, take, Bool, true, false, Option, Some, None, refl, sym, ap, ◌∙◌, subst, arith, inl, inr, All, Contains}
+use Rattle.std.proofs.Common.{◌≡◌, ℕ, zero, suc, ◌≤◌, List, [], ◌∷◌, length, get_or, take, Bool, true, false, Option, Some, None, refl, sym, ap, ◌∙◌, subst, arith, inl, inr, All, Contains}
 use Rattle.std.specs.Prelude.{slice_get, ◌==◌, if◌then◌else◌, IsSome, option_and_then}
+use Rattle.std.specs.List.{cons_option}
 use Rattle.std.specs.Option.{ForSome}
 use Rattle.std.proofs.lemmas.Bool.{eqb-true, eq-eqb, cases_order}
 use Rattle.std.proofs.lemmas.Option.{same_Some, slice_get_within, slice_get-get_or}
@@ -30,6 +31,15 @@ use Rattle.sgt_site.proofs.PendingReads.{read_logged}
 some_is : {A : Type 0} (o : Option A) (a : A) → o ≡ Some a → IsSome o
 some_is None a h = absurd cc
 some_is (Some b) a h = refl
+
+cons-fits : {A : Type 0} (o : Option A) (xs : List A) → length (cons_option o xs) ≤ suc (length xs)
+cons-fits None xs = omega arith
+cons-fits (Some x) xs = omega arith
+
+-- no more is changed than is touched
+pub writings-fit : (ts : List Touch) → length (writing_in ts) ≤ length ts
+writings-fit [] = omega arith
+writings-fit (t ∷ ts) = omega (arith, cons-fits (writing_of t) (writing_in ts), writings-fit ts)
 
 -- the part of a draft at a site
 -- what the changes ask, of each that is touched

@@ -1,6 +1,6 @@
 //! The entries of a site's log, each in 16 bytes.
 
-ghost use Rattle.std.specs.Prelude.{◌≡◌, ◌≤◌, IfOk};
+ghost use Rattle.std.specs.Prelude.{◌≡◌, ◌<◌, ◌≤◌, IfOk};
 ghost use Rattle.std.specs.List.{list_any};
 ghost use Rattle.sgt_names.specs.Limits.{max_items};
 ghost use Rattle.sgt_names.specs.Log.{names};
@@ -72,7 +72,7 @@ impl EntryLog {
         })
     }
 
-    /// Whether room for so many more entries was had.
+    /// Whether room for so many more entries was had. Where it was there, no memory is taken.
     pub(crate) fn make_room(&mut self, more: usize) -> bool
         ensures items { self.new.items ≡ self.old.items }
         ensures entries { self.new.entries ≡ self.old.entries }
@@ -178,10 +178,10 @@ fn item_in(holding: &Holding) -> Item
 fn any_add(entries: &[ShortEntry]) -> bool
     ensures { result ≡ list_any (λ e. adds_by e.act) entries.now }
 {
-    entries.iter().any(|entry| is_increment(entry.act))
+    entries.iter().any(|entry| adds(entry.act))
 }
 
-fn is_increment(act: Act) -> bool
+fn adds(act: Act) -> bool
     ensures { result ≡ adds_by act }
 {
     matches!(act, Act::Add | Act::WantAdd)
@@ -189,7 +189,7 @@ fn is_increment(act: Act) -> bool
 
 #[inline(always)]
 fn shortened(entry: CompactEntry) -> ShortEntry
-    requires { entry.item ≤ max_items }
+    requires { entry.item < max_items }
     ensures { whole result ≡ entry }
 {
     let CompactEntry {

@@ -143,6 +143,8 @@ impl Site {
     /// The entries of the log, the oldest first.
     pub fn log(&self) -> &EntryLog
         ensures entries { result.now.entries ≡ self.now.entries }
+        ensures items { result.now.items ≡ names self.now.items }
+        ensures installed { result.now.installed ≡ self.now.installed }
         ensures orderly { IsOrderly self.now.items self.now.entries }
         ensures legal { ReadsAreLegal self.now.items self.now.entries }
         ensures site { IsSite self.now }
@@ -153,7 +155,9 @@ impl Site {
     /// Gives the site up but for its items with their first values and the entries of its log. Copies nothing.
     pub fn into_log(self) -> (Vec<Holding>, EntryLog)
         ensures items { result.0.items ≡ self.items }
+        ensures names { result.1.items ≡ names self.items }
         ensures entries { result.1.entries ≡ self.entries }
+        ensures installed { result.1.installed ≡ self.installed }
     {
         let Site { items, log, .. } = self;
         (items, log)

@@ -1,6 +1,6 @@
 //! The blocks that end a transaction, written under its pledge.
 
-ghost use Rattle.std.specs.Prelude.{◌≡◌, ◌↔◌, ◌+◌, ◌<◌, ◌≤◌, ◌++◌, ◌∷◌, [], Some, length, map, All, IsSome, IsTrue};
+ghost use Rattle.std.specs.Prelude.{◌≡◌, ◌↔◌, ◌+◌, ◌-◌, ◌<◌, ◌≤◌, ◌++◌, ◌∷◌, [], Some, length, map, All, IsSome, IsTrue};
 ghost use Rattle.sgt_names.specs.Entry.{item_of};
 ghost use Rattle.sgt_names.specs.Draft.{at_site, writing_in};
 ghost use Rattle.sgt_site.specs.State.{change_entry, want_entry};
@@ -115,10 +115,10 @@ fn push_known(log: &mut EntryLog, cells: &Cells, item: Item, entry: Entry)
     requires listed { items_of cells.now ≡ log.old.items }
     requires known { HasItem cells.now item }
     requires item { item_of entry ≡ Some item }
-    ensures entries { log.new.entries ≡ log.old.entries ++ entry ∷ [] }
-    ensures items { log.new.items ≡ log.old.items }
-    ensures installed { log.new.installed ≡ log.old.installed }
-    ensures spare { log.old.spare ≤ log.new.spare + 1 }
+    ensures { log.new ≡ record log.old {
+      entries = log.old.entries ++ entry ∷ [];
+      spare = log.old.spare - 1;
+    } }
 {
     let Some(place) = cells.find(item) else {
         unreachable!();
@@ -135,7 +135,7 @@ fn log_changes(log: &mut EntryLog, cells: &Cells, tx: Tx, part: &[Touch])
         ≡ log.old.entries ++ map (λ c. change_entry tx c.0 c.1) (writing_in part.now) }
     ensures items { log.new.items ≡ log.old.items }
     ensures installed { log.new.installed ≡ log.old.installed }
-    ensures spare { log.old.spare ≤ log.new.spare + length part.now }
+    ensures spare { log.new.spare + length (writing_in part.now) ≡ log.old.spare }
 {
     for t in part {
         if let Some(change) = t.change {
@@ -162,7 +162,7 @@ fn log_wants(log: &mut EntryLog, cells: &Cells, tx: Tx, part: &[Touch])
         ≡ log.old.entries ++ map (λ c. want_entry tx c.0 c.1) (writing_in part.now) }
     ensures items { log.new.items ≡ log.old.items }
     ensures installed { log.new.installed ≡ log.old.installed }
-    ensures spare { log.old.spare ≤ log.new.spare + length part.now }
+    ensures spare { log.new.spare + length (writing_in part.now) ≡ log.old.spare }
 {
     for t in part {
         if let Some(change) = t.change {

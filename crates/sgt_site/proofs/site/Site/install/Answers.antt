@@ -1,6 +1,6 @@
 use Rattle.std.proofs.Common.{All, Contains, ap, refl, sym, subst, ◌∙◌, arith, append_assoc, length}
 use Rattle.sgt_site.specs.private.Cells.{HasItem}
-use Rattle.sgt_site.proofs.Pledges.{known-touched}
+use Rattle.sgt_site.proofs.Pledges.{known-touched, writings-fit}
 use Rattle.sgt_site.proofs.Keeps.{pledged_is}
 use Rattle.sgt_names.specs.Draft.{writing_in}
 use Rattle.sgt_names.specs.declared.entry.Entry.TheVariants.{Commit}
@@ -37,7 +37,7 @@ push_commit-requires c =
     pledged_is c.self.inside.pledged c.self.inside.part.items c.args.tx (c.if-not-is_pledged.ensures.0 refl) in
     let room = (c.self.invariant.0.room _ pledge).log in
     let same = ap length c.as_slice-2.ensures.value in
-    omega (arith, room, same, c.log_changes.ensures.spare)
+    omega (arith, room, same, writings-fit c.as_slice-2.result.now, c.log_changes.ensures.spare)
 
 pub note-requires-clause-once : goal.note-requires-clause-once
 note-requires-clause-once c =

@@ -4,7 +4,7 @@ use Rattle.sgt_names.specs.declared.entry.Entry.TheVariants.{Refuse}
 use Rattle.sgt_site.specs.State.{want_entry}
 use Rattle.sgt_site.proofs.Blocks.{refusals-blocks, block_ends, block_alone, no_reads}
 use Rattle.sgt_site.specs.private.Cells.{HasItem}
-use Rattle.sgt_site.proofs.Pledges.{known-touched}
+use Rattle.sgt_site.proofs.Pledges.{known-touched, writings-fit}
 use Rattle.sgt_site.proofs.Keeps.{pledged_is}
 use Rattle.sgt_site.proofs.PendingReads.{pending-ended}
 use Rattle.sgt_site.proofs.Refusals.{kept-refuse}
@@ -36,7 +36,7 @@ push_end-requires-clause-room c =
     pledged_is c.self.inside.pledged c.self.inside.part.items c.args.tx (c.if-not-is_pledged.ensures.0 refl) in
     let room = (c.self.invariant.0.room _ pledge).log in
     let same = ap length c.as_slice-2.ensures.value in
-    omega (arith, room, same, c.log_wants.ensures.spare)
+    omega (arith, room, same, writings-fit c.as_slice-2.result.now, c.log_wants.ensures.spare)
 
 pub add_ended-requires-clause-first : goal.add_ended-requires-clause-first
 add_ended-requires-clause-first c = λ has.

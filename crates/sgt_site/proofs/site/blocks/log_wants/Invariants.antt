@@ -1,4 +1,4 @@
-use Rattle.std.proofs.Common.{◌≡◌, ◌+◌, ◌≤◌, ◌++◌, drop, map}
+use Rattle.std.proofs.Common.{◌≡◌, ◌+◌, ◌≤◌, ◌++◌, length, drop, map}
 use Rattle.sgt_names.specs.Draft.{writing_in}
 use Rattle.sgt_site.specs.State.{want_entry}
 use Rattle.sgt_site.proofs.site.blocks.log_wants.Given as goal
@@ -10,5 +10,6 @@ invariant-loop-t l = record {
       ++ map (λ w. want_entry l.tx w.0 w.1) (writing_in l.part);
   items : l.log.items ≡ l.fn.log.items;
   installed : l.log.installed ≡ l.fn.log.installed;
-  spare : l.fn.log.spare ≤ l.log.spare + l.t-index;
+  room : l.fn.log.spare ≤ l.log.spare + l.t-index;
+  spare : l.log.spare + length (writing_in l.part) ≡ l.fn.log.spare + length (writing_in (drop l.t-index l.part));
 }
