@@ -25,6 +25,8 @@ pub struct Course {
     pub written: usize,
     /// The last version that was read, 0 where there is none.
     pub last_read: usize,
+    // lists of reads of other items, whose room is used again
+    spare: Vec<Vec<Deed>>,
 }
 
 /// In which step an edge was noted that comes from a transaction, and in which one that leads to it.
@@ -223,7 +225,34 @@ pub(crate) fn no_course(alloc: Global) -> Result<Course, AllocError>
         reads,
         written: 0,
         last_read: 0,
+        spare: Vec::new(alloc),
     })
+}
+
+// A list with nothing in it, with the room of a spare one, if there is one.
+fn no_reads(alloc: Global, spare: &mut Vec<Vec<Deed>>) -> Vec<Deed>
+    ensures { result.items ≡ [] }
+{
+    match spare.pop() {
+        Some(mut reads) => {
+            reads.clear();
+            reads
+        }
+        None => Vec::new(alloc),
+    }
+}
+
+/// Nothing was done. The lists of the item before are used again.
+pub(crate) fn restart(alloc: Global, course: &mut Course) -> Result<(), AllocError>
+    ensures { OnOk result (IsCourse [] course.new) }
+{
+    course.changes.clear();
+    course.spare.append(&mut course.reads)?;
+    course.written = 0;
+    course.last_read = 0;
+    let none = no_reads(alloc, &mut course.spare);
+    course.reads.push(none)?;
+    Ok(())
 }
 
 // Room for some reads, where there are none yet.
@@ -252,7 +281,8 @@ fn add_read(course: &mut Course, deed: &Deed) -> Result<(), AllocError>
 fn add_change(alloc: Global, course: &mut Course, deed: &Deed) -> Result<(), AllocError>
     ensures { OnOk result (IsChangeAdded course.old deed.now course.new) }
 {
-    course.reads.push(Vec::new(alloc))?;
+    let none = no_reads(alloc, &mut course.spare);
+    course.reads.push(none)?;
     course.changes.push(*deed)?;
     if !deed.increment {
         course.written = course.changes.len();

@@ -7,7 +7,7 @@ ghost use Rattle.sgt_service_settle.specs.private.Deeds.{IsSound};
 ghost use Rattle.sgt_service_settle.specs.private.Joined.{AreUnder, AreDeedsCarried, AreSound, AreTracksCarried};
 ghost use Rattle.sgt_service_settle.specs.declared.deeds.Deed.{Deed as ADeed};
 
-use crate::course::{Course, Marks, add, fits, follows, no_course};
+use crate::course::{Course, Marks, add, fits, follows, restart};
 use crate::deeds::{Deed, Track, are_in_order, by_number};
 use crate::link::Link;
 use sgt_names::Tx;
@@ -107,6 +107,7 @@ impl Marks {
 fn follow_all(
     alloc: Global,
     marks: &mut Marks,
+    course: &mut Course,
     deeds: &[Deed],
     links: &[Link],
 ) -> Result<bool, AllocError>
@@ -116,11 +117,11 @@ fn follow_all(
     ensures under { AreUnder marks.new (marks.new.step + 1) }
     ensures carried { IfOk result (λ yes. IsTrue yes → AreDeedsCarried links.now deeds.now) }
 {
-    let mut course = no_course(alloc)?;
+    restart(alloc, course)?;
     let mut start = 0;
     for deed in deeds {
         start = first_since(links, start, deed.number);
-        let joined = marks.join(alloc, &mut course, &links[start..], deed)?;
+        let joined = marks.join(alloc, course, &links[start..], deed)?;
         if !joined {
             return Ok(false);
         }
@@ -132,6 +133,7 @@ fn follow_all(
 fn is_item_joined(
     alloc: Global,
     marks: &mut Marks,
+    course: &mut Course,
     deeds: &[Deed],
     links: &[Link],
 ) -> Result<bool, AllocError>
@@ -141,10 +143,10 @@ fn is_item_joined(
     ensures carried { IfOk result (λ yes. IsTrue yes → AreDeedsCarried links.now deeds.now) }
 {
     if are_in_order(deeds) {
-        return follow_all(alloc, marks, deeds, links);
+        return follow_all(alloc, marks, course, deeds, links);
     }
     let order = by_number(alloc, deeds)?;
-    follow_all(alloc, marks, order.as_slice(), links)
+    follow_all(alloc, marks, course, order.as_slice(), links)
 }
 
 /// Whether the operations of committed transactions on each item, in the order in which they were decided, are joined
@@ -153,6 +155,7 @@ fn is_item_joined(
 pub(crate) fn are_joined(
     alloc: Global,
     marks: &mut Marks,
+    course: &mut Course,
     tracks: &[Track],
     rows: &[Vec<Link>],
 ) -> Result<bool, AllocError>
@@ -164,7 +167,7 @@ pub(crate) fn are_joined(
 {
     for at in 0..tracks.len() {
         let deeds = tracks[at].deeds.as_slice();
-        let joined = is_item_joined(alloc, marks, deeds, rows[at].as_slice())?;
+        let joined = is_item_joined(alloc, marks, course, deeds, rows[at].as_slice())?;
         if !joined {
             return Ok(false);
         }

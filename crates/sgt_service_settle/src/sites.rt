@@ -15,7 +15,7 @@ ghost use Rattle.sgt_service_settle.specs.private.Sites.{AreLogged, AreConflicts
 use crate::acts::{Act, acts_of};
 use crate::carried::are_carried;
 use crate::counts::is_counted;
-use crate::course::Marks;
+use crate::course::{Course, Marks, no_course};
 use crate::deeds::tracks_of;
 use crate::handed::Handed;
 use crate::index::{Index, edges_at};
@@ -34,6 +34,7 @@ use std::alloc::{AllocError, Global};
 pub struct Tables {
     pub marks: Marks,
     pub places: Places,
+    pub course: Course,
 }
 
 /// Tables with nothing in them, for so many transactions.
@@ -43,6 +44,7 @@ pub(crate) fn no_tables(alloc: Global, all: usize) -> Result<Tables, AllocError>
     Ok(Tables {
         marks: no_marks(alloc, all)?,
         places: no_places(alloc, all)?,
+        course: no_course(alloc)?,
     })
 }
 
@@ -124,7 +126,7 @@ fn are_conflicts_handed(
     if !told {
         return Ok(false);
     }
-    let joined = are_joined(alloc, &mut tables.marks, deeds, rows)?;
+    let joined = are_joined(alloc, &mut tables.marks, &mut tables.course, deeds, rows)?;
     if joined {
         return Ok(true);
     }

@@ -10,8 +10,8 @@ returns-then-not-deed c =
     ∙ length_push old c.args.deed.now in
     record {
       changes = c.in_ok-push-2.ensures.items;
-      none = c.new.result;
-      is_none = c.new.ensures.items;
+      none = c.no_reads-none.result;
+      is_none = c.no_reads-none.ensures;
       reads = c.in_ok-push.ensures.items;
       last = refl;
       increment = λ i. absurd (true≢false (sym i ∙ c.if-not-deed.true));
@@ -21,8 +21,8 @@ returns-then-not-deed c =
 pub returns-else-not-deed : goal.returns-else-not-deed
 returns-else-not-deed c = record {
   changes = c.in_ok-push-2.ensures.items;
-  none = c.new.result;
-  is_none = c.new.ensures.items;
+  none = c.no_reads-none.result;
+  is_none = c.no_reads-none.ensures;
   reads = c.in_ok-push.ensures.items;
   last = refl;
   increment = λ i. refl;

@@ -14,7 +14,7 @@ use Rattle.sgt_service_settle.proofs.joined.follow_all.Goals as goal
 pub loop-deed-init : goal.loop-deed-init
 loop-deed-init c = record {
   under = c.requires.under;
-  course = c.in_ok-course.ensures;
+  course = c.in_ok-restart.ensures;
   carried =
       λ d e has other precedes. absurd (contains-none d has);
 }
