@@ -91,7 +91,10 @@ impl<L: Ledgers, G: Gate> Service<L, G> {
         let mut guard = self.certifier.lock(rt);
         let guarded = &mut *guard;
         match self.take_step(rt, alloc, guarded, seat, &active) {
-            Ok(ticket) => Ok(ticket),
+            Ok(ticket) => {
+                seat.spare = active.draft;
+                Ok(ticket)
+            }
             Err(stop) => Err(back_of(active, stop)),
         }
     }
@@ -127,7 +130,10 @@ impl<L: Ledgers, G: Gate> Service<L, G> {
         let mut guard = self.certifier.lock(rt);
         let guarded = &mut *guard;
         match self.end_withdrawn(rt, guarded, seat, &active) {
-            Ok(ticket) => Ok(ticket),
+            Ok(ticket) => {
+                seat.spare = active.draft;
+                Ok(ticket)
+            }
             Err(stop) => Err(back_of(active, stop)),
         }
     }

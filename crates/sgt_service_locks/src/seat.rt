@@ -4,7 +4,7 @@ ghost use Rattle.std.specs.Prelude.{◌≡◌, ◌<◌};
 ghost use Rattle.sgt_service_locks.specs.Counts.{with_others};
 
 use crate::ledgers::{Begins, Ledgers};
-use sgt_names::SiteNo;
+use sgt_names::{Draft, SiteNo};
 use sgt_service_agreement::EntryCounts;
 use std::sync::ledger::Share;
 
@@ -17,6 +17,8 @@ pub struct Seat<L: Ledgers> {
     pub(crate) begins: Share<Begins<L>>,
     pub(crate) counts: Vec<EntryCounts>,
     pub(crate) begun: u64,
+    // the draft of a transaction that was decided, whose room the next one uses again
+    pub(crate) spare: Draft,
     pub ghost some_part: { 0 < share.parts },
     pub ghost some_begins: { 0 < begins.parts },
 }

@@ -20,6 +20,7 @@ use sgt_service_agreement::{EntryCounts, ServiceFault};
 use sgt_site::{Site, SiteFault};
 use sgt_workers::Gate;
 use std::alloc::{AllocError, Global};
+use std::mem;
 use std::sync::ledger::Share;
 use std::sync::{Mutex, Wait};
 
@@ -141,11 +142,9 @@ impl<L: Ledgers, G: Gate> Service<L, G> {
     {
         let (tx, handle) = self.certifier.lock(rt).begin(&mut seat.begins)?;
         seat.count_begin();
-        Ok(Active {
-            tx,
-            handle,
-            draft: Draft::new(alloc),
-        })
+        let mut draft = mem::replace(&mut seat.spare, Draft::new(alloc));
+        draft.clear();
+        Ok(Active { tx, handle, draft })
     }
 
     /// Keeps a private write. Nobody else sees it before the transaction is committed. It takes no lock.
@@ -253,6 +252,7 @@ fn new_seats<L: Ledgers>(
             begins,
             counts,
             begun: 0,
+            spare: Draft::new(alloc),
         })?;
     }
     Ok(seats)

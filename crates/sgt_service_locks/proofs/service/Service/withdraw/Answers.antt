@@ -6,8 +6,8 @@ use Rattle.sgt_service_locks.specs.Undecided.{IsToldOfWithdraw}
 use Rattle.sgt_service_locks.proofs.Stopping.{stop_back, stop_told, withdraw_stop, withdraw_call, withdraw_fault}
 use Rattle.sgt_service_locks.proofs.service.Service.withdraw.Goals as goal
 
-pub returns-in-Err-clause-back : goal.returns-in-Err-clause-back
-returns-in-Err-clause-back g c =
+pub returns-clause-back : goal.returns-clause-back
+returns-clause-back g c =
     let sites = vec_len c.args.self.now.sites in
     let stop = c.in-Err.stop in
     let why = withdraw_stop _ _ _ _ stop c.end_withdrawn.ensures.replays c.in-Err.ensures.why in
@@ -15,14 +15,14 @@ returns-in-Err-clause-back g c =
     c.end_withdrawn.new.seat stop c.in-Err.ensures.stop
     (withdraw_call sites c.args.active stop why))
 
-pub returns-in-Err-clause-fault : goal.returns-in-Err-clause-fault
-returns-in-Err-clause-fault g c =
+pub returns-clause-fault : goal.returns-clause-fault
+returns-clause-fault g c =
     let stop = c.in-Err.stop in
     let why = withdraw_stop _ _ _ _ stop c.end_withdrawn.ensures.replays c.in-Err.ensures.why in
     rw c.back_of.ensures (withdraw_fault (vec_len c.args.self.now.sites) c.args.active stop why)
 
-pub returns-in-Err-clause-refused : goal.returns-in-Err-clause-refused
-returns-in-Err-clause-refused g c =
+pub returns-clause-refused : goal.returns-clause-refused
+returns-clause-refused g c =
     let stop = c.in-Err.stop in
     let why = withdraw_stop _ _ _ _ stop c.end_withdrawn.ensures.replays c.in-Err.ensures.why in
     rw c.back_of.ensures (stop_told (IsToldOfWithdraw (vec_len c.args.self.now.sites) c.args.active) c.args.active
