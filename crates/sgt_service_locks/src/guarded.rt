@@ -15,7 +15,7 @@ use sgt_service_agreement::{ServiceFault, gather_agreed};
 use sgt_site::Site;
 use sgt_step::{Ending as SiteEnding, end, give_back};
 use sgt_workers::{Ending, Ticket};
-use std::alloc::Global;
+use std::alloc::{AllocError, Global};
 use std::sync::ledger::{Book, Share};
 
 /// The certifier beside the book of its decisions. Its own calls alone change it, and note that a site has lost its
@@ -363,7 +363,7 @@ impl<L: Ledgers> Guarded<L> {
             active.handle,
         )?;
         let _items = site.items();
-        match edges.append(&more) {
+        match add_edges(edges, more) {
             Ok(()) => Ok(()),
             Err(_refused) => {
                 give_back(site, active.tx);
@@ -459,6 +459,18 @@ impl<L: Ledgers> Guarded<L> {
             _ => true,
         }
     }
+}
+
+// Adds these edges at the end.
+fn add_edges(edges: &mut EdgeList, more: EdgeList) -> Result<(), AllocError>
+    ensures ok { OnOk result (edges.new ≡ edges.old ++ more) }
+    ensures err { OnErr result (edges.new ≡ edges.old) }
+{
+    if edges.as_slice().is_empty() {
+        *edges = more;
+        return Ok(());
+    }
+    edges.append(&more)
 }
 
 // Whether this is the site of this number.

@@ -12,6 +12,6 @@ returns-in-Ok-clause-edges g c = (
       c.in_ok-more.ensures.pledged c.in_ok-more.ensures.given c.in_ok-more.ensures.stands,
 )
 
-pub returns-clause-err : goal.returns-clause-err
-returns-clause-err g c =
+pub returns-in-Err-clause-err : goal.returns-in-Err-clause-err
+returns-in-Err-clause-err g c =
     given-back _ _ _ _ _ c.in_ok-more.ensures.allowed.free c.in_ok-more.ensures.pledged c.give_back.ensures.given
