@@ -1,6 +1,7 @@
 pub mod Adding
 pub mod Counting
 pub mod Decisions
+pub mod Earlier
 pub mod Faults
 pub mod Gathering
 pub mod Items

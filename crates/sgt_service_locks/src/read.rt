@@ -1,7 +1,7 @@
 //! Reads at a site, under its lock.
 
-ghost use Rattle.std.specs.Prelude.{◌≡◌, None, Some, IsTrue, IfOk, IfErr, OnOk, OnErr};
-ghost use Rattle.sgt_names.specs.Draft.{change_at, ChangesOnly};
+ghost use Rattle.std.specs.Prelude.{◌≡◌, ◌<◌, ℕ, None, Some, length, IsTrue, IfOk, IfErr, IfSome, OnOk, OnErr};
+ghost use Rattle.sgt_names.specs.Draft.{change_at, AreRising, ChangesOnly};
 ghost use Rattle.sgt_service_locks.specs.Reads.{look_in, ReadsAt, SameActive};
 ghost use Rattle.sgt_site.specs.State.{IsSite};
 ghost use Rattle.sgt_service_locks.specs.Refused.{IsToldOfRead};
@@ -160,8 +160,36 @@ fn read_held(
     Ok(keep(&mut active.draft, site, item, seen))
 }
 
-#[tactic(auto, using(crate::proofs::Reading::seen_shows))]
-// Keeps what was read, and answers what the transaction sees of it now.
+// How many items the draft touches, where they are in one list.
+#[tactic(auto, using(crate::proofs::Reading::in_one_list))]
+fn count_in(draft: &Draft) -> Option<usize>
+    ensures count { IfSome result (λ n. n ≡ length draft.now.touched) }
+    ensures rising { AreRising draft.now.touched }
+{
+    let (few, parts) = draft.touched();
+    if parts.is_empty() {
+        Some(few.len())
+    } else {
+        None
+    }
+}
+
+// Whether the second number is greater, where both are there.
+fn is_longer(before: Option<usize>, after: Option<usize>) -> bool
+    ensures { (m n : ℕ) → IfSome before (λ k. k ≡ m) → IfSome after (λ k. k ≡ n) → IsTrue result
+        → m < n }
+{
+    let Some(before) = before else {
+        return false;
+    };
+    let Some(after) = after else {
+        return false;
+    };
+    before < after
+}
+
+// Keeps what was read, and answers what the transaction sees of it now: just that, where the item is new to it.
+#[tactic(auto, using(crate::proofs::Reading::seen_shows, crate::proofs::Reading::new_shows))]
 fn keep(draft: &mut Draft, site: SiteNo, item: Item, seen: Seen) -> Value
     requires room { IsTrue draft.old.has_room }
     requires unread { look_in draft.old.touched site item ≡ None }
@@ -173,11 +201,15 @@ fn keep(draft: &mut Draft, site: SiteNo, item: Item, seen: Seen) -> Value
     }) }
     ensures value { look_in draft.new.touched site item ≡ Some result }
 {
+    let before = count_in(draft);
     let Ok(()) = draft.seen(site, item, seen.value, seen.version) else {
         unreachable!()
     };
-    let _touched = draft.touched();
+    let after = count_in(draft);
     changes_show_at_their_place();
+    if is_longer(before, after) {
+        return seen.value;
+    }
     match draft.look(site, item) {
         Some(value) => value,
         None => unreachable!(),
