@@ -1,6 +1,6 @@
 //! One worker's part of a run: a script, tried so often.
 
-ghost use Rattle.std.specs.Prelude.{◌≡◌, ◌≤◌};
+ghost use Rattle.std.specs.Prelude.{◌≡◌, ◌≤◌, []};
 
 use sgt_names::{Item, SiteNo, Value};
 use sgt_notation::{Op, Script};
@@ -19,6 +19,21 @@ pub struct Runner<'a, L: Ledgers, G: Gate> {
     /// How often a script is tried at most.
     pub tries: u64,
     pub ghost some: { 1 ≤ tries },
+}
+
+fn is_read(op: &Op) -> bool {
+    matches!(op, Op::Read { .. })
+}
+
+// No value yet, with room for one of each read of the script, as far as there is memory.
+fn no_reads(alloc: Global, script: &Script) -> Vec<Value>
+    ensures { result.items ≡ [] }
+{
+    let operations = script.operations.as_slice();
+    let count = operations.iter().filter(|op| is_read(op)).count();
+    let mut reads = Vec::new(alloc);
+    let _room = reads.reserve(count);
+    reads
 }
 
 impl<'a, L: Ledgers, G: Gate> Runner<'a, L, G> {
@@ -211,7 +226,7 @@ impl<'a, L: Ledgers, G: Gate> Work<Seat<L>, Script, ServiceFault> for Runner<'a,
     ) -> Result<Done, ServiceFault> {
         self.service.gate.arrive(seat.number(), Place::Taken);
         let mut tickets = Vec::new(self.alloc);
-        let mut reads = Vec::new(self.alloc);
+        let mut reads = no_reads(self.alloc, job.script);
         for _ in 0..self.tries {
             tickets.reserve(1)?;
             let ticket = self.try_once(rt, seat, job.script, &mut reads)?;
