@@ -2,6 +2,7 @@
 use Rattle.std.proofs.Common.{◌≡◌, ℕ, ◌+◌, ◌<◌, ◌==◌, Bool, true, List, [], ◌∷◌, ◌++◌, length, Option, Some, None, refl, sym, ap, ◌∙◌, arith}
 use Rattle.std.specs.Prelude.{option_and_then, IfSome, IsTrue}
 use Rattle.std.specs.Option.{option_to_list}
+use Rattle.std.proofs.lemmas.Bool.{eqb-true}
 use Rattle.std.proofs.lemmas.List.{append-nil, length-append}
 use Rattle.sgt_names.specs.Name.{Name}
 use Rattle.sgt_names.specs.Log.{value_with_any}
@@ -56,8 +57,12 @@ new_shows old new site x seen rising changes law before after longer was is more
     ap (option_and_then look_of) at ∙ ap (value_with_any (Some seen.value)) unchanged
 
 -- without parts one list is all that is touched
+nothing : (ps : List PartView) → length ps ≡ 0 → ps ≡ []
+nothing [] e = refl
+nothing (p ∷ ps) e = absurd cc
+
 pub in_one_list : (few : List Touch) (parts : List PartView) (touched : List Touch) (n : ℕ) (none : Bool)
     → few ++ touched_in parts ≡ touched → none ≡ (length parts == 0) → none ≡ true → n ≡ length few → n ≡ length touched
-in_one_list few [] touched n none all is holds count = count ∙ ap length (sym (append-nil few) ∙ all)
-in_one_list few (p ∷ ps) touched n none all is holds count =
-    absurd (let no : (length (p ∷ ps) == 0) ≡ true = sym is ∙ holds in cc)
+in_one_list few parts touched n none all is holds count =
+    let without : parts ≡ [] = nothing parts (eqb-true _ 0 (sym is ∙ holds)) in
+    count ∙ ap length (sym (append-nil few) ∙ (ap (λ ps. few ++ touched_in ps) (sym without) ∙ all))

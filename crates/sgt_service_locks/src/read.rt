@@ -189,7 +189,7 @@ fn is_longer(before: Option<usize>, after: Option<usize>) -> bool
 }
 
 // Keeps what was read, and answers what the transaction sees of it now: just that, where the item is new to it.
-#[tactic(auto, using(crate::proofs::Reading::seen_shows, crate::proofs::Reading::new_shows))]
+#[tactic(auto, using(crate::proofs::Reading::seen_shows))]
 fn keep(draft: &mut Draft, site: SiteNo, item: Item, seen: Seen) -> Value
     requires room { IsTrue draft.old.has_room }
     requires unread { look_in draft.old.touched site item ≡ None }
