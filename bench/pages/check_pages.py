@@ -1,7 +1,8 @@
 #!/usr/bin/env python3
 """Looks over the pages: links, anchors, paths and names of definitions that lead nowhere, pages that are too long, and
 commands, options, statuses, counts and scripts of bench/ that a page lacks, or has beyond those that are there. With a built
-program it runs each command that stands behind a `$ ` in a block, and compares what it prints with what stands below it.
+program it runs each command that stands behind a `$ ` in a block, and compares what it prints with what stands below it. A file
+that a page shows (`$ cat NAME`) is made as it is shown.
 
 usage: check_pages.py [PROGRAM]        (at the top of a checkout; the status is 1 if anything was found)
 """
@@ -219,6 +220,10 @@ def other_outputs(program):
             for command, shown in commands_shown:
                 if command == "examples/run.sh":
                     continue
+                name = re.fullmatch(r"cat (\w+)", command)
+                if name and not os.path.exists(os.path.join(home, name[1])):
+                    with open(os.path.join(home, name[1]), "w", encoding="utf-8") as file:
+                        file.write(shown)
                 ran = subprocess.run(command, shell=True, cwd=home, env={**os.environ, "PATH": path}, capture_output=True, check=False)
                 count += 1
                 if ran.stdout.decode() != shown or ran.stderr:

@@ -1,7 +1,7 @@
 #!/usr/bin/env python3
 """Looks for inputs whose cost grows faster than they do.
 
-usage: hostile.py PROGRAM [KIND ..]        (without a KIND all of them; KINDs are below, their inputs in hostile_inputs.py)
+usage: hostile.py PROGRAM [KIND ..]        (without a KIND all of them; `hostile.py --help` lists them)
 
 Each kind of input is made at sizes that double, until a run takes three seconds or the input has 16 MB. The last two sizes are
 run by turns, three times, and the least time of each counts; a kind that is found is run five and eight times more, since other
@@ -129,7 +129,7 @@ def search(program, name):
 
 def main():
     if len(sys.argv) < 2 or "--help" in sys.argv or any(name not in KINDS for name in sys.argv[2:]):
-        sys.exit(__doc__)
+        sys.exit(f"{__doc__}\nKINDs: {' '.join(KINDS)}")
     sys.exit(sum(search(sys.argv[1], name) for name in sys.argv[2:] or KINDS))
 
 

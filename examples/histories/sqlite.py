@@ -88,6 +88,8 @@ def fill(path, way):
 
 
 def main():
+    if len(sys.argv) != 2 or "--help" in sys.argv:
+        sys.exit(__doc__)
     file = os.path.join(sys.argv[1], "bank.db")
 
     def play(way, path, rounds):

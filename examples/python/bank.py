@@ -62,6 +62,8 @@ def run(folder, moves):
 
 
 def main():
+    if "--help" in sys.argv:
+        sys.exit(__doc__)
     moves = int(sys.argv[2]) if len(sys.argv) > 2 else 250
     with tempfile.TemporaryDirectory() as folder:
         folder = sys.argv[1] if len(sys.argv) > 1 else folder
