@@ -6,7 +6,7 @@ use Rattle.std.proofs.lemmas.Option.{none-some}
 use Rattle.sgt_notation.specs.Spelling.{text_of_lines}
 use Rattle.sgt_notation.specs.declared.SectionLine.{SectionLine}
 use Rattle.sgt_bundle.specs.Parts.{FitTogether, Parts}
-use Rattle.sgt_bundle.specs.Valid.{IsRanked, IsValidLog, IsValid}
+use Rattle.sgt_bundle.specs.Valid.{Agrees, IsRanked, IsValidLog, IsValid}
 use Rattle.sgt_bundle.specs.Text.{AreSections, Spells}
 use Rattle.sgt_bundle.specs.declared.bundle.SiteLog.{SiteLog}
 use Rattle.sgt_bundle.proofs.Headline.{valid-agrees}
@@ -93,6 +93,8 @@ verdict-headline bytes (Yes committed refused withdrawn) (b, spelled, valid, cou
   serial = valid-agrees b valid;
   once = valid.once;
   ranks = valid.ranks;
+  agrees = All-from_at (λ (log : SiteLog). Agrees b.certificate.decisions log.entries) b.sites
+      (λ n log at. (All_at (IsValidLog b.certificate.decisions) b.sites n log valid.logs at).agrees);
   ranked = All-from_at (λ (log : SiteLog). IsRanked b.certificate.decisions log.entries) b.sites
       (λ n log at. (All_at (IsValidLog b.certificate.decisions) b.sites n log valid.logs at).ranked);
   cycles = valid.cycles;

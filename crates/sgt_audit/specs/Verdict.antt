@@ -4,7 +4,7 @@ use Rattle.sgt_names.specs.Device.{AppendsOrForgets}
 use Rattle.sgt_bundle.specs.Parts.{Parts}
 use Rattle.sgt_bundle.specs.Certificate.{AreRanks, IsDecidedOnce, is_commit, is_refusal, is_withdrawal, ranks}
 use Rattle.sgt_bundle.specs.Serial.{SerialAgrees}
-use Rattle.sgt_bundle.specs.Valid.{IsRanked, IsValid, RefusedLieOnCycles}
+use Rattle.sgt_bundle.specs.Valid.{Agrees, IsRanked, IsValid, RefusedLieOnCycles}
 use Rattle.sgt_bundle.specs.Text.{Spells}
 use Rattle.sgt_bundle.specs.declared.certificate.Decision.{Decision}
 use Rattle.sgt_audit.specs.declared.verdict.Verdict.{Verdict}
@@ -49,10 +49,10 @@ HandsOutValid (audited.Valid b) = IsValid b
 HandsOutValid (audited.No line f) = Unit {0}
 
 -- the stream spells site logs and a certificate such that running the committed transactions alone,
--- one after another by rank,
--- gives every read value and final value recorded for them, conflicting operations stand in rank
--- order at every site, and each
--- refused transaction lies on a cycle of logged conflicts with transactions certified before it
+-- one after another by rank, gives every read value and final value recorded for them, each log's
+-- transactions end as the certificate decides and in the order of its decisions, conflicting
+-- operations stand in rank order at every site, and each refused transaction lies on a cycle of
+-- logged conflicts with transactions certified before it
 pub record HoldsHeadline (bytes : List ℕ) : Type 0 where
   pub bundle : Parts
   pub spelled : Spells bytes bundle
@@ -61,6 +61,7 @@ pub record HoldsHeadline (bytes : List ℕ) : Type 0 where
   -- 1, each once
   pub once : IsDecidedOnce bundle.certificate.decisions
   pub ranks : AreRanks (ranks bundle.certificate.decisions)
+  pub agrees : All (λ log. Agrees bundle.certificate.decisions log.entries) bundle.sites
   pub ranked : All (λ log. IsRanked bundle.certificate.decisions log.entries) bundle.sites
   pub cycles : RefusedLieOnCycles bundle
 
