@@ -18,8 +18,8 @@ use Rattle.sgt_explain.specs.declared.topics.Topic.{Topic}
 use Rattle.sgt_line.specs.declared.name.CommandName.TheVariants as command
 use Rattle.sgt_command_line.specs.Words.{AsksHelp, command_of}
 use Rattle.sgt_command_line.specs.declared.choice.Choice.{Choice}
-use Rattle.sgt_command_line.specs.declared.choice.Choice.TheVariants.{Run}
-use Rattle.sgt_program.specs.Commands.{Answers, AnswersAudit, AnswersRule, AnswersSerial, AnswersOthers, ByStatus, outcome}
+use Rattle.sgt_command_line.specs.declared.choice.Choice.TheVariants.{Audit, AuditWith, Certify, Check, Draw, DrawWith, Explain, Replay, Rule, Run, Serial}
+use Rattle.sgt_program.specs.Commands.{Answers, AnswersAudit, AnswersRule, AnswersSerial, AnswersOthers, ByStatus, StopsAtFault, outcome}
 use Rattle.sgt_program.specs.Ending.{status_of}
 use Rattle.sgt_program.specs.declared.ending.Ending.TheVariants.{Ran}
 
@@ -40,10 +40,30 @@ verdict-answers told old new (No line fault) is headline wrote = record {
 }
 
 -- where there is no answer the status is 3 or 4
-failing : (fail : EngineFail) → 3 ≤ status_of (Ran (Err fail))
+pub failing : (fail : EngineFail) → 3 ≤ status_of (Ran (Err fail))
 failing Memory = omega arith
 failing ReadFault = omega arith
 failing WriteFault = omega arith
+
+-- what holds of every answer holds where the status is below 3
+pub low-answered : (r : Result Outcome EngineFail) (P : Type 0) → IfOk r (λ outcome. P) → status_of (Ran r) < 3 → P
+low-answered (Ok outcome) P holds low = holds
+low-answered (Err fail) P holds low = absurd (omega (arith, failing fail, low))
+
+-- where there is no answer nothing is said of how far was read
+pub high-stops : (choice : Choice) (status given : ℕ) (told left : Option (List ℕ)) → 3 ≤ status
+    → StopsAtFault choice status told left given
+high-stops Audit status given told left high = λ low. absurd (omega (arith, high, low))
+high-stops Serial status given told left high = λ low. absurd (omega (arith, high, low))
+high-stops (AuditWith workers) status given told left high = tt
+high-stops Replay status given told left high = tt
+high-stops Certify status given told left high = tt
+high-stops (Check wanted) status given told left high = tt
+high-stops (Explain asked) status given told left high = tt
+high-stops (Rule topic) status given told left high = tt
+high-stops Draw status given told left high = tt
+high-stops (DrawWith tx is_dot) status given told left high = tt
+high-stops (Run workers tries) status given told left high = tt
 
 pub audit-fails : (told old new : Option (List ℕ)) (fail : EngineFail) → audit.WroteFront told old new
     → AnswersAudit (status_of (Ran (Err fail))) told old new

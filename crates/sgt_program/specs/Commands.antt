@@ -6,6 +6,7 @@ use Rattle.sgt_names.specs.declared.outcome.Outcome.{Outcome}
 use Rattle.sgt_names.specs.declared.outcome.Outcome.TheVariants as Outcome_
 use Rattle.sgt_audit.specs.Verdict as audit
 use Rattle.sgt_audit.specs.Verdict.{IsVerdict, HoldsHeadline, text_of}
+use Rattle.sgt_audit.specs.Faults.{BeginsNoneBehind}
 use Rattle.sgt_audit.specs.declared.faults.Fault.{Fault}
 use Rattle.sgt_audit.specs.declared.verdict.Verdict.{Verdict}
 use Rattle.sgt_audit.specs.declared.verdict.Verdict.TheVariants.{Yes, No}
@@ -177,6 +178,15 @@ Answers (Run workers tries) = AnswersRun tries
 abbrev pub LeavesUnread : Choice → (unread : Type 0) → Type 0
 LeavesUnread (Rule topic) unread = unread
 LeavesUnread choice unread = ⊤
+
+-- where a verdict on a bundle was told, no read began once the line with its first fault was whole: so much is left of
+-- the bytes told, and so many the last read gave
+abbrev pub StopsAtFault : Choice → (status : ℕ) → (told left : Option (List ℕ)) → (given : ℕ) → Type 0
+StopsAtFault Audit status told left given = status < 3
+    → IfSome told (λ bytes. IfSome left (λ rest. BeginsNoneBehind bytes (length rest) given))
+StopsAtFault Serial status told left given = status < 3
+    → IfSome told (λ bytes. IfSome left (λ rest. BeginsNoneBehind bytes (length rest) given))
+StopsAtFault choice status told left given = ⊤
 
 -- other words: help where one of them asks for it, or no command
 pub record AnswersOthers (words : List (List ℕ)) (status : ℕ) (written written' : Option (List ℕ))

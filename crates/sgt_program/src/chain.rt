@@ -1,8 +1,9 @@
 //! Bundles in a row, file by file.
 
-ghost use Rattle.std.specs.Prelude.{◌≡◌, ◌≢◌, ◌<◌, ◌≤◌, ◌∷◌, ◌++◌, [], ℕ, List, Option, Err, Some, IfOk, IfSome, IsErrOf, IsNone, OnErr};
+ghost use Rattle.std.specs.Prelude.{◌≡◌, ◌≢◌, ◌<◌, ◌≤◌, ◌∷◌, ◌++◌, [], ℕ, List, Option, Err, Some, IfOk, IfSome, IsErrOf, IsNone, OnErr, length};
 ghost use Rattle.std.specs.Io.KnownBytes.{Appends};
 ghost use Rattle.sgt_devices.specs.Devices.{LeavesWriter};
+ghost use Rattle.sgt_audit.specs.Faults.{BeginsNoneBehind};
 ghost use Rattle.sgt_audit_chain.specs.Audited.{HasAudited, HoldsHeadline, IsYes, no_text};
 ghost use Rattle.sgt_program.specs.Chains.{SaysBroken, SaysChain, WroteBrokenFront, WroteChainFront};
 ghost use Rattle.sgt_program.specs.Ending.{LeavesDevices, ReadFailed, TellsErrors, WroteOrFailed, status_of};
@@ -57,6 +58,9 @@ pub fn audit_next<R: Source, W: Sink, E: Sink>(
     ensures known { IfSome result (λ status. (status ≢ 0) × (status ≢ 2)) }
     ensures front { IfSome result (λ status. 3 ≤ status
         → WroteBrokenFront name.now (W.holds writer.old) (W.holds writer.new)) }
+    // where the bundle was judged, no read began once the line with its first fault was whole
+    ensures none_behind { IfSome result (λ status. status < 3) → IfSome (R.tells reader.old) (λ bytes.
+        IfSome (R.tells reader.new) (λ left. BeginsNoneBehind bytes (length left) (R.last reader.new))) }
     ensures ends { IfSome result (λ status. (ending : Ending) × (status ≡ status_of ending)
         × LeavesDevices ending
         ((R.failures reader.new ≡ R.failures reader.old)

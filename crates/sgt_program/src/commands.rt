@@ -1,7 +1,7 @@
 //! The program over any reader and writers.
 
 ghost use Rattle.std.specs.Prelude.{◌≡◌, ◌<◌, Err, map, length, string_bytes, IfErr, IsOk, codes};
-ghost use Rattle.sgt_program.specs.Commands.{Answers, ComesOf, LeavesUnread};
+ghost use Rattle.sgt_program.specs.Commands.{Answers, ComesOf, LeavesUnread, StopsAtFault};
 ghost use Rattle.sgt_program.specs.Ending.{AsksWorkers, LeavesDevices, ReadFailed, ReaderIsQuiet, TellsErrors, WroteOrFailed, status_of, text_of_fail};
 ghost use Rattle.sgt_command_line.specs.Words.{AsksFor, NamesKeeper};
 ghost use Rattle.sgt_command_line.specs.declared.choice.Choice.{Choice};
@@ -80,6 +80,8 @@ pub fn program<H: Threads + Wait + Sync, R: Source, W: Sink, E: Sink>(
         → Answers choice result (R.tells reader.old) (W.holds writer.old) (W.holds writer.new) }
     ensures unread { (choice : Choice) → AsksFor (map string_bytes words.now) choice
         → LeavesUnread choice (reader.new ≡ reader.old) }
+    ensures none_behind { (choice : Choice) → AsksFor (map string_bytes words.now) choice
+        → StopsAtFault choice result (R.tells reader.old) (R.tells reader.new) (R.last reader.new) }
     ensures chosen { ComesOf (map string_bytes words.now) result (R.tells reader.old)
         (W.holds writer.old) (W.holds writer.new) (reader.new ≡ reader.old) }
 

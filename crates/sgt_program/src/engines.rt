@@ -3,7 +3,7 @@
 ghost use Rattle.std.specs.Prelude.{⊤, ◌≡◌, ◌<◌, ◌↔◌, length, IsTrue, IfOk, IfErr, OnErr, OnOk};
 ghost use Rattle.std.specs.Io.KnownBytes.{Appends};
 ghost use Rattle.sgt_names.specs.Device.{WritesFront};
-ghost use Rattle.sgt_program.specs.Commands.{Answers, AnswersAudit, AnswersCheck, AnswersExplain, AsksKept, LeavesUnread, explained, kept_of, options_of, outcome};
+ghost use Rattle.sgt_program.specs.Commands.{Answers, AnswersAudit, AnswersCheck, AnswersExplain, AsksKept, LeavesUnread, StopsAtFault, explained, kept_of, options_of, outcome};
 ghost use Rattle.sgt_program.specs.Ending.{LeavesDevices, ReadFailed, ReaderIsQuiet, ReadsOn, status_of};
 ghost use Rattle.sgt_command_line.specs.Words.{CanRun, KeepsInput, command_of};
 ghost use Rattle.sgt_program.specs.declared.ending.Ending.TheVariants.{Ran};
@@ -160,6 +160,8 @@ pub fn run_choice<H: Threads + Wait + Sync, R: Source, W: Sink>(
     ensures answers { Answers choice (status_of (Ran result)) (R.tells reader.old)
         (W.holds writer.old) (W.holds writer.new) }
     ensures unread { LeavesUnread choice (reader.new ≡ reader.old) }
+    ensures none_behind { StopsAtFault choice (status_of (Ran result)) (R.tells reader.old)
+        (R.tells reader.new) (R.last reader.new) }
     ensures ends { LeavesDevices (Ran result)
         (ReaderIsQuiet (ReadsOn choice) (Ran result) (R.failures reader.old) (R.failures reader.new)
         × (W.failures writer.new ≡ W.failures writer.old))

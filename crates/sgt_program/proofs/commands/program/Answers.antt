@@ -1,10 +1,10 @@
 use Rattle.std.proofs.Common.{◌≡◌, ◌<◌, ◌≤◌, ◌∙◌, Err, ap, arith, inl, length, map, refl, rules, string_bytes, subst}
 use Rattle.sgt_names.specs.declared.outcome.EngineFail.TheVariants.{Memory}
-use Rattle.sgt_program.proofs.Answered.{help-answers, help_four, memory-answers, run-memory, usage-answers}
+use Rattle.sgt_program.proofs.Answered.{help-answers, high-stops, help_four, memory-answers, run-memory, usage-answers}
 use Rattle.sgt_program.proofs.Chosen.{is_memory, left_unread, names_keeper, no_refusal, of_a_run, same_asked}
 use Rattle.sgt_program.proofs.Told.{asks_workers, failed_more, helped, leaves_more, quiet_more, tells-errors}
 use Rattle.sgt_program.specs.Commands as comes
-use Rattle.sgt_program.specs.Commands.{Answers, LeavesUnread}
+use Rattle.sgt_program.specs.Commands.{Answers, LeavesUnread, StopsAtFault}
 use Rattle.sgt_program.specs.Ending.{status_of}
 use Rattle.sgt_command_line.specs.Words.{AsksFor, TellsHelp}
 use Rattle.sgt_program.specs.declared.ending.Ending.TheVariants.{Ran, NoCommand}
@@ -146,3 +146,33 @@ pub returns-in-Err-Memory-clause-ends : goal.returns-in-Err-Memory-clause-ends
 returns-in-Err-Memory-clause-ends g c =
     let gave = c.give_up.ensures in
     (Ran (Err Memory), gave.status, ((inl refl, refl), refl), gave.told)
+
+pub returns-in-Ok-clause-none_behind : goal.returns-in-Ok-clause-none_behind
+returns-in-Ok-clause-none_behind g c = λ choice asks.
+    rw c.finish.ensures.status
+    (same_asked c.choose.result _ choice (λ choice. StopsAtFault choice (status_of (Ran c.run_choice.result))
+    (g.R.Source.tells c.args.reader.now) (g.R.Source.tells c.run_choice.new.reader)
+    (g.R.Source.last c.run_choice.new.reader)) _
+    c.in-Ok.is (c.choose.ensures.all choice asks) c.run_choice.ensures.none_behind)
+
+pub returns-in-Err-Help-clause-none_behind : goal.returns-in-Err-Help-clause-none_behind
+returns-in-Err-Help-clause-none_behind g c = λ choice asks.
+    let said = c.in-Err-Help in
+    absurd (no_refusal c.choose.result choice said.field-0 _ (c.choose.ensures.all choice asks) said.is
+    (ap is_memory said.field-0-is))
+
+pub returns-in-Err-Usage-clause-none_behind : goal.returns-in-Err-Usage-clause-none_behind
+returns-in-Err-Usage-clause-none_behind g c = λ choice asks.
+    let said = c.in-Err-Usage in
+    absurd (no_refusal c.choose.result choice said.field-0 _ (c.choose.ensures.all choice asks) said.is
+    (ap is_memory said.field-0-is))
+
+pub returns-in-Err-Bare-clause-none_behind : goal.returns-in-Err-Bare-clause-none_behind
+returns-in-Err-Bare-clause-none_behind g c = λ choice asks.
+    let said = c.in-Err-Bare in
+    absurd (no_refusal c.choose.result choice said.field-0 _ (c.choose.ensures.all choice asks) said.is
+    (ap is_memory said.field-0-is))
+
+pub returns-in-Err-Memory-clause-none_behind : goal.returns-in-Err-Memory-clause-none_behind
+returns-in-Err-Memory-clause-none_behind g c = λ choice asks.
+    high-stops choice _ _ _ _ (omega (arith, c.give_up.ensures.status))

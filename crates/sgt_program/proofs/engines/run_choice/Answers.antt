@@ -5,7 +5,7 @@ use Rattle.sgt_certify.specs.Answer as certify
 use Rattle.sgt_draw_logs.specs.Drawing as draw
 use Rattle.sgt_core.specs.Replay as replay
 use Rattle.sgt_service.specs.Report as run
-use Rattle.sgt_program.proofs.Answered.{audit-fails, rule-answers, serial-answers, status-answers, verdict-answers}
+use Rattle.sgt_program.proofs.Answered.{audit-fails, failing, high-stops, low-answered, rule-answers, serial-answers, status-answers, verdict-answers}
 use Rattle.sgt_program.specs.Ending.{ReadsOn}
 use Rattle.sgt_program.proofs.Told.{due, failed_more, kept, leaves, leaves_fail, leaves_more, leaves_topic, quiet_more}
 use Rattle.sgt_command_line.specs.Words.{KeepsInput, command_of}
@@ -154,3 +154,13 @@ pub returns-in-Rule-clause-ends : goal.returns-in-Rule-clause-ends
 returns-in-Rule-clause-ends g c =
     let said = c.explain_topic.ensures in
     leaves_topic c.explain_topic.result _ _ _ _ _ _ said.only said.write_fault said.quiet_writer
+
+pub returns-in-Ok-clause-none_behind : goal.returns-in-Ok-clause-none_behind
+returns-in-Ok-clause-none_behind g c = rw c.in-Audit.is (λ low. c.in-Ok.ensures.none_behind)
+
+pub returns-in-Err-clause-none_behind : goal.returns-in-Err-clause-none_behind
+returns-in-Err-clause-none_behind g c = high-stops c.args.choice _ _ _ _ (failing c.in-Err.fail)
+
+pub returns-in-Serial-clause-none_behind : goal.returns-in-Serial-clause-none_behind
+returns-in-Serial-clause-none_behind g c =
+    rw c.in-Serial.is (low-answered c.serial.result _ c.serial.ensures.none_behind)
