@@ -2,6 +2,7 @@
 use Rattle.std.specs.Prelude.{◌≡◌, ◌<◌, ◌≤◌, ◌==◌, ◌⊎◌, ◌++◌, ◌∷◌, [], ℕ, List, codes, length}
 use Rattle.std.specs.List.{after_first, before_first, position_or_len}
 use Rattle.sgt_page.specs.Page.{Shown, fixed, page_text}
+use Rattle.sgt_page.specs.Verdict.{IsVerdict}
 use Rattle.sgt_page.specs.declared.answer.Answered.{Answered}
 use Rattle.sgt_page.specs.declared.answer.TheConstants.{LEFT_OUT}
 
@@ -29,11 +30,15 @@ abbrev pub IsSmall : (picture shown : List ℕ) → Type 0
 IsSmall picture shown = ((length picture ≤ 131072) × (shown ≡ picture))
     ⊎ ((131072 < length picture) × (shown ≡ LEFT_OUT.now))
 
--- the page has the command and the file for its title, the picture unless it is too large, the rule, and of the
--- answer's text its front
+-- the page has the command and the file for its title, for its verdict what the answer's first line says, in a
+-- sentence, the picture unless it is too large, the rule, and of the answer's text its front
 pub record IsPageOf (answer : Answered) (page : List ℕ) : Type 0 where
   pub shown : Shown
   pub title : shown.title ≡ title_of answer
+  pub first : List ℕ
+  pub behind : List ℕ
+  pub line : IsCutAtLine answer.text.now first behind
+  pub verdict : IsVerdict answer.command.now first shown.verdict
   pub picture : IsSmall answer.picture.now shown.picture
   pub rule : IsCutAtLine answer.rule.now shown.name shown.meaning
   pub text : IsFrontOf shown.text answer.text.now

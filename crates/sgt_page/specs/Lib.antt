@@ -1,2 +1,4 @@
 pub mod Answer
 pub mod Page
+pub mod Rule
+pub mod Verdict

@@ -1,8 +1,9 @@
 //! What a page shows of an answer.
 
 ghost use Rattle.std.specs.Prelude.{◌≡◌, ◌≤◌, ◌-◌, ◌⊎◌, IfOk, Some, slice_get, string_bytes};
-ghost use Rattle.sgt_page.specs.Answer.{IsCutAtLine, IsFrontOf, IsPageOf, IsSmall, title_of};
+ghost use Rattle.sgt_page.specs.Answer.{IsFrontOf, IsPageOf, IsSmall, title_of};
 
+use crate::cut::cut_at_line;
 use crate::page::{Page, page_of};
 use crate::sentence::sentence;
 use std::alloc::{AllocError, Global};
@@ -70,16 +71,6 @@ fn small(picture: &[u8]) -> &[u8]
     LEFT_OUT.as_bytes()
 }
 
-// The name of a rule, and what it means.
-fn cut_rule(rule: &str) -> (&str, &str)
-    ensures { IsCutAtLine rule.now result.0.now result.1.now }
-{
-    match rule.split_once('\n') {
-        Some(cut) => cut,
-        None => (rule, ""),
-    }
-}
-
 fn title(alloc: Global, answer: Answered<'_>) -> Result<String, AllocError>
     ensures { IfOk result (λ title. string_bytes title ≡ title_of answer.entry) }
 {
@@ -96,9 +87,9 @@ pub fn page_of_answer(alloc: Global, answer: Answered<'_>) -> Result<Vec<u8>, Al
     ensures { IfOk result (λ page. IsPageOf answer.entry page.items) }
 {
     let title = title(alloc, answer)?;
-    let (first, _) = answer.text.split_once('\n').unwrap_or((answer.text, ""));
+    let (first, _) = cut_at_line(answer.text);
     let verdict = sentence(alloc, answer.command, first)?;
-    let (name, meaning) = cut_rule(answer.rule);
+    let (name, meaning) = cut_at_line(answer.rule);
     page_of(
         alloc,
         Page {

@@ -1,5 +1,5 @@
 use Rattle.std.proofs.Common.{arith, inl, inr, refl}
-use Rattle.sgt_page.proofs.answer.cut_rule.Goals as goal
+use Rattle.sgt_page.proofs.cut.cut_at_line.Goals as goal
 
 pub returns-in-Some : goal.returns-in-Some
 returns-in-Some c =
