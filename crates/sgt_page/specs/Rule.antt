@@ -1,7 +1,7 @@
 -- The rule that an answer names.
 use Rattle.std.specs.Prelude.{◌≡◌, ◌≢◌, ◌⊎◌, ◌≤◌, ◌++◌, ◌∷◌, ℕ, List, Option, Some, codes, length}
 use Rattle.sgt_page.specs.Answer.{IsCutAtLine}
-use Rattle.sgt_page.specs.Verdict.{Lacks, SaysOfHistory, SaysOfLogs, rule_of_history, rule_of_logs}
+use Rattle.sgt_page.specs.Verdict.{EndsSo, Lacks, SaysOfHistory, SaysOfLogs, rule_of_history, rule_of_logs}
 use Rattle.sgt_page.specs.declared.verdict.OfHistory.{OfHistory}
 use Rattle.sgt_page.specs.declared.verdict.OfLogs.{OfLogs}
 
@@ -21,15 +21,20 @@ pub record IsNamedBelow (answer name : List ℕ) : Type 0 where
 abbrev pub NamesNoneBelow : List ℕ → Type 0
 NamesNoneBelow answer = (front behind : List ℕ) → answer ≡ front ++ (naming ++ behind) → Lacks 96 behind
 
+-- not a rule is named, but a bundle that is to be explained
+abbrev pub IsOfBundle : List ℕ → Type 0
+IsOfBundle name = EndsSo name (codes "BUNDLE")
+
 -- what the first line names
 abbrev pub IsRuleOfFirst : List ℕ → Option (List ℕ) → Type 0
 IsRuleOfFirst answer rule = (first : List ℕ) × (behind : List ℕ) × IsCutAtLine answer first behind
     × ((said : OfLogs) × SaysOfLogs first said × (rule ≡ rule_of_logs said))
 
--- the name below the verdict, but for that of a bundle's rules; else what the verdict names
+-- the name below the verdict, where a rule has it; else what the verdict names
 abbrev pub IsRuleOfLogs : List ℕ → Option (List ℕ) → Type 0
-IsRuleOfLogs answer rule = ((name : List ℕ) × IsNamedBelow answer name × (name ≢ codes "BUNDLE") × (rule ≡ Some name))
-    ⊎ ((IsNamedBelow answer (codes "BUNDLE") ⊎ NamesNoneBelow answer) × IsRuleOfFirst answer rule)
+IsRuleOfLogs answer rule = ((name : List ℕ) × IsNamedBelow answer name × (IsOfBundle name → ⊥) × (rule ≡ Some name))
+    ⊎ ((((name : List ℕ) × IsNamedBelow answer name × IsOfBundle name) ⊎ NamesNoneBelow answer)
+    × IsRuleOfFirst answer rule)
 
 abbrev pub IsRuleOfHistory : List ℕ → Option (List ℕ) → Type 0
 IsRuleOfHistory answer rule = (first : List ℕ) × (behind : List ℕ) × IsCutAtLine answer first behind

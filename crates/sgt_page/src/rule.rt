@@ -4,7 +4,7 @@ ghost use Rattle.std.specs.Prelude.{◌≡◌, MatchOption, None, Some, option_m
 ghost use Rattle.sgt_page.specs.Verdict.{rule_of_history, rule_of_logs};
 ghost use Rattle.sgt_page.specs.Rule.{IsNamedBelow, IsRuleIn, IsRuleOfFirst, IsRuleOfLogs, NamesNoneBelow};
 
-use crate::cut::{cut_at_line, first_word};
+use crate::cut::{cut_at_line, ends_so, first_word};
 use crate::verdict::{OfHistory, OfLogs, of_history, of_logs};
 
 // The anomaly of a history, or what is wrong with a line that can't be read.
@@ -56,7 +56,7 @@ fn rule_in_logs(answer: &str) -> Option<&str>
 {
     match named_below(answer) {
         Some(name) => {
-            if name == "BUNDLE" {
+            if ends_so(name, "BUNDLE") {
                 rule_of_first(answer)
             } else {
                 Some(name)
