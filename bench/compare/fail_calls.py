@@ -307,18 +307,22 @@ def last_word(found):
     return f"[{found.status}, {found.errors.strip()[-120:]!r}]"
 
 
+def stands_in_order(wanted, calls):
+    rest = iter(calls)
+    return all(call in rest for call in wanted)
+
+
 def order_of(plain):
-    """What is wrong with the order in which a server's bundles are stored and told, or None."""
+    """What is wrong with the order in which a server's bundles are stored and told, or None. The last one is told to nobody."""
     calls = [re.sub(r"/\S*/here/", "", line) for line in plain.calls]
-    for number in (1, 2):
-        beside = f"kept/{number:08}.0.part"
-        wanted = [f"write {beside}", f"fsync {beside}", f"link kept/{number:08}.sgt", "fsync", "unlink", "write 1"]
-        at = 0
-        for call in wanted:
-            later = [place for place in range(at, len(calls)) if calls[place].startswith(call)]
-            if not later:
-                return f"no {call} in its order behind {calls[:at]}"
-            at = later[0] + 1
+    names = [f"kept/{number:08}" for number in (1, 2, 3)]
+    begins = [len(calls) - calls[::-1].index(f"open {name}.0.part") for name in names]
+    for name, begin, end in zip(names, begins, begins[1:] + [len(calls)]):
+        done = [f"write {name}.0.part", f"fsync {name}.0.part", f"link {name}.sgt", "fsync kept"]
+        if not stands_in_order(done, calls[begin:end]) or f"unlink {name}.0.part" not in calls[begin:end]:
+            return f"{name}.sgt: {calls[begin:end]} in place of {done}"
+        if "write 1" in calls[begin:begin + calls[begin:end].index("fsync kept")]:
+            return f"{name}.sgt is told before it is stored"
     return None
 
 
