@@ -3,6 +3,7 @@
  * FAIL_AT     the number of the call that fails; 0: none
  * FAIL_HOW    `error`: it fails with EIO (a write with ENOSPC, a new thread with EAGAIN); then each call is counted.
  *             `signal`: it fails with EINTR; `short`: it takes or gives one byte. Then reads and writes alone are counted.
+ *             `gone`: it fails with EPIPE. Then writes to standard output alone are counted.
  * CALLS_TO    the file to which each call is told, a line each; `!` stands before the one that failed
  *
  * fail_calls.py builds it and looks at what the program does. */
@@ -83,10 +84,10 @@ static int moves(const char *name, int file, int error) {
             return 1;
         return -1;
     }
-    if (!is_now(name, of(file, room)))
+    if ((is_how("gone") && (file != 1 || strcmp(name, "write"))) || !is_now(name, of(file, room)))
         return 1;
-    errno = EINTR;
-    return is_how("signal") ? -1 : 0;
+    errno = is_how("gone") ? EPIPE : EINTR;
+    return is_how("short") ? 0 : -1;
 }
 
 ssize_t read(int file, void *bytes, size_t count) {

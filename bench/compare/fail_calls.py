@@ -6,10 +6,10 @@ usage: fail_calls.py PROGRAM [--growths] [CASE ..]
 PROGRAM is the program itself, not a script that starts it, and built without AddressSanitizer. A run holds where its status is 4, standard
 error says a word that isn't about memory, and what was written is a front of the answer; or where nothing but that call differs, of those
 that FORGIVEN names with the reason. In no run is a file changed that is read, or half a bundle left under a bundle's name. Then each read
-and each write is interrupted by a signal, and is done for one byte alone: the answer has to be the undisturbed one. With --growths each
-growth of memory is refused too: the undisturbed answer, or status 3 with a word on memory alone (of `serve` refuse_serve.py looks closer).
-Of `serve --bundles` the order of calls is looked at: a bundle is written, synced and linked, and the folder synced, before its number is
-told.
+and each write is interrupted by a signal, and is done for one byte alone: the answer has to be the undisturbed one. Where the reader of
+standard output went away the status is 4, and nothing is said of it. With --growths each growth of memory is refused too: the undisturbed
+answer, or status 3 with a word on memory alone (of `serve` refuse_serve.py looks closer). Of `serve --bundles` the order of calls is
+looked at: a bundle is written, synced and linked, and the folder synced, before its number is told.
 
 Prints what doesn't hold, and a line for each case; ends with status 1 where something doesn't hold. Needs gcc; half a minute, with --growths
 five.
@@ -293,6 +293,19 @@ def each_disturbed(trial, case, plain, how):
             wrong.append(f"{how} {number}, {call[1:].replace(trial.folder, '')}: status {found.status} {last_word(found)}")
 
 
+def each_gone(trial, case, plain):
+    """What is wrong where the reader of what is written went away."""
+    number, wrong = 0, []
+    while True:
+        number += 1
+        found = trial.failed_at(case, "gone", number)
+        if not any(line.startswith("!") for line in found.calls or []):
+            return wrong
+        harm = harmed(trial, case, plain, found)
+        if harm or found.status != 4 or "fault" in found.errors or "pipe" in found.errors.lower():
+            wrong.append(f"gone {number}: {harm or 'not quietly'} {last_word(found)}")
+
+
 def each_growth(trial, case, plain):
     number, wrong = 0, []
     while True:
@@ -344,7 +357,7 @@ def tried(trial, case, with_growths):
     calls, wrong = each_failing(trial, case, plain)
     moves, interrupted = each_disturbed(trial, case, plain, "signal")
     _, short = each_disturbed(trial, case, plain, "short")
-    wrong += interrupted + short
+    wrong += interrupted + short + each_gone(trial, case, plain)
     grown = ""
     if with_growths:
         growths, refused = each_growth(trial, case, plain)
