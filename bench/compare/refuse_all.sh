@@ -34,7 +34,6 @@ part() {
 for crate in $(grep -rlE 'fn (growth_[a-z_]*|pledge_holds)\(' crates/*/src | cut -d / -f 2 | sort -u); do
     part "$crate" python3 bench/compare/refuse_growths.py "$crate"
 done
-part "pledge_holds, with all later growths" python3 bench/compare/refuse_growths.py --all sgt_certifier_tests
 part "each command" python3 bench/compare/fail_calls.py --growths "$program"
 part "sgt check" python3 bench/compare/history/refuse_check.py "$program"
 part "sgt serve" python3 bench/compare/serve/refuse_serve.py "$program"
