@@ -8,6 +8,7 @@ status; without one, each row `history_*` of the repository. A run holds where i
 `sgt: memory` on standard error and a front of that answer. Ends with status 1 where one doesn't. Needs gcc; a minute for each twenty rows.
 """
 import os
+import shutil
 import subprocess
 import sys
 import tempfile
@@ -31,13 +32,16 @@ def refuse_each(program, row, shim, told):
     """How many growths were refused, and what was wrong then."""
     words = text_of(row, "args", b"").decode().split()
     text, wanted, status = text_of(row, "stdin", b""), text_of(row, "stdout", b""), int(text_of(row, "status", b"0"))
+    here = os.path.join(os.path.dirname(told), "here")
     wrong, n = [], 0
     while n == 0 or os.path.exists(told):
         n += 1
         if os.path.exists(told):
             os.unlink(told)
+        shutil.rmtree(here, ignore_errors=True)
+        shutil.copytree(row, here)
         env = dict(os.environ, LD_PRELOAD=shim, REFUSE_GROWTH=str(n), GROWTHS_TO=told)
-        done = subprocess.run([program, *words], input=text, capture_output=True, env=env, timeout=60, cwd=row)
+        done = subprocess.run([program, *words], input=text, capture_output=True, env=env, timeout=60, cwd=here)
         is_whole = (done.stdout, done.returncode) == (wanted, status)
         has_given_up = done.returncode == 3 and done.stderr.startswith(b"sgt: memory") and wanted.startswith(done.stdout)
         if not is_whole and not has_given_up:
