@@ -1,12 +1,12 @@
 #!/usr/bin/env python3
 """Runs the tests of refused growths once for each growth that they make, with that one refused.
 
-usage: refuse_growths.py [--all] [--limit N] [CRATE ..]
+usage: refuse_growths.py [--limit N] [CRATE ..]
 
 For each crate of tests (none named: every one that has such tests) its tests `growth_*` and `pledge_holds` are proved and built by
 `rt test`, and each is run with growth 1 refused, then with growth 2, and so on until a run meets no refusal. A test holds where no
-growth is refused and where any one is; with --all every later growth is refused too, which only `pledge_holds` stands. Prints a line
-for each test, and ends with status 1 where a run failed. Needs gcc: a library loaded in front of the C library counts and refuses.
+growth is refused and where any one is. Prints a line for each test, and ends with status 1 where a run failed. Needs gcc: a library
+loaded in front of the C library counts and refuses.
 `rt try --test --fail-alloc N -- TEST` does the same for one N, without a proof, and doesn't say whether a growth was refused.
 """
 import argparse
@@ -29,8 +29,7 @@ SHIM = r"""
 static long seen;
 
 static int refuses(void) {
-    long at = atol(getenv("REFUSE_GROWTH")), now = __sync_add_and_fetch(&seen, 1);
-    if (now != at && !(getenv("REFUSE_ALL") && now > at))
+    if (__sync_add_and_fetch(&seen, 1) != atol(getenv("REFUSE_GROWTH")))
         return 0;
     close(open(getenv("GROWTHS_TO"), O_CREAT | O_WRONLY, 0600));
     errno = ENOMEM;
@@ -77,8 +76,6 @@ def refuse_each(program, test, shim, told, words):
         if os.path.exists(told):
             os.unlink(told)
         env = dict(os.environ, LD_PRELOAD=shim, REFUSE_GROWTH=str(n), GROWTHS_TO=told)
-        if words.all:
-            env["REFUSE_ALL"] = "1"
         done = subprocess.run([program, test], stdin=subprocess.DEVNULL, capture_output=True, timeout=60, env=env)
         if done.returncode:
             failed += 1
@@ -92,7 +89,6 @@ def refuse_each(program, test, shim, told, words):
 
 def main():
     parser = argparse.ArgumentParser(description=__doc__, formatter_class=argparse.RawDescriptionHelpFormatter)
-    parser.add_argument("--all", action="store_true")
     parser.add_argument("--limit", type=int, default=100000)
     parser.add_argument("crates", nargs="*")
     words = parser.parse_args()

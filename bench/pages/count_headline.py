@@ -3,66 +3,121 @@
 
 usage: count_headline.py [CRATE FILE WORD]        (sgt_audit Verdict SaysHeadline where nothing is said)
 
-It follows each word of the repository's specs from definition to definition. Types that are declared in code (an entry, a
-decision, ..) are not counted.
+It follows each word of the repository's specs from definition to definition, and into the kit's crates, which it counts apart; the words
+of `std` (lists, numbers, their decimals) aren't counted. Nor are types that are declared in code (an entry, a decision, ..).
 """
 import os
 import re
 import sys
 
 TOP = os.path.join(os.path.dirname(os.path.abspath(__file__)), "../../crates")
-HEAD = re.compile(r"^(?:unfoldable )?(?:abbrev |record |data |def )?(?:unfoldable )?(?:pub )?(?:abbrev |record |data )?(?:pub )?([A-Za-z_][\w'-]*)")
+KIT = os.path.join(os.environ.get("RT_KIT", "/opt/rattle"), "rattle")
+MARKS = r"(?:(?:unfoldable|abbrev|record|data|pub|def) +)*"
+IMPORT = re.compile(r"(?:pub )?use (?:Rattle\.(\w+)\.specs|lib)\.([\w.]+)(?:\.\{(.*)\}| as (\w+))$")
+USED = re.compile(r"(?:\b([A-Za-z_]\w*)\.)?([A-Za-z_][\w'-]*)")
 
 
-def blocks_of(path):
-    """The definitions of a file with their lines, and the words that it imports with their file."""
-    blocks, imports, name, text = {}, {}, None, open(path, encoding="utf-8").read()
-    for line in text.split("\n"):
-        if not line.strip() or line.lstrip().startswith("--"):
+class File:
+    """The definitions of a file with their lines, the words that it imports, and the files that it names.
+
+    Of a `mutual` block each definition has all lines, and so has each constructor those of its type."""
+
+    def __init__(self, path):
+        self.blocks, self.imports, self.files = {}, {}, {}
+        self.name, self.group = None, None
+        with open(path, encoding="utf-8") as file:
+            for line in file.read().split("\n"):
+                if line.strip() and not line.lstrip().startswith("--") and not self.took_import(line):
+                    self.take(line)
+
+    def took_import(self, line):
+        """Whether the line is no part of a definition."""
+        if hit := IMPORT.match(line):
+            for word in (hit[3] or "").split(","):
+                name, _, shown = word.strip().partition(" as ")
+                self.imports[(shown or name).strip()] = (hit[1], hit[2], name)
+            if hit[4]:
+                self.files[hit[4]] = (hit[1], hit[2])
+        return re.match(r"(?:pub )?(use|mod|open|syntax|infix)\b", line) is not None
+
+    def take(self, line):
+        indent = len(line) - len(line.lstrip())
+        if indent == 0:
+            self.begin(line)
+        elif self.group is not None:
+            self.group.append(line)
+            hit = re.match(rf"  (?=pub|data|abbrev|record){MARKS}([^\s:]+)", line) or re.match(r"    ([^\s:]+) :", line)
+            if hit:
+                self.blocks.setdefault(hit[1], self.group)
+        elif self.name:
+            lines = self.blocks[self.name]
+            lines.append(line)
+            hit = re.match(r"  ([^\s:]+) :", line)
+            if hit and re.match(r"(pub )?data", lines[0]):
+                self.blocks.setdefault(hit[1], lines)
+
+    def begin(self, line):
+        self.group = [] if re.match(r"((abbrev|unfoldable) )*mutual", line) else None
+        if self.group is not None:
+            self.name = None
+            return
+        name = re.match(rf"{MARKS}([^\s:]+)", line)[1]
+        if re.match(r"(unfoldable|abbrev|record|data|pub) ", line):
+            self.name = name
+            self.blocks[name] = []
+        elif name in self.blocks:
+            self.name = name
+        if self.name:
+            self.blocks[self.name].append(line)
+
+    def used_in(self, lines):
+        """The words of these lines that are defined somewhere, each with the crate (None: this one) and the file."""
+        for owner, word in USED.findall("\n".join(lines)):
+            if owner in self.files:
+                yield (*self.files[owner], word)
+                continue
+            for name in (owner, word):
+                if name in self.blocks:
+                    yield None, None, name
+                elif name in self.imports:
+                    yield self.imports[name]
+
+
+def path_of(crate, file):
+    paths = [os.path.join(top, crate, "specs", *file.split(".")) + ".antt" for top in (TOP, KIT)]
+    return next((path for path in paths if crate != "std" and os.path.exists(path)), None)
+
+
+def counted(start):
+    """The lines of each definition that this one rests on."""
+    todo, seen, files, found = [start], set(), {}, {}
+    while todo:
+        crate, name, word = at = todo.pop()
+        path = path_of(crate, name)
+        if at in seen or path is None:
             continue
-        if line.startswith("use "):
-            if hit := re.match(r"use Rattle\.(sgt\w*)\.specs\.([\w.]+)\.\{(.*)\}", line):
-                for word in hit[3].split(","):
-                    imports[word.strip().split(" as ")[-1].strip()] = (hit[1], hit[2], word.strip().split(" as ")[0].strip())
+        seen.add(at)
+        if path not in files:
+            files[path] = File(path)
+        lines = files[path].blocks.get(word)
+        if lines is None:
             continue
-        if not line[0].isspace():
-            word = HEAD.match(line)
-            if line.startswith(("abbrev ", "pub ", "record ", "data ", "unfoldable ")):
-                name = re.sub(r"^(?:(?:unfoldable|abbrev|record|data|pub) )+", "", line).split()[0]
-            elif word:
-                name = line.split()[0]
-        if name:
-            blocks.setdefault(name, []).append(line)
-    return blocks, imports
+        found.setdefault(id(lines), (at, len(lines)))
+        todo += [(used[0] or crate, used[1] or name, used[2]) for used in files[path].used_in(lines)]
+    return sorted(found.values())
 
 
 def main():
     if "--help" in sys.argv:
         sys.exit(__doc__)
-    crate, file, word = sys.argv[1:4] if len(sys.argv) > 3 else ("sgt_audit", "Verdict", "SaysHeadline")
-    todo, done, files, total = [(crate, file, word)], {}, {}, 0
-    while todo:
-        at = todo.pop()
-        if at in done:
-            continue
-        path = os.path.join(TOP, at[0], "specs", *at[1].split(".")) + ".antt"
-        if not os.path.exists(path):
-            continue
-        if path not in files:
-            files[path] = blocks_of(path)
-        blocks, imports = files[path]
-        lines = blocks.get(at[2])
-        if lines is None:
-            continue
-        done[at] = len(lines)
-        for used in set(re.findall(r"[A-Za-z_][\w'-]*", "\n".join(lines))):
-            if used in blocks:
-                todo.append((at[0], at[1], used))
-            elif used in imports:
-                todo.append(imports[used])
-    for at, count in sorted(done.items()):
+    found = counted(tuple(sys.argv[1:4]) if len(sys.argv) > 3 else ("sgt_audit", "Verdict", "SaysHeadline"))
+    own = [(at, count) for at, count in found if os.path.isdir(os.path.join(TOP, at[0]))]
+    for at, count in own:
         print(f"{count:4} {'.'.join(at)}")
-    print(f"{sum(done.values())} lines in {len(done)} definitions")
+    for crate in sorted({at[0] for at, _ in found} - {at[0] for at, _ in own}):
+        counts = [count for at, count in found if at[0] == crate]
+        print(f"of the kit's {crate}: {sum(counts)} lines in {len(counts)} definitions")
+    print(f"{sum(count for _, count in own)} lines in {len(own)} definitions")
 
 
 if __name__ == "__main__":

@@ -5,9 +5,10 @@ usage: refuse_check.py PROGRAM [ROW ..]
 
 PROGRAM is the program itself, not a script that starts it, and built without AddressSanitizer. ROW is a folder with args, stdin, stdout and
 status; without one, each row `history_*` of the repository. A run holds where it answers as an undisturbed one, or ends with status 3,
-`sgt: memory` on standard error and a front of that answer. Ends with status 1 where one doesn't. Needs gcc; a minute for each twenty rows.
+`sgt: memory` last on standard error, no word of a device, and a front of that answer. Ends with status 1 where one doesn't. Needs gcc; a minute for each twenty rows.
 """
 import os
+import shutil
 import subprocess
 import sys
 import tempfile
@@ -31,15 +32,19 @@ def refuse_each(program, row, shim, told):
     """How many growths were refused, and what was wrong then."""
     words = text_of(row, "args", b"").decode().split()
     text, wanted, status = text_of(row, "stdin", b""), text_of(row, "stdout", b""), int(text_of(row, "status", b"0"))
+    here = os.path.join(os.path.dirname(told), "here")
     wrong, n = [], 0
     while n == 0 or os.path.exists(told):
         n += 1
         if os.path.exists(told):
             os.unlink(told)
+        shutil.rmtree(here, ignore_errors=True)
+        shutil.copytree(row, here)
         env = dict(os.environ, LD_PRELOAD=shim, REFUSE_GROWTH=str(n), GROWTHS_TO=told)
-        done = subprocess.run([program, *words], input=text, capture_output=True, env=env, timeout=60, cwd=row)
+        done = subprocess.run([program, *words], input=text, capture_output=True, env=env, timeout=60, cwd=here)
         is_whole = (done.stdout, done.returncode) == (wanted, status)
-        has_given_up = done.returncode == 3 and done.stderr.startswith(b"sgt: memory") and wanted.startswith(done.stdout)
+        is_told = done.stderr.endswith(b"sgt: memory\n") and b"fault" not in done.stderr
+        has_given_up = done.returncode == 3 and is_told and wanted.startswith(done.stdout)
         if not is_whole and not has_given_up:
             wrong.append(f"growth {n}: status {done.returncode}, {done.stdout[:100]!r}, {done.stderr[:100]!r}")
     return n - 1, wrong
