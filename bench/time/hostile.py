@@ -72,6 +72,16 @@ KINDS = {
     "opposite_ends": (["certify"], inputs.opposite_ends),
     "no_cycles": (["certify"], inputs.no_cycles),
     "logged_sums": (["certify"], inputs.logged_sums),
+    "time_late_read": (["check", "--real-time"], inputs.late_read),
+    "time_stale_read": (["check", "--real-time"], inputs.stale_read),
+    "time_pairs": (["check", "--real-time"], inputs.broken_pairs),
+    "time_long_way": (["check", "--real-time"], inputs.long_way),
+    "session_late_read": (["check", "--sessions"], lambda n: inputs.late_read(n, 1)),
+    "session_pairs": (["check", "--sessions"], lambda n: inputs.broken_pairs(n, True)),
+    "both_late_read": (["check", "--sessions", "--real-time"], inputs.late_read),
+    "both_last_pair": (["check", "--sessions", "--real-time"], inputs.last_pair),
+    "both_pairs": (["check", "--sessions", "--real-time"], inputs.broken_pairs),
+    "both_backward": (["check", "--order", "--sessions", "--real-time"], inputs.backward),
 }
 for shape in ("hub_walks", "sparse", "many_sites", "many_items", "alternating", "blind"):
     for word in ("audit", "serial", "explain", "draw"):

@@ -378,5 +378,52 @@ def logged_sums(n):
     return "sgt 2\n" + section(0, ["x"], adds + [("r", i, "x", 0) for i in late] + ends(late))
 
 
+# ---- histories
+
+
+def history(transactions):
+    """One line for each list of operations, which ran one after another. A session is a number's, or the line's own."""
+    line = '{"tx":%d,"end":"commit","ops":%s,"begin":%d,"done":%d,"session":%d}\n'
+    return "".join(line % (i, json.dumps(ops), 2 * i, 2 * i + 1, i if at is None else at) for i, (ops, at) in enumerate(transactions))
+
+
+def late_read(n, session=None):
+    """The first writes an item; the last, behind n that read another one, reads it as it was before."""
+    return history([([["w", "x", 1]], session), *[([["r", "y", 0]], session)] * n, ([["r", "x", 0]], session)])
+
+
+def stale_read(n):
+    """Writes of 1,000 items by turns, and near the end one read of a version that was written over long ago."""
+    writes = [([["w", NAMES[i % 1000], i // 1000 + 1]], None) for i in range(n)]
+    return history([*writes[:-5], ([["r", NAMES[7], 1]], None), *writes[-5:]])
+
+
+def broken_pairs(n, in_sessions=False):
+    """Pairs of a write and a later read that doesn't see it, each in a session of its own."""
+    at = lambda i: i if in_sessions else None
+    return history([it for i in range(n // 2) for it in (([["w", i, 1]], at(i)), ([["r", i, 0]], at(i)))])
+
+
+def last_pair(n):
+    """Lines of 100 sessions by turns, all kept; and a pair at the end that real time alone breaks."""
+    reads = [([["r", "y", 0]], i % 100) for i in range(n)]
+    return history([*reads, ([["w", "x", 1]], None), ([["r", "x", 0]], None)])
+
+
+def backward(n):
+    """Each reads what the line behind it writes; all ran at once, so that an order serves and keeps real time."""
+    line = '{"tx":%d,"end":"commit","ops":[["r",%d,1],["w",%d,1]],"begin":1,"done":2,"session":%d}\n'
+    last = '{"tx":%d,"end":"commit","ops":[["w",%d,1]],"begin":1,"done":2,"session":%d}\n'
+    return "".join(line % (i, i + 1, i, i) for i in range(n)) + last % (n, n, n)
+
+
+def long_way(n):
+    """Each reads what the line in front of it writes, and the last one alone was done before the first began."""
+    line = '{"tx":%d,"end":"commit","ops":[["r",%d,1],["w",%d,1]],"begin":0,"done":9,"session":%d}\n'
+    first = '{"tx":0,"end":"commit","ops":[["w",0,1]],"begin":5,"done":9,"session":0}\n'
+    last = '{"tx":%d,"end":"commit","ops":[["r",%d,1]],"begin":0,"done":1,"session":%d}\n'
+    return first + "".join(line % (i, i - 1, i, i) for i in range(1, n)) + last % (n, n - 1, n)
+
+
 if __name__ == "__main__":
     sys.exit(__doc__)

@@ -1,5 +1,5 @@
 -- What ranks and distances tell of cycles.
-use Rattle.std.proofs.Common.{◌≡◌, ℕ, suc, ◌+◌, ◌<◌, ◌≤◌, true, false, Option, None, Some, Vec, Global, All, List, [], ◌∷◌, ◌++◌, length, refl, sym, ap, ◌∙◌, subst, arith, inl, inr, slice_index, length-append}
+use Rattle.std.proofs.Common.{◌≡◌, ℕ, ◌+◌, ◌≤◌, true, false, Option, None, Some, Vec, Global, All, List, [], ◌∷◌, ◌++◌, length, sym, subst, arith, inl, inr, slice_index, length-append}
 use Rattle.std.specs.Option.{is_some}
 use Rattle.std.specs.Prelude.{IfNone, IfSome}
 use Rattle.std.proofs.lemmas.Bool.{cases_lt}
@@ -23,6 +23,17 @@ pub none-below : (edges : List Edge) (ranks : List ℕ) (v : ℕ) → AreFalling
 none-below edges ranks v falls below u lt [] chain = omega (arith, below u u chain.0 lt)
 none-below edges ranks v falls below u lt (b ∷ bs) chain =
     omega (arith, below u b chain.0 lt, chain-falls edges ranks falls b bs u chain.1)
+
+pub none-below-candidate : (edges : List Edge) (ranks : List ℕ) (o : Option ℕ) → AreFalling edges ranks
+    → IfSome o (FallBelow edges ranks) → IfSome o (NoneBelow edges)
+none-below-candidate edges ranks None falls below = tt
+none-below-candidate edges ranks (Some v) falls below = none-below edges ranks v falls below
+
+pub none-of-falling : (edges : List Edge) (ranks : List ℕ) → AreFalling edges ranks
+    → ((v : ℕ) → FallBelow edges ranks v) → (other : List ℕ) → IsCycle (Goes edges) other → ⊥
+none-of-falling edges ranks falls all [] o = o
+none-of-falling edges ranks falls all (a ∷ between) o =
+    none-below edges ranks (a + 1) falls (all (a + 1)) a (omega arith) between o
 
 -- ---- distances
 

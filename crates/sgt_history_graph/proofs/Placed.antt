@@ -15,7 +15,7 @@ use Rattle.sgt_history_graph.specs.Graph.{Goes, IsFree, IsLeastFirst, IsLeastFre
 use Rattle.sgt_history_graph.specs.Rows.{targets_from}
 use Rattle.sgt_history_graph.specs.Sorting.{count_of, numbers, waiting, IsTallied, IsUnderWay}
 use Rattle.sgt_history_graph.proofs.Counts.{is_at, at-other, at-same, absent-none, contains-counted, count-push, counted-contains, none-waits, waiting-placed, waits-none, waits-some}
-use Rattle.sgt_history_graph.proofs.Placing.{expected, expected-one, expected-some, expected-waits, expected-past}
+use Rattle.sgt_history_graph.proofs.Placing.{expected, expected-one, expected-some, expected-past}
 
 -- ---- the top of the heap
 

@@ -1,9 +1,9 @@
 -- While a way home is walked.
-use Rattle.std.proofs.Common.{◌≡◌, ◌≢◌, ℕ, zero, suc, ◌+◌, ◌-◌, ◌<◌, ◌≤◌, List, [], ◌∷◌, ◌++◌, Some, None, length, refl, sym, ap, ◌∙◌, subst, arith, inl, inr, slice_index, Contains, append_assoc}
+use Rattle.std.proofs.Common.{◌≡◌, ◌≢◌, ℕ, zero, suc, ◌+◌, ◌-◌, ◌<◌, ◌≤◌, List, [], ◌∷◌, ◌++◌, Some, None, length, refl, sym, ap, ◌∙◌, subst, arith, slice_index, append_assoc}
 use Rattle.sgt_names.proofs.Lists.{All_in}
 use Rattle.sgt_history_graph.specs.declared.edge.Edge.{Edge}
 use Rattle.sgt_history_graph.specs.Graph.{Goes, IsChain, JoinsNodes}
-use Rattle.sgt_history_graph.specs.Nearest.{AreClosed, AreMeasured, AreTargets, IsHomeward, IsNearer, IsNearest, IsOnWay, IsWayHome, NoneFrom, Reaches}
+use Rattle.sgt_history_graph.specs.Nearest.{AreClosed, AreMeasured, AreTargets, IsHomeward, IsNearest, IsOnWay, IsWayHome, NoneFrom, Reaches}
 use Rattle.sgt_history_graph.proofs.Cycles.{nearer-le}
 
 -- ---- distances of walks

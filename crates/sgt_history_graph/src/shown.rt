@@ -1,9 +1,9 @@
 //! The first cycle of a graph.
 
-ghost use Rattle.std.specs.Prelude.{◌≡◌, ◌≤◌, ◌^◌, All, IfOk, IfSome};
+ghost use Rattle.std.specs.Prelude.{◌≡◌, ◌≤◌, ◌^◌, ℕ, All, IfNone, IfOk, IfSome, List};
 ghost use Rattle.sgt_history_graph.specs.First.{IsFirstCycle, TellsFirst};
-ghost use Rattle.sgt_history_graph.specs.Graph.{JoinsNodes};
-ghost use Rattle.sgt_history_graph.specs.Nearest.{AreRowsOf};
+ghost use Rattle.sgt_history_graph.specs.Graph.{Goes, IsCycle, JoinsNodes};
+ghost use Rattle.sgt_history_graph.specs.Nearest.{AreRowsOf, NoneBelow};
 
 use crate::components::ranks_of;
 use crate::edge::Edge;
@@ -62,25 +62,38 @@ fn distances(
     Ok(distances)
 }
 
-/// The first cycle, where ranks and distances are what they are to be.
+/// A node below which none lies on a cycle, or None where no node lies on one. With the ranks of components it is the
+/// least node that does.
+fn least_candidate(
+    alloc: Global,
+    nodes: usize,
+    edges: &[Edge],
+    rows: &Rows,
+) -> Result<Option<u32>, AllocError>
+    requires { nodes ≤ 2 ^ 32 }
+    ensures some { IfOk result (λ found. IfSome found (NoneBelow edges.now)) }
+    ensures none { IfOk result (λ found. IfNone found ((other : List ℕ) → IsCycle (Goes edges.now) other → ⊥)) }
+{
+    let ranks = ranks_of(alloc, rows, nodes, edges.len())?;
+    if !are_falling(edges, ranks.as_slice()) {
+        return Ok(Some(0));
+    }
+    Ok(least_level(edges, ranks.as_slice()))
+}
+
+/// The first cycle, where it leads through this node, and distances are what they are to be.
 fn quick_cycle(
     alloc: Global,
     nodes: usize,
     edges: &[Edge],
     rows: &Rows,
+    node: u32,
 ) -> Result<Option<Vec<u32>>, AllocError>
     requires few { nodes ≤ 2 ^ 32 }
     requires rows { AreRowsOf nodes edges.now rows.now.starts.items rows.now.targets.items }
+    requires below { NoneBelow edges.now node }
     ensures { IfOk result (λ found. IfSome found (λ cycle. IsFirstCycle edges.now cycle.items)) }
 {
-    let ranks = ranks_of(alloc, rows, nodes, edges.len())?;
-    if !are_falling(edges, ranks.as_slice()) {
-        return Ok(None);
-    }
-    let Some(node) = least_level(edges, ranks.as_slice()) else {
-        return Ok(None);
-    };
-    drop(ranks);
     let turned = turned(alloc, nodes, edges)?;
     let back = Rows::new(alloc, nodes, turned.as_slice())?;
     drop(turned);
@@ -91,18 +104,20 @@ fn quick_cycle(
     way_home(alloc, rows, distances.as_slice(), node)
 }
 
-/// The first cycle, looked for from node after node.
+/// The first cycle, looked for from node after node, beginning with this one.
 fn plain_cycle(
     alloc: Global,
     nodes: usize,
     edges: &[Edge],
     rows: &Rows,
+    first: u32,
 ) -> Result<Option<Vec<u32>>, AllocError>
     requires few { nodes ≤ 2 ^ 32 }
     requires rows { AreRowsOf nodes edges.now rows.now.starts.items rows.now.targets.items }
+    requires below { NoneBelow edges.now first }
     ensures { IfOk result (λ found. TellsFirst edges.now found) }
 {
-    for node in 0..nodes {
+    for node in first as usize..nodes {
         let distances = measured(alloc, nodes, edges, node as u32)?;
         let found = way_home(alloc, rows, distances.as_slice(), node as u32)?;
         if found.is_some() {
@@ -113,7 +128,7 @@ fn plain_cycle(
 }
 
 /// The first cycle: of the least node that lies on one the shortest, of several the one whose nodes are, from it on,
-/// the least. Takes time in proportion to nodes and edges where there is one. Err: memory ran out.
+/// the least. Takes time in proportion to nodes and edges. Err: memory ran out.
 pub fn shown_cycle(
     alloc: Global,
     nodes: usize,
@@ -124,9 +139,12 @@ pub fn shown_cycle(
     ensures { IfOk result (λ found. TellsFirst edges.now found) }
 {
     let rows = Rows::new(alloc, nodes, edges)?;
-    let quick = quick_cycle(alloc, nodes, edges, &rows)?;
+    let Some(node) = least_candidate(alloc, nodes, edges, &rows)? else {
+        return Ok(None);
+    };
+    let quick = quick_cycle(alloc, nodes, edges, &rows, node)?;
     if quick.is_some() {
         return Ok(quick);
     }
-    plain_cycle(alloc, nodes, edges, &rows)
+    plain_cycle(alloc, nodes, edges, &rows, node)
 }

@@ -1,4 +1,4 @@
-use Rattle.std.proofs.Common.{◌≡◌, ℕ, ◌<◌, List, Some, None, lit<, sym, ◌∙◌, subst, arith}
+use Rattle.std.proofs.Common.{ℕ, ◌<◌, lit<, sym, subst, arith}
 use Rattle.sgt_history_graph.specs.declared.homeward.TheConstants.{FAR}
 use Rattle.sgt_history_graph.specs.Nearest.{IsNearest, IsOnWay}
 use Rattle.sgt_history_graph.proofs.Ways.{lost-end, lost-far, lost-first, lost-none, way-begins, way-ends, way-goes_on}

@@ -1,4 +1,4 @@
-use Rattle.std.proofs.Common.{◌+◌, Option, sym, subst, arith}
+use Rattle.std.proofs.Common.{◌+◌, sym, subst, arith}
 use Rattle.sgt_history_graph.specs.declared.edge.Edge.{Edge}
 use Rattle.sgt_history_graph.proofs.Levels.{LeastUpTo, least-hits, least-misses, none-told, some-told}
 use Rattle.sgt_history_graph.proofs.nearest.least_level.Goals as goal

@@ -1,6 +1,3 @@
-use Rattle.std.proofs.Common.{◌≡◌, ℕ, ◌<◌, ◌≤◌, List, Option, None, Some, slice_index}
-use Rattle.std.specs.Prelude.{slice_get}
-use Rattle.sgt_history_graph.specs.declared.edge.Edge.{Edge}
 use Rattle.sgt_history_graph.proofs.Levels.{LeastUpTo}
 use Rattle.sgt_history_graph.proofs.nearest.least_level.Given as goal
 

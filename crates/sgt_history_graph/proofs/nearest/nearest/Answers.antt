@@ -1,4 +1,3 @@
-use Rattle.std.proofs.Common.{ℕ}
 use Rattle.sgt_history_graph.proofs.Nearby.{nearest-more}
 use Rattle.sgt_history_graph.proofs.nearest.nearest.Goals as goal
 
