@@ -1,5 +1,6 @@
-//! Names of files as words of a shell, and in a line that is told.
+//! Names of files as words of a shell.
 
+use sgt_status::is_control;
 use std::fmt;
 use std::fmt::{Display, Formatter, Write};
 
@@ -10,21 +11,9 @@ pub struct ShellWord<'a> {
     pub name: &'a str,
 }
 
-/// The name of a file in a line that is told: each control character as `\x` and two hexadecimal digits, so that no name
-/// makes a second line, or tells a terminal what to do.
-#[derive(Clone, Copy)]
-pub struct LineName<'a> {
-    pub name: &'a str,
-}
-
 // Whether a shell reads the byte as itself wherever it stands.
 fn is_plain(byte: u8) -> bool {
     byte.is_ascii_alphanumeric() || byte >= 128 || b"./_-+,:=@%".contains(&byte)
-}
-
-// Whether a terminal may read the character as a command.
-fn is_control(letter: char) -> bool {
-    letter.is_ascii_control() || (letter >= '\u{80}' && letter <= '\u{9f}')
 }
 
 // Writes the name between quotes.
@@ -67,18 +56,5 @@ impl Display for ShellWord<'_> {
         } else {
             write_quoted(self.name, f)
         }
-    }
-}
-
-impl Display for LineName<'_> {
-    fn fmt<W: Write>(&self, f: &mut Formatter<W>) -> fmt::Result {
-        for letter in self.name.chars() {
-            if is_control(letter) {
-                write!(f, "\\x{:02x}", letter as u32)?;
-            } else {
-                f.write_char(letter)?;
-            }
-        }
-        Ok(())
     }
 }
