@@ -5,8 +5,8 @@ use Rattle.sgt_names.specs.declared.outcome.Outcome.TheVariants.{Yes, No, Unread
 use Rattle.sgt_serve.specs.declared.fail.ServeFail.{ServeFail}
 use Rattle.sgt_serve.specs.declared.fail.ServeFail.TheVariants.{Memory, ReadFault, WriteFault, BundleFault}
 
--- 0 all was closed at the end, 1 some transaction wasn't, 2 a line can't be read, 3 want of memory, 4 a device failed or
--- the last bundle can't be written
+-- 0 and 1 as the talk told, 2 a line can't be read, 3 want of memory, 4 a device failed or the last bundle can't be
+-- written
 abbrev pub talk_status : Result Outcome ServeFail → ℕ
 talk_status (Ok Yes) = 0
 talk_status (Ok No) = 1

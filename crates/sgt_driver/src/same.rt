@@ -57,10 +57,10 @@ fn place_at<'a>(rt: &HostRuntime, name: Option<&'a String>) -> Option<Place<'a>>
 // The file that is read under this name, behind those before it.
 fn add(rt: &HostRuntime, taken: &mut Vec<FileId>, name: &str) -> Result<(), AllocError> {
     let read = if name == "-" { STANDARD } else { name };
-    match file_at(rt, read) {
-        Some(file) => taken.push(file),
-        None => Ok(()),
+    if let Some(file) = file_at(rt, read) {
+        taken.push(file)?;
     }
+    Ok(())
 }
 
 // The files that are read, and standard output.

@@ -58,8 +58,8 @@ Tells calls (Err fault) calls' = calls' ≡ calls
 abbrev pub telling : List (List ℕ) → List Call
 telling names = map (λ (text : List ℕ). (name text, Ok tt)) names
 
--- the folder's names were told, and this is the greatest number of a bundle among them; a new file could be made beside the
--- next number's name, and was taken away
+-- the folder's names were told, and this is the greatest number of a bundle among them; a new file could be made
+-- beside the next number's name, and was taken away
 pub record Opens (calls : List Call) (greatest : ℕ) : Type 0 where
   pub names : List (List ℕ)
   pub made : List Call

@@ -56,7 +56,8 @@ impl<F: Folder> Asked<F> {
 
     /// A new file beside the name of this number.
     pub(crate) fn make(&mut self, number: u64, at: u32) -> Result<(), FolderFault>
-        ensures { self.new.calls.items ≡ self.old.calls.items ++ (make number at, result) ∷ [] }
+        ensures notes { self.new.calls.items ≡ self.old.calls.items ++ (make number at, result) ∷ [] }
+        ensures asks { F.gives self.old.folder (make number at, result) self.new.folder }
     {
         let answer = self.folder.make(number, at);
         self.calls = self.calls.with(&FolderCall {
@@ -68,7 +69,8 @@ impl<F: Folder> Asked<F> {
 
     /// The text stored in it.
     pub(crate) fn store(&mut self, text: &[u8]) -> Result<(), FolderFault>
-        ensures { self.new.calls.items ≡ self.old.calls.items ++ (store text.now, result) ∷ [] }
+        ensures notes { self.new.calls.items ≡ self.old.calls.items ++ (store text.now, result) ∷ [] }
+        ensures asks { F.gives self.old.folder (store text.now, result) self.new.folder }
     {
         let answer = self.folder.store(text);
         self.calls = self.calls.with(&FolderCall {
@@ -80,7 +82,8 @@ impl<F: Folder> Asked<F> {
 
     /// The name of this number for it.
     pub(crate) fn link(&mut self, number: u64) -> Result<(), FolderFault>
-        ensures { self.new.calls.items ≡ self.old.calls.items ++ (link number, result) ∷ [] }
+        ensures notes { self.new.calls.items ≡ self.old.calls.items ++ (link number, result) ∷ [] }
+        ensures asks { F.gives self.old.folder (link number, result) self.new.folder }
     {
         let answer = self.folder.link(number);
         self.calls = self.calls.with(&FolderCall {
@@ -92,7 +95,8 @@ impl<F: Folder> Asked<F> {
 
     /// The folder's names stored.
     pub(crate) fn sync(&mut self) -> Result<(), FolderFault>
-        ensures { self.new.calls.items ≡ self.old.calls.items ++ (sync, result) ∷ [] }
+        ensures notes { self.new.calls.items ≡ self.old.calls.items ++ (sync, result) ∷ [] }
+        ensures asks { F.gives self.old.folder (sync, result) self.new.folder }
     {
         let answer = self.folder.sync();
         self.calls = self.calls.with(&FolderCall {
@@ -104,7 +108,8 @@ impl<F: Folder> Asked<F> {
 
     /// The name of this number taken away.
     pub(crate) fn unlink(&mut self, number: u64) -> Result<(), FolderFault>
-        ensures { self.new.calls.items ≡ self.old.calls.items ++ (unlink number, result) ∷ [] }
+        ensures notes { self.new.calls.items ≡ self.old.calls.items ++ (unlink number, result) ∷ [] }
+        ensures asks { F.gives self.old.folder (unlink number, result) self.new.folder }
     {
         let answer = self.folder.unlink(number);
         self.calls = self.calls.with(&FolderCall {
@@ -116,7 +121,8 @@ impl<F: Folder> Asked<F> {
 
     /// The new file taken away.
     pub(crate) fn remove(&mut self) -> Result<(), FolderFault>
-        ensures { self.new.calls.items ≡ self.old.calls.items ++ (remove, result) ∷ [] }
+        ensures notes { self.new.calls.items ≡ self.old.calls.items ++ (remove, result) ∷ [] }
+        ensures asks { F.gives self.old.folder (remove, result) self.new.folder }
     {
         let answer = self.folder.remove();
         self.calls = self.calls.with(&FolderCall {

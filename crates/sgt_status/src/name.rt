@@ -9,8 +9,8 @@ ghost use Rattle.sgt_status.specs.Shown.{IsControl, shown, shown_letter};
 use std::fmt;
 use std::fmt::{Display, Formatter, Write};
 
-/// The name of a file in a line that is told: each control character as `\x` and two hexadecimal digits, so that no name
-/// makes a second line, or tells a terminal what to do.
+/// The name of a file in a line that is told: each control character as `\x` and two hexadecimal digits, so that no
+/// name makes a second line, or tells a terminal what to do.
 #[derive(Clone, Copy)]
 pub struct LineName<'a> {
     pub name: &'a str,

@@ -17,7 +17,7 @@ returns-in-Ok g c =
     let n = c.name_stored-named.ensures in (
       m.0 ++ (n.0 ++ (remove, c.remove.result) ∷ []),
       kept_at c.args.number c.args.text.now m.0 n.0 c.remove.result _ e m.1 n.1,
-      then _ _ _ m.0 (n.0 ++ (remove, c.remove.result) ∷ []) m.2 (then _ _ _ n.0 ((remove, c.remove.result) ∷ []) n.2 c.remove.ensures),
+      then _ _ _ m.0 (n.0 ++ (remove, c.remove.result) ∷ []) m.2 (then _ _ _ n.0 ((remove, c.remove.result) ∷ []) n.2 c.remove.ensures.notes),
     )
 
 pub returns-in-Err : goal.returns-in-Err
@@ -27,5 +27,5 @@ returns-in-Err g c =
     let n = c.name_stored-named.ensures in (
       m.0 ++ (n.0 ++ (remove, c.remove.result) ∷ []),
       unnamed_at c.args.number c.args.text.now m.0 n.0 c.remove.result _ c.in-Err.fault e m.1 n.1,
-      then _ _ _ m.0 (n.0 ++ (remove, c.remove.result) ∷ []) m.2 (then _ _ _ n.0 ((remove, c.remove.result) ∷ []) n.2 c.remove.ensures),
+      then _ _ _ m.0 (n.0 ++ (remove, c.remove.result) ∷ []) m.2 (then _ _ _ n.0 ((remove, c.remove.result) ∷ []) n.2 c.remove.ensures.notes),
     )

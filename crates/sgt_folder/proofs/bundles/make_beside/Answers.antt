@@ -18,7 +18,7 @@ loop-at-preserved g c =
       more before.1,
       subst (λ (f : FolderFault). c.make.new.self.calls.items
           ≡ c.args.asked.now.calls.items ++ (before.0 ++ (make c.args.number c.loop-at.at, Err f) ∷ [])) taken
-          (then _ _ _ before.0 ((make c.args.number c.loop-at.at, Err c.in-Err.fault) ∷ []) before.2 c.in-Err.ensures),
+          (then _ _ _ before.0 ((make c.args.number c.loop-at.at, Err c.in-Err.fault) ∷ []) before.2 c.in-Err.ensures.notes),
     )
 
 pub returns-in-Ok : goal.returns-in-Ok
@@ -26,7 +26,7 @@ returns-in-Ok g c =
     let before = c.loop-at.invariant in (
       before.0 ++ (make c.args.number c.loop-at.at, Ok tt) ∷ [],
       made before.1,
-      then _ _ _ before.0 ((make c.args.number c.loop-at.at, Ok tt) ∷ []) before.2 c.in-Ok.ensures,
+      then _ _ _ before.0 ((make c.args.number c.loop-at.at, Ok tt) ∷ []) before.2 c.in-Ok.ensures.notes,
     )
 
 pub returns-in-Err : goal.returns-in-Err
@@ -35,7 +35,7 @@ returns-in-Err g c =
       before.0 ++ (make c.args.number c.loop-at.at, Err c.in-Err.fault) ∷ [],
       failed before.1
           (λ same. let is = c.is_taken.ensures.1 same in let is_not = c.if-is_taken.false in absurd cc),
-      then _ _ _ before.0 ((make c.args.number c.loop-at.at, Err c.in-Err.fault) ∷ []) before.2 c.in-Err.ensures,
+      then _ _ _ before.0 ((make c.args.number c.loop-at.at, Err c.in-Err.fault) ∷ []) before.2 c.in-Err.ensures.notes,
     )
 
 pub returns : goal.returns

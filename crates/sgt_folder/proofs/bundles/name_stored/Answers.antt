@@ -10,7 +10,7 @@ returns-in_err-store g c =
     let e : c.from_residual.result ≡ Err c.in_err-store.field-0.0 = first_of (search rules, grind (arith, common_steps)) in (
       (store c.args.text.now, Err c.in_err-store.field-0.0) ∷ [],
       unstored_at c.args.number c.args.text.now c.in_err-store.field-0.0 _ e,
-      c.in_err-store.ensures,
+      c.in_err-store.ensures.notes,
     )
 
 pub returns-in_err-link : goal.returns-in_err-link
@@ -18,7 +18,7 @@ returns-in_err-link g c =
     let e : c.from_residual-in_err-link.result ≡ Err c.in_err-link.field-0.0 = first_of (search rules, grind (arith, common_steps)) in (
       (store c.args.text.now, Ok tt) ∷ (link c.args.number, Err c.in_err-link.field-0.0) ∷ [],
       unlinked_at c.args.number c.args.text.now c.in_err-link.field-0.0 _ e,
-      then _ _ _ ((store c.args.text.now, Ok tt) ∷ []) ((link c.args.number, Err c.in_err-link.field-0.0) ∷ []) c.in_ok-store.ensures c.in_err-link.ensures,
+      then _ _ _ ((store c.args.text.now, Ok tt) ∷ []) ((link c.args.number, Err c.in_err-link.field-0.0) ∷ []) c.in_ok-store.ensures.notes c.in_err-link.ensures.notes,
     )
 
 pub returns-in-Ok : goal.returns-in-Ok
@@ -26,8 +26,8 @@ returns-in-Ok g c = (
   (store c.args.text.now, Ok tt) ∷ (link c.args.number, Ok tt) ∷ (sync, Ok tt) ∷ [],
   named,
   then _ _ _ ((store c.args.text.now, Ok tt) ∷ (link c.args.number, Ok tt) ∷ []) ((sync, Ok tt) ∷ [])
-      (then _ _ _ ((store c.args.text.now, Ok tt) ∷ []) ((link c.args.number, Ok tt) ∷ []) c.in_ok-store.ensures c.in_ok-link.ensures)
-      c.in-Ok.ensures,
+      (then _ _ _ ((store c.args.text.now, Ok tt) ∷ []) ((link c.args.number, Ok tt) ∷ []) c.in_ok-store.ensures.notes c.in_ok-link.ensures.notes)
+      c.in-Ok.ensures.notes,
 )
 
 pub returns-in-Err : goal.returns-in-Err
@@ -36,7 +36,7 @@ returns-in-Err g c = (
   unsynced c.unlink.result,
   then _ _ _ ((store c.args.text.now, Ok tt) ∷ (link c.args.number, Ok tt) ∷ (sync, Err c.in-Err.fault) ∷ []) ((unlink c.args.number, c.unlink.result) ∷ [])
       (then _ _ _ ((store c.args.text.now, Ok tt) ∷ (link c.args.number, Ok tt) ∷ []) ((sync, Err c.in-Err.fault) ∷ [])
-      (then _ _ _ ((store c.args.text.now, Ok tt) ∷ []) ((link c.args.number, Ok tt) ∷ []) c.in_ok-store.ensures c.in_ok-link.ensures)
-      c.in-Err.ensures)
-      c.unlink.ensures,
+      (then _ _ _ ((store c.args.text.now, Ok tt) ∷ []) ((link c.args.number, Ok tt) ∷ []) c.in_ok-store.ensures.notes c.in_ok-link.ensures.notes)
+      c.in-Err.ensures.notes)
+      c.unlink.ensures.notes,
 )
