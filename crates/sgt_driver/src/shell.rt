@@ -1,6 +1,5 @@
 //! Names of files as words of a shell.
 
-use sgt_status::is_control;
 use std::fmt;
 use std::fmt::{Display, Formatter, Write};
 
@@ -14,6 +13,11 @@ pub struct ShellWord<'a> {
 // Whether a shell reads the byte as itself wherever it stands.
 fn is_plain(byte: u8) -> bool {
     byte.is_ascii_alphanumeric() || byte >= 128 || b"./_-+,:=@%".contains(&byte)
+}
+
+// Whether a terminal may read the character as a command.
+fn is_control(letter: char) -> bool {
+    letter.is_ascii_control() || (letter >= '\u{80}' && letter <= '\u{9f}')
 }
 
 // Writes the name between quotes.

@@ -7,6 +7,6 @@ mod place;
 mod status;
 
 pub use lines::Lines;
-pub use name::{LineName, is_control};
+pub use name::LineName;
 pub use place::{FileId, Place, overwritten};
 pub use status::{behind, expected, greater};

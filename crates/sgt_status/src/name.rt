@@ -16,8 +16,8 @@ pub struct LineName<'a> {
     pub name: &'a str,
 }
 
-/// Whether a terminal may read the character as a command.
-pub fn is_control(letter: char) -> bool
+// Whether a terminal may read the character as a command.
+fn is_control(letter: char) -> bool
     ensures { IsTrue result ↔ IsControl letter }
 {
     letter < ' ' || (letter >= '\u{7f}' && letter <= '\u{9f}')
