@@ -6,7 +6,6 @@ ghost use Rattle.sgt_driver.specs.Status.{IsStatus};
 use crate::devices::{Held, LastWords};
 use crate::expected::expected_status;
 use crate::host::{Host, ended, open, writer};
-use crate::shell::LineName;
 use crate::streams::Streams;
 use crate::unreadable::Fronted;
 use crate::why::tell_why;
@@ -14,6 +13,7 @@ use sgt_audit_chain::ChainAuditor;
 use sgt_line::Line;
 use sgt_names::{EngineFail, FromRead, Sink, ToWrite};
 use sgt_program::{audit_next, end_chain, give_up};
+use sgt_status::LineName;
 
 // The status of the file as the next bundle, if the chain ends with it.
 fn next<S: Streams, H, W: Sink>(

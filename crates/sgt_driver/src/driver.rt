@@ -11,8 +11,7 @@ use crate::host::{Host, file_of, over, writer};
 use crate::object::{answer_objects, asks_object};
 use crate::ordinary::{audit_each, judge, run_held};
 use crate::page::{answer_page, asks_page};
-use crate::same::overwritten;
-use crate::shell::LineName;
+use crate::same::written_over;
 use crate::streams::Streams;
 use crate::svg::check_drawn;
 use crate::talk::serve_events;
@@ -21,6 +20,7 @@ use sgt_command_line::{Choice, NoChoice, Way, awaited, choose, wanted_by, way_of
 use sgt_line::{CommandName, Line, named};
 use sgt_names::{EngineFail, ToWrite};
 use sgt_program::{give_up, refuse_words};
+use sgt_status::LineName;
 use std::alloc::AllocError;
 use std::fs;
 use std::sync::Wait;
@@ -127,10 +127,16 @@ fn run<S: Streams, H: Threads + Wait + Sync>(
 ) -> u8
     ensures { IsStatus result }
 {
-    if let Some(name) = overwritten(rt, line) {
-        let name = LineName { name };
-        let _ = eprintln!(streams; "sgt: {name} is to be written, and is read or written already");
-        return 2;
+    match written_over(rt, line) {
+        Ok(None) => {}
+        Ok(Some(name)) => {
+            let name = LineName { name };
+            let _ = eprintln!(streams;
+                "sgt: {name} is to be written, and is read or written already"
+            );
+            return 2;
+        }
+        Err(_) => return refuse(streams, hush, NoWords::Memory),
     }
     let expected = match expected_of(streams, line) {
         Ok(expected) => expected,

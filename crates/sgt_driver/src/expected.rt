@@ -4,9 +4,9 @@ ghost use Rattle.std.specs.Prelude.{IfErr};
 ghost use Rattle.sgt_driver.specs.Status.{IsStatus};
 
 use crate::host::Host;
-use crate::shell::LineName;
 use crate::streams::Streams;
 use sgt_line::Line;
+use sgt_status::{LineName, expected};
 
 /// What the line says of it; the status, where that is no number.
 pub(crate) fn expected_of<S: Streams>(streams: &S, line: &Line) -> Result<Option<u64>, u8>
@@ -44,12 +44,14 @@ pub(crate) fn expected_status<S: Streams, H>(
 ) -> u8
     ensures { IsStatus status → IsStatus result }
 {
-    match (host.expected, committed_of(answer)) {
-        (Some(expected), Some(count)) if status == 0 && count != expected => {
+    let committed = committed_of(answer);
+    let found = expected(status, committed, host.expected);
+    match (host.expected, committed) {
+        (Some(wanted), Some(count)) if found != status => {
             let title = LineName { name: title };
-            let _ = eprintln!(host.streams; "sgt: {title}: {count} committed, {expected} expected");
-            1
+            let _ = eprintln!(host.streams; "sgt: {title}: {count} committed, {wanted} expected");
         }
-        _ => status,
+        _ => {}
     }
+    found
 }

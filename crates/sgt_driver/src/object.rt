@@ -7,13 +7,13 @@ use crate::against::judged;
 use crate::chain::audit_files;
 use crate::host::{Host, file_of, over, word_of, writer};
 use crate::output::Output;
-use crate::shell::LineName;
 use crate::streams::Streams;
 use crate::svg::drawn;
 use sgt_command_line::{Choice, NoChoice, Way, wanted_by, way_of};
 use sgt_json::{Asked, Tally, object_of};
 use sgt_line::{CommandName, Line};
 use sgt_names::{EngineFail, Failed, Sink, ToWrite, write_all};
+use sgt_status::{LineName, greater};
 use std::alloc::{AllocError, Global};
 use std::sync::Wait;
 use std::thread::Threads;
@@ -223,7 +223,8 @@ fn answered_each<S: Streams, H: Threads + Wait + Sync, W: Sink>(
 {
     let mut status = 0;
     for name in &line.files {
-        status = status.max(answered(host, line, choice, name.as_str(), output)?);
+        let found = answered(host, line, choice, name.as_str(), output)?;
+        status = greater(status, found);
     }
     Ok(status)
 }

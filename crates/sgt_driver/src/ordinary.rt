@@ -5,11 +5,11 @@ ghost use Rattle.sgt_driver.specs.Status.{IsStatus};
 
 use crate::devices::Held;
 use crate::host::{Host, over, write_file, writer};
-use crate::shell::LineName;
 use crate::streams::Streams;
 use crate::why::tell_refusal;
 use sgt_line::{Line, cut, shown, strict_status};
 use sgt_names::{EngineFail, MemSink, Nowhere, write_all};
+use sgt_status::{LineName, greater};
 use std::sync::Wait;
 use std::thread::Threads;
 
@@ -29,7 +29,7 @@ pub(crate) fn audit_each<S: Streams, H: Threads + Wait + Sync>(
     for name in &line.files {
         let mut verdict = MemSink::new(rt.alloc(), LINE)?;
         let found = over(host, line.words.as_slice(), name.as_str(), &mut verdict);
-        status = status.max(found);
+        status = greater(status, found);
         if found == 1 || (found == 0 && !line.is_quiet) {
             let title = LineName {
                 name: name.as_str(),

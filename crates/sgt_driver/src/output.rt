@@ -55,15 +55,14 @@ impl<'a, S: Streams> Output<'a, S> {
         }
     }
 
-    // Tells or notes why a write failed.
+    // Tells why a write failed, if it isn't that its reader went away: last words would be one too many then.
     fn refuse(&self, why: &io::Error) {
-        match self.name {
-            Some(name) => {
-                refuse_file(self.streams, name.as_str(), why);
-                self.hush.set();
-            }
-            None => self.hush.note(why),
-        }
+        let name = match self.name {
+            Some(name) => name.as_str(),
+            None => "standard output",
+        };
+        refuse_file(self.streams, name, why);
+        self.hush.set();
     }
 }
 

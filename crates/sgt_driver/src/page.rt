@@ -18,6 +18,9 @@ use std::alloc::{AllocError, Global};
 use std::sync::Wait;
 use std::thread::Threads;
 
+// The status of want of memory.
+const MEMORY: u8 = 3;
+
 /// Whether the answer is to be written as a page.
 pub(crate) fn asks_page(line: &Line, choice: &Result<Choice, NoChoice>) -> bool {
     match choice {
@@ -89,6 +92,19 @@ fn told<S: Streams, H: Threads + Wait + Sync>(
     (status, held)
 }
 
+// The same for a part of the page, which is wanted whole: want of memory is the page's too.
+fn told_part<S: Streams, H: Threads + Wait + Sync>(
+    host: &Host<'_, S, H>,
+    words: &[String],
+    text: &[u8],
+) -> Result<(u8, Held), EngineFail> {
+    let (status, held) = told(host, words, text, true);
+    if status == MEMORY || held.refused > 0 {
+        return Err(EngineFail::Memory);
+    }
+    Ok((status, held))
+}
+
 // The words of an explanation, for a picture of the same.
 fn drawing(alloc: Global, words: &[String]) -> Result<Vec<String>, AllocError> {
     let mut given = Vec::new(alloc);
@@ -111,7 +127,7 @@ fn picture<S: Streams, H: Threads + Wait + Sync>(
 ) -> Result<Held, EngineFail> {
     let alloc = host.rt.alloc();
     let words = drawing(alloc, line.words.as_slice())?;
-    let (status, held) = told(host, words.as_slice(), text, true);
+    let (status, held) = told_part(host, words.as_slice(), text)?;
     if status <= 1 && held.bytes().starts_with(b"<svg ") {
         return Ok(held);
     }
@@ -137,7 +153,8 @@ fn meaning<S: Streams, H: Threads + Wait + Sync>(
         return Ok(Held::new(alloc));
     };
     let words = asking(alloc, rule)?;
-    Ok(told(host, words.as_slice(), &[], true).1)
+    let (_, held) = told_part(host, words.as_slice(), &[])?;
+    Ok(held)
 }
 
 // Writes the page of the answer that was held, with this picture.

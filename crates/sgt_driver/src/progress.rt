@@ -1,6 +1,7 @@
 //! The lines that were read, told as they pass.
 
 use crate::streams::Streams;
+use sgt_status::Lines;
 
 const MILLION: u64 = 1_000_000;
 
@@ -41,7 +42,7 @@ impl Place {
 #[derive(Drop)]
 pub struct Progress<'a, S> {
     streams: &'a S,
-    lines: u64,
+    lines: Lines,
     site: Option<u64>,
     place: Place,
 }
@@ -51,14 +52,14 @@ impl<'a, S: Streams> Progress<'a, S> {
     pub(crate) fn new(streams: &'a S) -> Progress<'a, S> {
         Progress {
             streams,
-            lines: 0,
+            lines: Lines::new(),
             site: None,
             place: Place::Word(0),
         }
     }
 
     fn tell(&self) {
-        let millions = self.lines / MILLION;
+        let millions = self.lines.count() / MILLION;
         let (thousands, rest) = (millions / 1_000, millions % 1_000);
         let _ = match (thousands, self.site) {
             (0, None) => eprintln!(self.streams; "sgt: {rest},000,000 lines"),
@@ -73,6 +74,7 @@ impl<'a, S: Streams> Progress<'a, S> {
     /// These bytes were read.
     pub(crate) fn pass(&mut self, bytes: &[u8]) {
         for byte in bytes {
+            self.lines.pass(*byte);
             if *byte != b'\n' {
                 self.place = self.place.behind(*byte);
                 continue;
@@ -81,8 +83,7 @@ impl<'a, S: Streams> Progress<'a, S> {
                 self.site = Some(site);
             }
             self.place = Place::Word(0);
-            self.lines = self.lines.saturating_add(1);
-            if self.lines % MILLION == 0 {
+            if self.lines.count() % MILLION == 0 {
                 self.tell();
             }
         }

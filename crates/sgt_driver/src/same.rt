@@ -1,6 +1,8 @@
 //! A file that would be written over what is read, or over what else is written, under whatever names.
 
 use sgt_line::Line;
+use sgt_status::{FileId, Place, overwritten};
+use std::alloc::AllocError;
 use std::fs;
 use std::os::unix::fs::MetadataExt;
 
@@ -9,12 +11,26 @@ const STANDARD: &str = "/dev/stdin";
 
 const OUTPUT: &str = "/dev/stdout";
 
-// Whether the names are of one file, which is there.
-fn is_same(rt: &HostRuntime, one: &str, other: &str) -> bool {
-    let (Ok(first), Ok(second)) = (fs::metadata(rt, one), fs::metadata(rt, other)) else {
-        return false;
-    };
-    first.is_file() && first.dev() == second.dev() && first.ino() == second.ino()
+// The file of this name, if one is there.
+fn file_at(rt: &HostRuntime, name: &str) -> Option<FileId> {
+    match fs::metadata(rt, name) {
+        Ok(found) if found.is_file() => Some(FileId {
+            device: found.dev(),
+            number: found.ino(),
+        }),
+        _ => None,
+    }
+}
+
+// The folder of this name, if one is there.
+fn folder_at(rt: &HostRuntime, name: &str) -> Option<FileId> {
+    match fs::metadata(rt, name) {
+        Ok(found) => Some(FileId {
+            device: found.dev(),
+            number: found.ino(),
+        }),
+        Err(_) => None,
+    }
 }
 
 // The folder that a file of this name is in, and what it is called there.
@@ -26,53 +42,53 @@ fn parts_of(name: &str) -> (&str, &str) {
     }
 }
 
-// Whether the names are of one file, which may not be there yet.
-fn may_be_same(rt: &HostRuntime, one: &str, other: &str) -> bool {
-    let ((first, inner), (second, name)) = (parts_of(one), parts_of(other));
-    let (Ok(first), Ok(second)) = (fs::metadata(rt, first), fs::metadata(rt, second)) else {
-        return false;
-    };
-    let is_beside = first.dev() == second.dev() && first.ino() == second.ino();
-    is_same(rt, one, other) || (is_beside && inner == name)
+// What the system says of this name.
+fn place_at<'a>(rt: &HostRuntime, name: Option<&'a String>) -> Option<Place<'a>> {
+    let name = name?.as_str();
+    let (folder, inner) = parts_of(name);
+    Some(Place {
+        name,
+        file: file_at(rt, name),
+        folder: folder_at(rt, folder),
+        inner,
+    })
 }
 
-// Whether the file of this name is read, or is standard output.
-fn is_taken(rt: &HostRuntime, line: &Line, name: &str) -> bool {
-    if is_same(rt, name, OUTPUT) {
-        return true;
+// The file that is read under this name, behind those before it.
+fn add(rt: &HostRuntime, taken: &mut Vec<FileId>, name: &str) -> Result<(), AllocError> {
+    let read = if name == "-" { STANDARD } else { name };
+    if let Some(file) = file_at(rt, read) {
+        taken.push(file)?;
     }
+    Ok(())
+}
+
+// The files that are read, and standard output.
+fn taken_by(rt: &HostRuntime, line: &Line) -> Result<Vec<FileId>, AllocError> {
+    let mut taken = Vec::new(rt.alloc());
+    add(rt, &mut taken, OUTPUT)?;
     for file in &line.files {
-        let read = if file.as_str() == "-" {
-            STANDARD
-        } else {
-            file.as_str()
-        };
-        if is_same(rt, name, read) {
-            return true;
-        }
+        add(rt, &mut taken, file.as_str())?;
     }
     if let Some(order) = &line.against {
-        if is_same(rt, name, order.as_str()) {
-            return true;
-        }
+        add(rt, &mut taken, order.as_str())?;
     }
-    line.files.is_empty() && is_same(rt, name, STANDARD)
+    if line.files.is_empty() {
+        add(rt, &mut taken, STANDARD)?;
+    }
+    Ok(taken)
 }
 
 /// The file that would be written over what is read, or twice, if there is one.
-pub(crate) fn overwritten<'a>(rt: &HostRuntime, line: &'a Line) -> Option<&'a str> {
-    if let Some(name) = &line.output {
-        if is_taken(rt, line, name.as_str()) {
-            return Some(name.as_str());
-        }
+pub(crate) fn written_over<'a>(
+    rt: &HostRuntime,
+    line: &'a Line,
+) -> Result<Option<&'a str>, AllocError> {
+    if line.output.is_none() && line.place.is_none() {
+        return Ok(None);
     }
-    let place = line.place.as_ref()?.as_str();
-    if is_taken(rt, line, place) {
-        return Some(place);
-    }
-    let output = line.output.as_ref()?.as_str();
-    if output == place || may_be_same(rt, output, place) {
-        return Some(place);
-    }
-    None
+    let taken = taken_by(rt, line)?;
+    let output = place_at(rt, line.output.as_ref());
+    let place = place_at(rt, line.place.as_ref());
+    Ok(overwritten(output, place, taken.as_slice()))
 }

@@ -1,4 +1,4 @@
-//! Names of files as words of a shell, and in a line that is told.
+//! Names of files as words of a shell.
 
 use std::fmt;
 use std::fmt::{Display, Formatter, Write};
@@ -7,13 +7,6 @@ use std::fmt::{Display, Formatter, Write};
 /// quotes. One with control characters is quoted as bash, zsh and POSIX of 2024 read it, on one line.
 #[derive(Clone, Copy)]
 pub struct ShellWord<'a> {
-    pub name: &'a str,
-}
-
-/// The name of a file in a line that is told: each control character as `\x` and two hexadecimal digits, so that no name
-/// makes a second line, or tells a terminal what to do.
-#[derive(Clone, Copy)]
-pub struct LineName<'a> {
     pub name: &'a str,
 }
 
@@ -67,18 +60,5 @@ impl Display for ShellWord<'_> {
         } else {
             write_quoted(self.name, f)
         }
-    }
-}
-
-impl Display for LineName<'_> {
-    fn fmt<W: Write>(&self, f: &mut Formatter<W>) -> fmt::Result {
-        for letter in self.name.chars() {
-            if is_control(letter) {
-                write!(f, "\\x{:02x}", letter as u32)?;
-            } else {
-                f.write_char(letter)?;
-            }
-        }
-        Ok(())
     }
 }

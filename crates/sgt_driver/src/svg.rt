@@ -9,6 +9,7 @@ use crate::streams::Streams;
 use sgt_history_picture::picture_of;
 use sgt_line::Line;
 use sgt_names::{EngineFail, Failed, Sink};
+use sgt_status::behind;
 use std::alloc::Global;
 use std::sync::Wait;
 use std::thread::Threads;
@@ -73,7 +74,10 @@ pub(crate) fn drawn<S: Streams, H: Threads + Wait + Sync, W: Sink>(
         return Err(EngineFail::Memory);
     }
     match picture_of(host.rt.alloc(), copied.copy.as_slice())? {
-        Some(picture) => Ok(write_file(host, place, picture.as_slice()).unwrap_or(status)),
+        Some(picture) => {
+            let failed = write_file(host, place, picture.as_slice());
+            Ok(behind(status, failed))
+        }
         None => Ok(status),
     }
 }

@@ -1,10 +1,15 @@
 //! Events served one by one.
 
+ghost use Rattle.std.specs.Prelude.{◌≡◌, Err};
 ghost use Rattle.sgt_driver.specs.Status.{IsStatus};
+ghost use Rattle.sgt_driver.specs.Talk.{talk_status};
+ghost use Rattle.sgt_program.specs.Ending.{status_of};
+ghost use Rattle.sgt_program.specs.declared.ending.Ending.TheVariants.{Ran};
 
-use crate::devices::{LastWords, Retrying};
-use crate::folder::{FolderBundles, is_growth};
+use crate::devices::LastWords;
+use crate::folder::{ToldBundles, is_growth};
 use crate::host::{Host, ended, open, refuse_file};
+use crate::output::Output;
 use crate::streams::Streams;
 use sgt_line::Line;
 use sgt_names::{EngineFail, FromRead, Outcome, ToWrite};
@@ -19,30 +24,36 @@ fn tell_lost<S: Streams, H>(host: &Host<'_, S, H>, last: Last) {
     }
 }
 
-// The status; where there is no answer, standard error is told why.
-fn status_of<S: Streams, H>(host: &Host<'_, S, H>, told: Result<Outcome, ServeFail>) -> u8
-    ensures { IsStatus result }
+// The status of a talk that failed so; standard error is told why.
+fn failed<S: Streams, H>(host: &Host<'_, S, H>, fail: EngineFail) -> u8
+    ensures { result ≡ status_of (Ran (Err fail)) }
 {
-    let fail = match told {
-        Ok(Outcome::Yes) => return 0,
-        Ok(Outcome::No) => return 1,
-        Ok(Outcome::Unreadable) => return 2,
-        Err(ServeFail::Memory) => EngineFail::Memory,
+    let mut errors = ToWrite::new(LastWords::new(host.streams.errors(), host.hush));
+    give_up(&mut errors, fail)
+}
+
+// The status; where there is no answer, standard error is told why.
+fn status_after<S: Streams, H>(host: &Host<'_, S, H>, told: Result<Outcome, ServeFail>) -> u8
+    ensures { result ≡ talk_status told }
+{
+    match told {
+        Ok(Outcome::Yes) => 0,
+        Ok(Outcome::No) => 1,
+        Ok(Outcome::Unreadable) => 2,
+        Err(ServeFail::Memory) => failed(host, EngineFail::Memory),
         Err(ServeFail::ReadFault(last)) => {
             tell_lost(host, last);
-            EngineFail::ReadFault
+            failed(host, EngineFail::ReadFault)
         }
         Err(ServeFail::WriteFault(last)) => {
             tell_lost(host, last);
-            EngineFail::WriteFault
+            failed(host, EngineFail::WriteFault)
         }
         Err(ServeFail::BundleFault) => {
             let _ = eprintln!(host.streams; "sgt: the last bundle can't be written");
-            return 4;
+            4
         }
-    };
-    let mut errors = ToWrite::new(LastWords::new(host.streams.errors(), host.hush));
-    give_up(&mut errors, fail)
+    }
 }
 
 // Talks over standard input or a file and standard output, and gives the status.
@@ -55,11 +66,11 @@ fn talk<S: Streams, H, B: Bundles>(host: &Host<'_, S, H>, name: &str, bundles: &
     };
     let told = {
         let reader = FromRead::new(&mut steady);
-        let writer = ToWrite::new(Retrying::new(host.streams.output(), host.hush));
+        let writer = ToWrite::new(Output::new(host, None));
         let mut pipe = Pipe::new(reader, writer);
         serve(host.rt.alloc(), &mut pipe, bundles)
     };
-    let status = status_of(host, told);
+    let status = status_after(host, told);
     ended(host, &steady, name, status)
 }
 
@@ -68,12 +79,9 @@ pub(crate) fn serve_events<S: Streams, H>(host: &Host<'_, S, H>, line: &Line, na
     ensures { IsStatus result }
 {
     match &line.place {
-        Some(folder) => match FolderBundles::open(host.rt, host.streams, folder.as_str()) {
+        Some(folder) => match ToldBundles::open(host.rt, host.streams, folder.as_str()) {
             Ok(mut bundles) => talk(host, name, &mut bundles),
-            Err(why) if is_growth(&why) => {
-                let mut errors = ToWrite::new(LastWords::new(host.streams.errors(), host.hush));
-                give_up(&mut errors, EngineFail::Memory)
-            }
+            Err(why) if is_growth(&why) => failed(host, EngineFail::Memory),
             Err(why) => refuse_file(host.streams, folder.as_str(), &why),
         },
         None => talk(host, name, &mut NoBundles::new()),

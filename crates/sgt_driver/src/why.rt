@@ -2,9 +2,10 @@
 
 use crate::devices::Steady;
 use crate::host::Host;
-use crate::shell::{LineName, ShellWord};
+use crate::shell::ShellWord;
 use crate::streams::Streams;
 use sgt_line::{CommandName, names_rule};
+use sgt_status::LineName;
 use std::io::Read;
 
 // How the answer on a line that can't be read begins.

@@ -1,0 +1,3 @@
+pub mod Walks
+pub mod Named
+pub mod Kept

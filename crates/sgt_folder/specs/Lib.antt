@@ -1,0 +1,4 @@
+pub mod Call
+pub mod Asked
+pub mod Name
+pub mod Keeping

@@ -1,0 +1,4 @@
+pub mod Status
+pub mod Places
+pub mod Same
+pub mod Shown
