@@ -82,6 +82,15 @@ for bundle in stored broken; do
     echo "$bundle explain: $(wc -l < $out/found) lines"
 done
 
+# more than a hundred refused transactions: the library explains each of them, as `sgt explain --all` does
+rows=crates/sgt_rows/data/rows
+refusals=$rows/explain_all_of_101_refusals
+for who in $out/audit $out/audit_asan $out/cargo/release/sgt "python3 examples/python/sgt.py"; do
+    # shellcheck disable=SC2086
+    compare "$who" $refusals/stdin explain 0 $refusals/stdout $who
+done
+echo "101 refusals explain: $(wc -l < $refusals/stdout) lines"
+
 # a history that an order explains, one that none does, and one that can't be read
 printf '{"tx":"a","end":"commit","ops":[["r","x",1]]}\n{"tx":"b","end":"commit","ops":[["w","x",1]]}\n' > $out/explained
 printf 'yes 2 committed 0 aborted\n' > $out/explained.check

@@ -75,8 +75,8 @@ uint32_t sgt_certify(const uint8_t *bytes, size_t len, uint8_t *out, size_t room
 /* How long the text is that `sgt_explain` writes: as `sgt_serial_len` beside `sgt_serial`. */
 uint32_t sgt_explain_len(const uint8_t *bytes, size_t len, size_t *text_len);
 
-/* Explains a bundle: the auditor's line, and what it means, as `sgt explain` prints it. SGT_YES and SGT_NO are the verdict's. Room and
- * lengths as for `sgt_serial`. */
+/* Explains a bundle: the auditor's line, and what it means, as `sgt explain --all` prints it: of a yes each refused transaction with
+ * its cycle, however many there are. SGT_YES and SGT_NO are the verdict's. Room and lengths as for `sgt_serial`. */
 uint32_t sgt_explain(const uint8_t *bytes, size_t len, uint8_t *out, size_t room, size_t *text_len);
 
 /* How long the text is that `sgt_check` writes: as `sgt_serial_len` beside `sgt_serial`. */

@@ -1,4 +1,4 @@
-/* Prints what `sgt audit`, `sgt serial`, `sgt certify`, `sgt explain` and `sgt check` print of standard input, and ends with the
+/* Prints what `sgt audit`, `sgt serial`, `sgt certify`, `sgt explain --all` and `sgt check` print of standard input, and ends with the
  * program's status.
  *
  * usage: audit [audit|serial|certify|explain|check] < BUNDLE */
@@ -6,9 +6,19 @@
 
 #include <inttypes.h>
 #include <stdbool.h>
+#include <stddef.h>
 #include <stdio.h>
 #include <stdlib.h>
 #include <string.h>
+
+/* Where the library writes the fields of a verdict. */
+_Static_assert(offsetof(sgt_verdict, kind) == 0, "kind");
+_Static_assert(offsetof(sgt_verdict, fault) == 4, "fault");
+_Static_assert(offsetof(sgt_verdict, line) == 8, "line");
+_Static_assert(offsetof(sgt_verdict, committed) == 16, "committed");
+_Static_assert(offsetof(sgt_verdict, refused) == 24, "refused");
+_Static_assert(offsetof(sgt_verdict, withdrawn) == 32, "withdrawn");
+_Static_assert(sizeof(sgt_verdict) == 40, "nothing behind it");
 
 enum { DEVICE = 4 };
 

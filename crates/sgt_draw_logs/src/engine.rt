@@ -25,11 +25,10 @@ fn answer<R: Source>(alloc: Global, wanted: Wanted, reader: &mut R) -> Result<An
     answer_of(alloc, wanted, bytes.as_slice())
 }
 
-/// Draws what the reader gives. Logs without a certificate, whose line 2 begins the section of site 0, are certified
-/// first: after a yes the picture is that of the certified bundle, as `draw` of sgt_draw has it; after a no it shows
-/// the cycle alone that the answer of `certify` tells, whatever transaction is wanted, and where it tells none
-/// (`no line L FN`, `no walk`) that answer is written. All else is answered as by `draw`. The input is read whole and
-/// kept in memory.
+/// Draws what the reader gives. Logs without a certificate, whose line 2 begins with `site `, are certified first:
+/// after a yes the picture is that of the certified bundle, as `draw` of sgt_draw has it; after a no it shows the cycle
+/// alone that the answer of `certify` tells, whatever transaction is wanted, and where it tells none (`no line L FN`,
+/// `no walk`) that answer is written. All else is answered as by `draw`. The input is read whole and kept in memory.
 ///
 /// ReadFault where the reader failed, or too many reads were needed (`MOST_READS` of sgt_names), and Memory where a
 /// growth was refused: nothing was written. WriteFault where the writer failed: a front of the answer may have been

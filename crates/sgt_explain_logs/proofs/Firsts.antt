@@ -1,14 +1,13 @@
 -- First lines: of an answer of a no, and of logs.
-use Rattle.std.proofs.Common.{◌≡◌, ◌++◌, ◌∷◌, ℕ, List, [], codes, decimal, inl, inr, refl, subst}
+use Rattle.std.proofs.Common.{◌≡◌, ◌++◌, ◌∷◌, Bool, true, false, ℕ, List, [], codes, decimal, inl, inr, refl, subst}
 use Rattle.sgt_notation.specs.Spelling.{HasNoLf}
 use Rattle.sgt_notation.proofs.OneSpelling.{HasNot}
 use Rattle.sgt_notation.proofs.Texts.{has_no_lf}
 use Rattle.sgt_names.specs.declared.outcome.Outcome.TheVariants.{No}
 use Rattle.sgt_certify.specs.Answer.{fault_text, refusal_text, IsAnswer}
-use Rattle.sgt_explain_lines.proofs.Numbering.{line-cut}
 use Rattle.sgt_certify.specs.declared.refuting.Refusal.{Refusal}
 use Rattle.sgt_certify.specs.declared.refuting.Refusal.TheVariants.{Order, Ranks, Walk}
-use Rattle.sgt_explain_logs.specs.Explained.{AreLogs, BeginsSite}
+use Rattle.sgt_explain_logs.specs.Explained.{AreLogs, BeginsWith, logs_head}
 
 behind : (xs ys : List ℕ) → HasNot 10 (xs ++ ys) → HasNot 10 ys
 behind [] ys h = h
@@ -32,13 +31,8 @@ no_has_lf bytes text (inl refused) h =
 no_has_lf bytes text (inr faulty) h =
     of-fault faulty.line _ (subst (HasNot 10) faulty.told (has_no_lf text h))
 
--- bytes without an LF are no logs
-pub no_logs : (bytes : List ℕ) → HasNoLf bytes → AreLogs bytes → ⊥
-no_logs bytes h (first, more, plain, is, site) =
-    (behind first (10 ∷ more) (subst (HasNot 10) is (has_no_lf bytes h))).0 refl
-
--- what stands behind the first line is one text
-pub logs_only : (bytes first more : List ℕ) → HasNoLf first → bytes ≡ first ++ 10 ∷ more → AreLogs bytes
-    → BeginsSite more
-logs_only bytes first more plain is (line, rest, other, cut, site) =
-    subst BeginsSite (line-cut line first rest more bytes other plain cut is).1 site
+-- bytes that don't begin as logs of the first format do begin as those of the second
+pub logs-second : (bytes : List ℕ) → (BeginsWith (logs_head false) bytes → ⊥) → AreLogs bytes
+    → BeginsWith (logs_head true) bytes
+logs-second bytes none (false, begins) = absurd (none begins)
+logs-second bytes none (true, begins) = begins

@@ -5,18 +5,22 @@ use Rattle.sgt_names.specs.Device.{AppendsOrForgets, WritesFront}
 use Rattle.sgt_names.specs.declared.outcome.Outcome.{Outcome}
 use Rattle.sgt_names.specs.declared.outcome.Outcome.TheVariants.{Yes, No, Unreadable}
 use Rattle.sgt_notation.specs.Spelling.{HasNoLf}
+use Rattle.sgt_bundle.specs.Text.{format_line}
 use Rattle.sgt_certify.specs.Answer.{IsAnswer}
 use Rattle.sgt_certify_faults.specs.Faults.{IsFaultless}
 use Rattle.sgt_explain_transaction.specs.Dealings.{IsAnyOwn}
 
--- the text begins the section of site 0
-abbrev pub BeginsSite : List ℕ → Type 0
-BeginsSite text = (rest : List ℕ) × (text ≡ codes "site 0\n" ++ rest)
+-- the text begins with these bytes
+abbrev pub BeginsWith : (word text : List ℕ) → Type 0
+BeginsWith word text = (rest : List ℕ) × (text ≡ word ++ rest)
 
--- so does what stands behind the first line of the bytes
+-- how logs without a certificate begin: behind the first line of a format comes a line that begins as that of a
+-- section does
+abbrev pub logs_head : Bool → List ℕ
+logs_head second = format_line second ++ 10 ∷ codes "site "
+
 abbrev pub AreLogs : List ℕ → Type 0
-AreLogs bytes = (first : List ℕ) × (behind : List ℕ) × HasNoLf first × (bytes ≡ first ++ 10 ∷ behind)
-    × BeginsSite behind
+AreLogs bytes = (second : Bool) × BeginsWith (logs_head second) bytes
 
 -- the line is the first of the text, without its LF
 abbrev pub IsFirstLine : (text line : List ℕ) → Type 0

@@ -38,9 +38,9 @@ fn explain_held<W: Sink>(
     }
 }
 
-/// Explains what the reader gives: logs without a certificate, whose line 2 begins the section of site 0, by what
-/// `certify` answers of them (`explain_logs`), and all else by the auditor's verdict (`explain` of sgt_explain). The
-/// input is read whole and kept in memory, twice.
+/// Explains what the reader gives: logs without a certificate, whose line 2 begins with `site `, by what `certify`
+/// answers of them (`explain_logs`), and all else by the auditor's verdict (`explain` of sgt_explain). The input is
+/// read whole and kept in memory, twice.
 pub fn explain_either<R: Source, W: Sink>(
     alloc: Global,
     asked: Asked,
