@@ -3,14 +3,14 @@
 ghost use Rattle.std.specs.Prelude.{IfErr};
 ghost use Rattle.sgt_driver.specs.Status.{IsStatus};
 
-use crate::devices::{Held, Input, LastWords, Steady};
+use crate::devices::{Input, LastWords, Steady};
 use crate::host::{Host, ended, open, refuse_file, writer};
 use crate::streams::Streams;
 use crate::unreadable::{Fronted, tell_unreadable};
 use crate::why::tell_why;
 use sgt_command_line::CheckWanted;
 use sgt_line::Line;
-use sgt_names::{FromRead, Sink, ToWrite};
+use sgt_names::{FromRead, Nowhere, Sink, ToWrite};
 use sgt_program::check_order;
 use std::fs::File;
 
@@ -86,7 +86,7 @@ pub(crate) fn judge_order<S: Streams, H>(
     ensures { IsStatus result }
 {
     if line.is_quiet {
-        return judged(host, wanted, order, name, &mut Held::new(host.rt.alloc()));
+        return judged(host, wanted, order, name, &mut Nowhere);
     }
     let mut output = writer(host);
     judged(host, wanted, order, name, &mut output)

@@ -3,7 +3,7 @@
 ghost use Rattle.std.specs.Prelude.{IfSome};
 ghost use Rattle.sgt_driver.specs.Status.{IsStatus};
 
-use crate::devices::{Held, LastWords};
+use crate::devices::LastWords;
 use crate::expected::expected_status;
 use crate::host::{Host, ended, open, writer};
 use crate::streams::Streams;
@@ -11,7 +11,7 @@ use crate::unreadable::Fronted;
 use crate::why::tell_why;
 use sgt_audit_chain::ChainAuditor;
 use sgt_line::Line;
-use sgt_names::{EngineFail, FromRead, Sink, ToWrite};
+use sgt_names::{EngineFail, FromRead, Nowhere, Sink, ToWrite};
 use sgt_program::{audit_next, end_chain, give_up};
 use sgt_status::LineName;
 
@@ -76,7 +76,7 @@ pub(crate) fn audit_chain<S: Streams, H>(host: &Host<'_, S, H>, line: &Line) -> 
 {
     let files = line.files.as_slice();
     if line.is_quiet {
-        return audit_files(host, files, &mut Held::new(host.rt.alloc())).0;
+        return audit_files(host, files, &mut Nowhere).0;
     }
     let mut output = writer(host);
     audit_files(host, files, &mut output).0

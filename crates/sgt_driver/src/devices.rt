@@ -218,19 +218,21 @@ impl<W: Write> Write for LastWords<'_, W> {
     }
 }
 
-/// What is written, kept in memory.
+/// What is written, kept in memory. Where that is wanting no words on a device that failed are wanted.
 #[derive(Drop)]
-pub struct Held {
+pub struct Held<'a> {
     bytes: Vec<u8>,
+    hush: &'a Hush,
     /// How often a growth was refused.
     pub refused: u64,
 }
 
-impl Held {
+impl<'a> Held<'a> {
     /// Nothing yet.
-    pub(crate) fn new(alloc: Global) -> Held {
+    pub(crate) fn new(alloc: Global, hush: &'a Hush) -> Held<'a> {
         Held {
             bytes: Vec::new(alloc),
+            hush,
             refused: 0,
         }
     }
@@ -241,7 +243,7 @@ impl Held {
     }
 }
 
-impl Sink for Held {
+impl Sink for Held<'_> {
     ghost holds = { λ s. None };
 
     ghost failures = { λ s. s.refused };
@@ -250,6 +252,7 @@ impl Sink for Held {
         match self.bytes.extend_from_slice(bytes) {
             Ok(()) => Ok(bytes.len()),
             Err(_) => {
+                self.hush.set();
                 if self.refused == u64::MAX {
                     return Ok(bytes.len());
                 }

@@ -1,17 +1,18 @@
 //! The program over files, standard streams and threads.
 
-ghost use Rattle.std.specs.Prelude.{IfOk};
+ghost use Rattle.std.specs.Prelude.{IfErr, IfOk, IfSome};
 ghost use Rattle.sgt_driver.specs.Status.{IsStatus};
 
 use crate::against::judge_order;
 use crate::chain::audit_chain;
 use crate::devices::{Hush, LastWords};
 use crate::expected::expected_of;
-use crate::host::{Host, file_of, over, writer};
+use crate::folder::is_growth;
+use crate::host::{Host, file_of, over, refuse_file, writer};
 use crate::object::{answer_objects, asks_object};
 use crate::ordinary::{audit_each, judge, run_held};
 use crate::page::{answer_page, asks_page};
-use crate::same::written_over;
+use crate::same::{Unknown, written_over};
 use crate::streams::Streams;
 use crate::svg::check_drawn;
 use crate::talk::serve_events;
@@ -22,9 +23,9 @@ use sgt_names::{EngineFail, ToWrite};
 use sgt_program::{give_up, refuse_words};
 use sgt_status::LineName;
 use std::alloc::AllocError;
-use std::fs;
 use std::sync::Wait;
 use std::thread::Threads;
+use std::{fs, io};
 
 /// Why the words of the command line can't be had.
 #[derive(Clone, Copy, Debug, PartialEq, Eq)]
@@ -35,22 +36,50 @@ pub enum NoWords {
     NotText,
 }
 
-// Whether a word stands in a command's place that is none, and names a file.
-fn names_file(rt: &HostRuntime, given: &[String]) -> bool {
-    match given.get(1) {
-        Some(word) => {
-            let is_command = named(word.as_str()).is_some() || word.as_str() == "help";
-            let may_be_file = !is_command && !word.starts_with('-');
-            may_be_file && fs::exists(rt, word.as_str()).unwrap_or(false)
-        }
-        None => false,
+// The word that stands in a command's place and is none: it may name a file.
+fn file_word(given: &[String]) -> Option<&str> {
+    let word = given.get(1)?.as_str();
+    let is_command = named(word).is_some() || word == "help";
+    if is_command || word.starts_with('-') {
+        return None;
+    }
+    Some(word)
+}
+
+// Whether a file of this name is there. What no file can be called is none's name.
+fn is_there(rt: &HostRuntime, name: &str) -> io::Result<bool> {
+    match fs::exists(rt, name) {
+        Ok(is_there) => Ok(is_there),
+        Err(why) => match why.kind() {
+            io::ErrorKind::InvalidFilename | io::ErrorKind::NotADirectory => Ok(false),
+            _ => Err(why),
+        },
+    }
+}
+
+// Whether a file is named in a command's place; the status, where the system doesn't say whether it is there.
+fn names_file<S: Streams>(
+    rt: &HostRuntime,
+    streams: &S,
+    hush: &Hush,
+    given: &[String],
+) -> Result<bool, u8>
+    ensures { IfErr result IsStatus }
+{
+    let Some(word) = file_word(given) else {
+        return Ok(false);
+    };
+    match is_there(rt, word) {
+        Ok(is_there) => Ok(is_there),
+        Err(why) if is_growth(&why) => Err(refuse(streams, hush, NoWords::Memory)),
+        Err(why) => Err(refuse_file(streams, word, &why)),
     }
 }
 
 // The command line of these words; a file in a command's place is audited.
-fn line_with(rt: &HostRuntime, given: Vec<String>) -> Result<Line, AllocError> {
+fn line_with(rt: &HostRuntime, given: Vec<String>, names_file: bool) -> Result<Line, AllocError> {
     let mut given = given;
-    if given.len() > 1 && names_file(rt, given.as_slice()) {
+    if given.len() > 1 && names_file {
         given.insert(1, String::from_str(rt.alloc(), "audit")?)?;
     }
     Line::of(rt.alloc(), given.as_slice())?.settled(rt.alloc())
@@ -117,6 +146,37 @@ fn answer<S: Streams, H: Threads + Wait + Sync>(
     }
 }
 
+// The status, where a file would be written over or the system doesn't say whether one would.
+fn writes_over<S: Streams>(rt: &HostRuntime, streams: &S, hush: &Hush, line: &Line) -> Option<u8>
+    ensures { IfSome result IsStatus }
+{
+    match written_over(rt, line) {
+        Ok(None) => None,
+        Ok(Some(name)) => {
+            let name = LineName { name };
+            let _ = eprintln!(streams;
+                "sgt: {name} is to be written, and is read or written already"
+            );
+            Some(2)
+        }
+        Err(Unknown::Memory) => Some(refuse(streams, hush, NoWords::Memory)),
+        Err(Unknown::Refused(name, why)) => Some(refuse_file(streams, name, &why)),
+    }
+}
+
+// The status of what ended so. What was refused for want of memory is told as such, whatever was told before.
+fn give_up_on<S: Streams>(streams: &S, hush: &Hush, fail: EngineFail) -> u8
+    ensures { IsStatus result }
+{
+    if let EngineFail::Memory = fail {
+        hush.lift();
+    }
+    give_up(
+        &mut ToWrite::new(LastWords::new(streams.errors(), hush)),
+        fail,
+    )
+}
+
 // The status of what the line asks for.
 fn run<S: Streams, H: Threads + Wait + Sync>(
     rt: &HostRuntime,
@@ -127,16 +187,8 @@ fn run<S: Streams, H: Threads + Wait + Sync>(
 ) -> u8
     ensures { IsStatus result }
 {
-    match written_over(rt, line) {
-        Ok(None) => {}
-        Ok(Some(name)) => {
-            let name = LineName { name };
-            let _ = eprintln!(streams;
-                "sgt: {name} is to be written, and is read or written already"
-            );
-            return 2;
-        }
-        Err(_) => return refuse(streams, hush, NoWords::Memory),
+    if let Some(status) = writes_over(rt, streams, hush, line) {
+        return status;
     }
     let expected = match expected_of(streams, line) {
         Ok(expected) => expected,
@@ -159,10 +211,7 @@ fn run<S: Streams, H: Threads + Wait + Sync>(
     };
     match answer(&host, line, &choice) {
         Ok(status) => status,
-        Err(fail) => give_up(
-            &mut ToWrite::new(LastWords::new(streams.errors(), hush)),
-            fail,
-        ),
+        Err(fail) => give_up_on(streams, hush, fail),
     }
 }
 
@@ -181,7 +230,11 @@ pub fn drive<S: Streams, H: Threads + Wait + Sync>(
         Ok(words) => words,
         Err(why) => return refuse(streams, &hush, why),
     };
-    match line_with(rt, words) {
+    let names_file = match names_file(rt, streams, &hush, words.as_slice()) {
+        Ok(names_file) => names_file,
+        Err(status) => return status,
+    };
+    match line_with(rt, words, names_file) {
         Ok(line) => run(rt, streams, threads, &hush, &line),
         Err(_) => refuse(streams, &hush, NoWords::Memory),
     }

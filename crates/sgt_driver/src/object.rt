@@ -5,6 +5,7 @@ ghost use Rattle.sgt_driver.specs.Status.{IsStatus};
 
 use crate::against::judged;
 use crate::chain::audit_files;
+use crate::devices::Hush;
 use crate::host::{Host, file_of, over, word_of, writer};
 use crate::output::Output;
 use crate::streams::Streams;
@@ -30,6 +31,7 @@ pub struct Answer<'a, S> {
     file: Option<ToWrite<Output<'a, S>>>,
     // Whether the file took it.
     is_written: bool,
+    hush: &'a Hush,
     refused: u64,
 }
 
@@ -54,6 +56,7 @@ impl<'a, S: Streams> Answer<'a, S> {
             is_bundle: false,
             file,
             is_written: true,
+            hush: host.hush,
             refused: 0,
         }
     }
@@ -67,7 +70,7 @@ impl<'a, S: Streams> Answer<'a, S> {
         self.is_written
     }
 
-    // Some bytes more; whether they were taken.
+    // Some bytes more; whether they were taken. Where memory is wanting no words on a device that failed are wanted.
     fn take(&mut self, bytes: &[u8]) -> bool
         ensures { self.new.refused ≡ self.old.refused }
     {
@@ -75,7 +78,11 @@ impl<'a, S: Streams> Answer<'a, S> {
             self.is_bundle = true;
             return self.pass(bytes);
         }
-        self.kept.extend_from_slice(bytes).is_ok()
+        let is_kept = self.kept.extend_from_slice(bytes).is_ok();
+        if !is_kept {
+            self.hush.set();
+        }
+        is_kept
     }
 
     // The answer; of a bundle the line that an audit says of it.

@@ -72,7 +72,7 @@ pub(crate) fn run_held<S: Streams, H: Threads + Wait + Sync>(
 ) -> Result<u8, EngineFail>
     ensures { IfOk result IsStatus }
 {
-    let mut held = Held::new(host.rt.alloc());
+    let mut held = Held::new(host.rt.alloc(), host.hush);
     let status = over(host, line.words.as_slice(), name, &mut held);
     if held.refused > 0 {
         return Err(EngineFail::Memory);

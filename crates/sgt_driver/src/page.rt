@@ -54,16 +54,16 @@ fn whole<S: Streams, H>(
 }
 
 // What the program writes for these words over the text, and its status.
-fn told<S: Streams, H: Threads + Wait + Sync>(
-    host: &Host<'_, S, H>,
+fn told<'a, S: Streams, H: Threads + Wait + Sync>(
+    host: &Host<'a, S, H>,
     words: &[String],
     text: &[u8],
     is_quiet: bool,
-) -> (u8, Held)
+) -> (u8, Held<'a>)
     ensures { IsStatus result.0 }
 {
     let alloc = host.rt.alloc();
-    let mut held = Held::new(alloc);
+    let mut held = Held::new(alloc, host.hush);
     let mut reader = Bytes {
         rest: text,
         asks: Asks::none(),
@@ -93,11 +93,11 @@ fn told<S: Streams, H: Threads + Wait + Sync>(
 }
 
 // The same for a part of the page, which is wanted whole: want of memory is the page's too.
-fn told_part<S: Streams, H: Threads + Wait + Sync>(
-    host: &Host<'_, S, H>,
+fn told_part<'a, S: Streams, H: Threads + Wait + Sync>(
+    host: &Host<'a, S, H>,
     words: &[String],
     text: &[u8],
-) -> Result<(u8, Held), EngineFail> {
+) -> Result<(u8, Held<'a>), EngineFail> {
     let (status, held) = told(host, words, text, true);
     if status == MEMORY || held.refused > 0 {
         return Err(EngineFail::Memory);
@@ -120,18 +120,18 @@ fn drawing(alloc: Global, words: &[String]) -> Result<Vec<String>, AllocError> {
 }
 
 // The picture of the same text, where there is one.
-fn picture<S: Streams, H: Threads + Wait + Sync>(
-    host: &Host<'_, S, H>,
+fn picture<'a, S: Streams, H: Threads + Wait + Sync>(
+    host: &Host<'a, S, H>,
     line: &Line,
     text: &[u8],
-) -> Result<Held, EngineFail> {
+) -> Result<Held<'a>, EngineFail> {
     let alloc = host.rt.alloc();
     let words = drawing(alloc, line.words.as_slice())?;
     let (status, held) = told_part(host, words.as_slice(), text)?;
     if status <= 1 && held.bytes().starts_with(b"<svg ") {
         return Ok(held);
     }
-    Ok(Held::new(alloc))
+    Ok(Held::new(alloc, host.hush))
 }
 
 // The words that ask what a rule is.
@@ -144,13 +144,13 @@ fn asking(alloc: Global, rule: &str) -> Result<Vec<String>, AllocError> {
 }
 
 // What `sgt explain` says of a rule.
-fn meaning<S: Streams, H: Threads + Wait + Sync>(
-    host: &Host<'_, S, H>,
+fn meaning<'a, S: Streams, H: Threads + Wait + Sync>(
+    host: &Host<'a, S, H>,
     rule: Option<&str>,
-) -> Result<Held, EngineFail> {
+) -> Result<Held<'a>, EngineFail> {
     let alloc = host.rt.alloc();
     let Some(rule) = rule else {
-        return Ok(Held::new(alloc));
+        return Ok(Held::new(alloc, host.hush));
     };
     let words = asking(alloc, rule)?;
     let (_, held) = told_part(host, words.as_slice(), &[])?;
@@ -161,7 +161,7 @@ fn meaning<S: Streams, H: Threads + Wait + Sync>(
 fn write_page<S: Streams, H: Threads + Wait + Sync>(
     host: &Host<'_, S, H>,
     line: &Line,
-    held: &Held,
+    held: &Held<'_>,
     picture: &[u8],
 ) -> Result<(), EngineFail> {
     let command = word_of(line);
@@ -216,7 +216,7 @@ fn check_page<S: Streams, H: Threads + Wait + Sync>(
     ensures { IfOk result IsStatus }
 {
     let alloc = host.rt.alloc();
-    let mut held = Held::new(alloc);
+    let mut held = Held::new(alloc, host.hush);
     let status = answer_into(host, line, choice, file_of(line.files.first()), &mut held)?;
     if held.refused > 0 {
         return Err(EngineFail::Memory);

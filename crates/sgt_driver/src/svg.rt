@@ -3,12 +3,11 @@
 ghost use Rattle.std.specs.Prelude.{IfOk};
 ghost use Rattle.sgt_driver.specs.Status.{IsStatus};
 
-use crate::devices::Held;
 use crate::host::{Host, over, write_file, writer};
 use crate::streams::Streams;
 use sgt_history_picture::picture_of;
 use sgt_line::Line;
-use sgt_names::{EngineFail, Failed, Sink};
+use sgt_names::{EngineFail, Failed, Nowhere, Sink};
 use sgt_status::behind;
 use std::alloc::Global;
 use std::sync::Wait;
@@ -93,7 +92,7 @@ pub(crate) fn check_drawn<S: Streams, H: Threads + Wait + Sync>(
 {
     let names = (name, place);
     if line.is_quiet {
-        return drawn(host, line, names, &mut Held::new(host.rt.alloc()));
+        return drawn(host, line, names, &mut Nowhere);
     }
     let mut output = writer(host);
     drawn(host, line, names, &mut output)
