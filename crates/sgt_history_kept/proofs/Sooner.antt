@@ -1,5 +1,5 @@
 -- Conflicts and sessions alone, without times.
-use Rattle.std.proofs.Common.{◌≡◌, ℕ, List, [], Option, Some, sym, ap, ◌∙◌, subst, arith, inl, inr}
+use Rattle.std.proofs.Common.{◌≡◌, ℕ, List, [], Option, Some, length, refl, sym, ap, ◌∙◌, subst, arith, inl, inr}
 use Rattle.std.specs.Prelude.{slice_get}
 use Rattle.std.proofs.lemmas.Option.{slice_get_within}
 use Rattle.sgt_history.specs.Conflicts.{IsCycle}
@@ -15,14 +15,17 @@ use Rattle.sgt_history_time.specs.declared.times.Times.{Times}
 use Rattle.sgt_history_time.specs.Serializable.{IsSerializableKeeping}
 use Rattle.sgt_history_time.specs.Steps.{StandsBefore}
 
-no-times : (line : ℕ) (x : Times) → slice_get {A = Option Times} [] line ≡ Some (Some x) → ⊥
-no-times line x at = absurd (omega (arith, slice_get_within [] line (Some x) at))
+no-times : (times : List (Option Times)) → times ≡ [] → (line : ℕ) (x : Times) → slice_get times line ≡ Some (Some x)
+    → ⊥
+no-times times empty line x at =
+    let size : length times ≡ 0 = ap length empty in
+    absurd (omega (arith, slice_get_within times line (Some x) at, size))
 
 pub step-with-times : (h : List (Transaction ℕ ℕ)) (times : List (Option Times)) (sessions : List (Option ℕ)) (x y : ℕ)
     → StandsBefore h [] sessions x y → StandsBefore h times sessions x y
 step-with-times h times sessions x y (inl conflict) = inl conflict
 step-with-times h times sessions x y (inr (inl earlier)) = inr (inl earlier)
-step-with-times h times sessions x y (inr (inr before)) = absurd (no-times x before.a before.first_at)
+step-with-times h times sessions x y (inr (inr before)) = absurd (no-times [] refl x before.a before.first_at)
 
 module _ (h : List (Transaction ℕ ℕ)) (lines : ℕ) (edges : List Edge) (a alone : Asked) (are : IsAskedAlone a alone)
     (from : IsKeptFrom h lines edges a) where
@@ -32,8 +35,7 @@ module _ (h : List (Transaction ℕ ℕ)) (lines : ℕ) (edges : List Edge) (a a
     positive = from.positive;
     faultless = from.faultless;
     conflicts = from.conflicts;
-    timed = λ line x at.
-        absurd (no-times line x (ap (λ (xs : List (Option Times)). slice_get xs line) (sym are.times_are) ∙ at));
+    timed = λ line x at. absurd (no-times alone.times.items are.times_are line x at);
     sessioned = λ line s at.
         from.sessioned line s (ap (λ (xs : List (Option ℕ)). slice_get xs line) (sym are.sessions_are) ∙ at);
   }

@@ -74,10 +74,11 @@ fn is_sooner(
     if round {
         return Ok(true);
     }
-    match checked_order(alloc, lines, edges, alone)? {
-        Some(_) => Ok(true),
-        None => Ok(false),
-    }
+    let Some(order) = checked_order(alloc, lines, edges, alone)? else {
+        return Ok(false);
+    };
+    drop(order);
+    Ok(true)
 }
 
 /// The cycle to be shown, if it is one, and sooner than any with steps of time.

@@ -12,7 +12,7 @@ returns-in-Cyclic c = λ h from.
     let a = c.args.asked.now in
     let alone = c.args.alone.now in
     let cycle = c.in-Cyclic.cycle.items in
-    let found = subst (IsFound h alone) c.in-Cyclic.is (c.in_ok-sorted_by_pairs.ensures h
+    let found = subst (IsFound h alone) c.in-Cyclic.is (c.in_ok-cycle.ensures h
     (alone-from h c.args.lines c.args.edges.now a alone c.requires.alone from)) in
     let in_sessions = cycle-alone h c.args.lines c.args.edges.now a alone c.requires.alone from cycle found in
     record {
@@ -26,7 +26,7 @@ returns c =
     let a = c.args.asked.now in
     let alone = c.args.alone.now in
     IfOk-weaker c.sorted_by_pairs-in-Serial.result _ _ (λ kept is h from.
-    let found = subst (IsFound h alone) c.in-Serial.is (c.in_ok-sorted_by_pairs.ensures h
+    let found = subst (IsFound h alone) c.in-Serial.is (c.in_ok-cycle.ensures h
     (alone-from h c.args.lines c.args.edges.now a alone c.requires.alone from)) in
     found-kept h a (none-alone h c.args.lines c.args.edges.now a alone c.requires.alone from
     (committed_in h c.in-Serial.field-0.items, found.keeps)) kept (is h from)) c.sorted_by_pairs-in-Serial.ensures
