@@ -1,5 +1,5 @@
 -- What is told of a numbered history answers the bytes that spell it.
-use Rattle.std.proofs.Common.{◌≡◌, ℕ, ◌<◌, ◌≤◌, Bool, true, false, List, ◌++◌, Option, Some, map, arith, refl, sym, ap, ap₂, ◌∙◌, subst, inl, inr, ◌⊎◌}
+use Rattle.std.proofs.Common.{◌≡◌, ℕ, ◌<◌, ◌≤◌, Bool, true, false, List, [], ◌++◌, Option, Some, map, take, arith, refl, sym, ap, ap₂, ◌∙◌, subst, inl, inr, ◌⊎◌}
 use Rattle.std.specs.List.{flat_map}
 use Rattle.std.specs.Prelude.{slice_get}
 use Rattle.std.proofs.Math.Path.{fun_ext}
@@ -17,6 +17,8 @@ use Rattle.sgt_history.specs.declared.named.Graph.TheVariants.{Whole}
 use Rattle.sgt_history_evidence.proofs.Renamed.{conflict-named, conflict_in-on, cycle-back}
 use Rattle.sgt_history_evidence.proofs.RenamedFlaws.{faultless-on}
 use Rattle.sgt_history_kept.proofs.Rounds.{steps-cycle}
+use Rattle.sgt_history_kept.specs.Least.{MayStandBehind}
+use Rattle.sgt_history_kept.specs.Sooner.{IsCycleKeeping}
 use Rattle.sgt_history_text.specs.Moment.{HasSession, HasTimes}
 use Rattle.sgt_history_text.specs.Name.{compact}
 use Rattle.sgt_history_text.specs.Reading.{IsReading, nth}
@@ -94,18 +96,53 @@ module _ (w : Wanted) (options : Options) (bytes : List ℕ) (r : Reading) (is :
         line s.j s.at);
   }
 
-  stands-on : (a b : ℕ) → StandsBefore m r.times.items r.sessions.items a b
-      → StandsBefore named r.times.items is.sessions a b
-  stands-on a b (inl c) = inl (conflict_in-on (nth is.items) (nth is.values) m is.apart Whole a b c)
-  stands-on a b (inr (inl e)) = inr (inl (earlier-on names r.sessions.items is.sessions is.sessions_are.each a b e))
-  stands-on a b (inr (inr e)) = inr (inr e)
+  stands-on : (times : List (Option Times)) (a b : ℕ) → StandsBefore m times r.sessions.items a b
+      → StandsBefore named times is.sessions a b
+  stands-on times a b (inl c) = inl (conflict_in-on (nth is.items) (nth is.values) m is.apart Whole a b c)
+  stands-on times a b (inr (inl e)) =
+      inr (inl (earlier-on names r.sessions.items is.sessions is.sessions_are.each a b e))
+  stands-on times a b (inr (inr e)) = inr (inr e)
 
   conflict-back : (a b : ℕ) → ConflictIn named Whole a b → ConflictIn m Whole a b
   conflict-back a b c =
       let old = conflict-named (nth is.items) (nth is.values) m is.apart c.kind a b c.x c.v c.w c.conflict in
       record { kind = c.kind; among = c.among; x = old.0; v = c.v; w = c.w; conflict = old.1 }
 
+  stands-back : (times : List (Option Times)) (a b : ℕ) → StandsBefore named times is.sessions a b
+      → StandsBefore m times r.sessions.items a b
+  stands-back times a b (inl c) = inl (conflict-back a b c)
+  stands-back times a b (inr (inl e)) =
+      inr (inl (earlier-back names r.sessions.items is.sessions is.sessions_are.each is.sessions_are.kept.once a b e))
+  stands-back times a b (inr (inr e)) = inr (inr e)
+
+  cycle-on : (times : List (Option Times)) (cycle : List ℕ) → IsCycle (StandsBefore m times r.sessions.items) cycle
+      → IsCycle (StandsBefore named times is.sessions) cycle
+  cycle-on times = steps-cycle (StandsBefore m times r.sessions.items) (StandsBefore named times is.sessions)
+      (stands-on times)
+
+  kept_cycle-on : (cycle : List ℕ) → IsCycleKeeping m r.times.items r.sessions.items cycle
+      → IsCycleKeeping named r.times.items is.sessions cycle
+  kept_cycle-on cycle told = record {
+    is = cycle-on r.times.items cycle told.is;
+    sooner = elim told.sooner [
+      | inl alone ↦ inl (cycle-on [] cycle alone)
+      | inr none ↦ inr (λ other c. none other
+          (steps-cycle (StandsBefore named [] is.sessions) (StandsBefore m [] r.sessions.items) (stands-back []) other c))
+    ];
+  }
+
   -- ---- an order
+
+  stand-back : (written : List ℕ) (line : ℕ) → MayStandBehind named r.times.items is.sessions written line
+      → MayStandBehind m r.times.items r.sessions.items written line
+  stand-back written line may =
+      let old = committed-back line (may.t, may.committed) in
+      record {
+        t = old.0;
+        committed = old.1;
+        left = may.left;
+        behind = λ from step. may.behind from (stands-on r.times.items from line step);
+      }
 
   serial-answer : (text : List ℕ) → IsKeptSerialTold options setting m text → IsKeptYes w options bytes text
   serial-answer text a = record {
@@ -123,6 +160,7 @@ module _ (w : Wanted) (options : Options) (bytes : List ℕ) (r : Reading) (is :
           (earlier-back names r.sessions.items is.sessions is.sessions_are.each is.sessions_are.kept.once first second
           e);
     };
+    least = λ place line other at may. a.least place line other at (stand-back (take place a.order) other may);
     text_is = a.text_is
         ∙ ap (λ (s : Spelling ℕ ℕ). counts_text (committed_of m) (aborted_of m) ++ order_part options.order s a.order)
         (plain.spelled_as w options bytes r is naming refl refl refl)
@@ -187,8 +225,8 @@ module _ (w : Wanted) (options : Options) (bytes : List ℕ) (r : Reading) (is :
     faultless = faultless-on (nth is.items) (nth is.values) m is.apart a.faultless;
     alone = λ c. a.alone (cycle-back (nth is.items) (nth is.values) m is.apart Whole c);
     lines = a.lines;
-    cycle = steps-cycle (StandsBefore m r.times.items r.sessions.items) (StandsBefore named r.times.items is.sessions)
-        stands-on a.lines a.cycle;
+    cycle = (kept_cycle-on a.lines a.cycle).is;
+    sooner = (kept_cycle-on a.lines a.cycle).sooner;
     items = is.items;
     names = names;
     links = a.links;

@@ -14,6 +14,8 @@ use Rattle.sgt_history_text.specs.Name.{compact}
 use Rattle.sgt_history_text.specs.Reading.{nth}
 use Rattle.sgt_history_text.specs.Text.{SpellsWith}
 use Rattle.sgt_history_text.specs.declared.wanted.Wanted.{Wanted}
+use Rattle.sgt_history_kept.specs.Least.{IsLeastKeeping}
+use Rattle.sgt_history_kept.specs.Sooner.{NoneInSessions}
 use Rattle.sgt_history_time.specs.declared.times.Times.{Times}
 use Rattle.sgt_history_time.specs.Kept.{IsEarlier}
 use Rattle.sgt_history_time.specs.Serializable.{IsSerializableKeeping, ServesKeeping}
@@ -29,7 +31,8 @@ use Rattle.sgt_check_kept.specs.declared.link.Link.TheVariants as link
 
 -- ---- yes
 
--- the bytes spell a history that an order serves which keeps what is wanted; it is told where it is asked for
+-- the bytes spell a history that an order serves which keeps what is wanted; it is told where it is asked for, and has
+-- the least line first of those that may stand behind those before
 pub record IsKeptYes (w : Wanted) (options : Options) (bytes text : List ℕ) : Type 0 where
   pub ids : List Json
   pub h : List (Transaction Json Json)
@@ -38,6 +41,7 @@ pub record IsKeptYes (w : Wanted) (options : Options) (bytes text : List ℕ) : 
   pub spells : SpellsWith w bytes ids h times sessions
   pub order : List ℕ
   pub keeps : ServesKeeping h times sessions order
+  pub least : IsLeastKeeping h times sessions order
   pub text_is : text ≡ counts_text (committed_of h) (aborted_of h) ++ order_part options.order (compactly ids) order
 
 -- ---- a cycle with steps of sessions or real time
@@ -63,7 +67,8 @@ pub record AreLinksOf {I V S : Type 0} (h : List (Transaction I V)) (times : Lis
       → slice_get lines (place_behind place (length lines)) ≡ Some b
       → IsLinkOf h times sessions item_of session_of a b l
 
--- no line has a fault, and conflicts alone have no cycle; but these lines form one, of conflicts and of what is wanted
+-- no line has a fault, and conflicts alone have no cycle; but these lines form one, of conflicts and of what is wanted;
+-- one of conflicts and sessions alone, if these have one
 pub record IsKeptCycleTold (w : Wanted) (bytes text : List ℕ) : Type 0 where
   pub ids : List Json
   pub h : List (Transaction Json Json)
@@ -74,6 +79,7 @@ pub record IsKeptCycleTold (w : Wanted) (bytes text : List ℕ) : Type 0 where
   pub alone : HasCycle h Whole → ⊥
   pub lines : List ℕ
   pub cycle : IsCycle (StandsBefore h times sessions) lines
+  pub sooner : IsCycle (StandsBefore h [] sessions) lines ⊎ NoneInSessions h sessions
   pub items : List Json
   pub names : List Json
   pub links : List Link

@@ -2,10 +2,10 @@
 use Rattle.std.specs.Prelude.{ℕ, List}
 use Rattle.sgt_history.specs.declared.named.Graph.TheVariants.{Whole}
 use Rattle.sgt_history.specs.Transaction.{Transaction}
-use Rattle.sgt_history.specs.Conflicts.{HasCycle, IsCycle}
+use Rattle.sgt_history.specs.Conflicts.{HasCycle}
 use Rattle.sgt_history_kept.specs.declared.asked.Asked.{Asked}
-use Rattle.sgt_history_time.specs.Serializable.{ServesKeeping}
-use Rattle.sgt_history_time.specs.Steps.{StandsBefore}
+use Rattle.sgt_history_kept.specs.Decided.{IsSerialKeeping}
+use Rattle.sgt_history_kept.specs.Sooner.{IsCycleKeeping}
 use Rattle.sgt_history_verdict.specs.Verdict.{committed_in}
 use Rattle.sgt_check_kept.specs.declared.deciding.Decision.{Decision}
 use Rattle.sgt_check_kept.specs.declared.deciding.Decision.TheVariants.{Serial, Conflicting, Cyclic}
@@ -18,6 +18,6 @@ IsAlone h (Cyclic cycle) = HasCycle h Whole → ⊥
 
 -- with what is asked
 abbrev pub IsDecision : List (Transaction ℕ ℕ) → Asked → Decision → Type 0
-IsDecision h a (Serial order) = ServesKeeping h a.times.items a.sessions.items (committed_in h order.items)
+IsDecision h a (Serial order) = IsSerialKeeping h a (committed_in h order.items)
 IsDecision h a Conflicting = Unit {0}
-IsDecision h a (Cyclic cycle) = IsCycle (StandsBefore h a.times.items a.sessions.items) cycle.items
+IsDecision h a (Cyclic cycle) = IsCycleKeeping h a.times.items a.sessions.items cycle.items

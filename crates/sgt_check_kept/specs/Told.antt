@@ -3,12 +3,13 @@ use Rattle.std.specs.Prelude.{◌≡◌, ◌⊎◌, ℕ, List, ◌++◌}
 use Rattle.sgt_names.specs.declared.outcome.Outcome.{Outcome}
 use Rattle.sgt_names.specs.declared.outcome.Outcome.TheVariants.{Yes, No, Unreadable}
 use Rattle.sgt_history.specs.declared.named.Graph.TheVariants.{Whole}
-use Rattle.sgt_history.specs.Conflicts.{HasCycle, IsCycle}
+use Rattle.sgt_history.specs.Conflicts.{HasCycle}
 use Rattle.sgt_history.specs.Flaws.{IsFaultless}
 use Rattle.sgt_history.specs.Transaction.{Transaction}
 use Rattle.sgt_history_kept.specs.declared.asked.Asked.{Asked}
+use Rattle.sgt_history_kept.specs.Least.{IsLeastKeeping}
+use Rattle.sgt_history_kept.specs.Sooner.{IsCycleKeeping}
 use Rattle.sgt_history_time.specs.Serializable.{AreOfCommitted, ServesKeeping}
-use Rattle.sgt_history_time.specs.Steps.{StandsBefore}
 use Rattle.sgt_check.specs.Text.{aborted_of, committed_of, counts_text, order_part}
 use Rattle.sgt_check.specs.Told.{IsCyclicTold, IsFaultyTold, spelled, text_at}
 use Rattle.sgt_check.specs.declared.options.Options.{Options}
@@ -30,13 +31,14 @@ pub record IsKeptSerialTold (options : Options) (s : Setting) (h : List (Transac
   where
     pub order : List ℕ
     pub keeps : ServesKeeping h s.asked.times.items s.asked.sessions.items order
+    pub least : IsLeastKeeping h s.asked.times.items s.asked.sessions.items order
     pub text_is : text ≡ counts_text (committed_of h) (aborted_of h) ++ order_part options.order (spelled s.naming) order
 
 pub record IsLinksTold (s : Setting) (h : List (Transaction ℕ ℕ)) (text : List ℕ) : Type 0 where
   pub faultless : IsFaultless h
   pub alone : HasCycle h Whole → ⊥
   pub lines : List ℕ
-  pub cycle : IsCycle (StandsBefore h s.asked.times.items s.asked.sessions.items) lines
+  pub cycle : IsCycleKeeping h s.asked.times.items s.asked.sessions.items lines
   pub links : List Link
   pub along : AreLinked h s.asked lines links
   pub text_is : text ≡ kept_text (spelled s.naming) (text_at s.sessions) links

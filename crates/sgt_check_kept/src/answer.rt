@@ -9,6 +9,7 @@ ghost use Rattle.sgt_history.specs.History.{closed_of};
 ghost use Rattle.sgt_history.specs.Transaction.{Transaction};
 ghost use Rattle.sgt_history.specs.declared.named.Graph.TheVariants.{Whole};
 ghost use Rattle.sgt_history_faults.specs.Judged.{IsFaultlessBy};
+ghost use Rattle.sgt_history_kept.specs.Sooner.{IsCycleKeeping};
 ghost use Rattle.sgt_history_text.specs.Reading.{IsReading, IsToldOf};
 ghost use Rattle.sgt_history_text.specs.declared.wanted.Wanted.{Wanted};
 ghost use Rattle.sgt_history_time.specs.Steps.{StandsBefore};
@@ -79,7 +80,7 @@ fn links_text(
     cycle: &[u32],
 ) -> Result<Vec<u8>, AllocError>
     ensures { IfOk result (λ text. (h : List (Transaction ℕ ℕ)) → IsFaultlessBy h touches.now → (HasCycle h Whole → ⊥)
-        → IsCycle (StandsBefore h setting.now.asked.times.items setting.now.asked.sessions.items) cycle.now
+        → IsCycleKeeping h setting.now.asked.times.items setting.now.asked.sessions.items cycle.now
         → IsLinksTold setting.now h text.items) }
 {
     let links = links_of(alloc, setting, touches, cycle)?;

@@ -115,7 +115,7 @@ module _ (h : List (Transaction ℕ ℕ)) (lines : ℕ) (edges : List Edge) (a :
 
     -- ---- an order or a cycle of all pairs
 
-    step-of : (all : List Edge) → Adds (IsInRows a lines lines) edges all → (first second : ℕ)
+    pub step-of : (all : List Edge) → Adds (IsInRows a lines lines) edges all → (first second : ℕ)
         → nodes.Goes all first second
         → StandsBefore h a.times.items a.sessions.items first second
     step-of all adds first second goes = elim (adds.sound (record { from = first; to = second }) goes) [
@@ -167,8 +167,8 @@ module _ (h : List (Transaction ℕ ℕ)) (lines : ℕ) (edges : List Edge) (a :
     -- ---- exact
 
     pub exactly : (k : Kept) → IsKept h a k → IsSerial k ↔ IsSerializableKeeping h a.times.items a.sessions.items
-    exactly (Serial order) is = (λ serial. (committed_in h order.items, is), λ s. tt)
+    exactly (Serial order) is = (λ serial. (committed_in h order.items, is.keeps), λ s. tt)
     exactly (Cyclic cycle) is = (
       λ serial. absurd serial,
-      λ s. cycle-excludes h a.times.items a.sessions.items from.timed from.sessioned cycle.items is s,
+      λ s. cycle-excludes h a.times.items a.sessions.items from.timed from.sessioned cycle.items is.is s,
     )

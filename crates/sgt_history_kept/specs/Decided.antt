@@ -1,5 +1,5 @@
 -- What is decided of a history without faults, where orders are to keep something.
-use Rattle.std.specs.Prelude.{◌≡◌, ◌⊎◌, ℕ, ◌<◌, List, length, Option, Some, slice_get, Contains}
+use Rattle.std.specs.Prelude.{◌≡◌, ◌⊎◌, ℕ, ◌<◌, List, [], length, Option, Some, slice_get, Contains}
 use Rattle.sgt_history.specs.declared.named.Graph.TheVariants.{Whole}
 use Rattle.sgt_history.specs.Transaction.{Transaction, ArePositive}
 use Rattle.sgt_history.specs.Serial.{StandOnce}
@@ -7,10 +7,12 @@ use Rattle.sgt_history.specs.Conflicts.{IsCycle, Precedes}
 use Rattle.sgt_history.specs.Flaws.{IsFaultless}
 use Rattle.sgt_history_conflicts.specs.Edges.{AreEdgesOf}
 use Rattle.sgt_history_graph.specs.declared.edge.Edge.{Edge}
-use Rattle.sgt_history_graph.specs.Graph.{Goes}
+use Rattle.sgt_history_graph.specs.Graph.{Goes, JoinsNodes}
 use Rattle.sgt_history_kept.specs.declared.asked.Asked.{Asked}
 use Rattle.sgt_history_kept.specs.declared.deciding.Kept.{Kept}
 use Rattle.sgt_history_kept.specs.declared.deciding.Kept.TheVariants.{Serial, Cyclic}
+use Rattle.sgt_history_kept.specs.Least.{IsLeastKeeping}
+use Rattle.sgt_history_kept.specs.Sooner.{IsCycleKeeping}
 use Rattle.sgt_history_time.specs.Kept.{IsBefore, IsEarlier}
 use Rattle.sgt_history_time.specs.Serializable.{AreOfCommitted, ServesKeeping}
 use Rattle.sgt_history_time.specs.Steps.{StandsBefore}
@@ -36,13 +38,35 @@ pub record GoesForward (h : List (Transaction ℕ ℕ)) (a : Asked) (order : Lis
   pub forward : (first second : ℕ) → StandsBefore h a.times.items a.sessions.items first second
       → Precedes order first second
 
+-- the order serves and keeps what is asked, and has the least line first of those that may stand behind those before
+pub record IsSerialKeeping (h : List (Transaction ℕ ℕ)) (a : Asked) (order : List ℕ) : Type 0 where
+  pub keeps : ServesKeeping h a.times.items a.sessions.items order
+  pub least : IsLeastKeeping h a.times.items a.sessions.items order
+
 abbrev pub IsKept : List (Transaction ℕ ℕ) → Asked → Kept → Type 0
-IsKept h a (Serial order) = ServesKeeping h a.times.items a.sessions.items (committed_in h order.items)
-IsKept h a (Cyclic cycle) = IsCycle (StandsBefore h a.times.items a.sessions.items) cycle.items
+IsKept h a (Serial order) = IsSerialKeeping h a (committed_in h order.items)
+IsKept h a (Cyclic cycle) = IsCycleKeeping h a.times.items a.sessions.items cycle.items
+
+-- the same, of whichever cycle
+abbrev pub IsFound : List (Transaction ℕ ℕ) → Asked → Kept → Type 0
+IsFound h a (Serial order) = IsSerialKeeping h a (committed_in h order.items)
+IsFound h a (Cyclic cycle) = IsCycle (StandsBefore h a.times.items a.sessions.items) cycle.items
+
+-- of what is asked the sessions, and no times
+pub record IsAskedAlone (asked alone : Asked) : Type 0 where
+  pub times_are : alone.times.items ≡ []
+  pub sessions_are : alone.sessions.items ≡ asked.sessions.items
 
 abbrev pub IsSerial : Kept → Type 0
 IsSerial (Serial order) = Unit {0}
 IsSerial (Cyclic cycle) = ⊥
+
+-- ---- some steps
+
+-- it is a conflict between two of so many lines, or is asked for
+pub record IsStepAmong (lines : ℕ) (conflicts : List Edge) (a : Asked) (step : Edge) : Type 0 where
+  pub joins : JoinsNodes lines step
+  pub is : Contains conflicts step ⊎ IsAskedBefore a step.from step.to
 
 -- ---- all pairs
 

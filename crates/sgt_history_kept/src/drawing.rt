@@ -47,6 +47,21 @@ pub(crate) fn begins_of(
     Ok(begins)
 }
 
+/// The lines that ran, by when they were done.
+pub(crate) fn ends_of(
+    alloc: Global,
+    times: &[Option<Times>],
+) -> Result<Vec<(u64, u32)>, AllocError> {
+    let mut ends = Vec::new(alloc);
+    for line in 0..times.len() {
+        if let Some(ran) = times[line] {
+            ends.push((ran.done, number_of(line)))?;
+        }
+    }
+    ends.sort()?;
+    Ok(ends)
+}
+
 /// The lines of sessions, by these.
 pub(crate) fn sessions_of(
     alloc: Global,

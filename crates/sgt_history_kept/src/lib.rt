@@ -5,6 +5,7 @@ mod asked;
 mod checking;
 mod deciding;
 mod drawing;
+mod least;
 mod passed;
 mod places;
 mod plain;

@@ -4,7 +4,7 @@ ghost use Rattle.std.specs.Prelude.{◌≡◌, ◌+◌, ◌≤◌, ◌<◌, ◌^
 ghost use Rattle.sgt_history.specs.Transaction.{Transaction};
 ghost use Rattle.sgt_history_graph.specs.Graph.{JoinsNodes};
 ghost use Rattle.sgt_history_graph.specs.declared.edge.Edge.{Edge};
-ghost use Rattle.sgt_history_kept.specs.Decided.{Adds, IsAskedBefore, IsInRow, IsInRows, IsKept, IsKeptFrom};
+ghost use Rattle.sgt_history_kept.specs.Decided.{Adds, IsAskedAlone, IsAskedBefore, IsInRow, IsInRows, IsKept, IsKeptFrom, IsFound};
 
 use crate::asked::Asked;
 use crate::checking::is_asked;
@@ -46,8 +46,8 @@ fn push_rows(asked: &Asked, lines: usize, edges: &mut Vec<Edge>) -> Result<(), A
     Ok(())
 }
 
-/// An order or a cycle, by all pairs of lines. Takes time in proportion to the square of the lines.
-pub(crate) fn plainly(
+/// An order or a cycle, by all pairs of lines.
+fn sorted_by_pairs(
     alloc: Global,
     lines: usize,
     edges: &[Edge],
@@ -56,12 +56,33 @@ pub(crate) fn plainly(
     requires few { lines ≤ 2 ^ 32 }
     requires ends { All (JoinsNodes lines) edges.now }
     ensures { IfOk result (λ kept. (h : List (Transaction ℕ ℕ)) → IsKeptFrom h lines edges.now asked.now
-        → IsKept h asked.now kept) }
+        → IsFound h asked.now kept) }
 {
     let mut all = Vec::from_slice(alloc, edges)?;
     push_rows(asked, lines, &mut all)?;
     match order(alloc, lines, all.as_slice())? {
         Ordered::Order(order) => Ok(Kept::Serial(order)),
         Ordered::Cycle(cycle) => Ok(Kept::Cyclic(cycle)),
+    }
+}
+
+/// An order or a cycle, by all pairs of lines, and of sessions alone first; `alone` is without times. Takes time in
+/// proportion to the square of the lines.
+pub(crate) fn plainly(
+    alloc: Global,
+    lines: usize,
+    edges: &[Edge],
+    asked: &Asked,
+    alone: &Asked,
+) -> Result<Kept, AllocError>
+    requires few { lines ≤ 2 ^ 32 }
+    requires ends { All (JoinsNodes lines) edges.now }
+    requires alone { IsAskedAlone asked.now alone.now }
+    ensures { IfOk result (λ kept. (h : List (Transaction ℕ ℕ)) → IsKeptFrom h lines edges.now asked.now
+        → IsKept h asked.now kept) }
+{
+    match sorted_by_pairs(alloc, lines, edges, alone)? {
+        Kept::Cyclic(cycle) => Ok(Kept::Cyclic(cycle)),
+        Kept::Serial(_) => sorted_by_pairs(alloc, lines, edges, asked),
     }
 }

@@ -3,10 +3,10 @@
 ghost use Rattle.std.specs.Prelude.{◌≤◌, ◌^◌};
 
 use crate::asked::Asked;
-use crate::drawing::{Layout, Steps, begins_of, drawn, number_of, sessions_of};
+use crate::drawing::{Layout, Steps, begins_of, drawn, ends_of, number_of, sessions_of};
 use crate::quick::nodes_of;
 use sgt_history_graph::{Edge, shown_cycle};
-use sgt_history_time::{Times, is_before, is_earlier, session_at, times_at};
+use sgt_history_time::{is_before, is_earlier, session_at, times_at};
 use std::alloc::{AllocError, Global};
 
 /// How far it is from a line from which no walk leads.
@@ -40,18 +40,6 @@ fn least_on_cycle(
         Some(cycle) => Ok(cycle.first().copied()),
         None => Ok(None),
     }
-}
-
-/// The lines that ran, by when they were done.
-fn ends_of(alloc: Global, times: &[Option<Times>]) -> Result<Vec<(u64, u32)>, AllocError> {
-    let mut ends = Vec::new(alloc);
-    for line in 0..times.len() {
-        if let Some(ran) = times[line] {
-            ends.push((ran.done, number_of(line)))?;
-        }
-    }
-    ends.sort()?;
-    Ok(ends)
 }
 
 /// The conflicts, by where they lead, or turned round by where from.

@@ -2,12 +2,12 @@ use Rattle.std.proofs.Common.{◌≡◌, ℕ, List, Vec, inl, inr, sym, ap, ap�
 use Rattle.std.proofs.lemmas.Result.{IfOk-weaker}
 use Rattle.std.specs.Global.{Global}
 use Rattle.sgt_history.specs.Cut.{cut}
-use Rattle.sgt_history.specs.Conflicts.{HasCycle, IsCycle}
+use Rattle.sgt_history.specs.Conflicts.{HasCycle}
 use Rattle.sgt_history.specs.declared.history.Line.{Line}
 use Rattle.sgt_history.specs.declared.named.Graph.TheVariants.{Whole}
 use Rattle.sgt_history_faults.specs.Judged.{IsFaultlessBy}
 use Rattle.sgt_history_faults.specs.declared.touch.Touch.{Touch}
-use Rattle.sgt_history_time.specs.Steps.{StandsBefore}
+use Rattle.sgt_history_kept.specs.Sooner.{IsCycleKeeping}
 use Rattle.sgt_history_verdict.proofs.Least.{decided-from}
 use Rattle.sgt_history_verdict.specs.Decided.{IsDecidedFrom}
 use Rattle.sgt_history_verdict.specs.Verdict.{committed_in}
@@ -51,9 +51,11 @@ returns-in_ok-serial_text-in-Serial c = λ are.
     let whole = decided-from lines.items ops c.args.touches.items c.args.history.positive c.requires in
     let from = subst (λ (ts : List Touch). IsDecidedFrom h c.len.result ts) (sym c.as_slice.ensures.value)
     (subst (λ n. IsDecidedFrom h n c.args.touches.items) (sym (c.len.ensures ∙ lines.ok.0)) whole) in
+    let serial = subst (IsDecision h s.asked) c.in-Serial.is (c.in_ok-order.ensures.kept h from are) in
     record {
       order = committed_in h c.in-Serial.order.items;
-      keeps = subst (IsDecision h s.asked) c.in-Serial.is (c.in_ok-order.ensures.kept h from are);
+      keeps = serial.keeps;
+      least = serial.least;
       text_is = c.in_ok-serial_text-in-Serial.ensures
           ∙ ap₂ (λ (ls : List Line) (order : List ℕ). yes_text c.args.options s.naming ls order)
           c.as_slice-in-Serial.ensures.value c.as_slice-in-Serial-2.ensures.value
@@ -85,5 +87,5 @@ returns-in_ok-links_text-in-Cyclic c = λ are.
     let cycle = subst (IsDecision h asked) c.in-Cyclic.is (c.in_ok-order.ensures.kept h from are) in
     inr (inr (c.in_ok-links_text-in-Cyclic.ensures h
     (subst (IsFaultlessBy h) (sym c.as_slice-in-Cyclic.ensures.value) c.requires) alone
-    (subst (IsCycle (StandsBefore h asked.times.items asked.sessions.items))
+    (subst (IsCycleKeeping h asked.times.items asked.sessions.items)
     (sym c.as_slice-in-Cyclic-2.ensures.value) cycle)))

@@ -15,7 +15,7 @@ returns c =
       lines = c.args.cycle.now;
       cycle = cycle;
       links = c.in_ok-links.links.items;
-      along = c.in_ok-links.ensures h by cycle;
+      along = c.in_ok-links.ensures h by cycle.is;
       text_is = is
           ∙ ap (λ (links : List Link). kept_text (spelled s.naming) (text_at s.sessions) links)
           c.as_slice.ensures.value;

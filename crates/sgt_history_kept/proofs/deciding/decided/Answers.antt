@@ -1,10 +1,9 @@
-use Rattle.sgt_history_kept.proofs.Deciders.{forward-serves}
 use Rattle.sgt_history_kept.proofs.deciding.decided.Goals as goal
 
 pub returns-in-Some : goal.returns-in-Some
 returns-in-Some c = λ h from.
-    let forward = rw c.in-Some.is at c.in_ok-order.ensures in
-    forward-serves h c.args.lines c.args.edges.now c.args.asked.now from c.in-Some.order.items (forward h from)
+    let serial = rw c.in-Some.is at c.in_ok-order.ensures in
+    serial h from
 
 pub returns-in-Some-2 : goal.returns-in-Some-2
 returns-in-Some-2 c = λ h from.

@@ -1,40 +1,32 @@
-use Rattle.std.proofs.Common.{◌≡◌, List, sym, subst, All}
-use Rattle.sgt_history_graph.specs.declared.edge.Edge.{Edge}
-use Rattle.sgt_history_graph.specs.Graph.{JoinsNodes}
-use Rattle.sgt_history_graph.specs.Ordered.{IsOrdered}
-use Rattle.sgt_history_kept.specs.Decided.{Adds, IsInRows}
-use Rattle.sgt_history_kept.proofs.Deciders.{forward-serves, plain-cycle, plain-forward}
-use Rattle.sgt_history_kept.proofs.Rows.{rows-join}
+use Rattle.std.proofs.Common.{List, inl, subst, []}
+use Rattle.std.proofs.lemmas.Result.{IfOk-weaker}
+use Rattle.sgt_history_kept.specs.Decided.{IsFound}
+use Rattle.sgt_history_kept.proofs.Rounds.{steps-cycle}
+use Rattle.sgt_history_kept.proofs.Sooner.{alone-from, cycle-alone, found-kept, none-alone, step-with-times}
+use Rattle.sgt_history_time.specs.Steps.{StandsBefore}
+use Rattle.sgt_history_verdict.specs.Verdict.{committed_in}
 use Rattle.sgt_history_kept.proofs.plain.plainly.Goals as goal
 
-pub order-requires-clause-ends : goal.order-requires-clause-ends
-order-requires-clause-ends c =
-    let base = subst (All (JoinsNodes c.args.lines)) (sym c.in_ok-all.ensures.items) c.requires.ends in
-    subst (All (JoinsNodes c.args.lines)) (sym c.as_slice.ensures.value)
-    (rows-join c.args.asked.now c.args.lines c.in_ok-all.all.items c.push_rows.new.edges.items
-    c.in_ok-push_rows.ensures base)
-
-pub returns-in-Order : goal.returns-in-Order
-returns-in-Order c = λ h from.
+pub returns-in-Cyclic : goal.returns-in-Cyclic
+returns-in-Cyclic c = λ h from.
     let a = c.args.asked.now in
-    let n = c.args.lines in
-    let edges = c.args.edges.now in
-    let all = c.as_slice.result.now in
-    let adds = subst (λ (old : List Edge). Adds (IsInRows a n n) old all) c.in_ok-all.ensures.items
-    (subst (λ (new : List Edge). Adds (IsInRows a n n) c.in_ok-all.all.items new) (sym c.as_slice.ensures.value)
-    c.in_ok-push_rows.ensures) in
-    let o = subst (IsOrdered n all) c.in-Order.is c.in_ok-order.ensures in
-    forward-serves h n edges a from c.in-Order.order.items
-    (plain-forward h n edges a from all adds c.in-Order.order.items o)
+    let alone = c.args.alone.now in
+    let cycle = c.in-Cyclic.cycle.items in
+    let found = subst (IsFound h alone) c.in-Cyclic.is (c.in_ok-cycle.ensures h
+    (alone-from h c.args.lines c.args.edges.now a alone c.requires.alone from)) in
+    let in_sessions = cycle-alone h c.args.lines c.args.edges.now a alone c.requires.alone from cycle found in
+    record {
+      is = steps-cycle (StandsBefore h [] a.sessions.items) (StandsBefore h a.times.items a.sessions.items)
+          (step-with-times h a.times.items a.sessions.items) cycle in_sessions;
+      sooner = inl in_sessions;
+    }
 
 pub returns : goal.returns
-returns c = λ h from.
+returns c =
     let a = c.args.asked.now in
-    let n = c.args.lines in
-    let edges = c.args.edges.now in
-    let all = c.as_slice.result.now in
-    let adds = subst (λ (old : List Edge). Adds (IsInRows a n n) old all) c.in_ok-all.ensures.items
-    (subst (λ (new : List Edge). Adds (IsInRows a n n) c.in_ok-all.all.items new) (sym c.as_slice.ensures.value)
-    c.in_ok-push_rows.ensures) in
-    let is = subst (IsOrdered n all) c.in-Cycle.is c.in_ok-order.ensures in
-    plain-cycle h n edges a from all adds c.in-Cycle.cycle.items is
+    let alone = c.args.alone.now in
+    IfOk-weaker c.sorted_by_pairs-in-Serial.result _ _ (λ kept is h from.
+    let found = subst (IsFound h alone) c.in-Serial.is (c.in_ok-cycle.ensures h
+    (alone-from h c.args.lines c.args.edges.now a alone c.requires.alone from)) in
+    found-kept h a (none-alone h c.args.lines c.args.edges.now a alone c.requires.alone from
+    (committed_in h c.in-Serial.field-0.items, found.keeps)) kept (is h from)) c.sorted_by_pairs-in-Serial.ensures
