@@ -77,7 +77,8 @@ def complaint(data, text):
     lines = text.split("\n")
     if not text.endswith("\n"):
         return "no LF at the end"
-    if data.split(b"\n")[1:2] == [b"site 0"]:
+    head = data.split(b"\n")[:2]
+    if head[0] in (b"sgt 1", b"sgt 2") and head[1:] and head[1].startswith(b"site "):
         return None if re.match("no |a certificate exists: ", text) else "neither of what logs are told"
     first, rest = lines[0] + "\n", lines[1:-1]
     if first.strip() != plain_audit.verdict(data).strip():
