@@ -26,7 +26,8 @@ fn tell_lost<S: Streams, H>(host: &Host<'_, S, H>, last: Last) {
 
 // The status of a talk that failed so; standard error is told why.
 fn failed<S: Streams, H>(host: &Host<'_, S, H>, fail: EngineFail) -> u8
-    ensures { result ≡ status_of (Ran (Err fail)) }
+    ensures fail { result ≡ status_of (Ran (Err fail)) }
+    ensures status { IsStatus result }
 {
     let mut errors = ToWrite::new(LastWords::new(host.streams.errors(), host.hush));
     give_up(&mut errors, fail)
@@ -34,7 +35,8 @@ fn failed<S: Streams, H>(host: &Host<'_, S, H>, fail: EngineFail) -> u8
 
 // The status; where there is no answer, standard error is told why.
 fn status_after<S: Streams, H>(host: &Host<'_, S, H>, told: Result<Outcome, ServeFail>) -> u8
-    ensures { result ≡ talk_status told }
+    ensures talk { result ≡ talk_status told }
+    ensures status { IsStatus result }
 {
     match told {
         Ok(Outcome::Yes) => 0,
