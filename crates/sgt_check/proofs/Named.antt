@@ -106,7 +106,7 @@ module _ (w : Wanted) (options : Options) (bytes : List ℕ) (r : Reading) (is :
         s.to_version step.conflict;
   }
 
-  shown-first : (g : Graph) (ranks : List ℕ) → AreRanks n.items ranks → (s : Step) → IsStep m g s
+  pub shown-first : (g : Graph) (ranks : List ℕ) → AreRanks n.items ranks → (s : Step) → IsStep m g s
       → ((t : Step) → IsStep m g t → Leads t s.from s.to → IsToldBefore ranks s t)
       → (kind : Conflict) (x : Json) (v w : ℕ) → IsAmong g kind → HaveConflict named kind s.from s.to x v w
       → IsShownBefore s.kind (nth is.items s.item) s.from_version kind x v
