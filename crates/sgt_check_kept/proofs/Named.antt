@@ -18,6 +18,7 @@ use Rattle.sgt_history_evidence.proofs.Renamed.{conflict-named, conflict_in-on, 
 use Rattle.sgt_history_evidence.proofs.RenamedFlaws.{faultless-on}
 use Rattle.sgt_history_kept.proofs.Rounds.{steps-cycle}
 use Rattle.sgt_history_kept.specs.Least.{MayStandBehind}
+use Rattle.sgt_history_kept.specs.FirstCycle.{IsFirstCycleOf}
 use Rattle.sgt_history_kept.specs.Sooner.{IsCycleKeeping}
 use Rattle.sgt_history_text.specs.Moment.{HasSession, HasTimes}
 use Rattle.sgt_history_text.specs.Name.{compact}
@@ -120,14 +121,27 @@ module _ (w : Wanted) (options : Options) (bytes : List ℕ) (r : Reading) (is :
   cycle-on times = steps-cycle (StandsBefore m times r.sessions.items) (StandsBefore named times is.sessions)
       (stands-on times)
 
+  first-on : (times : List (Option Times)) (cycle : List ℕ)
+      → IsFirstCycleOf (StandsBefore m times r.sessions.items) cycle
+      → IsFirstCycleOf (StandsBefore named times is.sessions) cycle
+  first-on times cycle told = record {
+    is = cycle-on times cycle told.is;
+    first = λ other c. told.first other
+        (steps-cycle (StandsBefore named times is.sessions) (StandsBefore m times r.sessions.items) (stands-back times)
+        other c);
+  }
+
   kept_cycle-on : (cycle : List ℕ) → IsCycleKeeping m r.times.items r.sessions.items cycle
       → IsCycleKeeping named r.times.items is.sessions cycle
   kept_cycle-on cycle told = record {
     is = cycle-on r.times.items cycle told.is;
-    sooner = elim told.sooner [
-      | inl alone ↦ inl (cycle-on [] cycle alone)
-      | inr none ↦ inr (λ other c. none other
-          (steps-cycle (StandsBefore named [] is.sessions) (StandsBefore m [] r.sessions.items) (stands-back []) other c))
+    first = elim told.first [
+      | inl alone ↦ inl (first-on [] cycle alone)
+      | inr both ↦ inr (
+        λ other c. both.0 other
+            (steps-cycle (StandsBefore named [] is.sessions) (StandsBefore m [] r.sessions.items) (stands-back []) other c),
+        first-on r.times.items cycle both.1,
+      )
     ];
   }
 
@@ -226,7 +240,7 @@ module _ (w : Wanted) (options : Options) (bytes : List ℕ) (r : Reading) (is :
     alone = λ c. a.alone (cycle-back (nth is.items) (nth is.values) m is.apart Whole c);
     lines = a.lines;
     cycle = (kept_cycle-on a.lines a.cycle).is;
-    sooner = (kept_cycle-on a.lines a.cycle).sooner;
+    first = (kept_cycle-on a.lines a.cycle).first;
     items = is.items;
     names = names;
     links = a.links;

@@ -15,7 +15,7 @@ use Rattle.sgt_history_text.specs.Reading.{nth}
 use Rattle.sgt_history_text.specs.Text.{SpellsWith}
 use Rattle.sgt_history_text.specs.declared.wanted.Wanted.{Wanted}
 use Rattle.sgt_history_kept.specs.Least.{IsLeastKeeping}
-use Rattle.sgt_history_kept.specs.Sooner.{NoneInSessions}
+use Rattle.sgt_history_kept.specs.Sooner.{IsFirstKept}
 use Rattle.sgt_history_time.specs.declared.times.Times.{Times}
 use Rattle.sgt_history_time.specs.Kept.{IsEarlier}
 use Rattle.sgt_history_time.specs.Serializable.{IsSerializableKeeping, ServesKeeping}
@@ -67,8 +67,8 @@ pub record AreLinksOf {I V S : Type 0} (h : List (Transaction I V)) (times : Lis
       → slice_get lines (place_behind place (length lines)) ≡ Some b
       → IsLinkOf h times sessions item_of session_of a b l
 
--- no line has a fault, and conflicts alone have no cycle; but these lines form one, of conflicts and of what is wanted;
--- one of conflicts and sessions alone, if these have one
+-- no line has a fault, and conflicts alone have no cycle; but these lines form one, of conflicts and of what is wanted:
+-- the first of conflicts and sessions alone, or, where these have none, with real time too
 pub record IsKeptCycleTold (w : Wanted) (bytes text : List ℕ) : Type 0 where
   pub ids : List Json
   pub h : List (Transaction Json Json)
@@ -79,7 +79,7 @@ pub record IsKeptCycleTold (w : Wanted) (bytes text : List ℕ) : Type 0 where
   pub alone : HasCycle h Whole → ⊥
   pub lines : List ℕ
   pub cycle : IsCycle (StandsBefore h times sessions) lines
-  pub sooner : IsCycle (StandsBefore h [] sessions) lines ⊎ NoneInSessions h sessions
+  pub first : IsFirstKept h times sessions lines
   pub items : List Json
   pub names : List Json
   pub links : List Link
