@@ -1,12 +1,18 @@
 -- Elements of an array, and members of an object, read one after another.
-use Rattle.std.proofs.Common.{◌≡◌, ℕ, true, false, List, [], ◌∷◌, ◌++◌, Some, None, refl, sym, ap, ap₂, ◌∙◌, subst, append_assoc}
+use Rattle.std.proofs.Common.{◌≡◌, ℕ, zero, suc, ◌<◌, Bool, true, false, cond, List, [], ◌∷◌, ◌++◌, Option, Some, None, option_map, length, get_or, take, drop, refl, sym, ap, ap₂, ◌∙◌, subst, arith, append_assoc, inl, inr}
+use Rattle.std.specs.Prelude.{IfSome, slice_get}
+use Rattle.std.specs.Str.{bytes_eq}
+use Rattle.std.proofs.lemmas.Bool.{both_ways, cases_Bool, cond-false, cond-true}
+use Rattle.std.proofs.lemmas.Option.{slice_get-get_or}
+use Rattle.std.proofs.lemmas.Slice.Eq.{bytes_eq-Decides}
+use Rattle.json.specs.Find.{get, get_member, later_or}
 use Rattle.std.specs.Borrow.{Bor}
 use Rattle.json.specs.Token.{Token, end_object, end_array, key}
 use Rattle.json.specs.Json.{Json, array, object, Items, no_items, item, Members, no_members, member, after_end_array}
 use Rattle.json.specs.Tree.{json_tokens, items_tokens, members_tokens}
 use Rattle.json.specs.Value.{value_view, items_view, members_view}
 use Rattle.json.specs.declared.value.Value.{Value}
-use Rattle.sgt_history_text.specs.Shallow.{AfterValue, Closes, IsFront, NoValue, ReadsAs, map_items, map_members}
+use Rattle.sgt_history_text.specs.Shallow.{AfterValue, Closes, HasMembers, IsFront, IsMemberTaken, NoValue, ReadsAs, arrays, get_with, is_told, leaf, map_items}
 use Rattle.sgt_history_text.proofs.Fronts.{array_end, array_goes_on, object_goes_on, same_front}
 
 -- ---- elements
@@ -97,43 +103,129 @@ before_members-end (member k j ms) ts =
     ap (λ l. key k ∷ l) (ap (λ l. json_tokens j ++ l) (before_members-end ms ts)
     ∙ sym (append_assoc (json_tokens j) (members_tokens ms) ts))
 
-map_members-snoc : (f : Json → Json) (ms : Members) (k : List ℕ) (j : Json)
-    → map_members f (snoc_member ms k j) ≡ snoc_member (map_members f ms) k (f j)
-map_members-snoc f no_members k j = refl
-map_members-snoc f (member l i ms) k j = ap (λ t. member l (f i) t) (map_members-snoc f ms k j)
+later-cond : (b : Bool) (j : Json) (o e : Option Json)
+    → later_or (cond b (Some j) o) e ≡ cond b (Some j) (later_or o e)
+later-cond true j o e = refl
+later-cond false j o e = refl
+
+mapped-cond : (f : Json → Json) (b : Bool) (j : Json) (o : Option Json)
+    → cond b (Some (f j)) (option_map f o) ≡ option_map f (cond b (Some j) o)
+mapped-cond f true j o = refl
+mapped-cond f false j o = refl
+
+-- the last member is the one that is found
+get-snoc : (ms : Members) (k : List ℕ) (j : Json) (name : List ℕ)
+    → get_member name (snoc_member ms k j) ≡ get_with ms k j name
+get-snoc no_members k j name = refl
+get-snoc (member l i ms) k j name =
+    ap (λ o. later_or o (cond (bytes_eq l name) (Some i) None)) (get-snoc ms k j name)
+    ∙ later-cond (bytes_eq k name) j (get_member name ms) (cond (bytes_eq l name) (Some i) None)
 
 members_view-push : {A : Type 0} (vs : List (Bor (List ℕ) × Value A)) (k : Bor (List ℕ)) (v : Value A)
     → members_view (vs ++ (k, v) ∷ []) ≡ snoc_member (members_view vs) k.now (value_view v)
 members_view-push [] k v = refl
 members_view-push (w ∷ vs) k v = ap (λ t. member w.0.now (value_view w.1) t) (members_view-push vs k v)
 
-pub record Collects {A : Type 0} (f : Json
-    → Json) (start now : List Token) (vs : List (Bor (List ℕ) × Value A)) : Type 0 where
+-- one member more, behind those that are kept
+pub get-push : {A : Type 0} (vs : List (Bor (List ℕ) × Value A)) (k : Bor (List ℕ)) (v : Value A) (name : List ℕ)
+    → get_member name (members_view (vs ++ (k, v) ∷ [])) ≡ get_with (members_view vs) k.now (value_view v) name
+get-push vs k v name = ap (get_member name) (members_view-push vs k v)
+    ∙ get-snoc (members_view vs) k.now (value_view v) name
+
+later-none : (o : Option Json) → later_or o None ≡ o
+later-none None = refl
+later-none (Some j) = refl
+
+-- without one of another name the same is found
+pub get-removed : {A : Type 0} (vs : List (Bor (List ℕ) × Value A)) (at : ℕ) (name : List ℕ) → at < length vs
+    → ((d : Bor (List ℕ) × Value A) → bytes_eq (get_or vs at d).0.now name ≡ false)
+    → get_member name (members_view (take at vs ++ drop (suc at) vs)) ≡ get_member name (members_view vs)
+get-removed [] at name lt other = absurd (omega arith)
+get-removed (w ∷ vs) zero name lt other =
+    let found = get_member name (members_view vs) in
+    sym (ap (λ b. later_or found (cond b (Some (value_view w.1)) None)) (other w) ∙ later-none found)
+get-removed (w ∷ vs) (suc at) name lt other =
+    ap (λ o. later_or o (cond (bytes_eq w.0.now name) (Some (value_view w.1)) None))
+    (get-removed vs at name (omega (arith, lt)) other)
+
+other-name : (k l name : List ℕ) → bytes_eq k l ≡ true → bytes_eq l name ≡ false → bytes_eq k name ≡ false
+other-name k l name same apart =
+    ap (λ n. bytes_eq n name) ((bytes_eq-Decides k l).0 same) ∙ apart
+
+-- without one of this name the same is found under any other
+pub get-forgotten : {A : Type 0} (vs : List (Bor (List ℕ) × Value A)) (at : ℕ) (k : List ℕ) → at < length vs
+    → IfSome (slice_get vs at) (λ m. bytes_eq m.0.now k ≡ true) → (name : List ℕ) → bytes_eq k name ≡ false
+    → get_member name (members_view (take at vs ++ drop (suc at) vs)) ≡ get_member name (members_view vs)
+get-forgotten vs at k lt same name apart = get-removed vs at name lt (λ d. other-name (get_or vs at d).0.now k name
+    (subst (λ o. IfSome o (λ m. bytes_eq m.0.now k ≡ true)) (slice_get-get_or vs at d lt) same) apart)
+
+-- a member stands behind what is left of those before
+pub get-put : {A : Type 0} (us vs : List (Bor (List ℕ) × Value A)) (k : Bor (List ℕ)) (v : Value A)
+    → ((name : List ℕ) → bytes_eq k.now name ≡ false
+    → get_member name (members_view us) ≡ get_member name (members_view vs))
+    → (name : List ℕ)
+    → get_member name (members_view (us ++ (k, v) ∷ [])) ≡ get_with (members_view vs) k.now (value_view v) name
+get-put us vs k v same name = get-push us k v name ∙ elim (cases_Bool (bytes_eq k.now name)) [
+  | inl same_name ↦ cond-true (bytes_eq k.now name) _ _ same_name ∙ sym (cond-true (bytes_eq k.now name) _ _ same_name)
+  | inr apart ↦ ap (λ o. cond (bytes_eq k.now name) (Some (value_view v)) o) (same name apart)
+]
+
+-- a name that says nothing is none of those that do
+pub untold : (k name : List ℕ) → is_told k ≡ false → is_told name ≡ true → bytes_eq k name ≡ false
+untold k name none told = elim (cases_Bool (bytes_eq k name)) [
+  | inl same_name ↦ absurd (both_ways (is_told k) none (ap is_told ((bytes_eq-Decides k name).0 same_name) ∙ told))
+  | inr apart ↦ apart
+]
+
+-- so a member with it changes nothing
+pub taken_untold : (old new : List Token) (k : List ℕ) (ms : Members) (f : Json → Json) (v : Json)
+    → is_told k ≡ false → ReadsAs f old v new
+    → IsMemberTaken old new k ms ms
+taken_untold old new k ms f v none (j, e, is) = record {
+  j = j;
+  text = e;
+  kept = λ name told. sym (cond-false (bytes_eq k name) _ _ (untold k name none told));
+}
+
+pub taken_told : (old new : List Token) (k : List ℕ) (before after : Members) (v : Json)
+    → ReadsAs (arrays (arrays leaf)) old v new
+    → ((name : List ℕ) → get_member name after ≡ get_with before k v name)
+    → IsMemberTaken old new k before after
+taken_told old new k before after v (j, e, is) put = record {
+  j = j;
+  text = e;
+  kept = λ name told. put name ∙ ap (λ i. get_with before k i name) is;
+}
+
+-- of the members up to there these are kept
+pub record Collects {A : Type 0} (start now : List Token) (vs : List (Bor (List ℕ) × Value A)) : Type 0 where
   pub ms : Members
   pub text : start ≡ before_members ms now
-  pub same : members_view vs ≡ map_members f ms
+  pub same : HasMembers ms (object (members_view vs))
   pub back : (rest : List Token) → Closes true start rest → Closes true now rest
 
-module _ {A : Type 0} (f : Json → Json) (start : List Token) where
-  pub collects_none : Collects {A = A} f start start []
-  collects_none = record { ms = no_members; text = refl; same = refl; back = λ rest c. c }
+module _ {A : Type 0} (start : List Token) where
+  pub collects_none : Collects {A = A} start start []
+  collects_none = record { ms = no_members; text = refl; same = λ name told. refl; back = λ rest c. c }
 
-  module _ (now : List Token) (vs : List (Bor (List ℕ) × Value A)) (g : Collects f start now vs) where
+  module _ (now : List Token) (vs : List (Bor (List ℕ) × Value A)) (g : Collects start now vs) where
     value_comes : (taken : List Token) (k : List ℕ) → now ≡ key k ∷ taken → (rest : List Token)
         → Closes true start rest → AfterValue true taken rest
     value_comes taken k e rest c = (object_goes_on k taken rest).0 (subst (λ l. Closes true l rest) e (g.back rest c))
 
-    pub collects_next : (taken new : List Token) (k : Bor (List ℕ)) (v : Value A) → now ≡ key k.now ∷ taken
-        → ReadsAs f taken (value_view v) new
-        → Collects f start new (vs ++ (k, v) ∷ [])
-    collects_next taken new k v comes (j, e, is) = record {
-      ms = snoc_member g.ms k.now j;
-      text = g.text ∙ ap (before_members g.ms) (comes ∙ ap (λ l. key k.now ∷ l) e)
-          ∙ sym (before_members-snoc g.ms k.now j new);
-      same = members_view-push vs k v ∙ ap₂ (λ ms i. snoc_member ms k.now i) g.same is
-          ∙ sym (map_members-snoc f g.ms k.now j);
-      back = λ rest c. (let m = value_comes taken k.now comes rest c in
-          subst (λ l. Closes true l rest) (sym (same_front j m.1.0 new m.0 (sym e ∙ m.1.1)).1) m.2);
+    pub collects_next : (taken new : List Token) (k : List ℕ) (us : List (Bor (List ℕ) × Value A))
+        → now ≡ key k ∷ taken → IsMemberTaken taken new k (members_view vs) (members_view us)
+        → Collects start new us
+    collects_next taken new k us comes t = record {
+      ms = snoc_member g.ms k t.j;
+      text = g.text ∙ ap (before_members g.ms) (comes ∙ ap (λ l. key k ∷ l) t.text)
+          ∙ sym (before_members-snoc g.ms k t.j new);
+      same = λ name told. t.kept name told
+          ∙ ap (λ o. cond (bytes_eq k name) (Some (arrays (arrays leaf) t.j)) o) (g.same name told)
+          ∙ mapped-cond (arrays (arrays leaf)) (bytes_eq k name) t.j (get_member name g.ms)
+          ∙ ap (option_map (arrays (arrays leaf))) (sym (get-snoc g.ms k t.j name));
+      back = λ rest c. (let m = value_comes taken k comes rest c in
+          subst (λ l. Closes true l rest) (sym (same_front t.j m.1.0 new m.0 (sym t.text ∙ m.1.1)).1) m.2);
     }
 
     pub collects_fails : (taken : List Token) (k : List ℕ) → now ≡ key k ∷ taken → NoValue taken → (rest : List Token)
@@ -141,9 +233,9 @@ module _ {A : Type 0} (f : Json → Json) (start : List Token) where
     collects_fails taken k comes fails rest c = let m = value_comes taken k comes rest c in fails m.0 m.1
 
     pub collects_end : (new : List Token) (w : Json) → now ≡ end_object ∷ new → w ≡ object (members_view vs)
-        → (ms : Members) × (start ≡ members_tokens ms ++ new) × (w ≡ object (map_members f ms))
+        → (ms : Members) × (start ≡ members_tokens ms ++ new) × HasMembers ms w
     collects_end new w e is = (
       g.ms,
       g.text ∙ ap (before_members g.ms) e ∙ before_members-end g.ms new,
-      is ∙ ap object g.same,
+      λ name told. ap (get name) is ∙ g.same name told,
     )

@@ -1,9 +1,8 @@
 -- What a transaction's members are is seen of what was read to some depth.
-use Rattle.std.proofs.Common.{◌≡◌, ℕ, suc, Bool, true, false, cond, List, [], ◌∷◌, map, Option, Some, None, option_map, All, IfSome, refl, sym, ap, ap₂, ◌∙◌, subst, arith, codes, decimal}
-use Rattle.std.specs.Str.{bytes_eq}
+use Rattle.std.proofs.Common.{◌≡◌, ℕ, suc, true, false, List, [], ◌∷◌, map, Option, Some, None, option_map, All, IfSome, refl, sym, ap, ap₂, ◌∙◌, subst, arith, codes, decimal}
 use Rattle.std.proofs.lemmas.Option.{same_Some}
-use Rattle.json.specs.Json.{Json, null, boolean, number, string, array, object, Items, no_items, item, Members, no_members, member}
-use Rattle.json.specs.Find.{get_member, later_or}
+use Rattle.json.specs.Json.{Json, null, boolean, number, string, array, object, Items, no_items, item, Members}
+use Rattle.json.specs.Find.{get, get_member}
 use Rattle.json.specs.Value.{items_of}
 use Rattle.sgt_history.specs.Transaction.{Transaction}
 use Rattle.sgt_history.specs.declared.history.Operation.{Operation}
@@ -11,7 +10,7 @@ use Rattle.sgt_history_text.specs.Line.{IsOperation, end_word, given, kind_word,
 use Rattle.sgt_history_text.specs.Name.{IsKey, IsValue}
 use Rattle.sgt_history_time.specs.declared.times.Times.{Times}
 use Rattle.sgt_history_text.specs.Parsed.{AreTimes, IsSession, IsTransaction}
-use Rattle.sgt_history_text.specs.Shallow.{IsScalar, arrays, empty, leaf, map_items, map_members, read_members}
+use Rattle.sgt_history_text.specs.Shallow.{HasMembers, IsScalar, arrays, empty, is_told, leaf, map_items}
 
 -- it is as it is read, and nothing else is read so
 record IsSolid (f : Json → Json) (y : Json) : Type 0 where
@@ -138,83 +137,82 @@ operations_solid (o ∷ os) all =
 
 -- ---- members
 
-later : (f : Json → Json) (o : Option Json) (b : Bool) (j : Json)
-    → later_or (option_map f o) (cond b (Some (f j)) None) ≡ option_map f (later_or o (cond b (Some j) None))
-later f None true j = refl
-later f None false j = refl
-later f (Some i) true j = refl
-later f (Some i) false j = refl
-
-get_read : (f : Json → Json) (name : List ℕ) (ms : Members)
-    → get_member name (map_members f ms) ≡ option_map f (get_member name ms)
-get_read f name no_members = refl
-get_read f name (member k j ms) =
-    ap (λ o. later_or o (cond (bytes_eq k name) (Some (f j)) None)) (get_read f name ms)
-    ∙ later f (get_member name ms) (bytes_eq k name) j
-
 some_back : (f : Json → Json) (o : Option Json) (y : Json) → IsSolid f y → option_map f o ≡ Some y → o ≡ Some y
 some_back f None y s e = absurd cc
 some_back f (Some x) y s e = ap Some (s.back x (same_Some (f x) y e))
 
-module _ (f : Json → Json) (ms : Members) (name : List ℕ) (y : Json) (s : IsSolid f y) where
-  member_on : get_member name (map_members f ms) ≡ Some y → get_member name ms ≡ Some y
-  member_on e = some_back f (get_member name ms) y s (sym (get_read f name ms) ∙ e)
+module _ (f : Json → Json) (found read : Option Json) (is : read ≡ option_map f found) (y : Json) (s : IsSolid f y)
+  where
+    member_on : read ≡ Some y → found ≡ Some y
+    member_on e = some_back f found y s (sym is ∙ e)
 
-  member_back : get_member name ms ≡ Some y → get_member name (map_members f ms) ≡ Some y
-  member_back e = get_read f name ms ∙ ap (option_map f) e ∙ ap Some s.fixed
+    member_back : found ≡ Some y → read ≡ Some y
+    member_back e = is ∙ ap (option_map f) e ∙ ap Some s.fixed
 
--- ---- read so deep, it is a transaction exactly where it is one
+-- ---- of what is kept so deep, it is a transaction exactly where it is one
 
-pub transaction_on : (ms : Members) (id : Json) (t : Transaction Json Json)
-    → IsTransaction (object (read_members ms)) id t → IsTransaction (object ms) id t
-transaction_on ms id t is = record {
-  tx = member_on (arrays (arrays leaf)) ms (codes "tx") id (arrays_solid (arrays leaf) id (key_scalar 1 256 id is.id_is)) is.tx;
-  end = member_on (arrays (arrays leaf)) ms (codes "end") (string (end_word t.commits)) (arrays_solid (arrays leaf) (string (end_word t.commits)) tt) is.end;
-  ops = member_on (arrays (arrays leaf)) ms (codes "ops") (array (items_of (map operation_json t.operations)))
-      (array_solid (arrays leaf) (items_of (map operation_json t.operations)) (operations_solid t.operations is.each))
-      is.ops;
-  id_is = is.id_is;
-  each = is.each;
-}
+module _ (ms : Members) (v : Json) (has : HasMembers ms v) where
+  -- the member of a told name, if what it is has no more depth
+  there_on : (name : List ℕ) → is_told name ≡ true → (y : Json) → IsSolid (arrays (arrays leaf)) y
+      → get name v ≡ Some y → get_member name ms ≡ Some y
+  there_on name told y s = member_on (arrays (arrays leaf)) (get_member name ms) (get name v) (has name told) y s
 
-pub transaction_back : (ms : Members) (id : Json) (t : Transaction Json Json) → IsTransaction (object ms) id t
-    → IsTransaction (object (read_members ms)) id t
-transaction_back ms id t is = record {
-  tx = member_back (arrays (arrays leaf)) ms (codes "tx") id (arrays_solid (arrays leaf) id (key_scalar 1 256 id is.id_is)) is.tx;
-  end = member_back (arrays (arrays leaf)) ms (codes "end") (string (end_word t.commits)) (arrays_solid (arrays leaf) (string (end_word t.commits)) tt) is.end;
-  ops = member_back (arrays (arrays leaf)) ms (codes "ops") (array (items_of (map operation_json t.operations)))
-      (array_solid (arrays leaf) (items_of (map operation_json t.operations)) (operations_solid t.operations is.each))
-      is.ops;
-  id_is = is.id_is;
-  each = is.each;
-}
+  there_back : (name : List ℕ) → is_told name ≡ true → (y : Json) → IsSolid (arrays (arrays leaf)) y
+      → get_member name ms ≡ Some y → get name v ≡ Some y
+  there_back name told y s = member_back (arrays (arrays leaf)) (get_member name ms) (get name v) (has name told) y s
 
--- ---- and says when it ran, and its session, exactly where it does
+  solid_ops : (t : Transaction Json Json) → All IsOperation t.operations
+      → IsSolid (arrays (arrays leaf)) (array (items_of (map operation_json t.operations)))
+  solid_ops t each =
+      array_solid (arrays leaf) (items_of (map operation_json t.operations)) (operations_solid t.operations each)
 
-pub times_on : (ms : Members) (x : Times) → AreTimes (object (read_members ms)) x → AreTimes (object ms) x
-times_on ms x is = record {
-  begin = member_on (arrays (arrays leaf)) ms (codes "begin") (number (decimal x.begin)) (arrays_solid (arrays leaf) (number (decimal x.begin)) tt) is.begin;
-  done = member_on (arrays (arrays leaf)) ms (codes "done") (number (decimal x.done)) (arrays_solid (arrays leaf) (number (decimal x.done)) tt) is.done;
-  in_order = is.in_order;
-  fits = is.fits;
-}
+  solid_scalar : (y : Json) → IsScalar y → IsSolid (arrays (arrays leaf)) y
+  solid_scalar y s = arrays_solid (arrays leaf) y s
 
-pub times_back : (ms : Members) (x : Times) → AreTimes (object ms) x → AreTimes (object (read_members ms)) x
-times_back ms x is = record {
-  begin = member_back (arrays (arrays leaf)) ms (codes "begin") (number (decimal x.begin)) (arrays_solid (arrays leaf) (number (decimal x.begin)) tt) is.begin;
-  done = member_back (arrays (arrays leaf)) ms (codes "done") (number (decimal x.done)) (arrays_solid (arrays leaf) (number (decimal x.done)) tt) is.done;
-  in_order = is.in_order;
-  fits = is.fits;
-}
+  pub transaction_on : (id : Json) (t : Transaction Json Json) → IsTransaction v id t → IsTransaction (object ms) id t
+  transaction_on id t is = record {
+    tx = there_on (codes "tx") refl id (solid_scalar id (key_scalar 1 256 id is.id_is)) is.tx;
+    end = there_on (codes "end") refl (string (end_word t.commits)) (solid_scalar (string (end_word t.commits)) tt) is.end;
+    ops = there_on (codes "ops") refl (array (items_of (map operation_json t.operations))) (solid_ops t is.each) is.ops;
+    id_is = is.id_is;
+    each = is.each;
+  }
 
-pub session_on : (ms : Members) (s : Json) → IsSession (object (read_members ms)) s → IsSession (object ms) s
-session_on ms s is = record {
-  there = member_on (arrays (arrays leaf)) ms (codes "session") s (arrays_solid (arrays leaf) s (key_scalar 0 1024 s is.session_is)) is.there;
-  session_is = is.session_is;
-}
+  pub transaction_back : (id : Json) (t : Transaction Json Json) → IsTransaction (object ms) id t → IsTransaction v id t
+  transaction_back id t is = record {
+    tx = there_back (codes "tx") refl id (solid_scalar id (key_scalar 1 256 id is.id_is)) is.tx;
+    end = there_back (codes "end") refl (string (end_word t.commits)) (solid_scalar (string (end_word t.commits)) tt) is.end;
+    ops = there_back (codes "ops") refl (array (items_of (map operation_json t.operations))) (solid_ops t is.each) is.ops;
+    id_is = is.id_is;
+    each = is.each;
+  }
 
-pub session_back : (ms : Members) (s : Json) → IsSession (object ms) s → IsSession (object (read_members ms)) s
-session_back ms s is = record {
-  there = member_back (arrays (arrays leaf)) ms (codes "session") s (arrays_solid (arrays leaf) s (key_scalar 0 1024 s is.session_is)) is.there;
-  session_is = is.session_is;
-}
+  -- ---- and says when it ran, and its session, exactly where it does
+
+  pub times_on : (x : Times) → AreTimes v x → AreTimes (object ms) x
+  times_on x is = record {
+    begin = there_on (codes "begin") refl (number (decimal x.begin)) (solid_scalar (number (decimal x.begin)) tt) is.begin;
+    done = there_on (codes "done") refl (number (decimal x.done)) (solid_scalar (number (decimal x.done)) tt) is.done;
+    in_order = is.in_order;
+    fits = is.fits;
+  }
+
+  pub times_back : (x : Times) → AreTimes (object ms) x → AreTimes v x
+  times_back x is = record {
+    begin = there_back (codes "begin") refl (number (decimal x.begin)) (solid_scalar (number (decimal x.begin)) tt) is.begin;
+    done = there_back (codes "done") refl (number (decimal x.done)) (solid_scalar (number (decimal x.done)) tt) is.done;
+    in_order = is.in_order;
+    fits = is.fits;
+  }
+
+  pub session_on : (s : Json) → IsSession v s → IsSession (object ms) s
+  session_on s is = record {
+    there = there_on (codes "session") refl s (solid_scalar s (key_scalar 0 1024 s is.session_is)) is.there;
+    session_is = is.session_is;
+  }
+
+  pub session_back : (s : Json) → IsSession (object ms) s → IsSession v s
+  session_back s is = record {
+    there = there_back (codes "session") refl s (solid_scalar s (key_scalar 0 1024 s is.session_is)) is.there;
+    session_is = is.session_is;
+  }

@@ -1,6 +1,8 @@
 -- Values of JSON that are read to some depth: what nests deeper stands as an empty array or object.
-use Rattle.std.specs.Prelude.{◌≡◌, ◌↔◌, Bool, true, false, List, ◌∷◌, ◌++◌, Option, Some, None}
-use Rattle.json.specs.Json.{Json, null, boolean, number, string, array, object, Items, no_items, item, Members, no_members, member}
+use Rattle.std.specs.Prelude.{◌≡◌, ◌↔◌, ◌||◌, ℕ, Bool, true, false, cond, List, ◌∷◌, ◌++◌, Option, Some, None, option_map, codes}
+use Rattle.std.specs.Str.{bytes_eq}
+use Rattle.json.specs.Find.{get, get_member}
+use Rattle.json.specs.Json.{Json, null, boolean, number, string, array, object, Items, no_items, item, Members, no_members}
 use Rattle.json.specs.Token.{Token, begin_object, begin_array}
 use Rattle.json.specs.Tree.{json_tokens, items_tokens, members_tokens}
 use Rattle.json.specs.Value.{value_view}
@@ -24,10 +26,6 @@ leaf (object ms) = empty true
 abbrev pub map_items : (Json → Json) → Items → Items
 map_items f no_items = no_items
 map_items f (item j js) = item (f j) (map_items f js)
-
-abbrev pub map_members : (Json → Json) → Members → Members
-map_members f no_members = no_members
-map_members f (member k j ms) = member k (f j) (map_members f ms)
 
 abbrev pub arrays : (Json → Json) → Json → Json
 arrays f null = null
@@ -88,6 +86,25 @@ IsOpened old None new = NoValue old
 IsOpened old (Some None) new = (j : Json) × (old ≡ json_tokens j ++ new) × IsScalar j
 IsOpened old (Some (Some b)) new = old ≡ bracket b ∷ new
 
--- what is read of an object's members
-abbrev pub read_members : Members → Members
-read_members ms = map_members (arrays (arrays leaf)) ms
+-- ---- members
+
+-- the names of the members that say something of a transaction, of when it ran, of its session
+abbrev pub is_told : List ℕ → Bool
+is_told name = bytes_eq name (codes "tx") || bytes_eq name (codes "end") || bytes_eq name (codes "ops")
+    || bytes_eq name (codes "begin") || bytes_eq name (codes "done") || bytes_eq name (codes "session")
+
+-- the value has the last of the members of each such name, as deep as it is read
+abbrev pub HasMembers : Members → Json → Type 0
+HasMembers ms v = (name : List ℕ) → is_told name ≡ true
+    → get name v ≡ option_map (arrays (arrays leaf)) (get_member name ms)
+
+-- one more member stands behind them
+abbrev pub get_with : Members → (name : List ℕ) → Json → (other : List ℕ) → Option Json
+get_with ms name j other = cond (bytes_eq name other) (Some j) (get_member other ms)
+
+-- a member's value was read, and is kept, if its name is told
+pub record IsMemberTaken (old new : List Token) (name : List ℕ) (before after : Members) : Type 0 where
+  pub j : Json
+  pub text : old ≡ json_tokens j ++ new
+  pub kept : (other : List ℕ) → is_told other ≡ true
+      → get_member other after ≡ get_with before name (arrays (arrays leaf) j) other

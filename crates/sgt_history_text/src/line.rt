@@ -8,7 +8,7 @@ ghost use Rattle.json.specs.Value.{items_of, value_view};
 ghost use Rattle.sgt_history.specs.Transaction.{Transaction};
 ghost use Rattle.sgt_history_text.specs.Line.{IsTextOf};
 ghost use Rattle.sgt_history_text.specs.Parsed.{IsTransaction, seen, seen_transaction};
-ghost use Rattle.sgt_history_text.specs.Shallow.{read_members};
+ghost use Rattle.sgt_history_text.specs.Shallow.{HasMembers};
 
 use crate::fault::MOST_ID_BYTES;
 use crate::operations::operations;
@@ -27,7 +27,7 @@ fn parsed_text<'a>(
     ensures { IfOk result (λ found. MatchOption found
         ((ms : Members) → tokens text.now ≡ json_tokens (object ms) → ⊥)
         (λ v. (ms : Members) × (tokens text.now ≡ json_tokens (object ms))
-        × (value_view v ≡ object (read_members ms)))) }
+        × HasMembers ms (value_view v))) }
 {
     let mut reader = Reader::new(text, scratch)?;
     let Some(bracket) = opened(&mut reader) else {
@@ -56,7 +56,7 @@ pub(crate) fn parsed<'a>(
 ) -> Result<Option<Value<'a>>, AllocError>
     ensures { IfOk result (λ found. MatchOption found
         ((ms : Members) → IsTextOf line.now (object ms) → ⊥)
-        (λ v. (ms : Members) × IsTextOf line.now (object ms) × (value_view v ≡ object (read_members ms)))) }
+        (λ v. (ms : Members) × IsTextOf line.now (object ms) × HasMembers ms (value_view v))) }
 {
     let Ok(text) = std::str::from_utf8(line) else {
         return Ok(None);

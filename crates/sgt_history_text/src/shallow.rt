@@ -1,13 +1,15 @@
 //! Values of JSON, read as far as a transaction's members go: what nests deeper is passed over, and stands as an
 //! empty array or object.
 
-ghost use Rattle.std.specs.Prelude.{true, false, ◌≡◌, ◌++◌, ◌∷◌, ◌+◌, ◌≤◌, ◌<◌, List, IfOk, IfSome, MatchOption, length, if◌then◌else◌};
+ghost use Rattle.std.specs.Prelude.{true, false, ◌≡◌, ◌++◌, ◌∷◌, ◌+◌, ◌≤◌, ◌<◌, List, IfOk, IfSome, MatchOption, OnOk, length, if◌then◌else◌, slice_get, ℕ};
 ghost use Rattle.std.specs.Bool.{MatchBool};
 ghost use Rattle.json.specs.Json.{Items, Json, Members, array, object};
 ghost use Rattle.json.specs.Token.{Token as SpecToken};
 ghost use Rattle.json.specs.Tree.{items_tokens, members_tokens};
-ghost use Rattle.json.specs.Value.{value_view};
-ghost use Rattle.sgt_history_text.specs.Shallow.{Closes, Enters, IsFirst, IsOpened, NoValue, ReadsAs, arrays, empty, leaf, map_items, map_members};
+ghost use Rattle.std.specs.Str.{bytes_eq};
+ghost use Rattle.json.specs.Find.{get_member};
+ghost use Rattle.json.specs.Value.{members_view, value_view};
+ghost use Rattle.sgt_history_text.specs.Shallow.{Closes, Enters, HasMembers, IsFirst, IsMemberTaken, IsOpened, NoValue, ReadsAs, arrays, empty, get_with, is_told, leaf, map_items};
 
 use json::{Reader, Token, Value};
 use std::alloc::{AllocError, Global};
@@ -204,7 +206,98 @@ fn table<'a>(alloc: Global, reader: &mut Reader<'a>) -> Result<Option<Value<'a>>
     }
 }
 
-/// The rest of an object of such values.
+/// Whether a member of this name says something of a transaction, of when it ran, of its session.
+fn is_told(name: &str) -> bool
+    ensures { result ≡ is_told name.now }
+{
+    name == "tx"
+        || name == "end"
+        || name == "ops"
+        || name == "begin"
+        || name == "done"
+        || name == "session"
+}
+
+/// The place of a member of this name, if there is one.
+fn place_of(members: &[(&str, Value<'_>)], name: &str) -> Option<usize>
+    ensures { IfSome result (λ at. (at < length members.now)
+        × IfSome (slice_get members.now at) (λ m. bytes_eq m.0.now name.now ≡ true)) }
+{
+    for (at, member) in members.iter().enumerate() {
+        if member.0 == name {
+            return Some(at);
+        }
+    }
+    None
+}
+
+/// Lets a member of this name go.
+fn forget(members: &mut Vec<(&str, Value<'_>)>, name: &str)
+    ensures { (other : List ℕ) → bytes_eq name.now other ≡ false
+        → get_member other (members_view members.new.items) ≡ get_member other (members_view members.old.items) }
+{
+    if let Some(at) = place_of(members.as_slice(), name) {
+        let _ = members.remove(at);
+    }
+}
+
+/// The last member of this name has this value from now on. What it had is let go.
+fn put<'a>(
+    members: &mut Vec<(&'a str, Value<'a>)>,
+    name: &'a str,
+    value: Value<'a>,
+) -> Result<(), AllocError>
+    ensures { OnOk result ((other : List ℕ) → get_member other (members_view members.new.items)
+        ≡ get_with (members_view members.old.items) name.now (value_view value.entry) other) }
+{
+    forget(members, name);
+    members.push((name, value))?;
+    Ok(())
+}
+
+/// The value of a member whose name is told, which is kept. False: there is no value.
+fn keep_member<'a>(
+    alloc: Global,
+    reader: &mut Reader<'a>,
+    members: &mut Vec<(&'a str, Value<'a>)>,
+    name: &'a str,
+) -> Result<bool, AllocError>
+    ensures fewer { length reader.new ≤ length reader.old }
+    ensures taken { IfOk result (λ taken. MatchBool taken
+        (IsMemberTaken reader.old reader.new name.now (members_view members.old.items) (members_view members.new.items))
+        (NoValue reader.old)) }
+{
+    match table(alloc, reader)? {
+        Some(value) => {
+            put(members, name, value)?;
+            Ok(true)
+        }
+        None => Ok(false),
+    }
+}
+
+/// The value of a member, which is kept if its name is told, else passed over. False: there is no value.
+fn take_member<'a>(
+    alloc: Global,
+    reader: &mut Reader<'a>,
+    members: &mut Vec<(&'a str, Value<'a>)>,
+    name: &'a str,
+) -> Result<bool, AllocError>
+    ensures fewer { length reader.new ≤ length reader.old }
+    ensures taken { IfOk result (λ taken. MatchBool taken
+        (IsMemberTaken reader.old reader.new name.now (members_view members.old.items) (members_view members.new.items))
+        (NoValue reader.old)) }
+{
+    if is_told(name) {
+        return keep_member(alloc, reader, members, name);
+    }
+    match leaf(alloc, reader)? {
+        Some(_) => Ok(true),
+        None => Ok(false),
+    }
+}
+
+/// The rest of an object, of which no more is kept than the last members of the names that are told.
 pub(crate) fn members<'a>(
     alloc: Global,
     reader: &mut Reader<'a>,
@@ -212,8 +305,7 @@ pub(crate) fn members<'a>(
     ensures fewer { length reader.new ≤ length reader.old }
     ensures read { IfOk result (λ found. MatchOption found
         ((rest : List SpecToken) → Closes true reader.old rest → ⊥)
-        (λ v. (ms : Members) × (reader.old ≡ members_tokens ms ++ reader.new)
-        × (value_view v ≡ object (map_members (arrays (arrays leaf)) ms)))) }
+        (λ v. (ms : Members) × (reader.old ≡ members_tokens ms ++ reader.new) × HasMembers ms (value_view v))) }
 {
     let mut found = Vec::new(alloc);
     'members: loop {
@@ -223,9 +315,9 @@ pub(crate) fn members<'a>(
         let Some(key) = next else {
             return Ok(Some(Value::Object(found)));
         };
-        let Some(value) = table(alloc, reader)? else {
+        let taken = take_member(alloc, reader, &mut found, key)?;
+        if !taken {
             return Ok(None);
-        };
-        found.push((key, value))?;
+        }
     }
 }

@@ -1,10 +1,9 @@
-use Rattle.std.proofs.Common.{refl, subst, sym}
+use Rattle.std.proofs.Common.{refl, subst}
 use Rattle.json.specs.Json.{object}
 use Rattle.json.specs.Value.{value_view}
 use Rattle.sgt_history.specs.Transaction.{renamed_value}
 use Rattle.sgt_history_text.specs.Built.{IsAdded}
-use Rattle.sgt_history_text.specs.Parsed.{IsMoment, IsTransaction, LacksMoment, seen, seen_transaction}
-use Rattle.sgt_history_text.specs.Shallow.{read_members}
+use Rattle.sgt_history_text.specs.Parsed.{IsMoment, LacksMoment, seen, seen_transaction}
 use Rattle.sgt_history_text.proofs.Solid.{transaction_back, transaction_on}
 use Rattle.sgt_history_text.proofs.Spelled.{line_back, line_from}
 use Rattle.sgt_history_text.proofs.Telling.{entry_session, entry_times, lacks, line_with, same_commits, session_numbers}
@@ -20,22 +19,20 @@ returns-in_default-2 c = λ w lines ids h built moments id t is.
     let text = rw c.in-Some.is at c.in_ok-value.ensures in
     let none = rw c.in_default-2.is at c.in_ok-lent.ensures in
     none id t
-    (subst (λ j. IsTransaction j id t) (sym text.2)
-    (transaction_back text.0 id t (line_back c.args.line.now (object text.0) id t text.1 is.line_is)))
+    (transaction_back text.0 (value_view c.in-Some.value) text.2 id t
+    (line_back c.args.line.now (object text.0) id t text.1 is.line_is))
 
 pub returns-in_default-moment : goal.returns-in_default-moment
 returns-in_default-moment c = λ w lines ids h built moments id t is.
     let text = rw c.in-Some.is at c.in_ok-value.ensures in
     let lent = rw c.in-Some-2.is at c.in_ok-lent.ensures in
     let commits = c.in-Some-2.lent.commits in
-    let found : LacksMoment w commits (object (read_members text.0)) =
-    subst (λ v. LacksMoment v commits (object (read_members text.0))) moments.wanted_is
-    (subst (λ j. LacksMoment c.args.moments.now.wanted commits j) text.2 c.in_default-moment.ensures) in
-    let same = same_commits (object (read_members text.0)) id (seen c.in-Some-2.lent.id) t
-    (seen_transaction c.in-Some-2.lent)
-    (transaction_back text.0 id t (line_back c.args.line.now (object text.0) id t text.1 is.line_is))
-    (subst (λ j. IsTransaction j (seen c.in-Some-2.lent.id) (seen_transaction c.in-Some-2.lent)) text.2 lent) in
-    lacks c.args.line.now text.0 text.1 w id t commits same found is
+    let v = value_view c.in-Some.value in
+    let found : LacksMoment w commits v =
+    subst (λ u. LacksMoment u commits v) moments.wanted_is c.in_default-moment.ensures in
+    let same = same_commits v id (seen c.in-Some-2.lent.id) t (seen_transaction c.in-Some-2.lent)
+    (transaction_back text.0 v text.2 id t (line_back c.args.line.now (object text.0) id t text.1 is.line_is)) lent in
+    lacks c.args.line.now text.0 text.1 v text.2 w id t commits same found is
 
 pub add_moment-requires : goal.add_moment-requires
 add_moment-requires c =
@@ -49,12 +46,12 @@ returns-then-branch c = λ w lines ids h built moments.
     let id = seen c.in-Some-2.lent.id in
     let t = seen_transaction c.in-Some-2.lent in
     let m = c.in-Some-moment.moment in
+    let v = value_view c.in-Some.value in
     let line =
     line_from c.args.line.now (object text.0) id t text.1
-    (transaction_on text.0 id t (subst (λ j. IsTransaction j id t) text.2 is)) in
-    let found : IsMoment w t.commits (object (read_members text.0)) m =
-    subst (λ v. IsMoment v t.commits (object (read_members text.0)) m) moments.wanted_is
-    (subst (λ j. IsMoment c.args.moments.now.wanted t.commits j m) text.2 c.in-Some-moment.ensures) in
+    (transaction_on text.0 v text.2 id t is) in
+    let found : IsMoment w t.commits v m =
+    subst (λ u. IsMoment u t.commits v m) moments.wanted_is c.in-Some-moment.ensures in
     let added =
     subst (λ b. IsAdded ids h id t c.add.new.builder b) c.if-branch.true (c.in_ok-add.ensures ids h built) in (
       id,
@@ -63,8 +60,8 @@ returns-then-branch c = λ w lines ids h built moments.
       added.0,
       added.1,
       c.in_ok-add_moment.ensures w lines h c.args.line.now t moments
-          (entry_times c.args.line.now text.0 text.1 w t.commits m found)
-          (entry_session c.args.line.now text.0 text.1 w t.commits m found),
+          (entry_times c.args.line.now text.0 text.1 v text.2 w t.commits m found)
+          (entry_session c.args.line.now text.0 text.1 v text.2 w t.commits m found),
     )
 
 pub returns : goal.returns
@@ -74,12 +71,12 @@ returns c = λ w lines ids h built moments.
     let id = seen c.in-Some-2.lent.id in
     let t = seen_transaction c.in-Some-2.lent in
     let m = c.in-Some-moment.moment in
+    let v = value_view c.in-Some.value in
     let line =
     line_from c.args.line.now (object text.0) id t text.1
-    (transaction_on text.0 id t (subst (λ j. IsTransaction j id t) text.2 is)) in
-    let found : IsMoment w t.commits (object (read_members text.0)) m =
-    subst (λ v. IsMoment v t.commits (object (read_members text.0)) m) moments.wanted_is
-    (subst (λ j. IsMoment c.args.moments.now.wanted t.commits j m) text.2 c.in-Some-moment.ensures) in
+    (transaction_on text.0 v text.2 id t is) in
+    let found : IsMoment w t.commits v m =
+    subst (λ u. IsMoment u t.commits v m) moments.wanted_is c.in-Some-moment.ensures in
     let added =
     subst (λ b. IsAdded ids h id t c.add.new.builder b) c.if-branch.false (c.in_ok-add.ensures ids h built) in
-    (id, t, line_with c.args.line.now text.0 text.1 w t.commits m found id t refl line, added)
+    (id, t, line_with c.args.line.now text.0 text.1 v text.2 w t.commits m found id t refl line, added)
