@@ -21,6 +21,18 @@ pub enum Stop {
     Long,
 }
 
+/// What was read last of a text: a line, and whether nothing more may be ready behind it.
+#[derive(Drop)]
+pub struct Latest {
+    pub line: Vec<u8>,
+    /// Whether the last read ended within a page. What writes much into a pipe fills its pages, and a file gives whole
+    /// ones up to its end; so the next read may have to wait. Nothing need be known of it.
+    pub is_drained: bool,
+}
+
+/// How many bytes a page has.
+const PAGE: usize = 4_096;
+
 /// How much of a text is wanted in one piece: once it has `enough` bytes no more is read for it, and held lines are
 /// put behind it only where it has at most so many bytes as `most` with them.
 #[derive(Clone, Copy)]
@@ -56,6 +68,16 @@ pub fn next_line<R: Source>(
         Err(LinesFault::ReadFault) => Err(EngineFail::ReadFault),
     }
 }
+
+/// Notes how the last read ended, if the line was not held whole: so many bytes were held before the line was read.
+pub fn note_read(is_drained: &mut bool, before: usize, line: &[u8], lines: &Lines) {
+    let behind = lines.held().len().saturating_add(1);
+    let given = line.len().saturating_add(behind).saturating_sub(before);
+    if given > 0 {
+        *is_drained = given % PAGE != 0;
+    }
+}
+
 /// The place behind the first line `end` of these lines, if one is found.
 fn behind_end(lines: &[u8]) -> Option<usize>
     ensures { IfSome result (λ n. n ≤ length lines.now) }
@@ -155,12 +177,12 @@ fn append_line(section: &mut Vec<u8>, line: &mut Vec<u8>) -> Result<(), EngineFa
 }
 
 /// Reads on behind the bytes of a section that were read: its lines up to the next line `end`, with it, or up to the
-/// end of the text, or a part of them. No read is made where lines are held whole. What was read before an Err stands
-/// behind the section too, but for the line that was read then.
+/// end of the text, or a part of them. No read is made where lines are held whole, nor where one may have to wait. What
+/// was read before an Err stands behind the section too, but for the line that was read then.
 pub fn read_piece<R: Source>(
     reader: &mut R,
     lines: &mut Lines,
-    line: &mut Vec<u8>,
+    latest: &mut Latest,
     section: &mut Vec<u8>,
     room: Room,
 ) -> Result<Stop, EngineFail>
@@ -185,16 +207,26 @@ pub fn read_piece<R: Source>(
         if section.len() >= room.enough {
             return Ok(Stop::Room);
         }
-        match next_line(reader, lines, line, MAX_LINE)? {
+        if latest.is_drained {
+            return Ok(Stop::Room);
+        }
+        let before = lines.held().len();
+        match next_line(reader, lines, &mut latest.line, MAX_LINE)? {
             Next::Line => {
-                let ends = line.as_slice() == b"end".as_slice();
-                append_line(section, line)?;
+                note_read(
+                    &mut latest.is_drained,
+                    before,
+                    latest.line.as_slice(),
+                    lines,
+                );
+                let ends = latest.line.as_slice() == b"end".as_slice();
+                append_line(section, &mut latest.line)?;
                 if ends {
                     return Ok(Stop::Section);
                 }
             }
             Next::Cut => {
-                append(section, line.as_slice())?;
+                append(section, latest.line.as_slice())?;
                 return Ok(Stop::Text);
             }
             Next::End => return Ok(Stop::Text),

@@ -7,7 +7,7 @@ ghost use Rattle.sgt_audit_workers.specs.declared.sections.State.TheVariants.{Go
 ghost use Rattle.sgt_audit_workers.specs.private.Texts.{AreAhead, CameNext, HasRead, IsAsked, IsFirstAhead};
 ghost use Rattle.sgt_audit_workers.specs.private.Texts.{IsLeft, IsNextSection, IsOpenState, IsStateBehind, stop_before};
 
-use crate::cutting::{Room, Stop, next_line, read_piece};
+use crate::cutting::{Latest, Room, Stop, next_line, note_read, read_piece};
 use sgt_names::{EngineFail, Source};
 use sgt_notation::{Lines, Next};
 use std::alloc::{AllocError, Global};
@@ -17,7 +17,7 @@ use std::alloc::{AllocError, Global};
 pub struct Text {
     pub alloc: Global,
     pub lines: Lines,
-    pub line: Vec<u8>,
+    pub latest: Latest,
     /// How many bytes of a section are wanted in one piece: one that is longer is judged as it is read.
     pub most: usize,
     pub state: State,
@@ -34,7 +34,10 @@ impl Text {
         Ok(Text {
             alloc,
             lines: Lines::new(alloc)?,
-            line: Vec::new(alloc),
+            latest: Latest {
+                line: Vec::new(alloc),
+                is_drained: false,
+            },
             most: 0,
             state: State::Going,
         })
@@ -98,8 +101,13 @@ pub fn read_line<R: Source>(
     ensures short { length line.new.items ≤ limit }
     ensures most { text.new.most ≡ text.old.most }
 {
+    let before = text.lines.held().len();
     match next_line(source, &mut text.lines, line, limit) {
-        Ok(next) => Ok(next),
+        Ok(next) => {
+            let latest = &mut text.latest;
+            note_read(&mut latest.is_drained, before, line, &text.lines);
+            Ok(next)
+        }
         Err(e) => {
             text.state = State::Open(Vec::new(text.alloc), Err(e));
             Err(e)
@@ -128,7 +136,7 @@ fn next_section<R: Source>(source: &mut R, text: &mut Text, buffer: Vec<u8>) -> 
         enough: text.most,
         most: text.most,
     };
-    let stop = read_piece(source, &mut text.lines, &mut text.line, &mut bytes, room);
+    let stop = read_piece(source, &mut text.lines, &mut text.latest, &mut bytes, room);
     match stop {
         Ok(Stop::Section) => Some(Section {
             bytes,

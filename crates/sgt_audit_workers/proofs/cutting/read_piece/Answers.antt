@@ -217,3 +217,18 @@ returns-in-TooLong-clause-piece g c =
     stops-before first _ c.args.lines.now.reads c.next_line.new.lines.reads c.args.room.most
     (length l) before c.take_held.new.lines told section (Ok stop.Long) far short c.next_line.ensures.few
     (omega (arith, c.next_line.ensures.short)) (long-left _ _ _ l gave.gives)
+
+pub returns-then-latest-clause-piece : goal.returns-then-latest-clause-piece
+returns-then-latest-clause-piece g c =
+    let first = coming c.args.lines.now (g.R.Source.tells c.args.reader.now) in
+    let told = g.R.Source.tells c.pieces.reader in
+    let before = c.args.section.now.items in
+    let section = c.take_held.new.section.items in
+    let takes = c.in_ok-stop.ensures.takes in
+    let far =
+    far-held first c.args.lines.now.reads before c.pieces.lines c.take_held.new.lines told c.pieces.section.items
+    section takes.0 c.pieces.invariant.far takes.2 in
+    let short = short-held c.args.room.most before c.pieces.section.items section c.pieces.invariant.short
+    c.in_ok-stop.ensures.short in
+    stops-here first c.args.lines.now.reads c.args.room.most before c.take_held.new.lines told section
+    (Ok stop.Room) far short (refl, refl)
