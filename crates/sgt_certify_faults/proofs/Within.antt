@@ -26,8 +26,9 @@ lfs bytes = count_by (λ b. b == 10) bytes
 none-counted : (xs : List ℕ) → HasNot 10 xs → lfs xs ≡ 0
 none-counted [] empty = refl
 none-counted (x ∷ xs) empty =
-    let own : cond (x == 10) 1 0 ≡ 0 = ap (λ (b : Bool). cond b 1 0) (ne_eqb x 10 empty.0) in
-    omega (arith, sum_by-cons (λ (b : ℕ). cond (b == 10) 1 0) x xs, own, none-counted xs empty.1)
+    let flag : Bool → ℕ = λ b. cond b 1 0 in
+    let own : flag (x == 10) ≡ 0 = ap flag (ne_eqb x 10 empty.0) in
+    omega (arith, sum_by-cons (λ (b : ℕ). flag (b == 10)) x xs, own, none-counted xs empty.1)
 
 line-counted : (l rest : List ℕ) → HasNot 10 l → lfs (l ++ 10 ∷ rest) ≡ lfs rest + 1
 line-counted l rest empty =
