@@ -1,5 +1,6 @@
-use Rattle.std.proofs.Common.{rules, ◌≡◌, ◌≤◌, ◌+◌, ◌∙◌, ◌++◌, List, ℕ, ap, refl, arith, length}
-use Rattle.std.specs.Prelude.{IsErr, IsErrOf, Ok}
+use Rattle.std.proofs.Common.{rules, ◌≡◌, ◌≤◌, ◌+◌, ◌∙◌, ◌++◌, List, ℕ, ap, refl, arith, length, subst}
+use Rattle.std.specs.Prelude.{IsErr, IsErrOf, IsTrue, Ok}
+use Rattle.std.proofs.lemmas.Bool.{false≢true}
 use Rattle.sgt_names.specs.declared.outcome.EngineFail.TheVariants.{ReadFault}
 use Rattle.sgt_notation.specs.Lines.{coming}
 use Rattle.sgt_audit_workers.specs.Cut.{longest}
@@ -143,6 +144,7 @@ pieces-preserved g c =
           c.in_ok-append_line-in-Line.ensures.ok;
       asks = omega (arith, ap (λ a. a.reads) takes.2.lines, c.next_line.ensures.asks, c.pieces.invariant.asks);
       quiet = gave.quiet ∙ c.pieces.invariant.quiet;
+      ready = λ drained. absurd (false≢true (subst IsTrue c.if-latest.false (c.pieces.invariant.ready drained).0));
     }
 
 pub returns-in_err-append-in-Cut-clause-piece : goal.returns-in_err-append-in-Cut-clause-piece
@@ -232,3 +234,24 @@ returns-then-latest-clause-piece g c =
     c.in_ok-stop.ensures.short in
     stops-here first c.args.lines.now.reads c.args.room.most before c.take_held.new.lines told section
     (Ok stop.Room) far short (refl, refl)
+
+pub returns-in_err-next_line-clause-ready : goal.returns-in_err-next_line-clause-ready
+returns-in_err-next_line-clause-ready g c drained = absurd (false≢true (subst IsTrue c.if-latest.false (c.pieces.invariant.ready drained).0))
+
+pub returns-in_err-append_line-in-Line-clause-ready : goal.returns-in_err-append_line-in-Line-clause-ready
+returns-in_err-append_line-in-Line-clause-ready g c drained = absurd (false≢true (subst IsTrue c.if-latest.false (c.pieces.invariant.ready drained).0))
+
+pub returns-then-ends-clause-ready : goal.returns-then-ends-clause-ready
+returns-then-ends-clause-ready g c drained = absurd (false≢true (subst IsTrue c.if-latest.false (c.pieces.invariant.ready drained).0))
+
+pub returns-in_err-append-in-Cut-clause-ready : goal.returns-in_err-append-in-Cut-clause-ready
+returns-in_err-append-in-Cut-clause-ready g c drained = absurd (false≢true (subst IsTrue c.if-latest.false (c.pieces.invariant.ready drained).0))
+
+pub returns-in-Cut-clause-ready : goal.returns-in-Cut-clause-ready
+returns-in-Cut-clause-ready g c drained = absurd (false≢true (subst IsTrue c.if-latest.false (c.pieces.invariant.ready drained).0))
+
+pub returns-in-End-clause-ready : goal.returns-in-End-clause-ready
+returns-in-End-clause-ready g c drained = absurd (false≢true (subst IsTrue c.if-latest.false (c.pieces.invariant.ready drained).0))
+
+pub returns-in-TooLong-clause-ready : goal.returns-in-TooLong-clause-ready
+returns-in-TooLong-clause-ready g c drained = absurd (false≢true (subst IsTrue c.if-latest.false (c.pieces.invariant.ready drained).0))
