@@ -1,6 +1,6 @@
 use Rattle.std.proofs.Common.{◌+◌, ◌-◌, ◌≤◌, length}
 use Rattle.sgt_certify_faults.specs.private.Reading.{HasRead}
-use Rattle.sgt_certify_faults.proofs.first.fault_behind.Given as goal
+use Rattle.sgt_certify_faults.proofs.first.read_lines.Given as goal
 
 abbrev pub invariant-lines : goal.invariant-lines
 invariant-lines l = (2 ≤ l.line) × (length l.rest + l.line ≤ length l.bytes + 2)
