@@ -223,7 +223,8 @@ met-of own other p is = by-site (own.site == other.site) refl is
         → cond b (cond (nat_lt own.logged.line other.logged.line) (clash_of own.site own.logged other.logged)
         (clash_of own.site other.logged own.logged)) None ≡ Some p → IsMet own other p
     by-site false apart is = absurd (none-some p is)
-    by-site true here is = by-line (eqb-true own.site other.site here) (nat_lt own.logged.line other.logged.line) refl is
+    by-site true here is =
+        by-line (eqb-true own.site other.site here) (nat_lt own.logged.line other.logged.line) refl is
 
 -- they are on one item
 pub met-items : (own other : Own) (p : Pair) → IsMet own other p

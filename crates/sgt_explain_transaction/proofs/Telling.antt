@@ -41,8 +41,8 @@ shows-by_item own sorted given read old new count same by shown =
     (ap (λ (os : List Own). conflicts_among os read) same ∙ among-by_item own sorted read by) shown
 
 whole : (own given : List Own) (pairs : List Pair) (old a b new : List ℕ) (count : ℕ) → given ≡ own
-    → count ≤ 18446744073709551615 → a ≡ old ++ own_head given → ShowsMore pairs a 0 b count → new ≡ b ++ count_text count
-    → new ≡ old ++ (own_head own ++ conflicts_text pairs)
+    → count ≤ 18446744073709551615 → a ≡ old ++ own_head given → ShowsMore pairs a 0 b count
+    → new ≡ b ++ count_text count → new ≡ old ++ (own_head own ++ conflicts_text pairs)
 whole own given pairs old a b new count same most front shown e =
     let counted = shown.count in
     let n : count ≡ min (length pairs) 18446744073709551615 = omega (arith, counted, most) in
@@ -54,8 +54,8 @@ whole own given pairs old a b new count same most front shown e =
     ∙ ap (λ t. old ++ t) (append_assoc head told (count_text (min (length pairs) 18446744073709551615)))
 
 pub tells-dealings : (tx : ℕ) (own given read : List Own) (old a b new : List ℕ) (count : ℕ) → given ≡ own
-    → count ≤ 18446744073709551615 → All (IsOwn tx) own → a ≡ old ++ own_head given → ShowsMore (conflicts_among own read) a 0 b count
-    → new ≡ b ++ count_text count → TellsDealings tx old new
+    → count ≤ 18446744073709551615 → All (IsOwn tx) own → a ≡ old ++ own_head given
+    → ShowsMore (conflicts_among own read) a 0 b count → new ≡ b ++ count_text count → TellsDealings tx old new
 tells-dealings tx own given read old a b new count same most all front shown e =
     let pairs = conflicts_among own read in
     let told = pairs_text (take 40 pairs) in

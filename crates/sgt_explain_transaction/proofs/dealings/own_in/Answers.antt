@@ -58,8 +58,8 @@ returns-then-is_empty-clause-all c = λ lines before.
     own-more tx c.loop-line.own.items c.push_from.new.own.items so_far.0 site line found so_far.2
     c.in_ok-push_from.ensures
     ∙ ap (filter (is_own tx)) (read-over c.args.bytes.now c.args.end line behind site read c.loop-line.auto.line
-    (read-step c.args.bytes.now c.args.end line c.loop-line.site site c.loop-line.rest.now c.cut_line.result.0.now behind
-    so_far.0 found so_far.1 c.loop-line.auto.line c.loop-line-test.true (record {
+    (read-step c.args.bytes.now c.args.end line c.loop-line.site site c.loop-line.rest.now
+    c.cut_line.result.0.now behind so_far.0 found so_far.1 c.loop-line.auto.line c.loop-line-test.true (record {
       cuts = c.cut_line.ensures.cut;
       head = c.entry_at-found.ensures.head;
       section = c.entry_at-found.ensures.spelled;
