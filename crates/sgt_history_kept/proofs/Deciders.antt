@@ -1,15 +1,12 @@
 -- What orders of all lines and cycles come to.
-use Rattle.std.proofs.Common.{◌≡◌, ℕ, ◌<◌, ◌≤◌, List, [], ◌∷◌, ◌++◌, Option, Some, length, refl, sym, ap, ◌∙◌, subst, arith, inl, inr, ◌⊎◌, All}
-use Rattle.std.specs.Prelude.{◌↔◌, slice_get, Contains}
+use Rattle.std.proofs.Common.{◌≡◌, ℕ, ◌<◌, List, [], ◌∷◌, ◌++◌, Option, Some, length, sym, ◌∙◌, arith, inl, inr, All}
+use Rattle.std.specs.Prelude.{◌↔◌, slice_get}
 use Rattle.std.proofs.lemmas.Option.{slice_get_within}
 use Rattle.sgt_names.proofs.Lists.{All_in}
 use Rattle.sgt_names.proofs.Places.{Contains_at, Contains-from_at}
-use Rattle.sgt_history.specs.declared.named.Conflict.{Conflict}
-use Rattle.sgt_history.specs.declared.named.Conflict.TheVariants.{WriteWrite, WriteRead, ReadWrite}
-use Rattle.sgt_history.specs.declared.named.Graph.TheVariants.{Whole}
 use Rattle.sgt_history.specs.Transaction.{Transaction}
-use Rattle.sgt_history.specs.Serial.{IsCommitted, IsOrder}
-use Rattle.sgt_history.specs.Conflicts.{ConflictIn, HaveConflict, IsChain, IsCycle, Precedes}
+use Rattle.sgt_history.specs.Serial.{IsCommitted}
+use Rattle.sgt_history.specs.Conflicts.{IsChain, IsCycle, Precedes}
 use Rattle.sgt_history_graph.specs.declared.edge.Edge.{Edge}
 use Rattle.sgt_history_graph.specs.First.{IsFirstCycle}
 use Rattle.sgt_history_graph.specs.Graph as nodes
@@ -18,8 +15,8 @@ use Rattle.sgt_history_verdict.proofs.Kept.{kept-from, kept_at, kept-both, kept-
 use Rattle.sgt_history_kept.specs.declared.asked.Asked.{Asked}
 use Rattle.sgt_history_kept.specs.declared.deciding.Kept.{Kept}
 use Rattle.sgt_history_kept.specs.declared.deciding.Kept.TheVariants.{Serial, Cyclic}
-use Rattle.sgt_history_kept.specs.Decided.{Adds, GoesForward, IsAskedBefore, IsInRows, IsKept, IsKeptFrom, IsSerial}
-use Rattle.sgt_history_time.specs.Kept.{IsBefore, IsEarlier, KeepsRealTime, KeepsSessions}
+use Rattle.sgt_history_kept.specs.Decided.{Adds, GoesForward, IsInRows, IsKept, IsKeptFrom, IsSerial}
+use Rattle.sgt_history_time.specs.Kept.{KeepsRealTime, KeepsSessions}
 use Rattle.sgt_history_kept.specs.FirstCycle.{IsFirstCycleOf}
 use Rattle.sgt_history_kept.specs.Placed.{ArePlaces, LeadsOn}
 use Rattle.sgt_history_time.specs.Serializable.{IsSerializableKeeping, ServesKeeping}

@@ -1,5 +1,5 @@
 -- Labels of a history's lines.
-use Rattle.std.proofs.Common.{◌≡◌, ℕ, ◌<◌, ◌≤◌, List, length, arith, inl, inr, ◌⊎◌}
+use Rattle.std.proofs.Common.{ℕ, ◌<◌, List, arith, inl, inr, ◌⊎◌}
 use Rattle.std.proofs.lemmas.Option.{slice_get_within}
 use Rattle.sgt_history.specs.Transaction.{Transaction}
 use Rattle.sgt_history_graph.specs.declared.edge.Edge.{Edge}

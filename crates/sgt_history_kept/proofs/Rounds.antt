@@ -1,8 +1,7 @@
 -- While lines are checked to form a cycle.
-use Rattle.std.proofs.Common.{◌≡◌, ℕ, Bool, true, false, zero, suc, ◌+◌, ◌<◌, ◌≤◌, List, [], ◌∷◌, ◌++◌, Option, Some, None, length, replicate, set, refl, sym, ap, ◌∙◌, subst, arith, inl, inr, ◌⊎◌, length-append}
+use Rattle.std.proofs.Common.{◌≡◌, ℕ, Bool, true, false, zero, suc, ◌+◌, ◌<◌, ◌≤◌, List, [], ◌∷◌, ◌++◌, Option, Some, None, length, set, refl, sym, ap, ◌∙◌, subst, arith, inl, inr, ◌⊎◌, length-append}
 use Rattle.std.specs.Prelude.{◌==◌, slice_get, Contains}
 use Rattle.std.proofs.lemmas.Bool.{cases_eq, cases_lt, lt-ltb, le-ltb}
-use Rattle.std.proofs.lemmas.List.{set_past}
 use Rattle.std.proofs.lemmas.Option.{same_Some, slice_get_within}
 use Rattle.sgt_names.proofs.Lists.{back_at, front_at, within_at}
 use Rattle.sgt_history.specs.Transaction.{Transaction}

@@ -1,4 +1,4 @@
-use Rattle.std.proofs.Common.{◌≡◌, ◌∙◌, ℕ, List, length, sym, subst}
+use Rattle.std.proofs.Common.{◌≡◌, ◌∙◌, ℕ, length, sym, subst}
 use Rattle.sgt_history_kept.specs.Decided.{IsKeptFrom}
 use Rattle.sgt_history_kept.specs.FirstCycle.{IsFirstCycleOf}
 use Rattle.sgt_history_time.specs.Steps.{StandsBefore}

@@ -1,4 +1,4 @@
-use Rattle.std.proofs.Common.{◌≡◌, ◌∙◌, ℕ, ◌<◌, ◌+◌, ◌-◌, get_or, length, arith, sym}
+use Rattle.std.proofs.Common.{◌-◌, get_or, length, arith}
 use Rattle.std.proofs.lemmas.Option.{slice_get-get_or}
 use Rattle.sgt_history_kept.proofs.Firsts.{lead-next}
 use Rattle.sgt_history_kept.proofs.labels.all_lead_home.Goals as goal

@@ -1,4 +1,4 @@
-use Rattle.std.proofs.Common.{◌≡◌, ℕ, List, Option, None, get_or, subst, slice_index}
+use Rattle.std.proofs.Common.{ℕ, None, get_or, subst, slice_index}
 use Rattle.std.proofs.lemmas.Option.{slice_get-get_or}
 use Rattle.sgt_history_kept.specs.Rising.{IsNotedLine}
 use Rattle.sgt_history_kept.proofs.Risings.{raised-next, raised-none, raised-whole}

@@ -1,4 +1,4 @@
-use Rattle.std.proofs.Common.{◌≡◌, ◌∙◌, ℕ, List, Option, None, get_or, subst, sym, arith, slice_index}
+use Rattle.std.proofs.Common.{◌∙◌, ℕ, None, get_or, subst, sym, arith, slice_index}
 use Rattle.std.specs.Prelude.{IfSome}
 use Rattle.std.proofs.lemmas.Option.{slice_get-get_or}
 use Rattle.sgt_history_kept.specs.Rising.{AreRising, StandsIn}
