@@ -9,8 +9,8 @@ use Rattle.sgt_history.specs.Transaction.{Transaction, renamed_value}
 use Rattle.sgt_history_time.specs.declared.times.Times.{Times}
 use Rattle.sgt_history_text.specs.Line.{IsLine, IsTextOf, end_word}
 use Rattle.sgt_history_text.specs.Moment.{HasSession, HasTimes, IsEntry, IsLineWith, IsWantedEntry}
-use Rattle.sgt_history_text.specs.Parsed.{AreTimes, IsMoment, IsSession, IsTransaction, LacksMoment, seen}
-use Rattle.sgt_history_text.specs.Shallow.{HasMembers}
+use Rattle.sgt_history_text.specs.Parsed.{AreTimes, IsHead, IsMoment, IsSession, LacksMoment, seen}
+use Rattle.sgt_history_text.specs.Members.{HasMembers}
 use Rattle.sgt_history_text.specs.declared.moment.LentMoment.{LentMoment}
 use Rattle.sgt_history_text.specs.declared.wanted.Wanted.{Wanted}
 use Rattle.sgt_history_text.proofs.Kept.{key_numbers}
@@ -120,9 +120,9 @@ same_end true false e = absurd cc
 same_end false true e = absurd cc
 same_end false false e = refl
 
-pub same_commits : (j id id' : Json) (t t' : Transaction Json Json) → IsTransaction j id t → IsTransaction j id' t'
-    → t.commits ≡ t'.commits
-same_commits j id id' t t' a b = same_end t.commits t'.commits (sym a.end ∙ b.end)
+pub same_commits : (j id id' : Json) (commits commits' : Bool) → IsHead j id commits → IsHead j id' commits'
+    → commits ≡ commits'
+same_commits j id id' commits commits' a b = same_end commits commits' (sym a.end ∙ b.end)
 
 -- ---- when it ran
 

@@ -1,11 +1,11 @@
 -- Values of JSON that are read to some depth: what nests deeper stands as an empty array or object.
-use Rattle.std.specs.Prelude.{◌≡◌, ◌↔◌, ◌||◌, ℕ, Bool, true, false, cond, List, ◌∷◌, ◌++◌, Option, Some, None, option_map, codes}
-use Rattle.std.specs.Str.{bytes_eq}
-use Rattle.json.specs.Find.{get, get_member}
+use Rattle.std.specs.Prelude.{◌≡◌, ◌↔◌, ◌⊎◌, ◌<◌, Bool, true, false, List, [], ◌∷◌, ◌++◌, length, Option, Some, None}
 use Rattle.json.specs.Json.{Json, null, boolean, number, string, array, object, Items, no_items, item, Members, no_members}
 use Rattle.json.specs.Token.{Token, begin_object, begin_array}
 use Rattle.json.specs.Tree.{json_tokens, items_tokens, members_tokens}
 use Rattle.json.specs.Value.{value_view}
+use Rattle.sgt_history.specs.declared.history.Operation.{Operation}
+use Rattle.sgt_history_text.specs.Line.{IsOperation, operation_json}
 use Rattle.sgt_history_text.specs.declared.shallow.First.{First}
 use Rattle.sgt_history_text.specs.declared.shallow.First.TheVariants.{Object, Array, Scalar}
 
@@ -86,25 +86,12 @@ IsOpened old None new = NoValue old
 IsOpened old (Some None) new = (j : Json) × (old ≡ json_tokens j ++ new) × IsScalar j
 IsOpened old (Some (Some b)) new = old ≡ bracket b ∷ new
 
--- ---- members
+-- ---- operations
 
--- the names of the members that say something of a transaction, of when it ran, of its session
-abbrev pub is_told : List ℕ → Bool
-is_told name = bytes_eq name (codes "tx") || bytes_eq name (codes "end") || bytes_eq name (codes "ops")
-    || bytes_eq name (codes "begin") || bytes_eq name (codes "done") || bytes_eq name (codes "session")
+-- it is an operation exactly where what was read of it is
+abbrev pub IsSeenAs : Json → Json → Type 0
+IsSeenAs j v = (o : Operation Json Json) → IsOperation o → (j ≡ operation_json o) ↔ (v ≡ operation_json o)
 
--- the value has the last of the members of each such name, as deep as it is read
-abbrev pub HasMembers : Members → Json → Type 0
-HasMembers ms v = (name : List ℕ) → is_told name ≡ true
-    → get name v ≡ option_map (arrays (arrays leaf)) (get_member name ms)
-
--- one more member stands behind them
-abbrev pub get_with : Members → (name : List ℕ) → Json → (other : List ℕ) → Option Json
-get_with ms name j other = cond (bytes_eq name other) (Some j) (get_member other ms)
-
--- a member's value was read, and is kept, if its name is told
-pub record IsMemberTaken (old new : List Token) (name : List ℕ) (before after : Members) : Type 0 where
-  pub j : Json
-  pub text : old ≡ json_tokens j ++ new
-  pub kept : (other : List ℕ) → is_told other ≡ true
-      → get_member other after ≡ get_with before name (arrays (arrays leaf) j) other
+-- an element more was kept; or more were than an operation has
+abbrev pub IsPartKept : {A : Type 0} → List A → A → List A → Type 0
+IsPartKept old v new = (new ≡ old ++ v ∷ []) ⊎ ((4 < length old) × (new ≡ old))
