@@ -1,4 +1,4 @@
-//! The cycle that is shown. Which one it is isn't proved: who asks for it checks it.
+//! The cycle that is shown, with labels of lines. What they are isn't proved: who asks for them checks them.
 
 ghost use Rattle.std.specs.Prelude.{◌≤◌, ◌^◌};
 
@@ -315,7 +315,8 @@ fn greatest_of(numbers: &[u32]) -> u32 {
     greatest
 }
 
-/// Labels of so many lines for a cycle from the node. Those of the cycle's lines have no least key yet.
+/// Labels of so many lines for a cycle from the node: a step leads nearer by one at most. `keep_to` tells more of the
+/// cycle's lines.
 fn labels_of(
     alloc: Global,
     lines: usize,
