@@ -4,15 +4,17 @@ ghost use Rattle.std.specs.Prelude.{◌≡◌, [], ◌∷◌, ◌++◌, ◌+◌,
 ghost use Rattle.sgt_names.specs.Device.{AtMost, CountsFailures, TakesFront, TakesSome};
 
 use crate::history::{Act, History};
+use crate::refusals::Refusals;
 use sgt_names::{Failed, Sink, Source};
 
 /// The reader and the writer of one talk. Its history tells, for proofs, what the reader gave, what the writer took,
-/// and at each read what both had done before it.
+/// and at each read what both had done before it; and its `refusals`, how many growths were refused to who talks.
 #[derive(Drop)]
 pub struct Pipe<R, W> {
     reader: R,
     writer: W,
     history: History,
+    refusals: Refusals,
 }
 
 impl<R: Source, W: Sink> Pipe<R, W> {
@@ -30,7 +32,18 @@ impl<R: Source, W: Sink> Pipe<R, W> {
             reader,
             writer,
             history: History::new(),
+            refusals: Refusals::new(),
         }
+    }
+
+    /// So many growths were refused to who talks.
+    pub fn tell_refusals(&mut self, refusals: Refusals)
+        ensures told { self.new.refusals ≡ refusals }
+        ensures reader { self.new.reader ≡ self.old.reader }
+        ensures writer { self.new.writer ≡ self.old.writer }
+        ensures history { self.new.history ≡ self.old.history }
+    {
+        self.refusals = refusals;
     }
 
     /// The reader and the writer.
