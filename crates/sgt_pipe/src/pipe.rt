@@ -27,6 +27,7 @@ impl<R: Source, W: Sink> Pipe<R, W> {
         ensures given { result.history.given ≡ [] }
         ensures written { result.history.written ≡ [] }
         ensures waits { result.history.waits ≡ [] }
+        ensures refusals { result.refusals ≡ 0 }
     {
         Pipe {
             reader,
@@ -38,10 +39,7 @@ impl<R: Source, W: Sink> Pipe<R, W> {
 
     /// So many growths were refused to who talks.
     pub fn tell_refusals(&mut self, refusals: Refusals)
-        ensures told { self.new.refusals ≡ refusals }
-        ensures reader { self.new.reader ≡ self.old.reader }
-        ensures writer { self.new.writer ≡ self.old.writer }
-        ensures history { self.new.history ≡ self.old.history }
+        ensures { self.new ≡ record self.old { refusals = refusals } }
     {
         self.refusals = refusals;
     }
@@ -66,6 +64,7 @@ impl<R: Source, W: Sink> Pipe<R, W> {
         ensures waits { self.new.history.waits
             ≡ self.old.history.waits ++ (self.old.history.given, self.old.history.written) ∷ [] }
         ensures writer { self.new.writer ≡ self.old.writer }
+        ensures refusals { self.new.refusals ≡ self.old.refusals }
     {
         self.history = self.history.with(&Act::Asks);
         let read = self.reader.read(buffer);
@@ -87,6 +86,7 @@ impl<R: Source, W: Sink> Pipe<R, W> {
         ensures given { self.new.history.given ≡ self.old.history.given }
         ensures waits { self.new.history.waits ≡ self.old.history.waits }
         ensures reader { self.new.reader ≡ self.old.reader }
+        ensures refusals { self.new.refusals ≡ self.old.refusals }
     {
         let wrote = self.writer.write(bytes);
         if let Ok(n) = wrote {
@@ -108,6 +108,7 @@ impl<R: Source, W: Sink> Pipe<R, W> {
         ensures given { self.new.history.given ≡ self.old.history.given }
         ensures waits { self.new.history.waits ≡ self.old.history.waits }
         ensures reader { self.new.reader ≡ self.old.reader }
+        ensures refusals { self.new.refusals ≡ self.old.refusals }
     {
         let mut at = 0;
         'writes: while at < bytes.len() {
