@@ -39,7 +39,10 @@ impl<R: Source, W: Sink> Pipe<R, W> {
 
     /// So many growths were refused to who talks.
     pub fn tell_refusals(&mut self, refusals: Refusals)
-        ensures { self.new ≡ record self.old { refusals = refusals } }
+        ensures told { self.new.refusals ≡ refusals }
+        ensures reader { self.new.reader ≡ self.old.reader }
+        ensures writer { self.new.writer ≡ self.old.writer }
+        ensures history { self.new.history ≡ self.old.history }
     {
         self.refusals = refusals;
     }
