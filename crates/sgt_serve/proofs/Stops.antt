@@ -30,7 +30,8 @@ stops_or_then (Some s) a b c p q = stops_then s a b c p q
 -- of a line that is too long
 pub said_long : (result : Stop) (kept : Kept) (core : Parts) (old new : History) (held : List ℕ)
     → IsLongerThan max_line held
-    → SaysLast result stop.TooLong (codes "! L2\n") old new → Stops result (desk kept core old [] held) (desk kept core new [] held)
+    → SaysLast result stop.TooLong (codes "! L2\n") old new
+    → Stops result (desk kept core old [] held) (desk kept core new [] held)
 said_long result kept core old new held long says =
     said_last result stop.TooLong (codes "! L2\n") kept core old new held says
     refl (λ t some. inr (inr (some, long, refl)))
@@ -39,7 +40,8 @@ said_long result kept core old new held long says =
 -- of a part of a line, at the end
 pub said_part : (result : Stop) (kept : Kept) (core : Parts) (old new : History) (held : List ℕ) → IsPart held
     → held ≢ []
-    → SaysLast result stop.Ended (codes "! L1\n") old new → Stops result (desk kept core old [] held) (desk kept core new [] held)
+    → SaysLast result stop.Ended (codes "! L1\n") old new
+    → Stops result (desk kept core old [] held) (desk kept core new [] held)
 said_part result kept core old new held part some says =
     said_last result stop.Ended (codes "! L1\n") kept core old new held says
     refl (λ t begun. inr (inl (inr (some, begun, part, refl))))

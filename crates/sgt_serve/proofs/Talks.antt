@@ -285,8 +285,8 @@ pub taken_come : {E : Type 0} (r : Result (Unit {0}) E) (n : ℕ) (kept kept' : 
     → HasCome sites before (desk kept core history gathered held)
     → TakesOr r sites before (desk kept' core' history gathered' held')
 taken_come r n kept kept' core core' history gathered gathered' held held' line takes sites before h =
-    take_on r sites before h.talk history n kept kept' core core' gathered gathered' held held' h.has h.none_else h.asked
-    h.told
+    take_on r sites before h.talk history n kept kept' core core' gathered gathered' held held' h.has h.none_else
+    h.asked h.told
     line (inl h.begun) takes
 
 pub taken_first : {E : Type 0} (r : Result (Unit {0}) E) (n : ℕ) (kept kept' : Kept) (core core' : Parts)
@@ -296,8 +296,8 @@ pub taken_first : {E : Type 0} (r : Result (Unit {0}) E) (n : ℕ) (kept kept' :
     → HasOpened sites before (desk kept core history gathered held) → Asks (take n held)
     → TakesOr r sites before (desk kept' core' history gathered' held')
 taken_first r n kept kept' core core' history gathered gathered' held held' line takes sites before h asks =
-    take_on r sites before h.talk history n kept kept' core core' gathered gathered' held held' h.has h.none_else h.asked
-    h.told
+    take_on r sites before h.talk history n kept kept' core core' gathered gathered' held held' h.has h.none_else
+    h.asked h.told
     line (inr asks) takes
 
 -- ---- answers are written
@@ -397,8 +397,8 @@ said_last result stop' tail kept core old new held (inl (same, wrote), given, wa
       says = so h.talk h.begun new.written (wrote
           ∙ (whole_tail old.written tail ∙ ap (λ (ts : List ℕ). ts ++ tail) (sym h.told)));
     })
-said_last result stop' tail kept core old new held (inr (same, m, lt, wrote), given, waits) none behind so sites before h
-    =
+said_last result stop' tail kept core old new held (inr (same, m, lt, wrote), given, waits) none behind so sites
+    before h =
     subst (λ r. HasStopped r sites before (desk kept core new [] held)) (sym same) (record {
       talk = h.talk;
       has = has_moved sites before h.talk kept core old new [] [] held held waits h.has;

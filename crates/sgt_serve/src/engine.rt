@@ -110,7 +110,7 @@ fn tell_unreadable<R: Source, W: Sink>(
     }
 }
 
-/// Serves a talk, and notes the growths that are refused to it.
+/// Serves a talk, and notes the growths that are refused to it, of which there are none yet.
 fn serve_noting<R: Source, W: Sink, B: Bundles>(
     alloc: Global,
     pipe: &mut Pipe<R, W>,
@@ -120,6 +120,7 @@ fn serve_noting<R: Source, W: Sink, B: Bundles>(
     requires given { pipe.old.history.given ≡ [] }
     requires written { pipe.old.history.written ≡ [] }
     requires waits { pipe.old.history.waits ≡ [] }
+    requires quiet { refusals.old ≡ 0 }
     ensures served { Served result (R.tells pipe.new.reader) pipe.new.history.given
         pipe.new.history.written (kept_at (B.handed bundles.old) refusals.old)
         (kept_at (B.handed bundles.new) refusals.new) }

@@ -96,6 +96,7 @@ fn read_on<R: Source, W: Sink>(
         ≡ R.asked pipe.old.reader + inbox.old.reads }
     ensures falls { result ≡ Ok None → (inbox.old.reads ≡ inbox.new.reads + 1)
         × (length inbox.new.held ≤ length inbox.old.held + buffer_size) }
+    ensures quiet { refused_in result ≡ 0 }
 {
     match inbox.fill(pipe) {
         Ok(0) if any && inbox.held().is_empty() => Ok(Some(Opened::Ended)),

@@ -26,7 +26,7 @@ returns-in-Begun-clause-served g c =
     c.read_sites.new.sites.items c.read_sites.new.pipe.history c.read_sites.new.inbox.held) c.in-Begun.is
     c.in-Ok-read_sites.ensures.opens in
     served_memory _ c.read_sites.new.sites.items c.read_sites.new.pipe.history c.read_sites.new.inbox.held
-    _ _ p.0 (refl, refl, omega (arith, c.in-Ok-read_sites.ensures.notes, c.note.ensures))
+    _ _ p.0 (refl, refl, omega (arith, c.in-Ok-read_sites.ensures.notes, c.note-in-Err-server_of.ensures))
 
 pub returns-in-Begun-clause-reader : goal.returns-in-Begun-clause-reader
 returns-in-Begun-clause-reader g c = (
@@ -42,11 +42,11 @@ returns-in-Ok-server_of-clause-served g c =
     c.in-Ok-read_sites.ensures.opens in
     let n = c.in-Ok-server_of.server.refusals in
     let h = g.B.Bundles.handed c.args.bundles.now in
-    subst (λ (k : ℕ). Served c.serve_talk.result.0 (g.R.Source.tells c.serve_talk.new.pipe.reader)
-    c.serve_talk.new.pipe.history.given c.serve_talk.new.pipe.history.written (kept_at h k)
-    (kept_at (g.B.Bundles.handed c.serve_talk.new.bundles) c.serve_talk.result.1))
-    (omega (arith, c.in-Ok-server_of.ensures.quiet, c.in-Ok-read_sites.ensures.notes))
-    (c.serve_talk.ensures.serves c.read_sites.new.sites.items (kept_at h n)
+    subst (λ (k : ℕ). Served c.serve_talk-told.result.0 (g.R.Source.tells c.serve_talk-told.new.pipe.reader)
+    c.serve_talk-told.new.pipe.history.given c.serve_talk-told.new.pipe.history.written (kept_at h k)
+    (kept_at (g.B.Bundles.handed c.serve_talk-told.new.bundles) c.serve_talk-told.result.1))
+    (omega (arith, c.in-Ok-server_of.ensures.quiet, c.requires.quiet))
+    (c.serve_talk-told.ensures.serves c.read_sites.new.sites.items (kept_at h n)
     (has_opened c.read_sites.new.sites.items (kept_at h n) c.in-Ok-server_of.server.core
     c.read_sites.new.pipe.history c.in-Ok-server_of.server.answers.items
     c.read_sites.new.inbox.held p.0 p.1 c.in-Ok-server_of.ensures.stands c.in-Ok-server_of.ensures.none) p.3).0
@@ -57,16 +57,17 @@ returns-in-Ok-server_of-clause-flushed g c =
     c.read_sites.new.sites.items c.read_sites.new.pipe.history c.read_sites.new.inbox.held) c.in-Begun.is
     c.in-Ok-read_sites.ensures.opens in
     let kept = kept_at (g.B.Bundles.handed c.args.bundles.now) c.in-Ok-server_of.server.refusals in
-    (c.serve_talk.ensures.serves c.read_sites.new.sites.items kept
+    (c.serve_talk-told.ensures.serves c.read_sites.new.sites.items kept
     (has_opened c.read_sites.new.sites.items kept c.in-Ok-server_of.server.core
     c.read_sites.new.pipe.history c.in-Ok-server_of.server.answers.items
     c.read_sites.new.inbox.held p.0 p.1 c.in-Ok-server_of.ensures.stands c.in-Ok-server_of.ensures.none) p.3).1
 
 pub returns-in-Ok-server_of-clause-reader : goal.returns-in-Ok-server_of-clause-reader
 returns-in-Ok-server_of-clause-reader g c = (
-  c.serve_talk.new.inbox.reads,
-  leaves_then c.serve_talk.result.0 _ _ _ _ _ _ _ _ _ _ c.in-Ok-read_sites.ensures.hears c.serve_talk.ensures.hears,
-  c.serve_talk.ensures.asks
+  c.serve_talk-told.new.inbox.reads,
+  leaves_then c.serve_talk-told.result.0 _ _ _ _ _ _ _ _ _ _ c.in-Ok-read_sites.ensures.hears
+      c.serve_talk-told.ensures.hears,
+  c.serve_talk-told.ensures.asks
       ∙ (c.read_sites.ensures.asks
       ∙ ap (λ (i : Held). g.R.Source.asked c.args.pipe.now.reader + i.reads) c.in-Ok.ensures),
 )
