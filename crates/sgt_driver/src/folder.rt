@@ -1,10 +1,10 @@
 //! The folder of a server's bundles.
 
-ghost use Rattle.std.specs.Prelude.{◌≡◌};
+ghost use Rattle.std.specs.Prelude.{◌≡◌, ◌<◌, Err};
 
 use crate::streams::Streams;
 use sgt_folder::{Folder, FolderBundles, FolderFault};
-use sgt_serve::{Bundles, Handed, HandedBundle, KeepFault};
+use sgt_serve::{Bundles, Handed, HandedBundle, KeepFault, Refusals};
 use sgt_status::LineName;
 use std::alloc::Global;
 use std::fs::{File, ReadDir};
@@ -184,6 +184,7 @@ pub struct ToldBundles<'a, S> {
     folder: &'a str,
     bundles: FolderBundles<SystemFolder<'a>>,
     handed: Handed,
+    refusals: Refusals,
 }
 
 // Why the folder can't be opened.
@@ -209,6 +210,7 @@ impl<'a, S: Streams> ToldBundles<'a, S> {
                 folder,
                 bundles,
                 handed: Handed::new(),
+                refusals: Refusals::new(),
             }),
             Err(fault) => Err(unopened(bundles.into_folder(), fault)),
         }
@@ -227,11 +229,15 @@ impl<'a, S: Streams> ToldBundles<'a, S> {
 
     // Keeps the text, and tells standard error why it can't be written, if that isn't for want of memory.
     fn answer_to(&mut self, text: &[u8]) -> Result<u64, KeepFault>
-        ensures { self.new.handed ≡ self.old.handed }
+        ensures handed { self.new.handed ≡ self.old.handed }
+        ensures memory { result ≡ Err KeepFault.Memory → self.old.refusals < self.new.refusals }
     {
         match self.bundles.keep(text) {
             Ok(number) => Ok(number),
-            Err(FolderFault::Memory) => Err(KeepFault::Memory),
+            Err(FolderFault::Memory) => {
+                self.refusals.note();
+                Err(KeepFault::Memory)
+            }
             Err(fault) => {
                 self.tell(fault);
                 Err(KeepFault::Refused)
@@ -242,6 +248,8 @@ impl<'a, S: Streams> ToldBundles<'a, S> {
 
 impl<S: Streams> Bundles for ToldBundles<'_, S> {
     ghost handed = { λ b. b.handed };
+
+    ghost refusals = { λ b. b.refusals };
 
     fn keep(&mut self, text: &[u8]) -> Result<u64, KeepFault> {
         let answer = self.answer_to(text);
