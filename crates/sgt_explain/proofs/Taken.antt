@@ -1,9 +1,10 @@
 -- What a reader has given so far.
-use Rattle.std.proofs.Common.{◌≡◌, ◌≤◌, ◌+◌, ℕ, List, [], ◌++◌, length, Option, Some, None, Result, inl, inr, refl, ap, sym, ◌∙◌, subst, arith, append_assoc, append-nil, length-append}
-use Rattle.std.specs.Prelude.{IfSome}
+use Rattle.std.proofs.Common.{◌≡◌, ◌≢◌, ◌<◌, ◌≤◌, ◌+◌, ℕ, List, [], ◌++◌, length, Option, Some, None, Result, Ok, Err, inl, inr, refl, ap, sym, ◌∙◌, subst, arith, append_assoc, append-nil, length-append}
+use Rattle.std.specs.Prelude.{IfSome, IsErrOf}
 use Rattle.std.specs.Io.KnownBytes.{Consumes, IsAtEnd, prepend_known}
 use Rattle.sgt_names.specs.Limits.{most_reads}
 use Rattle.sgt_names.specs.declared.outcome.EngineFail.{EngineFail}
+use Rattle.sgt_names.specs.declared.outcome.EngineFail.TheVariants.{Memory, ReadFault}
 use Rattle.sgt_devices.specs.Devices.{LeavesKeptReader}
 use Rattle.sgt_explain.specs.Watched.{CameBehind}
 
@@ -100,3 +101,24 @@ kept-back tells failures result old mid new head came quiet leaves = record {
   ];
   quiet = λ other. leaves.quiet other ∙ quiet;
 }
+
+-- ---- a read that failed
+
+abbrev pub SameErr : {A B : Type 0} → Result A EngineFail → Result B EngineFail → Type 0
+SameErr (Err e) (Err f) = e ≡ f
+SameErr _ _ = ⊥
+
+abbrev fail-in : {A : Type 0} → Result A EngineFail → EngineFail
+fail-in (Ok a) = Memory
+fail-in (Err e) = e
+
+pub leaves-failed : {A B R : Type 0} (tells : R → Option (List ℕ)) (failures : R → ℕ) (r : Result A EngineFail)
+    (s : Result B EngineFail) (old mid new : R) → SameErr r s → failures mid ≡ failures old
+    → (r ≢ Err ReadFault → failures new ≡ failures mid) → (IsErrOf r ReadFault → failures mid < failures new)
+    → LeavesKeptReader tells failures s old new
+leaves-failed tells failures (Err e) (Err f) old mid new same quiet kept due = record {
+  due = λ is. inl (omega (arith, due (ap (λ x. Err x) (same ∙ ap fail-in is)), quiet));
+  quiet = λ other. kept (λ is. other (ap (λ x. Err x) (sym same ∙ ap fail-in is))) ∙ quiet;
+}
+leaves-failed tells failures (Ok a) s old mid new same quiet kept due = absurd same
+leaves-failed tells failures (Err e) (Ok b) old mid new same quiet kept due = absurd same

@@ -1,9 +1,10 @@
 //! The explanation of all that a reader gives.
 
-ghost use Rattle.std.specs.Prelude.{◌≡◌, ◌≢◌, ◌<◌, ◌++◌, ℕ, List, Err, IfOk, OnOk, OnErr};
+ghost use Rattle.std.specs.Prelude.{◌≡◌, ◌≢◌, ◌<◌, ◌-◌, ◌++◌, ℕ, List, length, Err, IfOk, IfSome, OnOk, OnErr};
 ghost use Rattle.std.specs.Io.KnownBytes.{Appends};
 ghost use Rattle.sgt_names.specs.Device.{CountsFailures, WritesFront};
 ghost use Rattle.sgt_devices.specs.Devices.{LeavesKeptReader, LeavesWriter};
+ghost use Rattle.sgt_audit.specs.Faults.{BeginsNoneBehind, ReadsNoFurther};
 ghost use Rattle.sgt_audit.specs.Verdict.{IsVerdict};
 ghost use Rattle.sgt_explain.specs.Explained.{WroteExplained, WroteExplainedBy, WroteExplainedByFront, WroteExplainedOf, WroteExplainedFront};
 ghost use Rattle.sgt_explain.specs.Topics.{topic_name, IsRuleOf};
@@ -79,6 +80,10 @@ pub fn explain<R: Source, W: Sink>(
     ensures asked { IfOk result
         (λ explained. WroteExplainedOf asked (R.tells reader.old) explained (W.holds writer.old)
         (W.holds writer.new)) }
+    ensures no_further { IfOk result (λ _. IfSome (R.tells reader.old) (λ bytes.
+        ReadsNoFurther bytes (R.asked reader.new - R.asked reader.old))) }
+    ensures none_behind { IfOk result (λ _. IfSome (R.tells reader.old) (λ bytes. IfSome (R.tells reader.new)
+        (λ left. BeginsNoneBehind bytes (length left) (R.last reader.new)))) }
     ensures front { OnErr result
         (WroteExplainedFront (R.tells reader.old) (W.holds writer.old) (W.holds writer.new)) }
 

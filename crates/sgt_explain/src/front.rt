@@ -1,11 +1,12 @@
 //! The front of a text that its verdict is told of, read and kept in memory.
 
-ghost use Rattle.std.specs.Prelude.{◌≡◌, ◌≢◌, None, Err, [], take, IfOk, IfErr, IfSome};
+ghost use Rattle.std.specs.Prelude.{◌≡◌, ◌≢◌, ◌+◌, ◌-◌, length, None, Err, [], take, IfOk, IfErr, IfSome};
 ghost use Rattle.std.specs.Io.KnownBytes.{prepend_known};
 ghost use Rattle.sgt_devices.specs.Devices.{LeavesKeptReader};
+ghost use Rattle.sgt_audit.specs.Faults.{BeginsNoneBehind, ReadsNoFurther};
 ghost use Rattle.sgt_audit.specs.Verdict.{IsVerdict};
-ghost use Rattle.sgt_explain.specs.Front.{IsFrontOf};
-ghost use Rattle.sgt_explain.specs.Watched.{HasFed, HasJudged, IsBehind, MeetsFault};
+ghost use Rattle.sgt_explain.specs.Front.{IsFrontOf, ReadsOn};
+ghost use Rattle.sgt_explain.specs.Watched.{HasFed, HasGoneOn, HasJudged, HasPassed, IsBehind, MeetsFault};
 
 use crate::reading::{empty_buffer, take_some};
 use sgt_audit::{Fault, Machine, Verdict, verdict_on};
@@ -26,6 +27,8 @@ struct Watch {
     machine: Machine,
     /// Where the next line begins: the lines before it were judged.
     judged: usize,
+    /// How far the text was looked at for its LF.
+    seen: usize,
     /// The number of that line.
     number: u64,
 }
@@ -37,6 +40,7 @@ impl Watch {
         Watch {
             machine: Machine::new(alloc, false),
             judged: 0,
+            seen: 0,
             number: 1,
         }
     }
@@ -45,12 +49,15 @@ impl Watch {
     fn feed(&mut self, text: &[u8]) -> Result<Option<Fault>, EngineFail>
         requires { IsBehind self.old text.now }
         ensures fed { IfOk result (HasFed text.now self.new) }
+        ensures on { IfOk result (HasGoneOn self.old self.new) }
         ensures err { IfErr result (λ e. e ≡ EngineFail.Memory) }
     {
-        'lines: while let Some(n) = find_lf(&text[self.judged..]) {
+        'lines: while let Some(n) = find_lf(&text[self.seen..]) {
             let start = self.judged;
-            self.judged = start + n + 1;
-            if let Some(fault) = self.machine.line(&text[start..start + n])? {
+            let end = self.seen + n;
+            self.judged = end + 1;
+            self.seen = end + 1;
+            if let Some(fault) = self.machine.line(&text[start..end])? {
                 return Ok(Some(fault));
             }
             self.number += 1;
@@ -62,6 +69,7 @@ impl Watch {
     fn judge(&mut self, text: &[u8]) -> Result<Option<Fault>, EngineFail>
         requires { IsBehind self.old text.now }
         ensures judged { IfOk result (HasJudged text.now self.new) }
+        ensures passed { IfOk result (λ found. IfSome found (λ f. HasPassed self.old self.new)) }
         ensures err { IfErr result (λ e. e ≡ EngineFail.Memory) }
     {
         if let Some(fault) = self.feed(text)? {
@@ -69,6 +77,7 @@ impl Watch {
         }
         let limit = self.machine.limit();
         if text.len() - self.judged <= limit {
+            self.seen = text.len();
             return Ok(None);
         }
         self.judged += limit + 1;
@@ -96,11 +105,13 @@ impl Watch {
         ensures text { result.text.items ≡ text.items }
         ensures verdict { IsVerdict text.items result.verdict }
         ensures front { IsFrontOf text.items result.verdict text.items }
+        ensures reach { ReadsNoFurther text.items (length text.items + 1) }
     {
         let Watch {
             machine,
             judged,
             number,
+            ..
         } = self;
         let verdict = verdict_on(machine.end(&text[judged..], number));
         Front { text, verdict }
@@ -118,6 +129,8 @@ pub fn read_judged<R: Source>(
     ensures verdict { IfOk result (λ f. IfSome (prepend_known text.items (R.tells reader.old))
         (λ bytes. IsVerdict bytes f.verdict × IsFrontOf bytes f.verdict f.text.items)) }
     ensures front { IfOk result (λ f. IsVerdict f.text.items f.verdict) }
+    ensures reads { IfOk result
+        (λ _. ReadsOn R.tells R.asked R.last text.items reader.old reader.new) }
     ensures reader { LeavesKeptReader R.tells R.failures result reader.old reader.new }
     ensures write_fault { result ≢ Err EngineFail.WriteFault }
 {
@@ -142,6 +155,10 @@ pub fn read_front<R: Source>(alloc: Global, reader: &mut R) -> Result<Front, Eng
     ensures verdict { IfOk result (λ f. IfSome (R.tells reader.old)
         (λ bytes. IsVerdict bytes f.verdict × IsFrontOf bytes f.verdict f.text.items)) }
     ensures front { IfOk result (λ f. IsVerdict f.text.items f.verdict) }
+    ensures no_further { IfOk result (λ _. IfSome (R.tells reader.old) (λ bytes.
+        ReadsNoFurther bytes (R.asked reader.new - R.asked reader.old))) }
+    ensures none_behind { IfOk result (λ _. IfSome (R.tells reader.old) (λ bytes. IfSome (R.tells reader.new)
+        (λ left. BeginsNoneBehind bytes (length left) (R.last reader.new)))) }
     ensures reader { LeavesKeptReader R.tells R.failures result reader.old reader.new }
     ensures write_fault { result ≢ Err EngineFail.WriteFault }
 {

@@ -1,6 +1,6 @@
 //! All that a reader gives, kept in memory.
 
-ghost use Rattle.std.specs.Prelude.{◌≡◌, ◌≢◌, ◌++◌, ◌<◌, ◌≤◌, Err, length, take, IfOk, IfSome, IsErrOf};
+ghost use Rattle.std.specs.Prelude.{◌≡◌, ◌≢◌, ◌+◌, ◌++◌, ◌<◌, ◌≤◌, Err, length, take, IfOk, IfSome, IsErrOf};
 ghost use Rattle.std.specs.Io.KnownBytes.{Consumes, IsAtEnd, prepend_known};
 ghost use Rattle.sgt_devices.specs.Devices.{LeavesKeptReader};
 
@@ -24,6 +24,8 @@ pub fn take_some<R: Source>(
         (λ n. Consumes (R.tells reader.old) (R.tells reader.new) (take n buffer.new)
         × (text.new.items ≡ text.old.items ++ take n buffer.new) × (n ≤ length buffer.new)
         × (n ≡ 0 → IsAtEnd (R.tells reader.new))) }
+    ensures gave { IfOk result (λ n. R.last reader.new ≡ n) }
+    ensures asked { IfOk result (λ _. R.asked reader.new ≡ R.asked reader.old + 1) }
     ensures same { length buffer.new ≡ length buffer.old }
     ensures quiet { result ≢ Err EngineFail.ReadFault
         → R.failures reader.new ≡ R.failures reader.old }

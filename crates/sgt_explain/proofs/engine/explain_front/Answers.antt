@@ -1,10 +1,10 @@
-use Rattle.std.proofs.Common.{List, ℕ, ◌++◌, ap, ap₂, ◌∙◌, inr, subst, sym}
+use Rattle.std.proofs.Common.{List, ℕ, ◌++◌, ap, ap₂, inr, subst, sym}
 use Rattle.std.specs.Prelude.{string_bytes}
 use Rattle.std.specs.Io.KnownBytes.{Appends}
 use Rattle.sgt_names.specs.Device.{WritesFront}
 use Rattle.sgt_audit.specs.Verdict.{IsVerdict}
 use Rattle.sgt_explain.specs.Asked.{IsFound}
-use Rattle.sgt_explain.specs.Explained.{IsExplainedBy, MeansOf}
+use Rattle.sgt_explain.specs.Explained.{MeansOf}
 use Rattle.sgt_explain.proofs.engine.explain_front.Goals as goal
 
 pub returns-in-Ok-clause-answer : goal.returns-in-Ok-clause-answer
@@ -28,8 +28,8 @@ returns-in-Ok-clause-answer g c =
           (ap₂ (λ (a b : List ℕ). a ++ b) c.as_bytes.ensures.value c.as_bytes-2.ensures.value) c.in-Ok.ensures.ok,
     )
 
-pub returns-in-Err-clause-front : goal.returns-in-Err-clause-front
-returns-in-Err-clause-front g c =
+pub returns-clause-front : goal.returns-clause-front
+returns-clause-front g c =
     let answer = c.in_ok-answer.answer in
     let v = c.args.front.now.verdict in
     let meaning = string_bytes answer.meaning in
