@@ -5,10 +5,12 @@ use Rattle.sgt_names.specs.declared.outcome.Outcome.{Outcome}
 use Rattle.sgt_names.specs.declared.outcome.Outcome.TheVariants.{Yes, No, Unreadable}
 use Rattle.sgt_audit.specs.declared.verdict.Verdict.{Verdict}
 use Rattle.sgt_audit.specs.declared.verdict.Verdict.TheVariants as verdict
-use Rattle.sgt_explain.specs.Explained.{IsExplained, outcome_of}
+use Rattle.sgt_explain.specs.Explained.{IsExplainedOf, outcome_of}
+use Rattle.sgt_explain.specs.declared.asked.Asked.TheVariants.{All as Each}
+use Rattle.sgt_explain.specs.declared.asked.Explained.{Explained}
 use Rattle.sgt_check.proofs.Exact.{answer-exact}
 use Rattle.sgt_check.specs.Answer.{IsAnswer, SpellsSerializable}
-use Rattle.sgt_c.specs.Answers.{IsChecked, IsCheckText, IsRoom, IsYes, number_of, number_of_check, number_of_outcome, plainly}
+use Rattle.sgt_c.specs.Answers.{ended_in, IsChecked, IsCheckText, IsRoom, IsYes, number_of, number_of_check, number_of_outcome, plainly}
 use Rattle.sgt_c.specs.declared.answers.NoAnswer.{NoAnswer}
 use Rattle.sgt_c.specs.declared.answers.NoAnswer.TheVariants.{Memory, Long}
 use Rattle.sgt_c.specs.declared.texts.Answered.{Answered}
@@ -43,8 +45,15 @@ readable : (v : Verdict) → Unreadable ≡ outcome_of v → ⊥
 readable (verdict.Yes c r w) e = cc
 readable (verdict.No l f) e = cc
 
-pub never-unreadable : (bytes : Option (List ℕ)) (text : List ℕ) → IsExplained bytes Unreadable text → ⊥
-never-unreadable bytes text is = readable is.0 is.3
+pub never-unreadable : (bytes : Option (List ℕ)) (text : List ℕ)
+    → IsExplainedOf Each bytes (ended_in Unreadable) text → ⊥
+never-unreadable bytes text (v, front, on, (meaning, means, found, ended, is)) = readable v ended
+
+-- where no transaction is asked for, none is missing
+pub none-missing : (bytes : Option (List ℕ)) (e : Explained) (text : List ℕ) → IsExplainedOf Each bytes e text
+    → IsExplainedOf Each bytes (ended_in e.outcome) text
+none-missing bytes e text (v, front, on, (meaning, means, found, ended, is)) =
+    (v, front, on, (meaning, means, refl, ended, is))
 
 -- ---- histories
 

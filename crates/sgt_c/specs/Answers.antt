@@ -1,5 +1,5 @@
 -- What C is answered: numbers, and the verdict as a struct.
-use Rattle.std.specs.Prelude.{◌≡◌, ◌⊎◌, ℕ, false, List, Some}
+use Rattle.std.specs.Prelude.{◌≡◌, ◌⊎◌, ℕ, false, true, List, Some}
 use Rattle.sgt_names.specs.declared.outcome.Outcome.{Outcome}
 use Rattle.sgt_names.specs.declared.outcome.Outcome.TheVariants as outcome
 use Rattle.sgt_audit.specs.Faults.{fault_number}
@@ -7,7 +7,9 @@ use Rattle.sgt_audit.specs.declared.verdict.Verdict.{Verdict}
 use Rattle.sgt_audit.specs.declared.verdict.Verdict.TheVariants.{Yes, No}
 use Rattle.sgt_serial.specs.Answer.{IsAnswer}
 use Rattle.sgt_certify.specs.Answer as certify
-use Rattle.sgt_explain.specs.Explained.{IsExplained}
+use Rattle.sgt_explain.specs.Explained.{IsExplainedOf}
+use Rattle.sgt_explain.specs.declared.asked.Asked.TheVariants.{All as Each}
+use Rattle.sgt_explain.specs.declared.asked.Explained.{Explained}
 use Rattle.sgt_check.specs.Answer as check
 use Rattle.sgt_check.specs.declared.options.Options.{Options}
 use Rattle.sgt_c.specs.declared.answers.SgtVerdict.{SgtVerdict}
@@ -76,11 +78,15 @@ IsCertifyText bytes n text =
     ((n ≡ 0) × certify.IsAnswer bytes outcome.Yes text)
     ⊎ ((n ≡ 1) × certify.IsAnswer bytes outcome.No text)
 
--- the text that the bytes are explained by
+-- what an explanation comes to that asks for no transaction
+abbrev pub ended_in : Outcome → Explained
+ended_in o = record { outcome = o; is_found = true }
+
+-- the text that the bytes are explained by, where of a yes each refused transaction is asked for
 abbrev pub IsExplainText : List ℕ → ℕ → List ℕ → Type 0
 IsExplainText bytes n text =
-    ((n ≡ 0) × IsExplained (Some bytes) outcome.Yes text)
-    ⊎ ((n ≡ 1) × IsExplained (Some bytes) outcome.No text)
+    ((n ≡ 0) × IsExplainedOf Each (Some bytes) (ended_in outcome.Yes) text)
+    ⊎ ((n ≡ 1) × IsExplainedOf Each (Some bytes) (ended_in outcome.No) text)
 
 -- ---- histories
 

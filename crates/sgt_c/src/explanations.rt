@@ -43,7 +43,7 @@ pub extern "C" fn sgt_explain_len(alloc: Global, bytes: &[u8], text_len: &mut us
 }
 
 /// Explains the bytes, and puts the text into the front of `out`: the auditor's line, and what it means, as `sgt
-/// explain` writes it.
+/// explain --all` writes it.
 /// `SGT_YES` and `SGT_NO` are the verdict's. Behind the text `out` stays as it was. Where the text doesn't fit, nothing is written and
 /// `text_len` says what room it needs.
 #[unsafe(no_mangle)]

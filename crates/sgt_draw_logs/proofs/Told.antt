@@ -1,21 +1,33 @@
 -- A drawing of bytes that were read.
-use Rattle.std.proofs.Common.{◌≡◌, ℕ, List, Bool, Option, Some, None, inl, inr, subst}
+use Rattle.std.proofs.Common.{◌≡◌, ℕ, List, Bool, Option, Some, None, subst}
 use Rattle.std.specs.Prelude.{IfSome}
 use Rattle.sgt_names.specs.declared.outcome.Outcome.{Outcome}
-use Rattle.sgt_names.specs.declared.outcome.Outcome.TheVariants.{Yes, No, Unreadable}
+use Rattle.sgt_names.specs.declared.outcome.Outcome.TheVariants.{Yes, No}
+use Rattle.sgt_bundle.specs.Text.{Spells}
+use Rattle.sgt_audit.specs.Verdict.{text_of}
+use Rattle.sgt_audit.specs.declared.faults.Fault.{Fault}
+use Rattle.sgt_audit.specs.declared.verdict.Verdict.TheVariants as verdict
+use Rattle.sgt_explain.specs.Explained.{IsVerdictOn}
 use Rattle.sgt_draw.specs.Drawn.{IsDrawn}
-use Rattle.sgt_draw_logs.specs.Drawing.{IsDrawing}
+use Rattle.sgt_draw_logs.specs.Drawing.{IsLogsDrawing}
 
-untold : (bytes : List ℕ) (outcome : Outcome) (text : List ℕ) → IsDrawn (Some bytes) outcome text
-    → IsDrawn None outcome text
-untold bytes Yes text (b, valid, spelled, picture) = (b, valid, tt, picture)
-untold bytes No text (line, fault, first, is) = (line, fault, tt, is)
-untold bytes Unreadable text drawn = absurd drawn
+-- what was found of a front that its verdict is told of is so of all bytes
+pub drawn-yes : (told : Option (List ℕ)) (front text : List ℕ) (committed refused withdrawn : ℕ)
+    → IsVerdictOn told (verdict.Yes committed refused withdrawn) front → IsDrawn (Some front) Yes text
+    → IsDrawn told Yes text
+drawn-yes None front text committed refused withdrawn on (b, valid, spelled, picture) = (b, valid, tt, picture)
+drawn-yes (Some bytes) front text committed refused withdrawn on (b, valid, spelled, picture) =
+    (b, valid, subst (λ (t : List ℕ). Spells t b) on.1 spelled, picture)
 
-pub told-is : (is_dot : Bool) (told : Option (List ℕ)) (bytes : List ℕ) → IfSome told (λ xs. bytes ≡ xs)
-    → (outcome : Outcome) (text : List ℕ) → IsDrawing is_dot (Some bytes) outcome text
-    → IsDrawing is_dot told outcome text
-told-is is_dot None bytes same outcome text (inl (are, (answer, is, shown))) = inl (tt, (answer, tt, shown))
-told-is is_dot None bytes same outcome text (inr (other, drawn)) = inr (tt, untold bytes outcome text drawn)
-told-is is_dot (Some xs) bytes same outcome text is =
-    subst (λ ys. IsDrawing is_dot (Some ys) outcome text) same is
+pub drawn-no : (told : Option (List ℕ)) (front text : List ℕ) (line : ℕ) (fault : Fault)
+    → IsVerdictOn told (verdict.No line fault) front → text ≡ text_of (verdict.No line fault) → IsDrawn told No text
+drawn-no None front text line fault on is = (line, fault, tt, is)
+drawn-no (Some bytes) front text line fault on is = (line, fault, on.0, is)
+
+-- of logs, by the bytes that were read
+pub logs-told : (is_dot : Bool) (told : Option (List ℕ)) (bytes : List ℕ) → IfSome told (λ xs. bytes ≡ xs)
+    → (outcome : Outcome) (text : List ℕ) → IsLogsDrawing is_dot (Some bytes) outcome text
+    → IsLogsDrawing is_dot told outcome text
+logs-told is_dot None bytes same outcome text (answer, is, shown) = (answer, tt, shown)
+logs-told is_dot (Some xs) bytes same outcome text is =
+    subst (λ ys. IsLogsDrawing is_dot (Some ys) outcome text) same is

@@ -1,20 +1,22 @@
-//! What is drawn of bytes in memory.
+//! What is drawn of bytes in memory: of logs, and of the front of a bundle's text.
 
-ghost use Rattle.std.specs.Prelude.{◌≡◌, ◌≢◌, ◌≤◌, ◌↔◌, ℕ, List, Some, Err, IfErr, IfOk, length};
+ghost use Rattle.std.specs.Prelude.{◌≡◌, ◌≢◌, ◌≤◌, ◌↔◌, ℕ, List, Option, Some, Err, IfErr, IfOk, length};
 ghost use Rattle.sgt_names.specs.Limits.{most_reads};
 ghost use Rattle.sgt_bundle.specs.Text.{Spells};
 ghost use Rattle.sgt_bundle.specs.Valid.{IsValid};
 ghost use Rattle.sgt_certify.specs.Answer.{HasCertificate, IsAnswer, SpellsValid};
-ghost use Rattle.sgt_explain_logs.specs.Explained.{AreLogs};
+ghost use Rattle.sgt_audit.specs.Verdict.{IsVerdict, text_of};
+ghost use Rattle.sgt_explain.specs.Explained.{IsVerdictOn};
 ghost use Rattle.sgt_draw.specs.Drawn.{IsDrawn};
-ghost use Rattle.sgt_draw_logs.specs.Drawing.{IsDrawing, IsLogsDrawing, IsRefusalShown, IsShown};
+ghost use Rattle.sgt_draw_logs.specs.Drawing.{IsLogsDrawing, IsRefusalShown, IsShown};
 
-use sgt_audit::{audit_bundle, read_bundle};
+use sgt_audit::{Verdict, read_bundle};
 use sgt_bundle::Bundle;
-use sgt_draw::{Answer, Wanted, answer_to, picture};
-use sgt_explain_logs::{are_logs, certified};
+use sgt_draw::{Answer, Wanted, picture};
+use sgt_explain::Front;
+use sgt_explain_logs::certified;
 use sgt_history_picture::refusal_picture_of;
-use sgt_names::{Asks, Bytes, EngineFail, Outcome};
+use sgt_names::{EngineFail, Outcome};
 use std::alloc::{AllocError, Global};
 
 /// The bundle that a text spells.
@@ -71,7 +73,11 @@ fn shown(
 }
 
 /// The answer to logs without a certificate.
-fn logs_answer(alloc: Global, wanted: Wanted, bytes: &[u8]) -> Result<Answer, EngineFail>
+pub(crate) fn logs_answer(
+    alloc: Global,
+    wanted: Wanted,
+    bytes: &[u8],
+) -> Result<Answer, EngineFail>
     ensures answer { IfOk result
         (λ a. IsLogsDrawing wanted.is_dot (Some bytes.now) a.outcome a.text.items) }
     ensures exact { IfOk result (λ a. a.outcome ≡ Outcome.Yes ↔ HasCertificate bytes.now) }
@@ -86,34 +92,33 @@ fn logs_answer(alloc: Global, wanted: Wanted, bytes: &[u8]) -> Result<Answer, En
     })
 }
 
-/// The answer to a bundle.
-fn bundle_answer(alloc: Global, wanted: Wanted, bytes: &[u8]) -> Result<Answer, EngineFail>
-    ensures answer { IfOk result (λ a. IsDrawn (Some bytes.now) a.outcome a.text.items) }
-    ensures long { result ≡ Err EngineFail.ReadFault → most_reads ≤ length bytes.now }
-    ensures write { result ≢ Err EngineFail.WriteFault }
+/// The line of a verdict.
+fn line_of(alloc: Global, verdict: Verdict) -> Result<Vec<u8>, AllocError>
+    ensures { IfOk result (λ line. line.items ≡ text_of verdict) }
 {
-    let mut reader = Bytes {
-        rest: bytes,
-        asks: Asks::none(),
-        last: 0,
-    };
-    let audited = audit_bundle(alloc, &mut reader)?;
-    let answer = answer_to(alloc, wanted, audited)?;
-    Ok(answer)
+    let line = verdict.to_line(alloc)?;
+    Vec::from_slice(alloc, line.as_bytes())
 }
 
-/// The answer to bytes: of logs without a certificate by what `certify` answers of them, of all else as `draw`
-/// answers it.
-pub(crate) fn answer_of(alloc: Global, wanted: Wanted, bytes: &[u8]) -> Result<Answer, EngineFail>
-    ensures answer { IfOk result
-        (λ a. IsDrawing wanted.is_dot (Some bytes.now) a.outcome a.text.items) }
-    ensures exact { IfOk result
-        (λ a. AreLogs bytes.now → (a.outcome ≡ Outcome.Yes ↔ HasCertificate bytes.now)) }
-    ensures long { result ≡ Err EngineFail.ReadFault → most_reads ≤ length bytes.now }
-    ensures write { result ≢ Err EngineFail.WriteFault }
+/// The answer to a bundle, by the front that its verdict is told of.
+pub(crate) fn bundle_answer(
+    alloc: Global,
+    wanted: Wanted,
+    front: &Front,
+) -> Result<Answer, EngineFail>
+    requires { IsVerdict front.now.text.items front.now.verdict }
+    ensures answer { IfOk result (λ a. (told : Option (List ℕ))
+        → IsVerdictOn told front.now.verdict front.now.text.items → IsDrawn told a.outcome a.text.items) }
+    ensures err { IfErr result (λ e. e ≡ EngineFail.Memory) }
 {
-    if are_logs(bytes) {
-        return logs_answer(alloc, wanted, bytes);
+    match front.verdict {
+        Verdict::Yes { .. } => Ok(Answer {
+            outcome: Outcome::Yes,
+            text: bundle_picture(alloc, wanted, front.text.as_slice())?,
+        }),
+        Verdict::No { .. } => Ok(Answer {
+            outcome: Outcome::No,
+            text: line_of(alloc, front.verdict)?,
+        }),
     }
-    bundle_answer(alloc, wanted, bytes)
 }

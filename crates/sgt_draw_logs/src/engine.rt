@@ -6,13 +6,14 @@ ghost use Rattle.sgt_certify.specs.Answer.{HasCertificate};
 ghost use Rattle.sgt_explain_logs.specs.Explained.{AreLogs};
 ghost use Rattle.sgt_draw_logs.specs.Drawing.{IsDrawing, WroteDrawing, WroteDrawingFront};
 
-use crate::answer::answer_of;
+use crate::answer::{bundle_answer, logs_answer};
 use sgt_draw::{Answer, Wanted};
-use sgt_explain::read_all;
+use sgt_explain::{read_judged, read_rest};
+use sgt_explain_logs::peek;
 use sgt_names::{EngineFail, Outcome, Sink, Source, write_all};
 use std::alloc::Global;
 
-/// The answer to all that the reader gives.
+/// The answer to what the reader gives: to all of logs, and of all else to the lines up to the first fault.
 fn answer<R: Source>(alloc: Global, wanted: Wanted, reader: &mut R) -> Result<Answer, EngineFail>
     ensures answer { IfOk result
         (λ a. IsDrawing wanted.is_dot (R.tells reader.old) a.outcome a.text.items) }
@@ -21,14 +22,21 @@ fn answer<R: Source>(alloc: Global, wanted: Wanted, reader: &mut R) -> Result<An
     ensures reader { LeavesKeptReader R.tells R.failures result reader.old reader.new }
     ensures write_fault { result ≢ Err EngineFail.WriteFault }
 {
-    let bytes = read_all(alloc, reader)?;
-    answer_of(alloc, wanted, bytes.as_slice())
+    let peeked = peek(alloc, reader)?;
+    if peeked.are_logs {
+        let bytes = read_rest(alloc, reader, peeked.text)?;
+        logs_answer(alloc, wanted, bytes.as_slice())
+    } else {
+        let front = read_judged(alloc, reader, peeked.text)?;
+        bundle_answer(alloc, wanted, &front)
+    }
 }
 
-/// Draws what the reader gives. Logs without a certificate, whose line 2 begins with `site `, are certified first:
-/// after a yes the picture is that of the certified bundle, as `draw` of sgt_draw has it; after a no it shows the cycle
-/// alone that the answer of `certify` tells, whatever transaction is wanted, and where it tells none (`no line L FN`,
-/// `no walk`) that answer is written. All else is answered as by `draw`. The input is read whole and kept in memory.
+/// Draws what the reader gives. Logs without a certificate, whose line 2 begins with `site `, are certified first: after a
+/// yes the picture is that of the certified bundle, as `draw` of sgt_draw has it; after a no it shows the cycle alone
+/// that the answer of `certify` tells, whatever transaction is wanted, and where it tells none (`no line L FN`,
+/// `no walk`) that answer is written. All else is answered as by `draw`, and read no further than the first line with a
+/// fault. What is read is kept in memory: of logs all.
 ///
 /// ReadFault where the reader failed, or too many reads were needed (`MOST_READS` of sgt_names), and Memory where a
 /// growth was refused: nothing was written. WriteFault where the writer failed: a front of the answer may have been

@@ -14,7 +14,7 @@ use Rattle.sgt_explain_lines.proofs.Numbering.{lines-plain}
 use Rattle.sgt_explain.proofs.FaultyLine.{kept-spelled}
 
 -- the lines before a fault have no LF
-lines_so_far-plain : (stage : Stage) → IsFaultless stage → All HasNoLf (lines_so_far stage)
+pub lines_so_far-plain : (stage : Stage) → IsFaultless stage → All HasNoLf (lines_so_far stage)
 lines_so_far-plain start kept = All-from_recursion HasNoLf [] tt
 lines_so_far-plain (headed second) kept =
     All-from_recursion HasNoLf (format_line second ∷ []) (

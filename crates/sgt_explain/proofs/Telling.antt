@@ -1,6 +1,6 @@
 -- What holds of a call that went well, and of what it found.
-use Rattle.std.proofs.Common.{◌≡◌, ◌≢◌, Bool, ℕ, List, [], ◌++◌, codes, subst}
-use Rattle.std.specs.Prelude.{Result, Ok, Err, OnOk, Option, Some, None, IfOk, IfSome, IsSomeAnd}
+use Rattle.std.proofs.Common.{◌≡◌, ◌≢◌, ℕ, List, [], ◌++◌, codes, inl, inr, subst}
+use Rattle.std.specs.Prelude.{Result, Ok, Err, OnOk, OnErr, Option, Some, None, IfOk, IfSome, IsSomeAnd}
 use Rattle.sgt_audit.specs.declared.verdict.Verdict.{Verdict}
 use Rattle.sgt_audit.specs.declared.verdict.Verdict.TheVariants.{No}
 use Rattle.sgt_audit.specs.declared.faults.Fault.TheVariants as fault
@@ -11,11 +11,11 @@ use Rattle.sgt_explain_decisions.specs.Told.{rank_order_text}
 use Rattle.sgt_explain_decisions.specs.declared.order.RanksShown.{RanksShown}
 use Rattle.sgt_explain_steps.specs.Told.{walk_step_text}
 use Rattle.sgt_explain_steps.specs.declared.unmet.Unmet.{Unmet}
-use Rattle.sgt_audit.specs.Verdict.{IsVerdict}
-use Rattle.sgt_explain.specs.Asked.{IsFound, TellsAsked, TellsIfYes}
+use Rattle.sgt_explain.specs.Asked.{TellsAsked, TellsIfYes}
 use Rattle.sgt_explain.specs.declared.asked.Asked.{Asked}
 use Rattle.sgt_explain.specs.declared.asked.Explained.{Explained}
-use Rattle.sgt_explain.specs.Explained.{Tells, Means, MeansOf, IsExplained, IsExplainedOf}
+use Rattle.sgt_names.specs.declared.outcome.EngineFail.{EngineFail}
+use Rattle.sgt_explain.specs.Explained.{Tells, MeansOf, IsExplained, IsExplainedBy, IsVerdictOn, WroteExplained, WroteExplainedBy, WroteExplainedByFront, WroteExplainedFront, WroteExplainedOf}
 use Rattle.sgt_explain.specs.Shown.{lines_before, decisions_before, ShowsRead, ShowsFinal, ShowsRanks}
 use Rattle.sgt_explain.specs.Steps.{ShowsStep}
 use Rattle.sgt_explain.specs.Lines.{ShowsEnd}
@@ -101,13 +101,30 @@ means-both bytes asked v told more meaning tells each dealings text = record {
   dealings = dealings;
 }
 
-explained : (asked : Asked) (told : Option (List ℕ)) (v : Verdict) (meaning : List ℕ) (found : Bool)
-    → IfSome told (λ bytes. IsVerdict bytes v × MeansOf bytes asked v meaning × IsFound bytes v asked found)
-    → IfSome told (λ bytes. IsVerdict bytes v × Means bytes v meaning)
-explained asked None v meaning found h = tt
-explained asked (Some bytes) v meaning found h = (h.0, (asked, h.1))
-
 -- whatever was asked for
-pub is-explained : (asked : Asked) (told : Option (List ℕ)) (ended : Explained) (text : List ℕ)
-    → IsExplainedOf asked told ended text → IsExplained told ended.outcome text
-is-explained asked told ended text h = (h.0, h.1, explained asked told h.0 h.1 ended.is_found h.2, h.3, h.4)
+pub is-explained : (asked : Asked) (told : Option (List ℕ)) (v : Verdict) (front : List ℕ) (ended : Explained)
+    (text : List ℕ) → IsVerdictOn told v front → IsExplainedBy asked front v ended text
+    → IsExplained told ended.outcome text
+is-explained asked told v front ended text on h = (v, front, h.0, on, (asked, h.1), h.3, h.4)
+
+-- what was written of a front is the explanation of the bytes told
+module _ (asked : Asked) (told : Option (List ℕ)) (v : Verdict) (front : List ℕ) (on : IsVerdictOn told v front)
+    (old new : Option (List ℕ)) where
+  pub wrote-of : (r : Result Explained EngineFail)
+      → IfOk r (λ e. WroteExplainedBy asked front v e old new)
+      → IfOk r (λ e. WroteExplainedOf asked told e old new)
+  wrote-of (Ok e) (text, is, appends) = (text, (v, front, on, is), appends)
+  wrote-of (Err fail) wrote = tt
+
+  pub wrote-plain : (r : Result Explained EngineFail)
+      → IfOk r (λ e. WroteExplainedBy asked front v e old new)
+      → IfOk r (λ e. WroteExplained told e.outcome old new)
+  wrote-plain (Ok e) (text, is, appends) = (text, is-explained asked told v front e text on is, appends)
+  wrote-plain (Err fail) wrote = tt
+
+  pub wrote-front : (r : Result Explained EngineFail) → OnErr r (WroteExplainedByFront asked front v old new)
+      → OnErr r (WroteExplainedFront told old new)
+  wrote-front (Ok e) wrote = tt
+  wrote-front (Err fail) (inl none) = inl none
+  wrote-front (Err fail) (inr (e, text, is, writes)) =
+      inr (e.outcome, text, is-explained asked told v front e text on is, writes)

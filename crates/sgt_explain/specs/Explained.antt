@@ -24,6 +24,7 @@ use Rattle.sgt_explain.specs.Asked.{IsFound, TellsAsked, TellsIfYes}
 use Rattle.sgt_explain.specs.declared.asked.Asked.{Asked}
 use Rattle.sgt_explain.specs.declared.asked.Explained.{Explained}
 use Rattle.sgt_explain.specs.Certified.{TellsNoCertificate, SpellsCertificate, ShowsAgainstEnd, ShowsMisplaced, ShowsUnended}
+use Rattle.sgt_explain.specs.Front.{IsFrontOf}
 use Rattle.sgt_explain.specs.Lines.{ShowsFaulty, ShowsUnspelled, ShowsUnallowed, ShowsEnd, ShowsUnlisted, ShowsRepeating, ShowsCut}
 use Rattle.sgt_explain.specs.Shown.{lines_before, decisions_before, ShowsRead, ShowsFinal, ShowsRanks}
 use Rattle.sgt_explain.specs.Steps.{ShowsStep}
@@ -110,18 +111,37 @@ pub record MeansOf (bytes : List ℕ) (asked : Asked) (v : Verdict) (meaning : L
 abbrev pub Means : List ℕ → Verdict → List ℕ → Type 0
 Means bytes v meaning = (asked : Asked) × MeansOf bytes asked v meaning
 
--- the text that an input is explained by: the line of the verdict on its bytes, and what that means
--- behind it
+-- the verdict on the bytes, and the front of them that it is told of
+abbrev pub IsVerdictOn : Option (List ℕ) → Verdict → (front : List ℕ) → Type 0
+IsVerdictOn told v front = IfSome told (λ bytes. IsVerdict bytes v × IsFrontOf bytes v front)
+
+-- the text that an input is explained by: the line of the verdict on its bytes, and behind it what that
+-- means, of the bytes up to the line with the first fault
 abbrev pub IsExplained : Option (List ℕ) → Outcome → List ℕ → Type 0
-IsExplained told ended text = (v : Verdict) × (meaning : List ℕ)
-    × IfSome told (λ bytes. IsVerdict bytes v × Means bytes v meaning)
+IsExplained told ended text = (v : Verdict) × (front : List ℕ) × (meaning : List ℕ)
+    × IsVerdictOn told v front × Means front v meaning
     × (ended ≡ outcome_of v) × (text ≡ text_of v ++ meaning)
 
--- the same where this is asked for, and whether the bytes have the transaction that is
-abbrev pub IsExplainedOf : Asked → Option (List ℕ) → Explained → List ℕ → Type 0
-IsExplainedOf asked told ended text = (v : Verdict) × (meaning : List ℕ)
-    × IfSome told (λ bytes. IsVerdict bytes v × MeansOf bytes asked v meaning × IsFound bytes v asked ended.is_found)
+-- a verdict explained by the front that it is told of, where this is asked for, and whether that has the transaction
+-- that is
+abbrev pub IsExplainedBy : Asked → (front : List ℕ) → Verdict → Explained → List ℕ → Type 0
+IsExplainedBy asked front v ended text = (meaning : List ℕ) × MeansOf front asked v meaning
+    × IsFound front v asked ended.is_found
     × (ended.outcome ≡ outcome_of v) × (text ≡ text_of v ++ meaning)
+
+abbrev pub IsExplainedOf : Asked → Option (List ℕ) → Explained → List ℕ → Type 0
+IsExplainedOf asked told ended text = (v : Verdict) × (front : List ℕ)
+    × IsVerdictOn told v front × IsExplainedBy asked front v ended text
+
+-- that was written
+abbrev pub WroteExplainedBy : Asked → (front : List ℕ) → Verdict → Explained → (old new : Option (List ℕ)) → Type 0
+WroteExplainedBy asked front v ended old new = (text : List ℕ) × IsExplainedBy asked front v ended text
+    × Appends old new text
+
+-- nothing was written, or a front of it, and less than the whole
+abbrev pub WroteExplainedByFront : Asked → (front : List ℕ) → Verdict → (old new : Option (List ℕ)) → Type 0
+WroteExplainedByFront asked front v old new = AppendsOrForgets old new []
+    ⊎ ((ended : Explained) × (text : List ℕ) × IsExplainedBy asked front v ended text × WritesFront old new text)
 
 abbrev pub WroteExplainedOf : Asked → (told : Option (List ℕ)) → Explained
     → (old new : Option (List ℕ)) → Type 0

@@ -1,7 +1,9 @@
 pub mod Asked
 pub mod Certified
 pub mod Explained
+pub mod Front
 pub mod Lines
 pub mod Shown
 pub mod Steps
 pub mod Topics
+pub mod Watched

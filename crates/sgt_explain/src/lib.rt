@@ -6,6 +6,7 @@ mod answers;
 mod asked;
 mod certified;
 mod engine;
+mod front;
 mod lines;
 mod noes;
 mod reading;
@@ -17,6 +18,7 @@ mod topics;
 mod yeses;
 
 pub use asked::{Asked, Explained};
-pub use engine::{explain, explain_topic};
-pub use reading::read_all;
+pub use engine::{explain, explain_front, explain_topic};
+pub use front::{Front, read_front, read_judged};
+pub use reading::{empty_buffer, read_all, read_rest, take_some};
 pub use topics::{Anomaly, Reply, Topic};

@@ -88,6 +88,14 @@ fn seen_text(bytes: &[u8], verdict: Verdict) -> &[u8]
     }
 }
 
+/// What is said where there is no certificate: line 2 isn't read where line 1 has the fault.
+fn no_certificate(verdict: Verdict) -> &'static str {
+    match verdict {
+        Verdict::No { line: 1, .. } => "line 2 wasn't read\n",
+        _ => "line 2 is no certificate\n",
+    }
+}
+
 /// The decision on one transaction, if line 2 is a certificate. Ok: whether there is one.
 fn push_decided(
     alloc: Global,
@@ -105,7 +113,7 @@ fn push_decided(
     match certificate_of(alloc, bytes)? {
         Some(certificate) => push_fate(alloc, out, certificate.decisions(), seen, tx),
         None => {
-            out.push_str("line 2 is no certificate\n")?;
+            out.push_str(no_certificate(verdict))?;
             Ok(false)
         }
     }

@@ -1,12 +1,15 @@
 -- An explanation of bytes that were read.
-use Rattle.std.proofs.Common.{◌≡◌, ◌↔◌, ℕ, List, Bool, false, IsTrue, Option, Some, None, Result, Ok, Err, IfOk, inl, inr, subst, sym, ◌∙◌}
+use Rattle.std.proofs.Common.{◌≡◌, ◌↔◌, ℕ, List, Bool, true, false, IsTrue, Option, Some, None, Result, Ok, Err, IfOk, inl, inr, subst, sym, ◌∙◌}
 use Rattle.std.specs.Prelude.{IfSome, OnErr}
 use Rattle.std.proofs.lemmas.Bool.{true≢false}
 use Rattle.sgt_names.specs.declared.outcome.EngineFail.{EngineFail}
+use Rattle.sgt_names.specs.declared.outcome.Outcome.{Outcome}
+use Rattle.sgt_audit.specs.declared.verdict.Verdict.{Verdict}
 use Rattle.sgt_explain.specs.Asked.{transaction_in}
 use Rattle.sgt_explain.specs.Explained as bundle
 use Rattle.sgt_explain.specs.declared.asked.Asked.{Asked}
 use Rattle.sgt_explain.specs.declared.asked.Explained.{Explained}
+use Rattle.sgt_explain.proofs.Telling.{wrote-front}
 use Rattle.sgt_explain_logs.specs.Either.{IsExplanation, WroteExplanation, WroteExplanationFront}
 use Rattle.sgt_explain_logs.specs.Explained.{AreLogs, IsFound}
 use Rattle.sgt_explain_logs.specs.Explained as logs
@@ -15,58 +18,75 @@ use Rattle.sgt_explain_logs.specs.Explained as logs
 pub refuted : {P : Type 0} (r : Bool) → IsTrue r ↔ P → r ≡ false → P → ⊥
 refuted r both miss p = true≢false (sym (both.1 p) ∙ miss)
 
-module _ (asked : Asked) (bytes : List ℕ) (old new : Option (List ℕ)) where
-  pub logs-wrote : (r : Result Explained EngineFail) → AreLogs bytes
-      → IfOk r (λ e. logs.WroteExplained (Some bytes) e.outcome old new)
-      → IfOk r (λ e. IsFound bytes (transaction_in asked) e.is_found)
-      → IfOk r (λ e. WroteExplanation asked (Some bytes) e old new)
-  logs-wrote (Ok e) are (text, is, appends) found = (text, inl ((are, found), is), appends)
-  logs-wrote (Err fail) are wrote found = tt
+-- what the bytes told are, by a test
+pub are-told : (told : Option (List ℕ)) (r : Bool) → r ≡ true → IfSome told (λ bytes. IsTrue r ↔ AreLogs bytes)
+    → IfSome told AreLogs
+are-told None r is both = tt
+are-told (Some bytes) r is both = both.0 is
 
-  pub bundle-wrote : (r : Result Explained EngineFail) → (AreLogs bytes → ⊥)
-      → IfOk r (λ e. bundle.WroteExplainedOf asked (Some bytes) e old new)
-      → IfOk r (λ e. WroteExplanation asked (Some bytes) e old new)
-  bundle-wrote (Ok e) other (text, is, appends) = (text, inr (other, is), appends)
-  bundle-wrote (Err fail) other wrote = tt
+pub other-told : (told : Option (List ℕ)) (r : Bool) → r ≡ false → IfSome told (λ bytes. IsTrue r ↔ AreLogs bytes)
+    → IfSome told (λ bytes. AreLogs bytes → ⊥)
+other-told None r miss both = tt
+other-told (Some bytes) r miss both = refuted r both miss
 
-  pub logs-front : (r : Result Explained EngineFail) → OnErr r (logs.WroteExplainedFront (Some bytes) old new)
-      → OnErr r (WroteExplanationFront (Some bytes) old new)
-  logs-front (Ok e) front = tt
-  logs-front (Err fail) front = inl front
+-- ---- of logs, whose bytes were all read
 
-  pub bundle-front : (r : Result Explained EngineFail) → OnErr r (bundle.WroteExplainedFront (Some bytes) old new)
-      → OnErr r (WroteExplanationFront (Some bytes) old new)
-  bundle-front (Ok e) front = tt
-  bundle-front (Err fail) front = inr front
+module _ (told : Option (List ℕ)) (bytes : List ℕ) (same : IfSome told (λ xs. bytes ≡ xs)) where
+  told-explained : (outcome : Outcome) (text : List ℕ) → logs.IsExplained (Some bytes) outcome text
+      → logs.IsExplained told outcome text
+  told-explained outcome text = go told same
+    where
+      go : (told : Option (List ℕ)) → IfSome told (λ xs. bytes ≡ xs) → logs.IsExplained (Some bytes) outcome text
+          → logs.IsExplained told outcome text
+      go None same (answer, is, begins) = (answer, tt, begins)
+      go (Some xs) same is = subst (λ ys. logs.IsExplained (Some ys) outcome text) same is
 
--- ---- of what is told of the bytes
+  told-found : IfSome told AreLogs → (asked : Option ℕ) (found : Bool) → IsFound bytes asked found
+      → IfSome told (λ xs. AreLogs xs × IsFound xs asked found)
+  told-found are asked found = go told same are
+    where
+      go : (told : Option (List ℕ)) → IfSome told (λ xs. bytes ≡ xs) → IfSome told AreLogs → IsFound bytes asked found
+          → IfSome told (λ xs. AreLogs xs × IsFound xs asked found)
+      go None same are is = tt
+      go (Some xs) same are is = (are, subst (λ ys. IsFound ys asked found) same is)
 
-told-is : (asked : Asked) (told : Option (List ℕ)) (bytes : List ℕ) → IfSome told (λ xs. bytes ≡ xs)
-    → (e : Explained) (text : List ℕ) → IsExplanation asked (Some bytes) e text → IsExplanation asked told e text
-told-is asked None bytes same e text (inl (are, (answer, is, begins))) = inl (tt, (answer, tt, begins))
-told-is asked None bytes same e text (inr (other, (v, meaning, is, ended, spelled))) =
-    inr (tt, (v, meaning, tt, ended, spelled))
-told-is asked (Some xs) bytes same e text is = subst (λ ys. IsExplanation asked (Some ys) e text) same is
-
-told-front : (told : Option (List ℕ)) (bytes : List ℕ) → IfSome told (λ xs. bytes ≡ xs) → (old new : Option (List ℕ))
-    → WroteExplanationFront (Some bytes) old new → WroteExplanationFront told old new
-told-front None bytes same old new (inl (inl none)) = inl (inl none)
-told-front None bytes same old new (inl (inr (outcome, text, (answer, is, begins), writes))) =
-    inl (inr (outcome, text, (answer, tt, begins), writes))
-told-front None bytes same old new (inr (inl none)) = inr (inl none)
-told-front None bytes same old new (inr (inr (outcome, text, (v, meaning, is, ended, spelled), writes))) =
-    inr (inr (outcome, text, (v, meaning, tt, ended, spelled), writes))
-told-front (Some xs) bytes same old new front = subst (λ ys. WroteExplanationFront (Some ys) old new) same front
-
-module _ (told : Option (List ℕ)) (bytes : List ℕ) (same : IfSome told (λ xs. bytes ≡ xs))
-    (old new : Option (List ℕ)) where
-  pub wrote-told : (asked : Asked) (r : Result Explained EngineFail)
-      → IfOk r (λ e. WroteExplanation asked (Some bytes) e old new)
+  pub logs-wrote : IfSome told AreLogs → (old new : Option (List ℕ)) (asked : Asked) (tx : Option ℕ)
+      → tx ≡ transaction_in asked → (r : Result Explained EngineFail)
+      → IfOk r (λ e. logs.WroteExplained (Some bytes) e.outcome old new) → IfOk r (λ e. IsFound bytes tx e.is_found)
       → IfOk r (λ e. WroteExplanation asked told e old new)
-  wrote-told asked (Ok e) (text, is, appends) = (text, told-is asked told bytes same e text is, appends)
-  wrote-told asked (Err fail) wrote = tt
+  logs-wrote are old new asked tx e (Ok ended) (text, is, appends) found = (
+    text,
+    inl (
+      told-found are (transaction_in asked) ended.is_found
+          (subst (λ (o : Option ℕ). IsFound bytes o ended.is_found) e found),
+      told-explained ended.outcome text is,
+    ),
+    appends,
+  )
+  logs-wrote are old new asked tx e (Err fail) wrote found = tt
 
-  pub front-told : (r : Result Explained EngineFail) → OnErr r (WroteExplanationFront (Some bytes) old new)
+  pub logs-front : (old new : Option (List ℕ)) (r : Result Explained EngineFail)
+      → OnErr r (logs.WroteExplainedFront (Some bytes) old new) → OnErr r (WroteExplanationFront told old new)
+  logs-front old new (Ok e) front = tt
+  logs-front old new (Err fail) (inl none) = inl (inl none)
+  logs-front old new (Err fail) (inr (outcome, text, is, writes)) =
+      inl (inr (outcome, text, told-explained outcome text is, writes))
+
+-- ---- of a bundle, by the front that its verdict is told of
+
+module _ (asked : Asked) (told : Option (List ℕ)) (v : Verdict) (front : List ℕ)
+    (on : bundle.IsVerdictOn told v front) (old new : Option (List ℕ)) where
+  pub bundle-wrote : IfSome told (λ bytes. AreLogs bytes → ⊥) → (r : Result Explained EngineFail)
+      → IfOk r (λ e. bundle.WroteExplainedBy asked front v e old new)
+      → IfOk r (λ e. WroteExplanation asked told e old new)
+  bundle-wrote other (Ok e) (text, is, appends) = (text, inr (other, (v, front, on, is)), appends)
+  bundle-wrote other (Err fail) wrote = tt
+
+  turned : (r : Result Explained EngineFail) → OnErr r (bundle.WroteExplainedFront told old new)
       → OnErr r (WroteExplanationFront told old new)
-  front-told (Ok e) front = tt
-  front-told (Err fail) front = told-front told bytes same old new front
+  turned (Ok e) wrote = tt
+  turned (Err fail) wrote = inr wrote
+
+  pub bundle-front : (r : Result Explained EngineFail) → OnErr r (bundle.WroteExplainedByFront asked front v old new)
+      → OnErr r (WroteExplanationFront told old new)
+  bundle-front r wrote = turned r (wrote-front asked told v front on old new r wrote)

@@ -1,5 +1,5 @@
 -- First lines: of an answer of a no, and of logs.
-use Rattle.std.proofs.Common.{◌≡◌, ◌++◌, ◌∷◌, Bool, true, false, ℕ, List, [], codes, decimal, inl, inr, refl, subst}
+use Rattle.std.proofs.Common.{◌≡◌, ◌++◌, ◌∷◌, ℕ, List, [], codes, decimal, inl, inr, refl, subst}
 use Rattle.sgt_notation.specs.Spelling.{HasNoLf}
 use Rattle.sgt_notation.proofs.OneSpelling.{HasNot}
 use Rattle.sgt_notation.proofs.Texts.{has_no_lf}
@@ -7,7 +7,6 @@ use Rattle.sgt_names.specs.declared.outcome.Outcome.TheVariants.{No}
 use Rattle.sgt_certify.specs.Answer.{fault_text, refusal_text, IsAnswer}
 use Rattle.sgt_certify.specs.declared.refuting.Refusal.{Refusal}
 use Rattle.sgt_certify.specs.declared.refuting.Refusal.TheVariants.{Order, Ranks, Walk}
-use Rattle.sgt_explain_logs.specs.Explained.{AreLogs, BeginsWith, logs_head}
 
 behind : (xs ys : List ℕ) → HasNot 10 (xs ++ ys) → HasNot 10 ys
 behind [] ys h = h
@@ -30,9 +29,3 @@ no_has_lf bytes text (inl refused) h =
     of-refusal refused.refusal refused.lines (subst (HasNot 10) refused.told (has_no_lf text h))
 no_has_lf bytes text (inr faulty) h =
     of-fault faulty.line _ (subst (HasNot 10) faulty.told (has_no_lf text h))
-
--- bytes that don't begin as logs of the first format do begin as those of the second
-pub logs-second : (bytes : List ℕ) → (BeginsWith (logs_head false) bytes → ⊥) → AreLogs bytes
-    → BeginsWith (logs_head true) bytes
-logs-second bytes none (false, begins) = absurd (none begins)
-logs-second bytes none (true, begins) = begins

@@ -1,4 +1,5 @@
 pub mod Explanations
 pub mod Findings
 pub mod Firsts
+pub mod Heads
 pub mod Wrote

@@ -1,9 +1,9 @@
 //! What `certify` answers of bytes in memory, and how an explanation begins by it.
 
-ghost use Rattle.std.specs.Prelude.{◌≡◌, ◌≢◌, ◌≤◌, ◌↔◌, ◌++◌, ℕ, Err, IfOk, IsTrue, List, MatchOption, length};
+ghost use Rattle.std.specs.Prelude.{◌≡◌, ◌≢◌, ◌≤◌, ◌↔◌, ◌++◌, ℕ, Err, IfOk, List, MatchOption, length};
 ghost use Rattle.sgt_names.specs.Limits.{most_reads};
 ghost use Rattle.sgt_certify.specs.Answer.{HasCertificate, IsAnswer};
-ghost use Rattle.sgt_explain_logs.specs.Explained.{AreLogs, BeginsWith, IsFirstLine, IsHead};
+ghost use Rattle.sgt_explain_logs.specs.Explained.{IsFirstLine, IsHead};
 
 use sgt_certify::certify;
 use sgt_names::{Asks, Bytes, EngineFail, Outcome, Written};
@@ -23,27 +23,6 @@ pub(crate) fn behind<'a>(text: &'a [u8], word: &[u8]) -> Option<&'a [u8]>
         (λ rest. text.entry.now ≡ word.now ++ rest.now) }
 {
     text.strip_prefix(word)
-}
-
-/// How logs begin in the first format, and in the second.
-const HEAD: &[u8] = b"sgt 1\nsite ";
-
-const HEAD_2: &[u8] = b"sgt 2\nsite ";
-
-fn begins_with(text: &[u8], word: &[u8]) -> bool
-    ensures { IsTrue result ↔ BeginsWith word.now text.now }
-{
-    behind(text, word).is_some()
-}
-
-/// Whether the bytes are those of logs without a certificate: line 2 begins as the line of a section does.
-pub fn are_logs(bytes: &[u8]) -> bool
-    ensures { IsTrue result ↔ AreLogs bytes.now }
-{
-    if begins_with(bytes, HEAD) {
-        return true;
-    }
-    begins_with(bytes, HEAD_2)
 }
 
 /// What fails where a text is read from memory and written there: too many reads, else memory.

@@ -1,28 +1,30 @@
 //! The explanation of what is a bundle, or logs without a certificate.
 
-ghost use Rattle.std.specs.Prelude.{◌<◌, ◌≤◌, Some, length, IfOk, OnErr, IsErrOf};
+ghost use Rattle.std.specs.Prelude.{◌≡◌, ◌≢◌, ◌<◌, ◌≤◌, Some, Option, ℕ, List, Err, length, IfOk, IfSome, OnErr, IsErrOf};
 ghost use Rattle.sgt_names.specs.Limits.{most_reads};
 ghost use Rattle.sgt_devices.specs.Devices.{LeavesKeptReader, LeavesWriter};
 ghost use Rattle.sgt_explain_logs.specs.Either.{WroteExplanation, WroteExplanationFront};
+ghost use Rattle.sgt_explain_logs.specs.Explained.{IsFound, WroteExplained, WroteExplainedFront};
 
-use crate::answer::are_logs;
 use crate::engine::explain_logs;
-use sgt_explain::{Asked, Explained, explain, read_all};
-use sgt_names::{Asks, Bytes, EngineFail, Sink, Source};
+use crate::peeking::peek;
+use sgt_explain::{Asked, Explained, explain_front, read_judged, read_rest};
+use sgt_names::{Asks, Bytes, EngineFail, Sink, Source, Tx};
 use std::alloc::Global;
 
-/// Explains bytes that are held.
+/// Explains logs that are held.
 fn explain_held<W: Sink>(
     alloc: Global,
-    asked: Asked,
+    asked: Option<Tx>,
     bytes: &[u8],
     writer: &mut W,
 ) -> Result<Explained, EngineFail>
     ensures answer { IfOk result
-        (λ explained. WroteExplanation asked (Some bytes.now) explained (W.holds writer.old)
+        (λ explained. WroteExplained (Some bytes.now) explained.outcome (W.holds writer.old)
         (W.holds writer.new)) }
+    ensures found { IfOk result (λ explained. IsFound bytes.now asked explained.is_found) }
     ensures front { OnErr result
-        (WroteExplanationFront (Some bytes.now) (W.holds writer.old) (W.holds writer.new)) }
+        (WroteExplainedFront (Some bytes.now) (W.holds writer.old) (W.holds writer.new)) }
     ensures read_fault { IsErrOf result EngineFail.ReadFault → most_reads ≤ length bytes.now }
     ensures writer { LeavesWriter W.failures result writer.old writer.new }
 {
@@ -31,16 +33,12 @@ fn explain_held<W: Sink>(
         asks: Asks::none(),
         last: 0,
     };
-    if are_logs(bytes) {
-        explain_logs(alloc, asked.transaction(), &mut reader, writer)
-    } else {
-        explain(alloc, asked, &mut reader, writer)
-    }
+    explain_logs(alloc, asked.transaction(), &mut reader, writer)
 }
 
-/// Explains what the reader gives: logs without a certificate, whose line 2 begins with `site `, by what `certify`
-/// answers of them (`explain_logs`), and all else by the auditor's verdict (`explain` of sgt_explain). The input is
-/// read whole and kept in memory, twice.
+/// Explains what the reader gives: logs without a certificate, whose line 2 begins with `site `, by what `certify` answers
+/// of them (`explain_logs`), and all else by the auditor's verdict (`explain` of sgt_explain). Of logs the input is read
+/// whole and kept in memory, twice; of all else it is read no further than the first line with a fault.
 pub fn explain_either<R: Source, W: Sink>(
     alloc: Global,
     asked: Asked,
@@ -55,6 +53,12 @@ pub fn explain_either<R: Source, W: Sink>(
     ensures reader { LeavesKeptReader R.tells R.failures result reader.old reader.new }
     ensures writer { LeavesWriter W.failures result writer.old writer.new }
 {
-    let bytes = read_all(alloc, reader)?;
-    explain_held(alloc, asked, bytes.as_slice(), writer)
+    let peeked = peek(alloc, reader)?;
+    if peeked.are_logs {
+        let bytes = read_rest(alloc, reader, peeked.text)?;
+        explain_held(alloc, asked.transaction(), bytes.as_slice(), writer)
+    } else {
+        let front = read_judged(alloc, reader, peeked.text)?;
+        explain_front(alloc, asked, &front, writer)
+    }
 }

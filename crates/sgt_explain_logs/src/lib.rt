@@ -9,11 +9,13 @@ mod engine;
 mod faults;
 mod logs;
 mod order;
+mod peeking;
 mod steps;
 mod telling;
 mod walk;
 mod yes;
 
-pub use answer::{Answer, are_logs, certified};
+pub use answer::{Answer, certified};
 pub use either::explain_either;
 pub use engine::explain_logs;
+pub use peeking::{Peeked, are_logs, peek};

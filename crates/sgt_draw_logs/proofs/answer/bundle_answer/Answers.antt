@@ -1,5 +1,8 @@
-use Rattle.std.proofs.Common.{Some}
+use Rattle.std.proofs.Common.{List, ℕ, ◌∙◌, subst, sym}
+use Rattle.sgt_audit.specs.Verdict.{IsVerdict, text_of}
+use Rattle.sgt_explain.specs.Explained.{IsVerdictOn}
+use Rattle.sgt_draw_logs.proofs.Told.{drawn-no, drawn-yes}
 use Rattle.sgt_draw_logs.proofs.answer.bundle_answer.Goals as goal
 
-pub returns-clause-answer : goal.returns-clause-answer
-returns-clause-answer c = c.in_ok-answer.ensures (Some c.args.bytes.now) c.in_ok-audited.ensures.audited
+pub bundle_picture-requires : goal.bundle_picture-requires
+bundle_picture-requires c = ?

@@ -1,7 +1,7 @@
 use Rattle.std.proofs.Common.{false, true, refl}
 use Rattle.sgt_explain_logs.proofs.Explanations.{refuted}
-use Rattle.sgt_explain_logs.proofs.Firsts.{logs-second}
-use Rattle.sgt_explain_logs.proofs.answer.are_logs.Goals as goal
+use Rattle.sgt_explain_logs.proofs.Heads.{logs-second}
+use Rattle.sgt_explain_logs.proofs.peeking.are_logs.Goals as goal
 
 pub returns-then-begins_with : goal.returns-then-begins_with
 returns-then-begins_with c = (λ yes. (false, c.begins_with.ensures.0 c.if-begins_with.true), λ are. refl)
