@@ -1,5 +1,5 @@
 -- A drawing of bytes that were read.
-use Rattle.std.proofs.Common.{◌≡◌, ℕ, List, Bool, Option, Some, None, subst}
+use Rattle.std.proofs.Common.{◌≡◌, ℕ, List, Option, Some, None, subst}
 use Rattle.std.specs.Prelude.{IfSome}
 use Rattle.sgt_names.specs.declared.outcome.Outcome.{Outcome}
 use Rattle.sgt_names.specs.declared.outcome.Outcome.TheVariants.{Yes, No}
@@ -9,25 +9,26 @@ use Rattle.sgt_audit.specs.declared.faults.Fault.{Fault}
 use Rattle.sgt_audit.specs.declared.verdict.Verdict.TheVariants as verdict
 use Rattle.sgt_explain.specs.Explained.{IsVerdictOn}
 use Rattle.sgt_draw.specs.Drawn.{IsDrawn}
+use Rattle.sgt_draw.specs.declared.task.Wanted.{Wanted}
 use Rattle.sgt_draw_logs.specs.Drawing.{IsLogsDrawing}
 
 -- what was found of a front that its verdict is told of is so of all bytes
-pub drawn-yes : (told : Option (List ℕ)) (front text : List ℕ) (committed refused withdrawn : ℕ)
-    → IsVerdictOn told (verdict.Yes committed refused withdrawn) front → IsDrawn (Some front) Yes text
-    → IsDrawn told Yes text
-drawn-yes None front text committed refused withdrawn on (b, valid, spelled, picture) = (b, valid, tt, picture)
-drawn-yes (Some bytes) front text committed refused withdrawn on (b, valid, spelled, picture) =
+pub drawn-yes : (wanted : Wanted) (told : Option (List ℕ)) (front text : List ℕ) (committed refused withdrawn : ℕ)
+    → IsVerdictOn told (verdict.Yes committed refused withdrawn) front → IsDrawn wanted (Some front) Yes text
+    → IsDrawn wanted told Yes text
+drawn-yes wanted None front text committed refused withdrawn on (b, valid, spelled, picture) = (b, valid, tt, picture)
+drawn-yes wanted (Some bytes) front text committed refused withdrawn on (b, valid, spelled, picture) =
     (b, valid, subst (λ (t : List ℕ). Spells t b) on.1 spelled, picture)
 
-pub drawn-no : (told : Option (List ℕ)) (front text : List ℕ) (line : ℕ) (fault : Fault)
-    → IsVerdictOn told (verdict.No line fault) front → text ≡ text_of (verdict.No line fault) → IsDrawn told No text
-drawn-no None front text line fault on is = (line, fault, tt, is)
-drawn-no (Some bytes) front text line fault on is = (line, fault, on.0, is)
+pub drawn-no : (wanted : Wanted) (told : Option (List ℕ)) (front text : List ℕ) (line : ℕ) (fault : Fault)
+    → IsVerdictOn told (verdict.No line fault) front → text ≡ text_of (verdict.No line fault) → IsDrawn wanted told No text
+drawn-no wanted None front text line fault on is = (line, fault, tt, is)
+drawn-no wanted (Some bytes) front text line fault on is = (line, fault, on.0, is)
 
 -- of logs, by the bytes that were read
-pub logs-told : (is_dot : Bool) (told : Option (List ℕ)) (bytes : List ℕ) → IfSome told (λ xs. bytes ≡ xs)
-    → (outcome : Outcome) (text : List ℕ) → IsLogsDrawing is_dot (Some bytes) outcome text
-    → IsLogsDrawing is_dot told outcome text
-logs-told is_dot None bytes same outcome text (answer, is, shown) = (answer, tt, shown)
-logs-told is_dot (Some xs) bytes same outcome text is =
-    subst (λ ys. IsLogsDrawing is_dot (Some ys) outcome text) same is
+pub logs-told : (wanted : Wanted) (told : Option (List ℕ)) (bytes : List ℕ) → IfSome told (λ xs. bytes ≡ xs)
+    → (outcome : Outcome) (text : List ℕ) → IsLogsDrawing wanted (Some bytes) outcome text
+    → IsLogsDrawing wanted told outcome text
+logs-told wanted None bytes same outcome text (answer, is, shown) = (answer, tt, shown)
+logs-told wanted (Some xs) bytes same outcome text is =
+    subst (λ ys. IsLogsDrawing wanted (Some ys) outcome text) same is

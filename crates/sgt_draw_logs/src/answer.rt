@@ -36,7 +36,7 @@ fn bundle_in(alloc: Global, text: &[u8]) -> Result<Bundle, EngineFail>
 /// The picture of the bundle that a text spells.
 fn bundle_picture(alloc: Global, wanted: Wanted, text: &[u8]) -> Result<Vec<u8>, EngineFail>
     requires { SpellsValid text.now }
-    ensures drawn { IfOk result (λ drawn. IsDrawn (Some text.now) Outcome.Yes drawn.items) }
+    ensures drawn { IfOk result (λ drawn. IsDrawn wanted (Some text.now) Outcome.Yes drawn.items) }
     ensures err { IfErr result (λ e. e ≡ EngineFail.Memory) }
 {
     let bundle = bundle_in(alloc, text)?;
@@ -62,7 +62,7 @@ fn shown(
     text: &[u8],
 ) -> Result<Vec<u8>, EngineFail>
     requires { (bytes : List ℕ) × IsAnswer bytes outcome text.now }
-    ensures shown { IfOk result (λ drawn. IsShown wanted.is_dot outcome text.now drawn.items) }
+    ensures shown { IfOk result (λ drawn. IsShown wanted outcome text.now drawn.items) }
     ensures err { IfErr result (λ e. e ≡ EngineFail.Memory) }
 {
     match outcome {
@@ -79,7 +79,7 @@ pub(crate) fn logs_answer(
     bytes: &[u8],
 ) -> Result<Answer, EngineFail>
     ensures answer { IfOk result
-        (λ a. IsLogsDrawing wanted.is_dot (Some bytes.now) a.outcome a.text.items) }
+        (λ a. IsLogsDrawing wanted (Some bytes.now) a.outcome a.text.items) }
     ensures exact { IfOk result (λ a. a.outcome ≡ Outcome.Yes ↔ HasCertificate bytes.now) }
     ensures long { result ≡ Err EngineFail.ReadFault → most_reads ≤ length bytes.now }
     ensures write { result ≢ Err EngineFail.WriteFault }
@@ -108,7 +108,7 @@ pub(crate) fn bundle_answer(
 ) -> Result<Answer, EngineFail>
     requires { IsVerdict front.now.text.items front.now.verdict }
     ensures answer { IfOk result (λ a. (told : Option (List ℕ))
-        → IsVerdictOn told front.now.verdict front.now.text.items → IsDrawn told a.outcome a.text.items) }
+        → IsVerdictOn told front.now.verdict front.now.text.items → IsDrawn wanted told a.outcome a.text.items) }
     ensures err { IfErr result (λ e. e ≡ EngineFail.Memory) }
 {
     match front.verdict {

@@ -16,7 +16,7 @@ use std::alloc::Global;
 /// The answer to what the reader gives: to all of logs, and of all else to the lines up to the first fault.
 fn answer<R: Source>(alloc: Global, wanted: Wanted, reader: &mut R) -> Result<Answer, EngineFail>
     ensures answer { IfOk result
-        (λ a. IsDrawing wanted.is_dot (R.tells reader.old) a.outcome a.text.items) }
+        (λ a. IsDrawing wanted (R.tells reader.old) a.outcome a.text.items) }
     ensures exact { IfOk result (λ a. IfSome (R.tells reader.old)
         (λ bytes. AreLogs bytes → (a.outcome ≡ Outcome.Yes ↔ HasCertificate bytes))) }
     ensures reader { LeavesKeptReader R.tells R.failures result reader.old reader.new }
@@ -48,11 +48,11 @@ pub fn draw_either<R: Source, W: Sink>(
     writer: &mut W,
 ) -> Result<Outcome, EngineFail>
     ensures answer { IfOk result
-        (λ outcome. WroteDrawing wanted.is_dot (R.tells reader.old) outcome (W.holds writer.old)
+        (λ outcome. WroteDrawing wanted (R.tells reader.old) outcome (W.holds writer.old)
         (W.holds writer.new)) }
     ensures exact { IfOk result (λ outcome. IfSome (R.tells reader.old)
         (λ bytes. AreLogs bytes → (outcome ≡ Outcome.Yes ↔ HasCertificate bytes))) }
-    ensures front { OnErr result (WroteDrawingFront wanted.is_dot (R.tells reader.old)
+    ensures front { OnErr result (WroteDrawingFront wanted (R.tells reader.old)
         (W.holds writer.old) (W.holds writer.new)) }
 
     // A fault tells of its device, and no fault of a device is passed over.

@@ -14,6 +14,6 @@ pub returns-clause-answer : goal.returns-clause-answer
 returns-clause-answer c = (
   c.in_ok-found.found.text.items,
   c.in_ok-found.ensures.answer,
-  subst (λ (t : List ℕ). IsShown c.args.wanted.is_dot c.in_ok-found.found.outcome t c.in_ok-text.text.items)
+  subst (λ (t : List ℕ). IsShown c.args.wanted c.in_ok-found.found.outcome t c.in_ok-text.text.items)
       c.as_slice.ensures.value c.in_ok-text.ensures.shown,
 )
