@@ -1,8 +1,8 @@
 //! A reader, cut behind the last line of each section.
 
-ghost use Rattle.std.specs.Prelude.{ℕ, ◌≡◌, ◌≢◌, ◌≤◌, ◌⊎◌, ◌+◌, ◌++◌, ◌∷◌, [], Err, length, IfOk, IfErr, IfSome, OnOk, OnErr, IsErrOf};
+ghost use Rattle.std.specs.Prelude.{ℕ, ◌≡◌, ◌≢◌, ◌<◌, ◌≤◌, ◌⊎◌, ◌↔◌, ◌+◌, ◌-◌, ◌%◌, ◌++◌, ◌∷◌, [], Err, length, IsTrue, IfOk, IfErr, IfSome, OnOk, OnErr, IsErrOf};
 ghost use Rattle.sgt_notation.specs.Lines.{GaveNext, coming, stream};
-ghost use Rattle.sgt_audit_workers.specs.Cut.{FailsDuly, IsPiece, Takes};
+ghost use Rattle.sgt_audit_workers.specs.Cut.{FailsDuly, IsNoted, IsPiece, KeepsReady, Takes};
 
 use memchr::{memmem, memrchr};
 use sgt_names::{EngineFail, MAX_LINE, Source};
@@ -21,6 +21,18 @@ pub enum Stop {
     Long,
 }
 
+/// What was read last of a text: a line, and whether the next read may have to wait.
+#[derive(Drop)]
+pub struct Latest {
+    pub line: Vec<u8>,
+    /// Whether what was read for the last line that wasn't held whole ended within a page. What writes much into a pipe
+    /// fills its pages, and a file gives whole ones up to its end.
+    pub is_drained: bool,
+}
+
+/// How many bytes a page has.
+const PAGE: usize = 4_096;
+
 /// How much of a text is wanted in one piece: once it has `enough` bytes no more is read for it, and held lines are
 /// put behind it only where it has at most so many bytes as `most` with them.
 #[derive(Clone, Copy)]
@@ -29,10 +41,25 @@ pub struct Room {
     pub most: usize,
 }
 
-/// What comes next, as `next` of `Lines` tells it.
+/// Notes how what was read for a line ended, if it wasn't held whole: so many bytes were held before it was read, and
+/// these are behind it.
+fn note_read(is_drained: &mut bool, before: usize, line: &[u8], behind: &[u8])
+    ensures none { length line.now + length behind.now + 1 ≤ before
+        → is_drained.new ≡ is_drained.old }
+    ensures some { before < length line.now + length behind.now + 1
+        → (IsTrue is_drained.new ↔ (length line.now + length behind.now + 1 - before) % 4096 ≢ 0) }
+{
+    let given = (line.len() + behind.len() + 1).saturating_sub(before);
+    if given > 0 {
+        *is_drained = given % PAGE != 0;
+    }
+}
+
+/// What comes next, as `next` of `Lines` tells it; and behind a line, whether the next read may have to wait.
 pub fn next_line<R: Source>(
     reader: &mut R,
     lines: &mut Lines,
+    is_drained: &mut bool,
     line: &mut Vec<u8>,
     limit: usize,
 ) -> Result<Next, EngineFail>
@@ -49,13 +76,20 @@ pub fn next_line<R: Source>(
         → FailsDuly lines.old.reads (coming lines.old (R.tells reader.old))
         (R.failures reader.old) (R.failures reader.new) (R.asked reader.old) (R.asked reader.new) }
     ensures write_fault { result ≢ Err EngineFail.WriteFault }
+    ensures noted { IfOk result (λ next. next ≡ Next.Line
+        → IsNoted (R.tells reader.old) (R.tells reader.new) is_drained.old is_drained.new) }
 {
+    let before = lines.held().len();
     match lines.next(reader, line, limit) {
-        Ok(next) => Ok(next),
+        Ok(next) => {
+            note_read(is_drained, before, line.as_slice(), lines.held());
+            Ok(next)
+        }
         Err(LinesFault::Memory) => Err(EngineFail::Memory),
         Err(LinesFault::ReadFault) => Err(EngineFail::ReadFault),
     }
 }
+
 /// The place behind the first line `end` of these lines, if one is found.
 fn behind_end(lines: &[u8]) -> Option<usize>
     ensures { IfSome result (λ n. n ≤ length lines.now) }
@@ -155,12 +189,12 @@ fn append_line(section: &mut Vec<u8>, line: &mut Vec<u8>) -> Result<(), EngineFa
 }
 
 /// Reads on behind the bytes of a section that were read: its lines up to the next line `end`, with it, or up to the
-/// end of the text, or a part of them. No read is made where lines are held whole. What was read before an Err stands
-/// behind the section too, but for the line that was read then.
+/// end of the text, or a part of them. No read is made where lines are held whole, nor where one may have to wait. What
+/// was read before an Err stands behind the section too, but for the line that was read then.
 pub fn read_piece<R: Source>(
     reader: &mut R,
     lines: &mut Lines,
-    line: &mut Vec<u8>,
+    latest: &mut Latest,
     section: &mut Vec<u8>,
     room: Room,
 ) -> Result<Stop, EngineFail>
@@ -177,6 +211,8 @@ pub fn read_piece<R: Source>(
         → FailsDuly lines.old.reads (coming lines.old (R.tells reader.old))
         (R.failures reader.old) (R.failures reader.new) (R.asked reader.old) (R.asked reader.new) }
     ensures write_fault { result ≢ Err EngineFail.WriteFault }
+    ensures ready { KeepsReady latest.old.is_drained latest.new.is_drained
+        (R.asked reader.old) (R.asked reader.new) }
 {
     'pieces: loop {
         if let Some(stop) = take_held(lines, section, room.most)? {
@@ -185,16 +221,20 @@ pub fn read_piece<R: Source>(
         if section.len() >= room.enough {
             return Ok(Stop::Room);
         }
-        match next_line(reader, lines, line, MAX_LINE)? {
+        if latest.is_drained {
+            return Ok(Stop::Room);
+        }
+        let is_drained = &mut latest.is_drained;
+        match next_line(reader, lines, is_drained, &mut latest.line, MAX_LINE)? {
             Next::Line => {
-                let ends = line.as_slice() == b"end".as_slice();
-                append_line(section, line)?;
+                let ends = latest.line.as_slice() == b"end".as_slice();
+                append_line(section, &mut latest.line)?;
                 if ends {
                     return Ok(Stop::Section);
                 }
             }
             Next::Cut => {
-                append(section, line.as_slice())?;
+                append(section, latest.line.as_slice())?;
                 return Ok(Stop::Text);
             }
             Next::End => return Ok(Stop::Text),

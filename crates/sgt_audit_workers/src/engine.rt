@@ -8,7 +8,7 @@ ghost use Rattle.sgt_notation.specs.Lines.{ReadFaultIsDue};
 ghost use Rattle.sgt_devices.specs.Devices.{LeavesWriter};
 ghost use Rattle.sgt_audit.specs.Faults.{HasNoFault};
 ghost use Rattle.sgt_audit.specs.Verdict.{IsVerdict, SaysHeadline, WroteFront, text_of, yes_of};
-ghost use Rattle.sgt_audit_workers.specs.Cut.{longest};
+ghost use Rattle.sgt_audit_workers.specs.Cut.{KeepsReady, longest};
 ghost use Rattle.sgt_audit_workers.specs.Head.{IsHead};
 ghost use Rattle.sgt_audit_workers.specs.Reads.{IsFailOf, IsYes, Reader, ReadsLittleFurther, reader};
 ghost use Rattle.sgt_audit_workers.specs.declared.head.Head.{Head};
@@ -205,6 +205,9 @@ fn judge_next<H: Threads, R: Source>(
         (first : Reader) (left : Option (List ℕ)) → HasRead first left ahead.old.items text.old old
         → IsAsked first text.old old → IsAsked first text.new new }
     ensures most { text.new.most ≡ text.old.most }
+    // a read that may have to wait is begun behind all that was given to a worker
+    ensures ready { IsTrue text.old.latest.is_drained → (R.asked source.new ≡ R.asked source.old)
+        ⊎ IfOk result (λ r. IfOk r (λ _. workers.new.running.items ≡ [])) }
 {
     match take_section(source, text, ahead) {
         Some(section) => workers.judge(rt, section),
@@ -241,6 +244,8 @@ fn read_within<R: Source>(
     ensures within { IsWithin workers.now ahead.old.items text.old
         → IsWithin workers.now ahead.new.items text.new }
     ensures most { text.new.most ≡ text.old.most }
+    ensures ready { KeepsReady text.old.latest.is_drained text.new.latest.is_drained
+        (R.asked source.old) (R.asked source.new) }
 {
     if has_room(workers, ahead.as_slice()) {
         read_on(source, text, ahead, buffer);

@@ -83,7 +83,7 @@ fn keep_last(bytes: &mut Vec<u8>, many: usize) -> Result<(), EngineFail>
     Ok(())
 }
 
-/// Reads the next lines of the section behind these bytes, and no more than one read gave.
+/// Reads the next lines of the section behind these bytes, and no more than one read gave, also where that has to wait.
 fn read_next<R: Source>(source: &mut R, text: &mut Text, opened: &mut Opened)
     requires { text.old.state ≡ Going }
     ensures read { let old = reader (R.tells source.old) (R.failures source.old) (R.asked source.old) in
@@ -103,10 +103,11 @@ fn read_next<R: Source>(source: &mut R, text: &mut Text, opened: &mut Opened)
         enough: opened.bytes.len().saturating_add(1).min(text.most),
         most: text.most,
     };
+    text.latest.is_drained = false;
     opened.stop = read_piece(
         source,
         &mut text.lines,
-        &mut text.line,
+        &mut text.latest,
         &mut opened.bytes,
         room,
     );

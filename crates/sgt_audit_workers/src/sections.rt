@@ -2,12 +2,13 @@
 
 ghost use Rattle.std.specs.Prelude.{Ok, IsTrue, ◌≡◌, ◌≢◌, ◌+◌, ◌-◌, ◌^◌, ◌<◌, ◌≤◌, ◌∷◌, [], ℕ, List, Option, length, IfOk, IfErr, IfSome, IfNone, vec_len};
 ghost use Rattle.sgt_notation.specs.Lines.{Gives, coming};
+ghost use Rattle.sgt_audit_workers.specs.Cut.{KeepsReady};
 ghost use Rattle.sgt_audit_workers.specs.Reads.{Reader, reader};
 ghost use Rattle.sgt_audit_workers.specs.declared.sections.State.TheVariants.{Going};
 ghost use Rattle.sgt_audit_workers.specs.private.Texts.{AreAhead, CameNext, HasRead, IsAsked, IsFirstAhead};
 ghost use Rattle.sgt_audit_workers.specs.private.Texts.{IsLeft, IsNextSection, IsOpenState, IsStateBehind, stop_before};
 
-use crate::cutting::{Room, Stop, next_line, read_piece};
+use crate::cutting::{Latest, Room, Stop, next_line, read_piece};
 use sgt_names::{EngineFail, Source};
 use sgt_notation::{Lines, Next};
 use std::alloc::{AllocError, Global};
@@ -17,7 +18,7 @@ use std::alloc::{AllocError, Global};
 pub struct Text {
     pub alloc: Global,
     pub lines: Lines,
-    pub line: Vec<u8>,
+    pub latest: Latest,
     /// How many bytes of a section are wanted in one piece: one that is longer is judged as it is read.
     pub most: usize,
     pub state: State,
@@ -34,7 +35,10 @@ impl Text {
         Ok(Text {
             alloc,
             lines: Lines::new(alloc)?,
-            line: Vec::new(alloc),
+            latest: Latest {
+                line: Vec::new(alloc),
+                is_drained: false,
+            },
             most: 0,
             state: State::Going,
         })
@@ -98,7 +102,8 @@ pub fn read_line<R: Source>(
     ensures short { length line.new.items ≤ limit }
     ensures most { text.new.most ≡ text.old.most }
 {
-    match next_line(source, &mut text.lines, line, limit) {
+    let is_drained = &mut text.latest.is_drained;
+    match next_line(source, &mut text.lines, is_drained, line, limit) {
         Ok(next) => Ok(next),
         Err(e) => {
             text.state = State::Open(Vec::new(text.alloc), Err(e));
@@ -121,6 +126,8 @@ fn next_section<R: Source>(source: &mut R, text: &mut Text, buffer: Vec<u8>) -> 
     ensures open { IfNone result (IsOpenState text.new.state) }
     ensures whole { IfSome result (λ _. IsOpenState text.new.state → ⊥) }
     ensures most { text.new.most ≡ text.old.most }
+    ensures ready { KeepsReady text.old.latest.is_drained text.new.latest.is_drained
+        (R.asked source.old) (R.asked source.new) }
 {
     let mut bytes = buffer;
     bytes.clear();
@@ -128,7 +135,7 @@ fn next_section<R: Source>(source: &mut R, text: &mut Text, buffer: Vec<u8>) -> 
         enough: text.most,
         most: text.most,
     };
-    let stop = read_piece(source, &mut text.lines, &mut text.line, &mut bytes, room);
+    let stop = read_piece(source, &mut text.lines, &mut text.latest, &mut bytes, room);
     match stop {
         Ok(Stop::Section) => Some(Section {
             bytes,
@@ -177,6 +184,7 @@ fn keep(text: &mut Text, ahead: &mut Vec<Section>, section: Section)
     ensures asked { (first now : Reader) → IsAsked first text.old now → IsAsked first text.new now }
     ensures few { vec_len ahead.new ≤ vec_len ahead.old + 1 }
     ensures most { text.new.most ≡ text.old.most }
+    ensures latest { text.new.latest ≡ text.old.latest }
 {
     if section.bytes.is_empty() {
         return;
@@ -210,6 +218,8 @@ fn read_more<R: Source>(source: &mut R, text: &mut Text, ahead: &mut Vec<Section
         → IsAsked first text.old old → IsAsked first text.new new }
     ensures few { vec_len ahead.new ≤ vec_len ahead.old + 1 }
     ensures most { text.new.most ≡ text.old.most }
+    ensures ready { KeepsReady text.old.latest.is_drained text.new.latest.is_drained
+        (R.asked source.old) (R.asked source.new) }
 {
     if !is_going(&text.state) {
         return;
@@ -236,6 +246,8 @@ pub fn read_on<R: Source>(
         → IsAsked first text.old old → IsAsked first text.new new }
     ensures few { vec_len ahead.new ≤ vec_len ahead.old + 1 }
     ensures most { text.new.most ≡ text.old.most }
+    ensures ready { KeepsReady text.old.latest.is_drained text.new.latest.is_drained
+        (R.asked source.old) (R.asked source.new) }
 {
     match buffer {
         Some(buffer) => read_more(source, text, ahead, buffer),
@@ -280,6 +292,8 @@ pub fn read_ahead<R: Source>(source: &mut R, text: &mut Text, beside: Beside) ->
         → IsAsked first text.old old → IsAsked first text.new new }
     ensures few { vec_len result ≤ beside.sections }
     ensures most { text.new.most ≡ text.old.most }
+    ensures ready { KeepsReady text.old.latest.is_drained text.new.latest.is_drained
+        (R.asked source.old) (R.asked source.new) }
 {
     let mut ahead = Vec::new(text.alloc);
     for _section in 0..beside.sections {
@@ -320,6 +334,8 @@ pub fn take_section<R: Source>(
     ensures fewer { vec_len ahead.new ≡ vec_len ahead.old - 1 }
     ensures empty { IfNone result (ahead.new.items ≡ []) }
     ensures most { text.new.most ≡ text.old.most }
+    ensures ready { KeepsReady text.old.latest.is_drained text.new.latest.is_drained
+        (R.asked source.old) (R.asked source.new) }
 {
     if let Some(section) = first(ahead) {
         return Some(section);

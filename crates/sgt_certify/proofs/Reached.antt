@@ -12,6 +12,8 @@ use Rattle.sgt_names.proofs.Places.{slice_get-take}
 use Rattle.sgt_notation.specs.Lines.{Gives, IsLongerThan}
 use Rattle.sgt_notation.specs.declared.lines.Next.TheVariants.{Line, Cut, TooLong, End}
 use Rattle.sgt_audit.proofs.ReaderAtStage.{lf-within}
+use Rattle.sgt_audit.specs.declared.faults.Fault.{Fault}
+use Rattle.sgt_certify_faults.specs.Faults.{IsFirstFault}
 use Rattle.sgt_certify.specs.Reach.{IsLongAt, ReadsNoFurther, BeginsNoneBehind, ReadsAll, HasLfWithin, AreShort}
 
 -- ---- whole lines, none of them too long
@@ -159,7 +161,7 @@ pub long-all : (told old left : Option (List ℕ)) (text line held : List ℕ) �
 long-all None old left text line held rest gives = tt
 long-all (Some bytes) None left text line held rest gives = absurd rest
 long-all (Some bytes) (Some xs) None text line held rest gives = tt
-long-all (Some bytes) (Some xs) (Some ys) text line held rest gives = λ none.
+long-all (Some bytes) (Some xs) (Some ys) text line held rest gives = λ good none.
     absurd (none (length text) (record { front = text; more = xs; text = rest; counted = refl; long = gives.0 }))
 
 -- ---- the end
@@ -193,7 +195,7 @@ pub cut-all : (told old left : Option (List ℕ)) (text line held : List ℕ) �
 cut-all None old left text line held rest gives = tt
 cut-all (Some bytes) None left text line held rest gives = absurd rest
 cut-all (Some bytes) (Some xs) None text line held rest gives = tt
-cut-all (Some bytes) (Some xs) (Some ys) text line held rest gives = λ none. nothing-left held ys gives.4
+cut-all (Some bytes) (Some xs) (Some ys) text line held rest gives = λ good none. nothing-left held ys gives.4
 
 pub end-further : (told old new : Option (List ℕ)) (text line : List ℕ) (reads : ℕ) → Consumes told old text
     → Gives max_line old End line new → AreShort text
@@ -219,4 +221,37 @@ pub end-all : (told old left : Option (List ℕ)) (text line held : List ℕ) �
 end-all None old left text line held rest gives = tt
 end-all (Some bytes) None left text line held rest gives = absurd rest
 end-all (Some bytes) (Some xs) None text line held rest gives = tt
-end-all (Some bytes) (Some xs) (Some ys) text line held rest gives = λ none. nothing-left held ys gives.2
+end-all (Some bytes) (Some xs) (Some ys) text line held rest gives = λ good none. nothing-left held ys gives.2
+
+-- ---- a line with a fault
+
+pub fault-further : (told old : Option (List ℕ)) (text : List ℕ) (reads : ℕ) → Consumes told old text → AreShort text
+    → reads ≤ length text → IfSome told (λ bytes. ReadsNoFurther bytes reads)
+fault-further None old text reads rest short counted = tt
+fault-further (Some bytes) None text reads rest short counted = absurd rest
+fault-further (Some bytes) (Some xs) text reads rest short counted = λ n long.
+    let before = short-before text xs long.front long.more (sym rest ∙ long.text) short long.long in
+    omega (arith, before, long.counted, counted)
+
+pub fault-behind : (told left : Option (List ℕ)) (text held : List ℕ) (last : ℕ)
+    → Consumes told (prepend_known held left) text → AreShort text → length held ≤ last
+    → IfSome told (λ bytes. IfSome left (λ more. BeginsNoneBehind bytes (length more) last))
+fault-behind None left text held last rest short kept = tt
+fault-behind (Some bytes) None text held last rest short kept = tt
+fault-behind (Some bytes) (Some ys) text held last rest short kept = λ n long.
+    let before = short-before text (held ++ ys) long.front long.more (sym rest ∙ long.text) short long.long in
+    omega (
+      arith,
+      before,
+      long.counted,
+      kept,
+      ap length rest,
+      length-append text (held ++ ys),
+      length-append held ys,
+    )
+
+pub fault-all : (told left : Option (List ℕ)) (n : ℕ) (f : Fault) → IfSome told (λ bytes. IsFirstFault bytes n f)
+    → IfSome told (λ bytes. IfSome left (ReadsAll bytes))
+fault-all None left n f first = tt
+fault-all (Some bytes) None n f first = tt
+fault-all (Some bytes) (Some ys) n f first = λ good long. absurd (good n f first.has)

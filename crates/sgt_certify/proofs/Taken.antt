@@ -1,10 +1,12 @@
 -- How far a reader was read, against all that it told.
-use Rattle.std.proofs.Common.{◌≡◌, ℕ, List, [], ◌∷◌, ◌++◌, take, drop, Option, Some, None, true, false, refl, sym, ap, ap₂, ◌∙◌, arith, append_assoc}
+use Rattle.std.proofs.Common.{◌≡◌, ℕ, List, [], ◌∷◌, ◌++◌, take, drop, Option, Some, None, true, false, refl, sym, ap, ap₂, subst, ◌∙◌, arith, append_assoc}
 use Rattle.std.specs.Io.KnownBytes.{Consumes}
 use Rattle.std.proofs.lemmas.List.{append-nil, take-append-drop}
 use Rattle.sgt_names.specs.Limits.{max_line}
 use Rattle.sgt_notation.specs.Lines.{Ahead, Gives, Spends, coming, passed}
 use Rattle.sgt_notation.specs.declared.lines.Next.TheVariants.{Line, Cut, TooLong, End}
+use Rattle.sgt_audit.specs.declared.faults.Fault.{Fault}
+use Rattle.sgt_certify_faults.specs.Faults.{IsFirstFault}
 use Rattle.sgt_certify.specs.Answer.{IsTaken}
 use Rattle.sgt_notation.proofs.Texts.{spends-none}
 
@@ -61,6 +63,12 @@ long-taken None old new text line rest gives = tt
 long-taken (Some bytes) None new text line rest gives = absurd rest
 long-taken (Some bytes) (Some xs) None text line rest gives = absurd gives
 long-taken (Some bytes) (Some xs) (Some ys) text line rest gives = (xs, rest, gives.0)
+
+pub fault-taken : (told rest : Option (List ℕ)) (text : List ℕ) (n : ℕ) (f : Fault) → Consumes told rest text
+    → ((more : List ℕ) → IsFirstFault (text ++ more) n f) → IfSome told (λ bytes. IsFirstFault bytes n f)
+fault-taken None rest text n f met first = tt
+fault-taken (Some bytes) None text n f met first = absurd met
+fault-taken (Some bytes) (Some xs) text n f met first = subst (λ (t : List ℕ). IsFirstFault t n f) (sym met) (first xs)
 
 -- ---- the reads
 

@@ -1,5 +1,5 @@
 -- What logs without a certificate are answered by.
-use Rattle.std.specs.Prelude.{◌≡◌, ◌⊎◌, ℕ, Bool, List, [], ◌++◌, codes, decimal, length, Option, IfSome}
+use Rattle.std.specs.Prelude.{◌≡◌, ◌⊎◌, ℕ, Bool, true, false, List, [], ◌++◌, codes, decimal, length, Option, IfSome}
 use Rattle.std.specs.Io.KnownBytes.{Appends}
 use Rattle.sgt_names.specs.Device.{AppendsOrForgets, WritesFront}
 use Rattle.sgt_names.specs.declared.outcome.Outcome.{Outcome}
@@ -9,12 +9,16 @@ use Rattle.sgt_bundle.specs.Text.{Spells, certificate_text}
 use Rattle.sgt_bundle.specs.Valid.{IsValid}
 use Rattle.sgt_bundle.specs.declared.certificate.Certificate.{Certificate}
 use Rattle.sgt_bundle.specs.declared.bundle.SiteLog.{SiteLog}
-use Rattle.sgt_audit.specs.declared.faults.Fault.{Fault}
+use Rattle.sgt_audit.specs.declared.faults.Fault.{Fault as AnyFault}
 use Rattle.sgt_audit.specs.Faults.{fault_number}
 use Rattle.sgt_certify_faults.specs.Faults.{GoesOn, IsFaultless, IsFirstFault}
 use Rattle.sgt_certify_logs.specs.Certifiable.{AreCertifiable, HasNoCertificate, IsWithLine, SpellsLogs}
 use Rattle.sgt_certify_logs.specs.Witness.{HaveConflictsInACycle, HaveEndsInACycle, IsStuck}
 use Rattle.sgt_certify.specs.Lines.{AreLinesOf}
+use Rattle.sgt_certify.specs.declared.taking.Stop.{Stop}
+use Rattle.sgt_certify.specs.declared.taking.Stop.TheVariants.{All, Long, Fault}
+use Rattle.sgt_certify.specs.declared.taking.Taken.{Taken}
+use Rattle.sgt_certify.specs.declared.taking.Taken.TheVariants as taken
 use Rattle.sgt_certify.specs.declared.refuting.Refusal.{Refusal}
 use Rattle.sgt_certify.specs.declared.refuting.Refusal.TheVariants.{Order, Ranks, Walk}
 
@@ -95,7 +99,7 @@ fault_text line number = codes "no line " ++ (decimal line ++ (codes " F" ++ (de
 -- so none makes their logs valid
 pub record IsFaulty (bytes text : List ℕ) : Type 0 where
   pub line : ℕ
-  pub fault : Fault
+  pub fault : AnyFault
   pub told : text ≡ fault_text line (fault_number fault)
   pub shown : IsFirstFault bytes line fault
   pub none : HasNoCertificate bytes
@@ -111,6 +115,23 @@ IsAnswer bytes Unreadable text = ⊥
 abbrev pub IsTaken : Option (List ℕ) → List ℕ → Bool → Type 0
 IsTaken told text all =
     IfSome told (λ bytes. (more : List ℕ) × (bytes ≡ text ++ more) × GoesOn all more)
+
+-- so the reading of a text stopped, where all of it was read, or what stands in front of a line that is too long; or
+-- it has this first fault
+abbrev pub IsStop : Option (List ℕ) → List ℕ → Stop → Type 0
+IsStop told text All = IsTaken told text true
+IsStop told text Long = IsTaken told text false
+IsStop told text (Fault first) = IfSome told (λ bytes. IsFirstFault bytes first.line first.fault)
+
+-- the same of what was taken
+abbrev pub IsTakenSo : Option (List ℕ) → Taken → Type 0
+IsTakenSo told (taken.Text text all) = IsTaken told text.items all
+IsTakenSo told (taken.Fault first) = IfSome told (λ bytes. IsFirstFault bytes first.line first.fault)
+
+-- these are all the bytes that were told, which were taken
+abbrev pub AreAll : Taken → List ℕ → Type 0
+AreAll (taken.Text text true) bytes = text.items ≡ bytes
+AreAll _ bytes = ⊥
 
 -- that text was written
 abbrev pub WroteAnswer : (told : Option (List ℕ)) → Outcome → (old new : Option (List ℕ)) → Type 0

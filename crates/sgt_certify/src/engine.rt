@@ -3,8 +3,8 @@
 ghost use Rattle.std.specs.Prelude.{◌≡◌, ◌-◌, ◌<◌, ◌++◌, ◌↔◌, ℕ, true, List, Option, Some, Err, length, IfErr, IfOk, IfSome, OnErr};
 ghost use Rattle.sgt_devices.specs.Devices.{LeavesReader, LeavesWriter};
 ghost use Rattle.sgt_audit.specs.Faults.{fault_number};
-ghost use Rattle.sgt_certify.specs.Answer.{HasCertificate, IsAnswer, IsTaken, fault_text, WroteAnswer, WroteAnswerFront};
-ghost use Rattle.sgt_certify.specs.Reach.{BeginsNoneBehind, ReadsAll, ReadsNoFurther};
+ghost use Rattle.sgt_certify.specs.Answer.{AreAll, HasCertificate, IsAnswer, IsTakenSo, fault_text, WroteAnswer, WroteAnswerFront};
+ghost use Rattle.sgt_certify.specs.Reach.{BeginsLittleBehind, BeginsNoneBehind, ReadsAll, ReadsNoFurther};
 ghost use Rattle.sgt_certify.specs.Reasons.{IsDecidedAnswer, IsToldBy, Passes};
 ghost use Rattle.sgt_certify_search.specs.declared.finding.Found.TheVariants.{Refused};
 ghost use Rattle.sgt_certify_search.specs.declared.finding.Reason.{Reason as AnyReason};
@@ -120,26 +120,46 @@ fn found_answer(alloc: Global, text: Vec<u8>, found: Found) -> Result<Answer, En
     }
 }
 
-/// The answer to what a reader gave.
-fn answer_to(alloc: Global, taken: Taken) -> Result<Answer, EngineFail>
+/// What a search finds in what a reader gave: nothing where that is not all.
+fn found_in(alloc: Global, taken: &Taken) -> Result<Found, AllocError> {
+    match taken {
+        Taken::Text { text, all } => {
+            if !*all {
+                return Ok(Found::Nothing);
+            }
+            find(alloc, text.as_slice())
+        }
+        Taken::Fault(_) => Ok(Found::Nothing),
+    }
+}
+
+/// The answer to what a reader gave, by what was found of it.
+fn answer_to(alloc: Global, taken: Taken, found: Found) -> Result<Answer, EngineFail>
     ensures answer { IfOk result
-        (λ a. (told : Option (List ℕ)) → IsTaken told taken.text.items taken.all
+        (λ a. (told : Option (List ℕ)) → IsTakenSo told taken
         → IfSome told (λ bytes. IsAnswer bytes a.outcome a.text.items)) }
+    ensures by { (bytes : List ℕ) → AreAll taken bytes → IsFaultless bytes
+        → (r : AnyReason) → found ≡ Refused r → Passes bytes r
+        → IfOk result (λ a. (a.outcome ≡ Outcome.No) × IsToldBy bytes r a.text.items) }
     ensures err { IfErr result (λ e. e ≡ EngineFail.Memory) }
 {
-    let Taken { text, all } = taken;
-    if !all {
-        return no_answer(alloc, text, false, None);
+    match taken {
+        Taken::Text { text, all } => {
+            if !all {
+                return no_answer(alloc, text, false, None);
+            }
+            found_answer(alloc, text, found)
+        }
+        Taken::Fault(first) => Ok(fault_answer(alloc, first)?),
     }
-    let found = find(alloc, text.as_slice())?;
-    found_answer(alloc, text, found)
 }
 
 /// Reads the text of a bundle without its second line, and writes it with the line of a certificate that makes its
 /// logs valid; or the reason why there is none: `no line L FN`, `no order`, `no ranks` or `no walk` and the lines
 /// that show it. Where what the search found doesn't pass its check, the answer is decided anew, by a search that is
 /// proved and slow; no input is known for which it is. All is read before anything is written, but no further than
-/// into a line that is too long.
+/// into a line that is too long; and no further than to a line with a fault that no certificate mends, where that is
+/// found before the next read.
 ///
 /// ReadFault where the reader failed, or no read is left, and Memory where a growth was refused: nothing was written.
 /// WriteFault where the writer failed: a front of the answer may have been written.
@@ -158,6 +178,8 @@ pub fn certify<R: Source, W: Sink>(
         ReadsNoFurther bytes (R.asked reader.new - R.asked reader.old))) }
     ensures none_behind { IfOk result (λ _. IfSome (R.tells reader.old) (λ bytes. IfSome (R.tells reader.new)
         (λ left. BeginsNoneBehind bytes (length left) (R.last reader.new)))) }
+    ensures little_behind { IfOk result (λ _. IfSome (R.tells reader.old) (λ bytes. IfSome (R.tells reader.new)
+        (λ left. BeginsLittleBehind bytes (length left) (R.last reader.new)))) }
     ensures reads_all { IfOk result (λ _. IfSome (R.tells reader.old) (λ bytes. IfSome (R.tells reader.new)
         (ReadsAll bytes))) }
     ensures front { OnErr result
@@ -168,7 +190,8 @@ pub fn certify<R: Source, W: Sink>(
     ensures writer { LeavesWriter W.failures result writer.old writer.new }
 {
     let taken = take_text(alloc, reader)?;
-    let answer = answer_to(alloc, taken)?;
+    let found = found_in(alloc, &taken)?;
+    let answer = answer_to(alloc, taken, found)?;
     match write_all(writer, answer.text.as_slice()) {
         Ok(()) => Ok(answer.outcome),
         Err(_) => Err(EngineFail::WriteFault),

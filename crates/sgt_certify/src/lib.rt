@@ -2,6 +2,7 @@
 #![tactic(auto)]
 
 mod deciding;
+mod early;
 mod engine;
 mod laws;
 mod left;

@@ -1,13 +1,15 @@
-//! All that a reader gives.
+//! All that a reader gives, or as much as has a fault.
 
-ghost use Rattle.std.specs.Prelude.{◌≡◌, ◌≢◌, ◌≤◌, ◌-◌, ◌∷◌, ◌++◌, ℕ, [], length, take, Err, IfOk, IfSome, OnOk};
+ghost use Rattle.std.specs.Prelude.{◌≡◌, ◌≢◌, ◌≤◌, ◌-◌, ◌∷◌, ◌++◌, ℕ, [], List, length, take, Err, IfOk, IfSome, OnOk};
 ghost use Rattle.sgt_names.specs.Limits.{most_reads};
 ghost use Rattle.sgt_notation.specs.Lines.{passed};
 ghost use Rattle.sgt_devices.specs.Devices.{LeavesReader};
-ghost use Rattle.sgt_certify.specs.Answer.{IsTaken};
-ghost use Rattle.sgt_certify.specs.Reach.{AreShort, BeginsNoneBehind, ReadsAll, ReadsNoFurther};
+ghost use Rattle.sgt_certify.specs.Answer.{IsStop, IsTakenSo};
+ghost use Rattle.sgt_certify.specs.Reach.{AreShort, BeginsLittleBehind, BeginsNoneBehind, ReadsAll, ReadsNoFurther};
 
+use crate::early::Early;
 use memchr::memrchr;
+use sgt_certify_faults::FirstFault;
 use sgt_names::{EngineFail, MAX_LINE, Source};
 use sgt_notation::{Lines, LinesFault, Next};
 use std::alloc::{AllocError, Global};
@@ -45,36 +47,58 @@ fn take_held(lines: &mut Lines, text: &mut Vec<u8>) -> Result<(), AllocError>
     Ok(())
 }
 
-/// Adds all bytes to the text, or those of the lines before the first one that is too long: false then.
+/// Where the reading of a text stops.
+#[derive(Clone, Copy)]
+pub enum Stop {
+    /// Behind all of it.
+    All,
+    /// Before a line that is too long.
+    Long,
+    /// Behind the line that has its first fault.
+    Fault(FirstFault),
+}
+
+/// Adds all bytes to the text; or those of the lines before the first one that is too long, or of lines of which one has
+/// the first fault.
 fn take_lines<R: Source>(
     alloc: Global,
     reader: &mut R,
     lines: &mut Lines,
     text: &mut Vec<u8>,
-) -> Result<bool, EngineFail>
+) -> Result<Stop, EngineFail>
     requires fresh { lines.old ≡ record { held = []; reads = most_reads } }
     requires none { text.old.items ≡ [] }
-    ensures taken { IfOk result (λ all. IsTaken (R.tells reader.old) text.new.items all) }
+    ensures taken { IfOk result (IsStop (R.tells reader.old) text.new.items) }
     ensures no_further { IfOk result (λ _. IfSome (R.tells reader.old) (λ bytes.
         ReadsNoFurther bytes (R.asked reader.new - R.asked reader.old))) }
     ensures none_behind { IfOk result (λ _. IfSome (R.tells reader.old) (λ bytes. IfSome (R.tells reader.new)
         (λ left. BeginsNoneBehind bytes (length left) (R.last reader.new)))) }
+    ensures little_behind { IfOk result (λ _. IfSome (R.tells reader.old) (λ bytes. IfSome (R.tells reader.new)
+        (λ left. BeginsLittleBehind bytes (length left) (R.last reader.new)))) }
     ensures reads_all { IfOk result (λ _. IfSome (R.tells reader.old) (λ bytes. IfSome (R.tells reader.new)
         (ReadsAll bytes))) }
     ensures reader { LeavesReader R.tells R.failures R.asked result reader.old reader.new }
     ensures write_fault { result ≢ Err EngineFail.WriteFault }
 {
+    let mut early = Early::new(alloc)?;
     let mut line = Vec::new(alloc);
     'lines: loop {
         take_held(lines, text)?;
+        if let Some(first) = early.look(text.as_slice())? {
+            return Ok(Stop::Fault(first));
+        }
+        let before = lines.held().len();
         match lines.next(reader, &mut line, MAX_LINE) {
-            Ok(Next::Line) => push_line(text, line.as_slice())?,
+            Ok(Next::Line) => {
+                early.note_read(before, line.as_slice(), lines);
+                push_line(text, line.as_slice())?;
+            }
             Ok(Next::Cut) => {
                 text.extend_from_slice(line.as_slice())?;
-                return Ok(true);
+                return Ok(Stop::All);
             }
-            Ok(Next::End) => return Ok(true),
-            Ok(Next::TooLong) => return Ok(false),
+            Ok(Next::End) => return Ok(Stop::All),
+            Ok(Next::TooLong) => return Ok(Stop::Long),
             Err(LinesFault::Memory) => return Err(EngineFail::Memory),
             Err(LinesFault::ReadFault) => return Err(EngineFail::ReadFault),
         }
@@ -83,20 +107,23 @@ fn take_lines<R: Source>(
 
 /// What a reader gave.
 #[derive(Drop)]
-pub struct Taken {
-    pub text: Vec<u8>,
-    /// Whether that is all: false where a line behind it is too long.
-    pub all: bool,
+pub enum Taken {
+    /// Its text: all that it gives, or all before a line that is too long.
+    Text { text: Vec<u8>, all: bool },
+    /// A text that has this first fault, whatever comes behind its line.
+    Fault(FirstFault),
 }
 
-/// Reads all bytes, or as far as to the first line that is too long. An Err is ReadFault, where a read failed or too
-/// many were needed, or Memory.
+/// Reads all bytes; or as far as to the first line that is too long, or to one with a fault that no certificate mends.
+/// An Err is ReadFault, where a read failed or too many were needed, or Memory.
 pub fn take_text<R: Source>(alloc: Global, reader: &mut R) -> Result<Taken, EngineFail>
-    ensures taken { IfOk result (λ taken. IsTaken (R.tells reader.old) taken.text.items taken.all) }
+    ensures taken { IfOk result (IsTakenSo (R.tells reader.old)) }
     ensures no_further { IfOk result (λ _. IfSome (R.tells reader.old) (λ bytes.
         ReadsNoFurther bytes (R.asked reader.new - R.asked reader.old))) }
     ensures none_behind { IfOk result (λ _. IfSome (R.tells reader.old) (λ bytes. IfSome (R.tells reader.new)
         (λ left. BeginsNoneBehind bytes (length left) (R.last reader.new)))) }
+    ensures little_behind { IfOk result (λ _. IfSome (R.tells reader.old) (λ bytes. IfSome (R.tells reader.new)
+        (λ left. BeginsLittleBehind bytes (length left) (R.last reader.new)))) }
     ensures reads_all { IfOk result (λ _. IfSome (R.tells reader.old) (λ bytes. IfSome (R.tells reader.new)
         (ReadsAll bytes))) }
     ensures reader { LeavesReader R.tells R.failures R.asked result reader.old reader.new }
@@ -104,6 +131,9 @@ pub fn take_text<R: Source>(alloc: Global, reader: &mut R) -> Result<Taken, Engi
 {
     let mut lines = Lines::new(alloc)?;
     let mut text = Vec::new(alloc);
-    let all = take_lines(alloc, reader, &mut lines, &mut text)?;
-    Ok(Taken { text, all })
+    match take_lines(alloc, reader, &mut lines, &mut text)? {
+        Stop::All => Ok(Taken::Text { text, all: true }),
+        Stop::Long => Ok(Taken::Text { text, all: false }),
+        Stop::Fault(first) => Ok(Taken::Fault(first)),
+    }
 }

@@ -143,6 +143,13 @@ module _ (bytes : List ℕ) (front : Front) (rest : List ℕ) (next : Piece) (ke
   at-fault m g h = next-or-later front h.front rest h.rest next h.next m g kept comes h.spelled h.comes h.number
       h.broken (sym text ∙ h.text)
 
+  -- a fault is behind these lines
+  pub later-fault : (m : ℕ) (g : Fault) → HasFault bytes m g → length (lines_of front) < m
+  later-fault m g h = elim (at-fault m g h) [
+    | inl same ↦ omega (arith, same.0)
+    | inr later ↦ omega (arith, later.0)
+  ]
+
   -- the least fault of what comes next is the first one
   pub first-fault : (n : ℕ) (f : Fault) → n ≡ length (lines_of front) + 1 → Breaks (RuleAlone front next) f
       → IsFirstFault bytes n f

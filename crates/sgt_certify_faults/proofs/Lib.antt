@@ -8,3 +8,4 @@ pub mod NoCertificate
 pub mod Odds
 pub mod ReadLines
 pub mod SoundLogs
+pub mod Within

@@ -201,7 +201,7 @@ long-next rest more none long = let p = piece (rest ++ more) in (p.0, p.1, long-
 
 -- ---- the first fault
 
-whole-text : (second : Bool) (bytes more : List ℕ) (count : ℕ) (b : Begun) (rest : List ℕ)
+pub whole-text : (second : Bool) (bytes more : List ℕ) (count : ℕ) (b : Begun) (rest : List ℕ)
     → IsReadTo second bytes count b rest
     → format_line second ++ 10 ∷ (bytes ++ more) ≡ text_of_lines (lines_of (behind second (lines_read b))) ++
     (rest ++ more)

@@ -1,6 +1,6 @@
 -- Faults of logs that no certificate mends: the rules of their lines, as far as those don't speak
 -- of the certificate.
-use Rattle.std.specs.Prelude.{◌≡◌, ◌≢◌, ℕ, ◌+◌, ◌≤◌, Bool, true, false, List, [], ◌∷◌, ◌++◌, length, map, All}
+use Rattle.std.specs.Prelude.{◌≡◌, ◌≢◌, ◌==◌, ℕ, ◌+◌, ◌≤◌, ◌<◌, Bool, true, false, List, [], ◌∷◌, ◌++◌, length, map, count_by, All}
 use Rattle.std.specs.List.{filter_map}
 use Rattle.sgt_names.specs.Limits.{max_line, max_sites}
 use Rattle.sgt_names.specs.Entry.{tx_of, IsEnd}
@@ -99,6 +99,11 @@ pub record IsFirstFault (bytes : List ℕ) (n : ℕ) (f : Fault) : Type 0 where
 -- no line has a fault
 abbrev pub IsFaultless : List ℕ → Type 0
 IsFaultless bytes = (n : ℕ) (f : Fault) → HasFault bytes n f → ⊥
+
+-- no line that stands whole in the bytes has a fault, whatever comes behind them
+abbrev pub HasNoFaultWithin : List ℕ → Type 0
+HasNoFaultWithin bytes = (more : List ℕ) (n : ℕ) (f : Fault) → HasFault (bytes ++ more) n f
+    → count_by (λ b. b == 10) bytes < n
 
 -- what follows a text: nothing, where that is all, else a line that is too long
 abbrev pub GoesOn : Bool → List ℕ → Type 0

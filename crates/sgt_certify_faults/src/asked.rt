@@ -16,7 +16,7 @@ use std::alloc::{AllocError, Global};
 use std::collections::BTreeMap;
 
 /// A kind of end.
-#[derive(Clone, Copy)]
+#[derive(Clone, Copy, PartialEq, Eq)]
 pub enum Asked {
     Commit,
     Refusal,
@@ -38,7 +38,7 @@ pub struct Askings {
 }
 
 /// The kind of end that an entry asks for. A read asks for none.
-fn asked_by(entry: &Entry) -> Option<Asked>
+pub fn asked_by(entry: &Entry) -> Option<Asked>
     ensures { result ≡ asked_end entry.now }
 {
     match entry {

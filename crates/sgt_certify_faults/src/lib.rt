@@ -6,6 +6,8 @@ mod first;
 mod laws;
 mod lines;
 mod reading;
+mod watch;
 
-pub use first::{FirstFault, first_fault};
+pub use first::{FirstFault, fault_within, first_fault};
 pub use laws::faults_exclude_certificates;
+pub use watch::Watch;

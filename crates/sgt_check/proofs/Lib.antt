@@ -1,6 +1,11 @@
 pub mod Pushing
 pub mod Values
 pub mod Spelled
+pub mod Escapes
+pub mod Texts
+pub mod NameOrder
+pub mod Ranking
+pub mod Shown
 pub mod Named
 pub mod Counted
 pub mod OneLine

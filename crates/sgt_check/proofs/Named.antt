@@ -1,34 +1,34 @@
 -- What is told of a numbered history answers the bytes that spell it.
-use Rattle.std.proofs.Common.{◌≡◌, ℕ, ◌<◌, ◌≤◌, Bool, true, false, List, ◌++◌, Some, map, take, arith, refl, sym, ap, ap₂, ◌∙◌, subst, inl, inr, ◌⊎◌, All}
-use Rattle.std.specs.Prelude.{slice_get}
+use Rattle.std.proofs.Common.{◌≡◌, ℕ, Bool, true, false, List, ◌++◌, map, take, refl, sym, ap, ap₂, ◌∙◌, subst, inl, inr}
 use Rattle.json.specs.Json.{Json}
 use Rattle.sgt_names.specs.declared.outcome.Outcome.{Outcome}
 use Rattle.sgt_names.specs.declared.outcome.Outcome.TheVariants.{Yes, No, Unreadable}
 use Rattle.sgt_names.proofs.Lists.{All-weaken, map_at}
+use Rattle.sgt_names.proofs.Places.{All-from_at, All_at}
 use Rattle.sgt_history.proofs.Renaming.{serves-on}
-use Rattle.sgt_history.specs.Conflicts.{HasCycle, HaveConflict, IsAmong}
+use Rattle.sgt_history.specs.Conflicts.{HaveConflict, IsAmong}
 use Rattle.sgt_history.specs.History.{closed_of}
-use Rattle.sgt_history.specs.Serial.{KeepApart}
 use Rattle.sgt_history.specs.Transaction.{Transaction, renamed, renamed_operation}
 use Rattle.sgt_history.specs.declared.named.Conflict.{Conflict}
 use Rattle.sgt_history.specs.declared.named.Graph.{Graph}
 use Rattle.sgt_history.specs.declared.named.Graph.TheVariants.{Whole}
-use Rattle.sgt_history_evidence.proofs.Renamed.{conflict-named, conflict-on, conflict_in-on, cycle-back, cycle-on, cycle_is-back, cycle_is-on, operation-on}
+use Rattle.sgt_history_evidence.proofs.Renamed.{conflict-named_item, conflict-on, conflict_in-on, cycle-back, cycle-on, cycle_is-back, cycle_is-on, operation-on}
 use Rattle.sgt_history_evidence.proofs.RenamedEvidence.{evidence-on}
 use Rattle.sgt_history_evidence.proofs.RenamedFlaws.{faultless-on, first_fault-on}
-use Rattle.sgt_history_text.specs.Name.{compact}
+use Rattle.sgt_history_text.specs.Name.{IsItem}
 use Rattle.sgt_history_text.specs.Reading.{IsReading, nth}
-use Rattle.sgt_history_text.specs.Text.{Spells}
 use Rattle.sgt_history_text.specs.declared.reading.Reading.{Reading}
 use Rattle.sgt_history_text.specs.declared.wanted.Wanted.{Wanted}
-use Rattle.sgt_history_verdict.specs.Steps.{AreSteps, IsStep, IsToldBefore, Leads, kind_place, lines_of}
+use Rattle.sgt_history_verdict.specs.Steps.{IsStep, IsToldBefore, Leads, lines_of}
 use Rattle.sgt_history_verdict.specs.Verdict.{MayFollow}
 use Rattle.sgt_history_verdict.specs.declared.step.Step.{Step}
-use Rattle.sgt_check.specs.Answer.{AreStepsOf, IsAnswer, IsCycleTold, IsFaultTold, IsStepOf, IsYes, by_number, compactly}
+use Rattle.sgt_check.specs.Answer.{IsAnswer, IsCycleTold, IsFaultTold, IsStepOf, IsYes, compactly}
+use Rattle.sgt_check.specs.Rank.{AreRanks, IsShownBefore}
 use Rattle.sgt_check.specs.Text.{aborted_of, committed_of, counts_text, cycle_text, fault_text, order_part, Spelling}
 use Rattle.sgt_check.specs.Told.{IsCyclicTold, IsFaultyTold, IsSerialTold, IsTold, spelled}
 use Rattle.sgt_check.specs.declared.naming.Naming.{Naming}
 use Rattle.sgt_check.specs.declared.options.Options.{Options}
+use Rattle.sgt_check.proofs.Shown.{Occurrence, apart_here, occurrence, shown_before, spelled_item}
 use Rattle.sgt_check.proofs.Spelled.{aborted-same, committed-same, fault-same, numbered, spelled-is}
 
 module _ (w : Wanted) (options : Options) (bytes : List ℕ) (r : Reading) (is : IsReading w bytes r) (n : Naming)
@@ -106,17 +106,26 @@ module _ (w : Wanted) (options : Options) (bytes : List ℕ) (r : Reading) (is :
         s.to_version step.conflict;
   }
 
-  kind-least : (g : Graph) (ranks : List ℕ) (s : Step)
+  pub shown-first : (g : Graph) (ranks : List ℕ) → AreRanks n.items ranks → (s : Step) → IsStep m g s
       → ((t : Step) → IsStep m g t → Leads t s.from s.to → IsToldBefore ranks s t)
       → (kind : Conflict) (x : Json) (v w : ℕ) → IsAmong g kind → HaveConflict named kind s.from s.to x v w
-      → kind_place s.kind ≤ kind_place kind
-  kind-least g ranks s told kind x v w among c =
-      let old = conflict-named (nth is.items) (nth is.values) m is.apart kind s.from s.to x v w c in
+      → IsShownBefore s.kind (nth is.items s.item) s.from_version kind x v
+  shown-first g ranks ranks_are s step told kind x v w among c =
+      let old = conflict-named_item (nth is.items) (nth is.values) m is.apart kind s.from s.to x v w c in
       let t : Step = record { kind = kind; from = s.from; to = s.to; item = old.0; from_version = v; to_version = w } in
-      elim (told t (record { among = among; conflict = old.1 }) (refl, refl)) [
-        | inl less ↦ omega (arith, less)
-        | inr same ↦ omega (arith, same.0)
-      ]
+      let here = conflict-on (nth is.items) (nth is.values) m is.apart s.kind s.from s.to s.item s.from_version
+      s.to_version step.conflict in
+      let item : (y : Json) → Occurrence named y → IsItem y =
+      λ y oc. spelled_item is.spells.lines is.ids named y is.spells.spell oc in
+      let one = item (nth is.items s.item)
+      (occurrence named s.kind s.from s.to (nth is.items s.item) s.from_version s.to_version here) in
+      let two = item x (occurrence named kind s.from s.to x v w c) in
+      subst (λ (y : Json). IsShownBefore s.kind (nth is.items s.item) s.from_version kind y v) old.2
+      (shown_before n.items is.items ranks (items_are ∙ is.item_texts) ranks_are s t one (subst IsItem (sym old.2) two)
+      (apart_here (nth is.items) (nth is.values) m is.apart s.item old.0
+      (occurrence m s.kind s.from s.to s.item s.from_version s.to_version step.conflict)
+      (occurrence m kind s.from s.to old.0 v w old.1))
+      (told t (record { among = among; conflict = old.1 }) (refl, refl)))
 
   pub cyclic-answer : (text : List ℕ) → IsCyclicTold n m text → IsCycleTold bytes text
   cyclic-answer text a = record {
@@ -138,10 +147,13 @@ module _ (w : Wanted) (options : Options) (bytes : List ℕ) (r : Reading) (is :
     };
     is = cycle_is-on (nth is.items) (nth is.values) m is.apart a.graph (lines_of a.steps) a.cycle_is.is;
     first = λ other c. a.cycle_is.first other (cycle_is-back (nth is.items) (nth is.values) m is.apart a.graph other c);
-    kinds = All-weaken (λ (s : Step). (t : Step) → IsStep m a.graph t → Leads t s.from s.to → IsToldBefore a.ranks s t)
-        (λ (s : Step). (kind : Conflict) (x : Json) (v w : ℕ) → IsAmong a.graph kind
-        → HaveConflict named kind s.from s.to x v w → kind_place s.kind ≤ kind_place kind)
-        a.steps (λ s told. kind-least a.graph a.ranks s told) a.told_first;
+    shown = All-from_at (λ (s : Step). (kind : Conflict) (x : Json) (v w : ℕ) → IsAmong a.graph kind
+        → HaveConflict named kind s.from s.to x v w
+        → IsShownBefore s.kind (nth is.items s.item) s.from_version kind x v)
+        a.steps
+        (λ place s at. shown-first a.graph a.ranks a.ranks_are s (All_at (IsStep m a.graph) a.steps place s a.are.each at)
+        (All_at (λ (s : Step). (t : Step) → IsStep m a.graph t → Leads t s.from s.to → IsToldBefore a.ranks s t)
+        a.steps place s a.told_first at));
     text_is = a.text_is ∙ ap (λ (s : Spelling ℕ ℕ). cycle_text s a.steps) spelled_as;
   }
 

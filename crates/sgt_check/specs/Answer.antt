@@ -1,5 +1,5 @@
 -- What a text of a history is answered by.
-use Rattle.std.specs.Prelude.{◌≡◌, ◌⊎◌, ℕ, ◌<◌, ◌≤◌, false, List, [], ◌++◌, length, All, Option, Some, IfSome, slice_get}
+use Rattle.std.specs.Prelude.{◌≡◌, ◌⊎◌, ℕ, ◌<◌, false, List, [], ◌++◌, length, All, Option, Some, IfSome, slice_get}
 use Rattle.std.specs.Io.KnownBytes.{Appends}
 use Rattle.json.specs.Json.{Json}
 use Rattle.sgt_names.specs.Device.{AppendsOrForgets, WritesFront}
@@ -21,9 +21,10 @@ use Rattle.sgt_history_text.specs.Reading.{nth}
 use Rattle.sgt_history_text.specs.Text.{IsFirstUnreadable, Spells}
 use Rattle.sgt_history_text.specs.declared.fault.LineFault.{LineFault}
 use Rattle.sgt_history_text.specs.declared.wanted.Wanted.{Wanted}
-use Rattle.sgt_history_verdict.specs.Steps.{kind_place, lines_of, place_behind}
+use Rattle.sgt_history_verdict.specs.Steps.{lines_of, place_behind}
 use Rattle.sgt_history_verdict.specs.Verdict.{IsBelow, IsLeastFirst}
 use Rattle.sgt_history_verdict.specs.declared.step.Step.{Step}
+use Rattle.sgt_check.specs.Rank.{IsShownBefore}
 use Rattle.sgt_check.specs.Text.{Spelling, aborted_of, committed_of, counts_text, cycle_text, fault_text, order_part, unreadable_text}
 use Rattle.sgt_check.specs.declared.options.Options.{Options}
 
@@ -79,14 +80,16 @@ pub record AreStepsOf {I V : Type 0} (h : List (Transaction I V)) (item_of : ℕ
   pub onward : (place : ℕ) (s t : Step) → slice_get steps place ≡ Some s
       → slice_get steps (place_behind place (length steps)) ≡ Some t → s.to ≡ t.from
 
--- no conflict of the graph from its line to the next is of a lesser kind: ww before wr before rw
-abbrev pub AreLeastKinds : {I V : Type 0} → List (Transaction I V) → Graph → List Step → Type 0
-AreLeastKinds {I} {V} h g steps = All (λ (s : Step). (kind : Conflict) (x : I) (v w : ℕ) → IsAmong g kind
-    → HaveConflict h kind s.from s.to x v w → kind_place s.kind ≤ kind_place kind) steps
+-- each is shown before all other conflicts of the graph from its line to the next
+abbrev pub AreShownFirst : {V : Type 0} → List (Transaction Json V) → (item_of : ℕ → Json) → Graph → List Step → Type 0
+AreShownFirst h item_of g steps = All (λ (s : Step). (kind : Conflict) (x : Json) (v w : ℕ) → IsAmong g kind
+    → HaveConflict h kind s.from s.to x v w
+    → IsShownBefore s.kind (item_of s.item) s.from_version kind x v) steps
 
 -- it has no fault; the graph is the least that has a cycle; these conflicts of it form the first of its
 -- cycles: that of the least line that lies on one, of that line's the shortest, of those the one whose
--- lines are, from it on, the least; and they are of the least kinds. So they alone make its name
+-- lines are, from it on, the least; and of several from one line to the next each is the one that is shown first: by
+-- kind, by item, by version. So one text alone is told
 pub record IsCycleTold (bytes text : List ℕ) : Type 0 where
   pub ids : List Json
   pub h : List (Transaction Json Json)
@@ -100,7 +103,7 @@ pub record IsCycleTold (bytes text : List ℕ) : Type 0 where
   pub are : AreStepsOf h (nth items) graph steps
   pub is : IsCycle (ConflictIn h graph) (lines_of steps)
   pub first : (other : List ℕ) → IsCycle (ConflictIn h graph) other → IsShownFirst (lines_of steps) other
-  pub kinds : AreLeastKinds h graph steps
+  pub shown : AreShownFirst h (nth items) graph steps
   pub text_is : text ≡ cycle_text (by_number ids items) steps
 
 -- ---- a line that can't be read

@@ -1,3 +1,5 @@
 pub mod Text
+pub mod Rank
+pub mod Key
 pub mod Answer
 pub mod Told

@@ -16,6 +16,7 @@ use Rattle.sgt_history_faults.specs.declared.fault.Fault.{Fault}
 use Rattle.sgt_history_verdict.specs.Steps.{AreSteps, AreToldFirst, lines_of}
 use Rattle.sgt_history_verdict.specs.Verdict.{IsFirstOf, IsLeastFirst, IsLeastGraph}
 use Rattle.sgt_history_verdict.specs.declared.step.Step.{Step}
+use Rattle.sgt_check.specs.Rank.{AreRanks}
 use Rattle.sgt_check.specs.Text.{Spelling, aborted_of, committed_of, counts_text, cycle_text, fault_text, id_line, order_part}
 use Rattle.sgt_check.specs.declared.naming.Naming.{Naming}
 use Rattle.sgt_check.specs.declared.options.Options.{Options}
@@ -74,6 +75,7 @@ pub record IsCyclicTold (n : Naming) (h : List (Transaction ℕ ℕ)) (text : Li
   pub are : AreSteps h graph steps
   pub cycle_is : IsFirstOf h graph (lines_of steps)
   pub ranks : List ℕ
+  pub ranks_are : AreRanks n.items ranks
   pub told_first : AreToldFirst h graph ranks steps
   pub text_is : text ≡ cycle_text (spelled n) steps
 

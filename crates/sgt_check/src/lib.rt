@@ -5,6 +5,7 @@ mod answer;
 mod cycle;
 mod engine;
 mod fault;
+mod key;
 mod laws;
 mod naming;
 mod options;

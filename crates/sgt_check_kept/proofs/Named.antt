@@ -12,12 +12,12 @@ use Rattle.sgt_history.specs.Conflicts.{ConflictIn, HaveConflict, IsCycle}
 use Rattle.sgt_history.specs.History.{closed_of}
 use Rattle.sgt_history.specs.Serial.{IsCommitted}
 use Rattle.sgt_history.specs.Transaction.{Transaction, renamed}
-use Rattle.sgt_history.specs.declared.named.Conflict.{Conflict}
 use Rattle.sgt_history.specs.declared.named.Graph.TheVariants.{Whole}
 use Rattle.sgt_history_evidence.proofs.Renamed.{conflict-named, conflict_in-on, cycle-back}
 use Rattle.sgt_history_evidence.proofs.RenamedFlaws.{faultless-on}
 use Rattle.sgt_history_kept.proofs.Rounds.{steps-cycle}
 use Rattle.sgt_history_kept.specs.Least.{MayStandBehind}
+use Rattle.sgt_history_kept.specs.FirstCycle.{IsFirstCycleOf}
 use Rattle.sgt_history_kept.specs.Sooner.{IsCycleKeeping}
 use Rattle.sgt_history_text.specs.Moment.{HasSession, HasTimes}
 use Rattle.sgt_history_text.specs.Name.{compact}
@@ -27,9 +27,8 @@ use Rattle.sgt_history_text.specs.declared.reading.Reading.{Reading}
 use Rattle.sgt_history_text.specs.declared.wanted.Wanted.{Wanted}
 use Rattle.sgt_history_time.specs.declared.times.Times.{Times}
 use Rattle.sgt_history_time.specs.Steps.{StandsBefore}
-use Rattle.sgt_history_verdict.specs.Steps.{kind_place}
-use Rattle.sgt_history_verdict.specs.declared.step.Step.{Step}
 use Rattle.sgt_check.specs.Answer.{by_number, compactly}
+use Rattle.sgt_check.specs.Rank.{AreRanks}
 use Rattle.sgt_check.specs.Text.{Spelling, aborted_of, committed_of, counts_text, order_part}
 use Rattle.sgt_check.specs.Told.{spelled, text_at}
 use Rattle.sgt_check.specs.declared.naming.Naming.{Naming}
@@ -120,14 +119,27 @@ module _ (w : Wanted) (options : Options) (bytes : List ℕ) (r : Reading) (is :
   cycle-on times = steps-cycle (StandsBefore m times r.sessions.items) (StandsBefore named times is.sessions)
       (stands-on times)
 
+  first-on : (times : List (Option Times)) (cycle : List ℕ)
+      → IsFirstCycleOf (StandsBefore m times r.sessions.items) cycle
+      → IsFirstCycleOf (StandsBefore named times is.sessions) cycle
+  first-on times cycle told = record {
+    is = cycle-on times cycle told.is;
+    first = λ other c. told.first other
+        (steps-cycle (StandsBefore named times is.sessions) (StandsBefore m times r.sessions.items) (stands-back times)
+        other c);
+  }
+
   kept_cycle-on : (cycle : List ℕ) → IsCycleKeeping m r.times.items r.sessions.items cycle
       → IsCycleKeeping named r.times.items is.sessions cycle
   kept_cycle-on cycle told = record {
     is = cycle-on r.times.items cycle told.is;
-    sooner = elim told.sooner [
-      | inl alone ↦ inl (cycle-on [] cycle alone)
-      | inr none ↦ inr (λ other c. none other
-          (steps-cycle (StandsBefore named [] is.sessions) (StandsBefore m [] r.sessions.items) (stands-back []) other c))
+    first = elim told.first [
+      | inl alone ↦ inl (first-on [] cycle alone)
+      | inr both ↦ inr (
+        λ other c. both.0 other
+            (steps-cycle (StandsBefore named [] is.sessions) (StandsBefore m [] r.sessions.items) (stands-back []) other c),
+        first-on r.times.items cycle both.1,
+      )
     ];
   }
 
@@ -178,26 +190,24 @@ module _ (w : Wanted) (options : Options) (bytes : List ℕ) (r : Reading) (is :
 
   -- ---- a cycle
 
-  link-on : (ranks : List ℕ) (a b : ℕ) (l : Link) → IsLinkBetween m setting.asked ranks a b l
+  link-on : (ranks : List ℕ) → AreRanks r.items ranks → (a b : ℕ) (l : Link)
+      → IsLinkBetween m setting.asked ranks a b l
       → IsLinkOf named r.times.items is.sessions (nth is.items) (nth names) a b l
-  link-on ranks a b (link.Conflict s) (step, leads, told) = (
+  link-on ranks ranks_are a b (link.Conflict s) (step, leads, told) = (
     plain.step-on w options bytes r is naming refl refl refl s step,
     leads,
-    λ kind x v u c.
-        let old = conflict-named (nth is.items) (nth is.values) m is.apart kind a b x v u c in
-        let t : Step = record { kind = kind; from = a; to = b; item = old.0; from_version = v; to_version = u } in
-        elim (told t (record { among = tt; conflict = old.1 }) (refl, refl)) [
-          | inl less ↦ omega (arith, less)
-          | inr same ↦ omega (arith, same.0)
-        ],
+    λ kind x v u c. plain.shown-first w options bytes r is naming refl refl refl Whole ranks ranks_are s step
+        (λ t there to. told t there (to.0 ∙ leads.0, to.1 ∙ leads.1)) kind x v u tt
+        (subst (λ (n : ℕ). HaveConflict named kind s.from n x v u) (sym leads.1)
+        (subst (λ (n : ℕ). HaveConflict named kind n b x v u) (sym leads.0) c)),
   )
-  link-on ranks a b (link.Session from to session) (one, two, none, of) = (
+  link-on ranks ranks_are a b (link.Session from to session) (one, two, none, of) = (
     one,
     two,
     λ c. none (conflict-back a b c),
     of-session-on names r.sessions.items is.sessions is.sessions_are.each a b session of,
   )
-  link-on ranks a b (link.Time from to done begin) (one, two, none, apart, times) = (
+  link-on ranks ranks_are a b (link.Time from to done begin) (one, two, none, apart, times) = (
     one,
     two,
     λ c. none (conflict-back a b c),
@@ -226,13 +236,13 @@ module _ (w : Wanted) (options : Options) (bytes : List ℕ) (r : Reading) (is :
     alone = λ c. a.alone (cycle-back (nth is.items) (nth is.values) m is.apart Whole c);
     lines = a.lines;
     cycle = (kept_cycle-on a.lines a.cycle).is;
-    sooner = (kept_cycle-on a.lines a.cycle).sooner;
+    first = (kept_cycle-on a.lines a.cycle).first;
     items = is.items;
     names = names;
     links = a.links;
     along = record {
-      size = a.along.1.size;
-      each = λ place x y l at at_x at_y. link-on a.along.0 x y l (a.along.1.each place x y l at at_x at_y);
+      size = a.along.2.size;
+      each = λ place x y l at at_x at_y. link-on a.along.0 a.along.1 x y l (a.along.2.each place x y l at at_x at_y);
     };
     text_is = a.text_is ∙ links-text a.links;
   }

@@ -1,5 +1,5 @@
 -- What a text of a history is answered by, where orders are to keep something.
-use Rattle.std.specs.Prelude.{◌≡◌, ◌⊎◌, ℕ, ◌≤◌, List, [], ◌++◌, length, Option, Some, IfSome, slice_get}
+use Rattle.std.specs.Prelude.{◌≡◌, ◌⊎◌, ℕ, List, [], ◌++◌, length, Option, Some, IfSome, slice_get}
 use Rattle.std.specs.Io.KnownBytes.{Appends}
 use Rattle.json.specs.Json.{Json}
 use Rattle.sgt_names.specs.Device.{AppendsOrForgets, WritesFront}
@@ -15,13 +15,14 @@ use Rattle.sgt_history_text.specs.Reading.{nth}
 use Rattle.sgt_history_text.specs.Text.{SpellsWith}
 use Rattle.sgt_history_text.specs.declared.wanted.Wanted.{Wanted}
 use Rattle.sgt_history_kept.specs.Least.{IsLeastKeeping}
-use Rattle.sgt_history_kept.specs.Sooner.{NoneInSessions}
+use Rattle.sgt_history_kept.specs.Sooner.{IsFirstKept}
 use Rattle.sgt_history_time.specs.declared.times.Times.{Times}
 use Rattle.sgt_history_time.specs.Kept.{IsEarlier}
 use Rattle.sgt_history_time.specs.Serializable.{IsSerializableKeeping, ServesKeeping}
 use Rattle.sgt_history_time.specs.Steps.{StandsBefore}
-use Rattle.sgt_history_verdict.specs.Steps.{Leads, kind_place, place_behind}
+use Rattle.sgt_history_verdict.specs.Steps.{Leads, place_behind}
 use Rattle.sgt_check.specs.Answer.{IsCycleTold, IsFaultTold, IsStepOf, IsUnreadable, by_number, compactly}
+use Rattle.sgt_check.specs.Rank.{IsShownBefore}
 use Rattle.sgt_check.specs.Text.{aborted_of, committed_of, counts_text, order_part}
 use Rattle.sgt_check.specs.declared.options.Options.{Options}
 use Rattle.sgt_check_kept.specs.Link.{IsOfSession, IsTimed}
@@ -46,29 +47,30 @@ pub record IsKeptYes (w : Wanted) (options : Options) (bytes text : List ℕ) : 
 
 -- ---- a cycle with steps of sessions or real time
 
--- the step, whose item or session has a number, leads from line a to line b: a conflict of the least kind; where
--- there is none, by their session; where this isn't one either, by time
-abbrev pub IsLinkOf : {I V S : Type 0} → List (Transaction I V) → List (Option Times) → List (Option S) → (ℕ → I)
+-- the step, whose item or session has a number, leads from line a to line b: the conflict that is shown first of all
+-- that do; where there is none, by their session; where this isn't one either, by time
+abbrev pub IsLinkOf : {V S : Type 0} → List (Transaction Json V) → List (Option Times) → List (Option S) → (ℕ → Json)
     → (ℕ → S) → (a b : ℕ) → Link → Type 0
-IsLinkOf {I} {V} {S} h times sessions item_of session_of a b (link.Conflict s) = IsStepOf h item_of Whole s
+IsLinkOf h times sessions item_of session_of a b (link.Conflict s) = IsStepOf h item_of Whole s
     × Leads s a b
-    × ((kind : Conflict) (x : I) (v w : ℕ) → HaveConflict h kind a b x v w → kind_place s.kind ≤ kind_place kind)
-IsLinkOf {I} {V} {S} h times sessions item_of session_of a b (link.Session from to session) =
+    × ((kind : Conflict) (x : Json) (v w : ℕ) → HaveConflict h kind a b x v w
+    → IsShownBefore s.kind (item_of s.item) s.from_version kind x v)
+IsLinkOf h times sessions item_of session_of a b (link.Session from to session) =
     (from ≡ a) × (to ≡ b) × (ConflictIn h Whole a b → ⊥) × IsOfSession sessions a b (session_of session)
-IsLinkOf {I} {V} {S} h times sessions item_of session_of a b (link.Time from to done begin) =
+IsLinkOf h times sessions item_of session_of a b (link.Time from to done begin) =
     (from ≡ a) × (to ≡ b) × (ConflictIn h Whole a b → ⊥) × (IsEarlier sessions a b → ⊥) × IsTimed times a b done begin
 
 -- so they lead from each of the lines to the next, and from the last to the first
-pub record AreLinksOf {I V S : Type 0} (h : List (Transaction I V)) (times : List (Option Times))
+pub record AreLinksOf {V S : Type 0} (h : List (Transaction Json V)) (times : List (Option Times))
     (sessions : List (Option S))
-    (item_of : ℕ → I) (session_of : ℕ → S) (lines : List ℕ) (links : List Link) : Type 0 where
+    (item_of : ℕ → Json) (session_of : ℕ → S) (lines : List ℕ) (links : List Link) : Type 0 where
   pub size : length links ≡ length lines
   pub each : (place a b : ℕ) (l : Link) → slice_get links place ≡ Some l → slice_get lines place ≡ Some a
       → slice_get lines (place_behind place (length lines)) ≡ Some b
       → IsLinkOf h times sessions item_of session_of a b l
 
--- no line has a fault, and conflicts alone have no cycle; but these lines form one, of conflicts and of what is wanted;
--- one of conflicts and sessions alone, if these have one
+-- no line has a fault, and conflicts alone have no cycle; but these lines form one, of conflicts and of what is wanted:
+-- the first of conflicts and sessions alone, or, where these have none, with real time too
 pub record IsKeptCycleTold (w : Wanted) (bytes text : List ℕ) : Type 0 where
   pub ids : List Json
   pub h : List (Transaction Json Json)
@@ -79,7 +81,7 @@ pub record IsKeptCycleTold (w : Wanted) (bytes text : List ℕ) : Type 0 where
   pub alone : HasCycle h Whole → ⊥
   pub lines : List ℕ
   pub cycle : IsCycle (StandsBefore h times sessions) lines
-  pub sooner : IsCycle (StandsBefore h [] sessions) lines ⊎ NoneInSessions h sessions
+  pub first : IsFirstKept h times sessions lines
   pub items : List Json
   pub names : List Json
   pub links : List Link

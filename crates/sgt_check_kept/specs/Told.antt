@@ -10,6 +10,7 @@ use Rattle.sgt_history_kept.specs.declared.asked.Asked.{Asked}
 use Rattle.sgt_history_kept.specs.Least.{IsLeastKeeping}
 use Rattle.sgt_history_kept.specs.Sooner.{IsCycleKeeping}
 use Rattle.sgt_history_time.specs.Serializable.{AreOfCommitted, ServesKeeping}
+use Rattle.sgt_check.specs.Rank.{AreRanks}
 use Rattle.sgt_check.specs.Text.{aborted_of, committed_of, counts_text, order_part}
 use Rattle.sgt_check.specs.Told.{IsCyclicTold, IsFaultyTold, spelled, text_at}
 use Rattle.sgt_check.specs.declared.options.Options.{Options}
@@ -23,9 +24,9 @@ pub record AreAsked (h : List (Transaction ℕ ℕ)) (a : Asked) : Type 0 where
   pub timed : AreOfCommitted h a.times.items
   pub sessioned : AreOfCommitted h a.sessions.items
 
--- wherever the items' names stand among one another
-abbrev pub AreLinked : List (Transaction ℕ ℕ) → Asked → List ℕ → List Link → Type 0
-AreLinked h a lines links = (ranks : List ℕ) × AreLinksAlong h a ranks lines links
+-- by ranks of items whose names have these texts
+abbrev pub AreLinked : (texts : List (List ℕ)) → List (Transaction ℕ ℕ) → Asked → List ℕ → List Link → Type 0
+AreLinked texts h a lines links = (ranks : List ℕ) × AreRanks texts ranks × AreLinksAlong h a ranks lines links
 
 pub record IsKeptSerialTold (options : Options) (s : Setting) (h : List (Transaction ℕ ℕ)) (text : List ℕ) : Type 0
   where
@@ -40,7 +41,7 @@ pub record IsLinksTold (s : Setting) (h : List (Transaction ℕ ℕ)) (text : Li
   pub lines : List ℕ
   pub cycle : IsCycleKeeping h s.asked.times.items s.asked.sessions.items lines
   pub links : List Link
-  pub along : AreLinked h s.asked lines links
+  pub along : AreLinked s.naming.items h s.asked lines links
   pub text_is : text ≡ kept_text (spelled s.naming) (text_at s.sessions) links
 
 abbrev pub IsKeptTold : Options → Setting → List (Transaction ℕ ℕ) → Outcome → List ℕ → Type 0

@@ -64,7 +64,7 @@ fn links_of(
 ) -> Result<Vec<Link>, AllocError>
     ensures { IfOk result (λ links. (h : List (Transaction ℕ ℕ)) → IsFaultlessBy h touches.now
         → IsCycle (StandsBefore h setting.now.asked.times.items setting.now.asked.sessions.items) cycle.now
-        → AreLinked h setting.now.asked cycle.now links.items) }
+        → AreLinked setting.now.naming.items h setting.now.asked cycle.now links.items) }
 {
     let ranks = ranks_of(alloc, &setting.naming.items)?;
     let pairs = pairs_of(alloc, touches)?;

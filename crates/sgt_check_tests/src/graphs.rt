@@ -3,7 +3,7 @@
 ghost use Rattle.std.specs.Prelude.{All, IfOk};
 ghost use Rattle.sgt_history_graph.specs.Graph.{JoinsNodes};
 
-use sgt_history_graph::{Edge, Ordered, order, shown_cycle};
+use sgt_history_graph::{Edge, Ordered, falling_ranks, order, shown_cycle};
 use std::alloc::{AllocError, Global};
 use std::test::Fail;
 
@@ -37,5 +37,14 @@ fn shows_the_least_of_the_shortest_cycles(rt: HostRuntime) -> Result<(), Fail> {
     let edges = edges_of(rt.alloc(), 6, &pairs)?;
     let cycle = shown_cycle(rt.alloc(), 6, edges.as_slice())?.ok_or("none")?;
     assert_eq!(rt; cycle.as_slice(), [1, 2, 3].as_slice());
+    Ok(())
+}
+
+#[test]
+fn ranks_of_components(rt: HostRuntime) -> Result<(), Fail> {
+    let pairs = [(0, 1), (1, 2), (2, 4), (4, 1), (3, 1), (2, 3), (4, 5)];
+    let edges = edges_of(rt.alloc(), 6, &pairs)?;
+    let ranks = falling_ranks(rt.alloc(), 6, edges.as_slice())?.ok_or("none")?;
+    assert_eq!(rt; ranks.as_slice(), [2, 1, 1, 1, 1, 0].as_slice());
     Ok(())
 }

@@ -1,8 +1,11 @@
 //! A talk in memory.
 
-use sgt_names::{MemSink, MemSource, Outcome};
+ghost use Rattle.std.specs.Prelude.{◌≡◌, ◌<◌, Err};
+
+use sgt_names::{MAX_LINE, MemSink, MemSource, Outcome};
 use sgt_serve::{
-    Bundles, Handed, HandedBundle, KeepFault, Last, MemBundles, NoBundles, Pipe, ServeFail, serve,
+    Bundles, Handed, HandedBundle, KeepFault, Last, MemBundles, NoBundles, Pipe, Refusals,
+    ServeFail, serve,
 };
 use std::test::Fail;
 
@@ -57,18 +60,38 @@ fn a_read_that_fails_leaves_the_last_bundle(rt: HostRuntime) -> Result<(), Fail>
 struct Forgetful {
     lacks: u64,
     handed: Handed,
+    refusals: Refusals,
+}
+
+impl Forgetful {
+    fn new(lacks: u64) -> Forgetful {
+        Forgetful {
+            lacks,
+            handed: Handed::new(),
+            refusals: Refusals::new(),
+        }
+    }
+
+    fn answer(&mut self) -> Result<u64, KeepFault>
+        ensures handed { self.new.handed ≡ self.old.handed }
+        ensures memory { result ≡ Err KeepFault.Memory → self.old.refusals < self.new.refusals }
+    {
+        if self.lacks == 0 {
+            return Ok(1);
+        }
+        self.lacks -= 1;
+        self.refusals.note();
+        Err(KeepFault::Memory)
+    }
 }
 
 impl Bundles for Forgetful {
     ghost handed = { λ b. b.handed };
 
+    ghost refusals = { λ b. b.refusals };
+
     fn keep(&mut self, text: &[u8]) -> Result<u64, KeepFault> {
-        let answer = if self.lacks == 0 {
-            Ok(1)
-        } else {
-            Err(KeepFault::Memory)
-        };
-        self.lacks = self.lacks.saturating_sub(1);
+        let answer = self.answer();
         self.handed = self.handed.with(&HandedBundle { text, answer });
         answer
     }
@@ -82,19 +105,13 @@ fn a_place_without_memory_is_told_as_such(rt: HostRuntime) -> Result<(), Fail> {
     let input = b"site 0 x=5\nb\nw1[0.x]=6\nc1\nx\nx\nb\nr1[0.x]\na1\n";
     let said = b"b1\nw1[0.x]=6\nc1 yes\n! E9\nx 1\nb1\nr1[0.x]=6\na1\n";
     let mut pipe = Pipe::new(MemSource::new(input, 64, None), MemSink::new(alloc, 200)?);
-    let mut bundles = Forgetful {
-        lacks: 1,
-        handed: Handed::new(),
-    };
+    let mut bundles = Forgetful::new(1);
     let outcome = serve(alloc, &mut pipe, &mut bundles)?;
     assert!(rt; outcome == Outcome::Yes);
     let (_source, sink) = pipe.into_parts();
     assert!(rt; sink.bytes() == said.as_slice());
     let mut pipe = Pipe::new(MemSource::new(input, 64, None), MemSink::new(alloc, 200)?);
-    let mut bundles = Forgetful {
-        lacks: 3,
-        handed: Handed::new(),
-    };
+    let mut bundles = Forgetful::new(3);
     let is_memory = match serve(alloc, &mut pipe, &mut bundles) {
         Err(ServeFail::Memory) => true,
         _ => false,
@@ -110,5 +127,27 @@ fn a_place_that_keeps_none_counts(rt: HostRuntime) -> Result<(), Fail> {
     let second = bundles.keep(b"sgt 1\n")?;
     assert!(rt; first == 1);
     assert!(rt; second == 2);
+    Ok(())
+}
+
+// In front of the first event a part of a line and a line that is too long are told by their number, and end the talk.
+#[test]
+fn a_front_that_cant_be_read_is_told(rt: HostRuntime) -> Result<(), Fail> {
+    let alloc = rt.alloc();
+    let source = MemSource::new(b"site 0 x=5\nb", 64, None);
+    let mut pipe = Pipe::new(source, MemSink::new(alloc, 200)?);
+    let outcome = serve(alloc, &mut pipe, &mut NoBundles::new())?;
+    assert!(rt; outcome == Outcome::Unreadable);
+    let (_source, sink) = pipe.into_parts();
+    assert!(rt; sink.bytes() == b"! L1 line 2\n".as_slice());
+    let mut input = Vec::from_slice(alloc, b"site 0 x=5\n")?;
+    let line = vec![in alloc; b'b'; MAX_LINE + 1]?;
+    input.extend_from_slice(line.as_slice())?;
+    let source = MemSource::new(input.as_slice(), 65_536, None);
+    let mut pipe = Pipe::new(source, MemSink::new(alloc, 200)?);
+    let outcome = serve(alloc, &mut pipe, &mut NoBundles::new())?;
+    assert!(rt; outcome == Outcome::Unreadable);
+    let (_source, sink) = pipe.into_parts();
+    assert!(rt; sink.bytes() == b"! L2 line 2\n".as_slice());
     Ok(())
 }

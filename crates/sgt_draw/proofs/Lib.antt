@@ -1,1 +1,8 @@
 mod Begun
+mod Gathered
+mod Kept
+mod Neighbours
+mod Pictured
+mod Ranked
+mod Sorting
+mod Walks

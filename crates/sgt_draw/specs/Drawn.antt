@@ -11,24 +11,33 @@ use Rattle.sgt_audit.specs.Faults.{FirstFault}
 use Rattle.sgt_audit.specs.Verdict.{text_of}
 use Rattle.sgt_audit.specs.declared.faults.Fault.{Fault}
 use Rattle.sgt_audit.specs.declared.verdict.Verdict.TheVariants as verdict
-use Rattle.sgt_draw.specs.Picture.{IsPicture}
+use Rattle.sgt_draw.specs.Picture.{IsPictureOf}
+use Rattle.sgt_draw.specs.Wanted.{AreWanted}
+use Rattle.sgt_draw.specs.declared.node.Node.{Node}
+use Rattle.sgt_draw.specs.declared.task.Wanted.{Wanted}
 
--- the text that an input is answered by: with a yes, which is for a valid bundle alone, a picture,
+-- the picture of a bundle: in the format that is wanted, with the transactions that are wanted and no others
+abbrev pub IsBundlePicture : Wanted → Parts → List ℕ → Type 0
+IsBundlePicture wanted b text = (nodes : List Node) × AreWanted wanted.is_dot wanted.tx b.certificate.decisions nodes
+    × IsPictureOf wanted.is_dot nodes text
+
+-- the text that an input is answered by: with a yes, which is for a valid bundle alone, its picture,
 -- and with a no the line of its first fault
-abbrev pub IsDrawn : Option (List ℕ) → Outcome → List ℕ → Type 0
-IsDrawn told Yes text =
-    (b : Parts) × IsValid b × IfSome told (λ bytes. Spells bytes b) × IsPicture text
-IsDrawn told No text =
+abbrev pub IsDrawn : Wanted → Option (List ℕ) → Outcome → List ℕ → Type 0
+IsDrawn wanted told Yes text =
+    (b : Parts) × IsValid b × IfSome told (λ bytes. Spells bytes b) × IsBundlePicture wanted b text
+IsDrawn wanted told No text =
     (line : ℕ) × (fault : Fault) × IfSome told (λ bytes. FirstFault bytes line fault)
     × (text ≡ text_of (verdict.No line fault))
-IsDrawn told Unreadable text = ⊥
+IsDrawn wanted told Unreadable text = ⊥
 
 -- that text was written
-abbrev pub WroteDrawn : (told : Option (List ℕ)) → Outcome → (old new : Option (List ℕ)) → Type 0
-WroteDrawn told outcome old new = (text : List ℕ) × IsDrawn told outcome text × Appends old new text
+abbrev pub WroteDrawn : Wanted → (told : Option (List ℕ)) → Outcome → (old new : Option (List ℕ)) → Type 0
+WroteDrawn wanted told outcome old new =
+    (text : List ℕ) × IsDrawn wanted told outcome text × Appends old new text
 
 -- nothing was written, or a front of the text that the input is answered by, and less than the
 -- whole text
-abbrev pub WroteDrawnFront : (told old new : Option (List ℕ)) → Type 0
-WroteDrawnFront told old new = AppendsOrForgets old new []
-    ⊎ ((outcome : Outcome) × (text : List ℕ) × IsDrawn told outcome text × WritesFront old new text)
+abbrev pub WroteDrawnFront : Wanted → (told old new : Option (List ℕ)) → Type 0
+WroteDrawnFront wanted told old new = AppendsOrForgets old new []
+    ⊎ ((outcome : Outcome) × (text : List ℕ) × IsDrawn wanted told outcome text × WritesFront old new text)

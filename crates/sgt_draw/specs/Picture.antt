@@ -1,7 +1,9 @@
 -- What the text of a picture is made of.
 use Rattle.std.specs.Prelude.{◌≡◌, ◌++◌, ℕ, Bool, true, false, List, codes}
+use Rattle.sgt_draw.specs.Node.{Shows}
 use Rattle.sgt_draw.specs.Parts.{parts_text}
 use Rattle.sgt_draw.specs.declared.canvas.Part.{Part}
+use Rattle.sgt_draw.specs.declared.node.Node.{Node}
 
 -- what Graphviz text begins with, or SVG
 abbrev pub head_of : Bool → List ℕ
@@ -21,3 +23,9 @@ IsBegun is_dot text = (parts : List Part) × (text ≡ head_of is_dot ++ parts_t
 abbrev pub IsPicture : List ℕ → Type 0
 IsPicture text = (is_dot : Bool) × (parts : List Part)
     × (text ≡ head_of is_dot ++ (parts_text parts ++ foot_of is_dot))
+
+-- a whole picture, as Graphviz text or as SVG, in which these transactions stand
+pub record IsPictureOf (is_dot : Bool) (nodes : List Node) (text : List ℕ) : Type 0 where
+  pub parts : List Part
+  pub whole : text ≡ head_of is_dot ++ (parts_text parts ++ foot_of is_dot)
+  pub shows : Shows is_dot nodes text

@@ -65,7 +65,7 @@ impl Model for Canvas {
 }
 
 impl Canvas {
-    ghost use Rattle.std.specs.Prelude.{Bool};
+    ghost use Rattle.std.specs.Prelude.{Bool, List, ℕ};
     ghost use Rattle.sgt_draw.specs.Picture.{IsBegun};
 
     /// The head of Graphviz text, or of SVG.
@@ -80,7 +80,8 @@ impl Canvas {
     }
 
     fn put_one(&mut self, part: &Part) -> Result<(), AllocError>
-        ensures { OnOk result (self.new ≡ self.old ++ part_text part.now) }
+        ensures text { OnOk result (self.new ≡ self.old ++ part_text part.now) }
+        ensures grows { (more : List ℕ) × (self.new ≡ self.old ++ more) }
     {
         match *part {
             Part::Markup(text) => self.text.extend_from_slice(text.as_bytes()),
@@ -95,14 +96,22 @@ impl Canvas {
         }
     }
 
-    /// Writes these parts: markup as it is, names and numbers escaped.
-    pub fn put(&mut self, parts: &[Part]) -> Result<(), AllocError>
-        ensures { OnOk result (self.new ≡ self.old ++ parts_text parts.now) }
+    /// Writes these parts. What stood there stands there still, also where memory ran out.
+    pub(crate) fn write(&mut self, parts: &[Part]) -> Result<(), AllocError>
+        ensures text { OnOk result (self.new ≡ self.old ++ parts_text parts.now) }
+        ensures grows { (more : List ℕ) × (self.new ≡ self.old ++ more) }
     {
         for part in parts {
             self.put_one(part)?;
         }
         Ok(())
+    }
+
+    /// Writes these parts: markup as it is, names and numbers escaped.
+    pub fn put(&mut self, parts: &[Part]) -> Result<(), AllocError>
+        ensures { OnOk result (self.new ≡ self.old ++ parts_text parts.now) }
+    {
+        self.write(parts)
     }
 
     /// The text with its foot.

@@ -1,10 +1,18 @@
 //! The cycle of a refused transaction, in rows from left to right.
 
-use crate::canvas::{Canvas, Part};
+ghost use Rattle.std.specs.Prelude.{◌≡◌, false, [], ◌∷◌, OnOk, flat_map};
+ghost use Rattle.sgt_draw.specs.Node.{node};
+ghost use Rattle.sgt_draw.specs.Sheet.{Adds};
+ghost use Rattle.sgt_draw.specs.Wanted.{cycle_nodes, other_on};
+ghost use Rattle.sgt_draw.specs.declared.node.Fate.TheVariants.{Refused};
+
+use crate::canvas::Part;
+use crate::drawing::Drawing;
 use crate::increments::Increments;
 use crate::marks::{
-    Fate, Point, TIP, Tip, conflict_width, put_node, put_step_label, put_text, put_tip, stroke_of,
+    Point, TIP, Tip, conflict_width, put_node, put_step_label, put_text, put_tip, stroke_of,
 };
+use crate::node::{Fate, Node};
 use crate::row::{MOST_WIDTH, quotient};
 use sgt_bundle::Step;
 use sgt_names::Tx;
@@ -117,7 +125,9 @@ impl Cycle<'_> {
     }
 
     /// What is shown of a step when its arrow or its label is pointed at.
-    fn put_title(&self, canvas: &mut Canvas, leg: &Leg) -> Result<(), AllocError> {
+    fn put_title(&self, canvas: &mut Drawing, leg: &Leg) -> Result<(), AllocError>
+        ensures { OnOk result (canvas.new.shown ≡ canvas.old.shown) }
+    {
         canvas.put(&[
             Part::Markup("<g><title>"),
             Part::Number(u64::from(leg.from.number())),
@@ -131,7 +141,9 @@ impl Cycle<'_> {
     }
 
     /// The label of a step, with its middle at this point, or as far on the right that it isn't cut.
-    fn put_name(&self, canvas: &mut Canvas, at: Point, leg: &Leg) -> Result<(), AllocError> {
+    fn put_name(&self, canvas: &mut Drawing, at: Point, leg: &Leg) -> Result<(), AllocError>
+        ensures { OnOk result (canvas.new.shown ≡ canvas.old.shown) }
+    {
         if self.is_named {
             let middle = at.x.max((self.longest() / 2).saturating_add(EDGE).saturating_add(8));
             canvas.put(&[
@@ -149,7 +161,9 @@ impl Cycle<'_> {
     }
 
     /// A step to the next transaction, on the right.
-    fn put_step(&self, canvas: &mut Canvas, leg: &Leg, next: Point) -> Result<(), AllocError> {
+    fn put_step(&self, canvas: &mut Drawing, leg: &Leg, next: Point) -> Result<(), AllocError>
+        ensures { OnOk result (canvas.new.shown ≡ canvas.old.shown) }
+    {
         let (half, _) = self.half();
         let kind = leg.step.label.kind;
         let end = Point {
@@ -182,7 +196,9 @@ impl Cycle<'_> {
     }
 
     /// A step from the end of a row down to the first transaction of the next one.
-    fn put_turn(&self, canvas: &mut Canvas, leg: &Leg, next: Point) -> Result<(), AllocError> {
+    fn put_turn(&self, canvas: &mut Drawing, leg: &Leg, next: Point) -> Result<(), AllocError>
+        ensures { OnOk result (canvas.new.shown ≡ canvas.old.shown) }
+    {
         let (_, half) = self.half();
         let kind = leg.step.label.kind;
         let top = leg.at.y.saturating_add(half);
@@ -249,7 +265,9 @@ impl Cycle<'_> {
     }
 
     /// The last step, from below its transaction back to the refused one.
-    fn put_last(&self, canvas: &mut Canvas, leg: &Leg, first: Point) -> Result<(), AllocError> {
+    fn put_last(&self, canvas: &mut Drawing, leg: &Leg, first: Point) -> Result<(), AllocError>
+        ensures { OnOk result (canvas.new.shown ≡ canvas.old.shown) }
+    {
         let (_, half_height) = self.half();
         let kind = leg.step.label.kind;
         let top = leg.at.y.saturating_add(half_height);
@@ -285,19 +303,43 @@ impl Cycle<'_> {
         self.put_name(canvas, middle, leg)
     }
 
-    /// Draws the cycle below this height.
-    pub(crate) fn put(&self, canvas: &mut Canvas, top: u64) -> Result<(), AllocError> {
-        let (half, _) = self.half();
-        let y = top.saturating_add(if self.is_named { 46 } else { 12 });
-        let first = self.point_of(0, y);
-        if self.is_named {
-            let above = Point {
-                x: first.x,
-                y: y.saturating_sub(20),
-            };
-            put_text(canvas, above, &[Part::Markup("refused")])?;
+    /// A step that doesn't lead back, to the transaction that stands there.
+    fn put_arrow(&self, canvas: &mut Drawing, leg: &Leg, next: Point) -> Result<(), AllocError>
+        ensures { OnOk result (canvas.new.shown ≡ canvas.old.shown) }
+    {
+        if next.y == leg.at.y {
+            return self.put_step(canvas, leg, next);
         }
-        put_node(canvas, first, self.tx, Fate::Refused, half)?;
+        self.put_turn(canvas, leg, next)
+    }
+
+    /// A step, and the transaction that it leads to, if that isn't the refused one.
+    fn put_leg(
+        &self,
+        canvas: &mut Drawing,
+        leg: &Leg,
+        next: Point,
+        first: Point,
+    ) -> Result<(), AllocError>
+        ensures { OnOk result (Adds (other_on self.now.tx leg.now.step.now) canvas.old.shown canvas.new.shown) }
+    {
+        if leg.step.to.number() == self.tx.number() {
+            return self.put_last(canvas, leg, first);
+        }
+        self.put_arrow(canvas, leg, next)?;
+        let (half, _) = self.half();
+        let node = Node {
+            fate: Fate::Committed,
+            tx: leg.step.to,
+        };
+        put_node(canvas, next, &node, half)
+    }
+
+    /// The steps, from the refused transaction that stands here.
+    fn put_walk(&self, canvas: &mut Drawing, first: Point, y: u64) -> Result<(), AllocError>
+        ensures { OnOk result (Adds (flat_map (other_on self.now.tx) self.now.walk.now) canvas.old.shown
+            canvas.new.shown) }
+    {
         let mut leg_at = first;
         let mut from = self.tx;
         let mut place = 0u64;
@@ -309,19 +351,40 @@ impl Cycle<'_> {
             };
             place = place.saturating_add(1);
             let next = self.point_of(place, y);
-            if step.to == self.tx {
-                self.put_last(canvas, &leg, first)?;
-            } else {
-                if next.y == leg_at.y {
-                    self.put_step(canvas, &leg, next)?;
-                } else {
-                    self.put_turn(canvas, &leg, next)?;
-                }
-                put_node(canvas, next, step.to, Fate::Committed, half)?;
-            }
+            self.put_leg(canvas, &leg, next, first)?;
             leg_at = next;
             from = step.to;
         }
         Ok(())
+    }
+
+    /// The refused transaction.
+    fn put_first(&self, canvas: &mut Drawing, first: Point) -> Result<(), AllocError>
+        ensures { OnOk result (Adds (node Refused self.now.tx ∷ []) canvas.old.shown canvas.new.shown) }
+    {
+        let (half, _) = self.half();
+        if self.is_named {
+            let above = Point {
+                x: first.x,
+                y: first.y.saturating_sub(20),
+            };
+            put_text(canvas, above, &[Part::Markup("refused")])?;
+        }
+        let node = Node {
+            fate: Fate::Refused,
+            tx: self.tx,
+        };
+        put_node(canvas, first, &node, half)
+    }
+
+    /// Draws the cycle below this height.
+    pub(crate) fn put(&self, canvas: &mut Drawing, top: u64) -> Result<(), AllocError>
+        ensures { OnOk result (Adds (cycle_nodes false self.now.tx self.now.walk.now) canvas.old.shown
+            canvas.new.shown) }
+    {
+        let y = top.saturating_add(if self.is_named { 46 } else { 12 });
+        let first = self.point_of(0, y);
+        self.put_first(canvas, first)?;
+        self.put_walk(canvas, first, y)
     }
 }

@@ -23,7 +23,7 @@ pub fn answer_to(alloc: Global, wanted: Wanted, audited: Audited) -> Result<Answ
     requires { HandsOutValid audited }
     ensures { IfOk result
         (λ answer. (told : Option (List ℕ)) → IfSome told (λ bytes. IsAudited bytes audited)
-        → IsDrawn told answer.outcome answer.text.items) }
+        → IsDrawn wanted told answer.outcome answer.text.items) }
 {
     match audited {
         Audited::Valid(bundle) => Ok(Answer {
@@ -54,14 +54,14 @@ pub fn draw<R: Source, W: Sink>(
     writer: &mut W,
 ) -> Result<Outcome, EngineFail>
     ensures answer { IfOk result
-        (λ outcome. WroteDrawn (R.tells reader.old) outcome (W.holds writer.old)
+        (λ outcome. WroteDrawn wanted (R.tells reader.old) outcome (W.holds writer.old)
         (W.holds writer.new)) }
     ensures no_further { IfOk result (λ outcome. IfSome (R.tells reader.old) (λ bytes.
         ReadsNoFurther bytes (R.asked reader.new - R.asked reader.old))) }
     ensures none_behind { IfOk result (λ _. IfSome (R.tells reader.old) (λ bytes. IfSome (R.tells reader.new)
         (λ left. BeginsNoneBehind bytes (length left) (R.last reader.new)))) }
     ensures front { OnErr result
-        (WroteDrawnFront (R.tells reader.old) (W.holds writer.old) (W.holds writer.new)) }
+        (WroteDrawnFront wanted (R.tells reader.old) (W.holds writer.old) (W.holds writer.new)) }
 
     // A fault tells of its device, and no fault of a device is passed over.
     ensures reader { LeavesReader R.tells R.failures R.asked result reader.old reader.new }

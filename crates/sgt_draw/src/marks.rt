@@ -2,12 +2,15 @@
 
 ghost use Rattle.std.specs.Prelude.{◌≡◌, ◌++◌, OnOk};
 ghost use Rattle.sgt_draw.specs.Parts.{kind_text, label_text};
+ghost use Rattle.sgt_draw.specs.Sheet.{with_node};
 
-use crate::canvas::{Canvas, Part};
+use crate::canvas::Part;
+use crate::drawing::Drawing;
 use crate::edges::Edge;
+use crate::node::{Fate, Node};
 use crate::row::LETTER;
 use sgt_bundle::Step;
-use sgt_names::{Item, Kind, Tx};
+use sgt_names::{Item, Kind};
 use std::alloc::AllocError;
 
 /// The markup of a colour and of dashes.
@@ -43,11 +46,13 @@ pub const TIP: u64 = 9;
 
 /// The tip of an arrow, with its point here. It is drawn as any other shape is: not all that shows SVG has markers.
 pub(crate) fn put_tip(
-    canvas: &mut Canvas,
+    canvas: &mut Drawing,
     at: Point,
     tip: Tip,
     kind: Kind,
-) -> Result<(), AllocError> {
+) -> Result<(), AllocError>
+    ensures { OnOk result (canvas.new.shown ≡ canvas.old.shown) }
+{
     let (x, y) = (at.x, at.y);
     let (left, top, shape) = match tip {
         Tip::Right => (
@@ -77,7 +82,7 @@ pub(crate) fn put_tip(
 }
 
 /// The name of a kind of conflict.
-pub fn kind_name(kind: Kind) -> &'static str
+pub(crate) fn kind_name(kind: Kind) -> &'static str
     ensures { result.now ≡ kind_text kind }
 {
     match kind {
@@ -88,8 +93,14 @@ pub fn kind_name(kind: Kind) -> &'static str
 }
 
 /// A conflict as it is named: `rw 0.x`.
-pub fn put_label(canvas: &mut Canvas, kind: Kind, site: u64, item: &Item) -> Result<(), AllocError>
-    ensures { OnOk result (canvas.new ≡ canvas.old ++ label_text kind site item.now) }
+pub(crate) fn put_label(
+    canvas: &mut Drawing,
+    kind: Kind,
+    site: u64,
+    item: &Item,
+) -> Result<(), AllocError>
+    ensures text { OnOk result (canvas.new.text ≡ canvas.old.text ++ label_text kind site item.now) }
+    ensures shown { OnOk result (canvas.new.shown ≡ canvas.old.shown) }
 {
     canvas.put(&[
         Part::Markup(kind_name(kind)),
@@ -101,7 +112,9 @@ pub fn put_label(canvas: &mut Canvas, kind: Kind, site: u64, item: &Item) -> Res
 }
 
 /// A plus, where an increment is in the conflict.
-fn put_plus(canvas: &mut Canvas, is_increment: bool) -> Result<(), AllocError> {
+fn put_plus(canvas: &mut Drawing, is_increment: bool) -> Result<(), AllocError>
+    ensures { OnOk result (canvas.new.shown ≡ canvas.old.shown) }
+{
     if is_increment {
         canvas.put(&[Part::Markup("+")])?;
     }
@@ -110,10 +123,12 @@ fn put_plus(canvas: &mut Canvas, is_increment: bool) -> Result<(), AllocError> {
 
 /// The label of a step: `rw 0.x`, and a plus for an increment.
 pub(crate) fn put_step_label(
-    canvas: &mut Canvas,
+    canvas: &mut Drawing,
     step: &Step,
     is_increment: bool,
-) -> Result<(), AllocError> {
+) -> Result<(), AllocError>
+    ensures { OnOk result (canvas.new.shown ≡ canvas.old.shown) }
+{
     let label = &step.label;
     let site = u64::from(label.site.number());
     put_label(canvas, label.kind, site, &label.item)?;
@@ -121,7 +136,9 @@ pub(crate) fn put_step_label(
 }
 
 /// The label of an edge: `wr 0.x`, a plus for an increment, and how many more there are.
-pub(crate) fn put_edge_label(canvas: &mut Canvas, edge: &Edge) -> Result<(), AllocError> {
+pub(crate) fn put_edge_label(canvas: &mut Drawing, edge: &Edge) -> Result<(), AllocError>
+    ensures { OnOk result (canvas.new.shown ≡ canvas.old.shown) }
+{
     put_label(canvas, edge.kind, edge.site, &edge.item)?;
     put_plus(canvas, edge.is_increment)?;
     if edge.more > 0 {
@@ -180,30 +197,14 @@ pub(crate) fn label_width(edge: &Edge) -> u64 {
     conflict_width(edge.site, &edge.item).saturating_add(more)
 }
 
-/// What became of a transaction.
-#[derive(Clone, Copy, PartialEq, Eq)]
-pub enum Fate {
-    Committed,
-    /// Committed, and asked for.
-    Asked,
-    Refused,
-    Withdrawn,
-}
-
 fn fill_of(fate: Fate) -> &'static str {
     match fate {
         Fate::Committed => " fill=\"#e8f0f8\" stroke=\"#333333\"/>",
         Fate::Asked => " fill=\"#fff2cc\" stroke=\"#333333\" stroke-width=\"2\"/>",
         Fate::Refused => " fill=\"#ffd9d0\" stroke=\"#a00000\" stroke-width=\"2\"/>",
-        Fate::Withdrawn => " fill=\"#dddddd\" stroke=\"#888888\" stroke-dasharray=\"3 2\"/>",
-    }
-}
-
-fn fate_name(fate: Fate) -> &'static str {
-    match fate {
-        Fate::Committed | Fate::Asked => ", committed</title>",
-        Fate::Refused => ", refused</title>",
-        Fate::Withdrawn => ", withdrawn</title>",
+        Fate::Withdrawn | Fate::Neither => {
+            " fill=\"#dddddd\" stroke=\"#888888\" stroke-dasharray=\"3 2\"/>"
+        }
     }
 }
 
@@ -215,7 +216,9 @@ pub struct Point {
 }
 
 /// Text whose middle is at this point.
-pub(crate) fn put_text(canvas: &mut Canvas, at: Point, parts: &[Part]) -> Result<(), AllocError> {
+pub(crate) fn put_text(canvas: &mut Drawing, at: Point, parts: &[Part]) -> Result<(), AllocError>
+    ensures { OnOk result (canvas.new.shown ≡ canvas.old.shown) }
+{
     canvas.put(&[
         Part::Markup("<text x=\""),
         Part::Number(at.x),
@@ -228,7 +231,9 @@ pub(crate) fn put_text(canvas: &mut Canvas, at: Point, parts: &[Part]) -> Result
 }
 
 /// Text that begins at this point.
-pub(crate) fn put_left(canvas: &mut Canvas, at: Point, parts: &[Part]) -> Result<(), AllocError> {
+pub(crate) fn put_left(canvas: &mut Drawing, at: Point, parts: &[Part]) -> Result<(), AllocError>
+    ensures { OnOk result (canvas.new.shown ≡ canvas.old.shown) }
+{
     canvas.put(&[
         Part::Markup("<text x=\""),
         Part::Number(at.x),
@@ -243,11 +248,13 @@ pub(crate) fn put_left(canvas: &mut Canvas, at: Point, parts: &[Part]) -> Result
 /// A number with its middle at this point. Where it has more digits than there is room for, the first two stand
 /// there, an ellipsis, and the last two.
 pub(crate) fn put_number(
-    canvas: &mut Canvas,
+    canvas: &mut Drawing,
     at: Point,
     number: u64,
     room: u64,
-) -> Result<(), AllocError> {
+) -> Result<(), AllocError>
+    ensures { OnOk result (canvas.new.shown ≡ canvas.old.shown) }
+{
     if digits_of(number) <= room.max(4) {
         return put_text(canvas, at, &[Part::Number(number)]);
     }
@@ -265,18 +272,21 @@ pub(crate) fn put_number(
 
 /// A transaction as a box of this half width with its number; as a dot where that is no wider than one.
 pub(crate) fn put_node(
-    canvas: &mut Canvas,
+    canvas: &mut Drawing,
     at: Point,
-    tx: Tx,
-    fate: Fate,
+    node: &Node,
     half: u64,
-) -> Result<(), AllocError> {
-    let number = u64::from(tx.number());
-    canvas.put(&[
-        Part::Markup("<g><title>transaction "),
-        Part::Number(number),
-        Part::Markup(fate_name(fate)),
-    ])?;
+) -> Result<(), AllocError>
+    ensures { OnOk result (canvas.new.shown ≡ with_node canvas.old.shown node.now) }
+{
+    canvas.put_node(node)?;
+    put_shape(canvas, at, node, half)
+}
+
+/// The box of a transaction, or the dot.
+fn put_shape(canvas: &mut Drawing, at: Point, node: &Node, half: u64) -> Result<(), AllocError>
+    ensures { OnOk result (canvas.new.shown ≡ canvas.old.shown) }
+{
     if half <= 4 {
         return canvas.put(&[
             Part::Markup("<circle r=\"3\" cx=\""),
@@ -284,7 +294,7 @@ pub(crate) fn put_node(
             Part::Markup("\" cy=\""),
             Part::Number(at.y),
             Part::Markup("\""),
-            Part::Markup(fill_of(fate)),
+            Part::Markup(fill_of(node.fate)),
             Part::Markup("</g>\n"),
         ]);
     }
@@ -296,12 +306,13 @@ pub(crate) fn put_node(
         Part::Markup("\" y=\""),
         Part::Number(at.y.saturating_sub(12)),
         Part::Markup("\""),
-        Part::Markup(fill_of(fate)),
+        Part::Markup(fill_of(node.fate)),
     ])?;
     let middle = Point {
         x: at.x,
         y: at.y.saturating_add(4),
     };
+    let number = u64::from(node.tx.number());
     put_number(canvas, middle, number, half.saturating_mul(2) / LETTER)?;
     canvas.put(&[Part::Markup("</g>\n")])
 }

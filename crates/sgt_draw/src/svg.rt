@@ -1,14 +1,24 @@
 //! The picture as SVG.
 
-use crate::canvas::{Canvas, Part};
+ghost use Rattle.std.specs.Prelude.{◌≡◌, ◌++◌, false, [], ◌∷◌, None, Some, OnOk, flat_map, map};
+ghost use Rattle.std.specs.Option.{option_map_or};
+ghost use Rattle.sgt_draw.specs.Node.{node};
+ghost use Rattle.sgt_draw.specs.Private.{fate_in_row, refused_at, row_node, scene_nodes, shown_cycle};
+ghost use Rattle.sgt_draw.specs.Sheet.{Adds};
+ghost use Rattle.sgt_draw.specs.Wanted.{cycle_nodes};
+ghost use Rattle.sgt_draw.specs.declared.node.Fate.TheVariants.{Neither, Withdrawn};
+
+use crate::canvas::Part;
 use crate::cycles::Cycle;
+use crate::drawing::Drawing;
 use crate::increments::Increments;
 use crate::lanes::Laid;
 use crate::marks::{
-    Fate, Point, Tip, put_edge_label, put_left, put_node, put_number, put_text, put_tip, stroke_of,
+    Point, Tip, put_edge_label, put_left, put_node, put_number, put_text, put_tip, stroke_of,
 };
+use crate::node::{Fate, Node};
 use crate::row::{LEAST_WIDTH, LETTER, Row};
-use crate::scene::Scene;
+use crate::scene::{Numbered, Scene};
 use sgt_bundle::Decision;
 use sgt_names::{Kind, Tx};
 use std::alloc::AllocError;
@@ -27,7 +37,9 @@ pub struct Picture<'a> {
 }
 
 /// The head of the text: its size, and a white ground.
-fn put_head(canvas: &mut Canvas, width: u64, height: u64) -> Result<(), AllocError> {
+fn put_head(canvas: &mut Drawing, width: u64, height: u64) -> Result<(), AllocError>
+    ensures { OnOk result (canvas.new.shown ≡ canvas.old.shown) }
+{
     canvas.put(&[
         Part::Markup("xmlns=\"http://www.w3.org/2000/svg\" width=\""),
         Part::Number(width),
@@ -44,11 +56,13 @@ fn put_head(canvas: &mut Canvas, width: u64, height: u64) -> Result<(), AllocErr
 
 /// What a kind looks like, and its name in words.
 fn put_sample(
-    canvas: &mut Canvas,
+    canvas: &mut Drawing,
     x: u64,
     kind: Kind,
     words: &'static str,
-) -> Result<(), AllocError> {
+) -> Result<(), AllocError>
+    ensures { OnOk result (canvas.new.shown ≡ canvas.old.shown) }
+{
     canvas.put(&[
         Part::Markup("<path stroke-width=\"2\" d=\"M"),
         Part::Number(x),
@@ -69,7 +83,9 @@ fn put_sample(
 }
 
 /// What the kinds look like.
-fn put_legend(canvas: &mut Canvas) -> Result<(), AllocError> {
+fn put_legend(canvas: &mut Drawing) -> Result<(), AllocError>
+    ensures { OnOk result (canvas.new.shown ≡ canvas.old.shown) }
+{
     put_sample(canvas, 20, Kind::Wr, "wr: write, read")?;
     put_sample(canvas, 190, Kind::Rw, "rw: read, write")?;
     put_sample(canvas, 360, Kind::Ww, "ww: write, write")?;
@@ -116,14 +132,18 @@ impl Picture<'_> {
     }
 
     /// The cycle of the refusal with this number.
-    fn cycle(&self, number: u32) -> Option<Cycle<'_>> {
-        let decision = self.decisions.get(number as usize)?;
-        Some(Cycle {
-            tx: decision.tx(),
-            walk: decision.walk()?,
-            is_named: self.row.is_named,
-            increments: self.increments,
-        })
+    fn cycle(&self, number: usize) -> Option<Cycle<'_>>
+        ensures { option_map_or shown_cycle result [] ≡ refused_at false self.now.decisions.now number }
+    {
+        match self.decisions.get(number)? {
+            Decision::Refuse { tx, walk } => Some(Cycle {
+                tx: *tx,
+                walk: walk.as_slice(),
+                is_named: self.row.is_named,
+                increments: self.increments,
+            }),
+            _ => None,
+        }
     }
 
     /// How wide the widest cycle is, and how high they are, one below the other.
@@ -140,7 +160,9 @@ impl Picture<'_> {
     }
 
     /// What is shown of an edge when it is pointed at.
-    fn put_title(&self, canvas: &mut Canvas, laid: &Laid) -> Result<(), AllocError> {
+    fn put_title(&self, canvas: &mut Drawing, laid: &Laid) -> Result<(), AllocError>
+        ensures { OnOk result (canvas.new.shown ≡ canvas.old.shown) }
+    {
         let edge = &laid.edge;
         canvas.put(&[Part::Markup("<title>")])?;
         put_pair(canvas, self.scene, edge.from, edge.to)?;
@@ -149,7 +171,9 @@ impl Picture<'_> {
     }
 
     /// An edge, as half of an ellipse.
-    fn put_arc(&self, canvas: &mut Canvas, laid: &Laid, row: u64) -> Result<(), AllocError> {
+    fn put_arc(&self, canvas: &mut Drawing, laid: &Laid, row: u64) -> Result<(), AllocError>
+        ensures { OnOk result (canvas.new.shown ≡ canvas.old.shown) }
+    {
         let kind = laid.edge.kind;
         let from = self
             .row
@@ -185,7 +209,9 @@ impl Picture<'_> {
     }
 
     /// The label of an edge, above its arc.
-    fn put_arc_label(&self, canvas: &mut Canvas, laid: &Laid, row: u64) -> Result<(), AllocError> {
+    fn put_arc_label(&self, canvas: &mut Drawing, laid: &Laid, row: u64) -> Result<(), AllocError>
+        ensures { OnOk result (canvas.new.shown ≡ canvas.old.shown) }
+    {
         canvas.put(&[
             Part::Markup("<text text-anchor=\"middle\" stroke=\"#ffffff\" stroke-width=\"6\" "),
             Part::Markup("stroke-linejoin=\"round\" paint-order=\"stroke\" x=\""),
@@ -198,20 +224,38 @@ impl Picture<'_> {
         canvas.put(&[Part::Markup("</text>\n")])
     }
 
-    fn put_edges(&self, canvas: &mut Canvas, row: u64) -> Result<(), AllocError> {
+    fn put_arcs(&self, canvas: &mut Drawing, row: u64) -> Result<(), AllocError>
+        ensures { OnOk result (canvas.new.shown ≡ canvas.old.shown) }
+    {
         for laid in self.laid {
             self.put_arc(canvas, laid, row)?;
         }
+        Ok(())
+    }
+
+    fn put_arc_labels(&self, canvas: &mut Drawing, row: u64) -> Result<(), AllocError>
+        ensures { OnOk result (canvas.new.shown ≡ canvas.old.shown) }
+    {
+        for laid in self.laid {
+            self.put_arc_label(canvas, laid, row)?;
+        }
+        Ok(())
+    }
+
+    fn put_edges(&self, canvas: &mut Drawing, row: u64) -> Result<(), AllocError>
+        ensures { OnOk result (canvas.new.shown ≡ canvas.old.shown) }
+    {
+        self.put_arcs(canvas, row)?;
         if self.row.is_named {
-            for laid in self.laid {
-                self.put_arc_label(canvas, laid, row)?;
-            }
+            return self.put_arc_labels(canvas, row);
         }
         Ok(())
     }
 
     /// The rank below a transaction.
-    fn put_rank(&self, canvas: &mut Canvas, at: Point, rank: u64) -> Result<(), AllocError> {
+    fn put_rank(&self, canvas: &mut Drawing, at: Point, rank: u64) -> Result<(), AllocError>
+        ensures { OnOk result (canvas.new.shown ≡ canvas.old.shown) }
+    {
         let pitch = self.row.pitch();
         if pitch >= 104 {
             return put_text(canvas, at, &[Part::Markup("rank "), Part::Number(rank)]);
@@ -219,67 +263,120 @@ impl Picture<'_> {
         put_number(canvas, at, rank, pitch.saturating_sub(3) / LETTER)
     }
 
-    /// The committed transactions, each above its rank.
-    fn put_row(&self, canvas: &mut Canvas, row: u64, asked: Option<Tx>) -> Result<(), AllocError> {
-        let mut place = 0u64;
-        for one in self.scene.committed.as_slice() {
-            let x = self.row.x_of(place);
-            let fate = if asked == Some(one.tx) {
-                Fate::Asked
-            } else {
-                Fate::Committed
-            };
-            put_node(canvas, Point { x, y: row }, one.tx, fate, self.row.half())?;
-            if self.row.is_named {
-                let below = Point {
-                    x,
-                    y: row.saturating_add(26),
-                };
-                self.put_rank(canvas, below, u64::from(one.number))?;
-            }
-            place = place.saturating_add(1);
-        }
-        Ok(())
-    }
-
-    fn put_cycles(&self, canvas: &mut Canvas, below: u64) -> Result<(), AllocError> {
-        let mut top = below;
-        for number in self.scene.refusals.as_slice() {
-            if let Some(cycle) = self.cycle(*number) {
-                cycle.put(canvas, top)?;
-                top = top.saturating_add(cycle.height());
-            }
-        }
-        Ok(())
-    }
-
-    fn put_withdrawn(&self, canvas: &mut Canvas, top: u64) -> Result<(), AllocError> {
-        if self.scene.withdrawn.is_empty() {
-            return Ok(());
-        }
-        let words = Point {
-            x: 20,
-            y: top.saturating_add(20),
+    /// A committed transaction above its rank.
+    fn put_ranked(
+        &self,
+        canvas: &mut Drawing,
+        at: Point,
+        one: &Numbered,
+        asked: &Option<Tx>,
+    ) -> Result<(), AllocError>
+        ensures { OnOk result (Adds (row_node asked.now one.now ∷ []) canvas.old.shown canvas.new.shown) }
+    {
+        let node = Node {
+            fate: fate_in_row(asked, one.tx),
+            tx: one.tx,
         };
-        put_left(canvas, words, &[Part::Markup("withdrawn")])?;
-        let y = top.saturating_add(40);
+        put_node(canvas, at, &node, self.row.half())?;
+        if self.row.is_named {
+            let below = Point {
+                x: at.x,
+                y: at.y.saturating_add(26),
+            };
+            self.put_rank(canvas, below, u64::from(one.number))?;
+        }
+        Ok(())
+    }
+
+    /// The committed transactions, each above its rank.
+    fn put_row(
+        &self,
+        canvas: &mut Drawing,
+        y: u64,
+        committed: &[Numbered],
+        asked: &Option<Tx>,
+    ) -> Result<(), AllocError>
+        ensures { OnOk result (Adds (map (row_node asked.now) committed.now) canvas.old.shown canvas.new.shown) }
+    {
         let mut place = 0u64;
-        for tx in self.scene.withdrawn.as_slice() {
+        for one in committed {
             let x = self.row.x_of(place);
-            put_node(
-                canvas,
-                Point { x, y },
-                *tx,
-                Fate::Withdrawn,
-                self.row.half(),
-            )?;
+            self.put_ranked(canvas, Point { x, y }, one, asked)?;
             place = place.saturating_add(1);
         }
         Ok(())
+    }
+
+    /// The cycle of the refusal with this number, below this height. How high it is.
+    fn put_refused(&self, canvas: &mut Drawing, number: usize, top: u64) -> Result<u64, AllocError>
+        ensures { OnOk result (Adds (refused_at false self.now.decisions.now number) canvas.old.shown
+            canvas.new.shown) }
+    {
+        match self.cycle(number) {
+            Some(cycle) => {
+                cycle.put(canvas, top)?;
+                Ok(cycle.height())
+            }
+            None => Ok(0),
+        }
+    }
+
+    fn put_cycles(
+        &self,
+        canvas: &mut Drawing,
+        refusals: &[usize],
+        below: u64,
+    ) -> Result<(), AllocError>
+        ensures { OnOk result (Adds (flat_map (refused_at false self.now.decisions.now) refusals.now)
+            canvas.old.shown canvas.new.shown) }
+    {
+        let mut top = below;
+        for number in refusals {
+            let height = self.put_refused(canvas, *number, top)?;
+            top = top.saturating_add(height);
+        }
+        Ok(())
+    }
+
+    /// A row of withdrawn transactions.
+    fn put_grey(&self, canvas: &mut Drawing, y: u64, withdrawn: &[Tx]) -> Result<(), AllocError>
+        ensures { OnOk result (Adds (map (node Withdrawn) withdrawn.now) canvas.old.shown canvas.new.shown) }
+    {
+        let mut place = 0u64;
+        for tx in withdrawn {
+            let x = self.row.x_of(place);
+            let node = Node {
+                fate: Fate::Withdrawn,
+                tx: *tx,
+            };
+            put_node(canvas, Point { x, y }, &node, self.row.half())?;
+            place = place.saturating_add(1);
+        }
+        Ok(())
+    }
+
+    fn put_withdrawn(
+        &self,
+        canvas: &mut Drawing,
+        top: u64,
+        withdrawn: &[Tx],
+    ) -> Result<(), AllocError>
+        ensures { OnOk result (Adds (map (node Withdrawn) withdrawn.now) canvas.old.shown canvas.new.shown) }
+    {
+        if !withdrawn.is_empty() {
+            let words = Point {
+                x: 20,
+                y: top.saturating_add(20),
+            };
+            put_left(canvas, words, &[Part::Markup("withdrawn")])?;
+        }
+        self.put_grey(canvas, top.saturating_add(40), withdrawn)
     }
 
     /// The headline, and the line that says that some are left out.
-    fn put_headline(&self, canvas: &mut Canvas) -> Result<(), AllocError> {
+    fn put_headline(&self, canvas: &mut Drawing) -> Result<(), AllocError>
+        ensures { OnOk result (canvas.new.shown ≡ canvas.old.shown) }
+    {
         let counts = self.scene.counts;
         put_left(
             canvas,
@@ -309,8 +406,21 @@ impl Picture<'_> {
         put_legend(canvas)
     }
 
+    /// The head, the headline and the conflicts.
+    fn put_above(&self, canvas: &mut Drawing, size: (u64, u64), row: u64) -> Result<(), AllocError>
+        ensures { OnOk result (canvas.new.shown ≡ canvas.old.shown) }
+    {
+        let (width, height) = size;
+        put_head(canvas, width, height)?;
+        self.put_headline(canvas)?;
+        self.put_edges(canvas, row)
+    }
+
     /// Draws all.
-    pub(crate) fn put(&self, canvas: &mut Canvas) -> Result<(), AllocError> {
+    pub(crate) fn put(&self, canvas: &mut Drawing) -> Result<(), AllocError>
+        ensures { OnOk result (Adds (scene_nodes false self.now.decisions.now self.now.scene.now)
+            canvas.old.shown canvas.new.shown) }
+    {
         let row = self.row_y();
         let cycles = row.saturating_add(46);
         let (wide, high) = self.cycles_size();
@@ -320,27 +430,22 @@ impl Picture<'_> {
         } else {
             70
         };
-        put_head(
-            canvas,
-            self.row.width().max(wide),
-            withdrawn.saturating_add(rest),
-        )?;
-        self.put_headline(canvas)?;
-        self.put_edges(canvas, row)?;
-        self.put_row(canvas, row, None)?;
-        self.put_cycles(canvas, cycles)?;
-        self.put_withdrawn(canvas, withdrawn)
+        let size = (self.row.width().max(wide), withdrawn.saturating_add(rest));
+        self.put_above(canvas, size, row)?;
+        self.put_row(canvas, row, self.scene.committed.as_slice(), &None)?;
+        self.put_cycles(canvas, self.scene.refusals.as_slice(), cycles)?;
+        self.put_withdrawn(canvas, withdrawn, self.scene.withdrawn.as_slice())
     }
 
-    /// Draws a committed transaction with its neighbours.
-    pub(crate) fn put_around(
+    /// The headline over a committed transaction with its neighbours.
+    fn put_neighbours(
         &self,
-        canvas: &mut Canvas,
+        canvas: &mut Drawing,
         tx: Tx,
         neighbours: u64,
-    ) -> Result<(), AllocError> {
-        let row = self.row_y();
-        put_head(canvas, self.row.width(), row.saturating_add(46))?;
+    ) -> Result<(), AllocError>
+        ensures { OnOk result (canvas.new.shown ≡ canvas.old.shown) }
+    {
         put_left(
             canvas,
             Point { x: 20, y: 22 },
@@ -363,14 +468,41 @@ impl Picture<'_> {
                 &[Part::Markup("Drawn: 199 of them, as near by rank as there are.")],
             )?;
         }
-        put_legend(canvas)?;
+        put_legend(canvas)
+    }
+
+    /// Draws a committed transaction with its neighbours.
+    pub(crate) fn put_around(
+        &self,
+        canvas: &mut Drawing,
+        tx: Tx,
+        neighbours: u64,
+    ) -> Result<(), AllocError>
+        ensures { OnOk result (Adds (map (row_node (Some tx)) self.now.scene.now.committed.items)
+            canvas.old.shown canvas.new.shown) }
+    {
+        let row = self.row_y();
+        put_head(canvas, self.row.width(), row.saturating_add(46))?;
+        self.put_neighbours(canvas, tx, neighbours)?;
         self.put_edges(canvas, row)?;
-        self.put_row(canvas, row, Some(tx))
+        self.put_row(canvas, row, self.scene.committed.as_slice(), &Some(tx))
+    }
+}
+
+/// The fate that a committed transaction is drawn with, where one is asked for.
+pub(crate) fn fate_in_row(asked: &Option<Tx>, tx: Tx) -> Fate
+    ensures { result ≡ fate_in_row asked.now tx }
+{
+    match asked {
+        Some(one) if one.number() == tx.number() => Fate::Asked,
+        _ => Fate::Committed,
     }
 }
 
 /// The transactions at two places: `3 to 4: `.
-fn put_pair(canvas: &mut Canvas, scene: &Scene, from: u32, to: u32) -> Result<(), AllocError> {
+fn put_pair(canvas: &mut Drawing, scene: &Scene, from: u32, to: u32) -> Result<(), AllocError>
+    ensures { OnOk result (canvas.new.shown ≡ canvas.old.shown) }
+{
     let committed = scene.committed.as_slice();
     if let (Some(one), Some(other)) = (committed.get(from as usize), committed.get(to as usize)) {
         canvas.put(&[
@@ -384,7 +516,10 @@ fn put_pair(canvas: &mut Canvas, scene: &Scene, from: u32, to: u32) -> Result<()
 }
 
 /// The cycle of one refused transaction alone, each step with its label.
-pub(crate) fn put_cycle(canvas: &mut Canvas, cycle: &Cycle) -> Result<(), AllocError> {
+pub(crate) fn put_cycle(canvas: &mut Drawing, cycle: &Cycle) -> Result<(), AllocError>
+    ensures { OnOk result (Adds (cycle_nodes false cycle.now.tx cycle.now.walk.now) canvas.old.shown
+        canvas.new.shown) }
+{
     put_head(
         canvas,
         cycle.width().max(LEAST_WIDTH),
@@ -404,15 +539,14 @@ pub(crate) fn put_cycle(canvas: &mut Canvas, cycle: &Cycle) -> Result<(), AllocE
 }
 
 /// A line alone: a transaction that was neither refused nor committed.
-pub(crate) fn put_neither(canvas: &mut Canvas, tx: Tx) -> Result<(), AllocError> {
+pub(crate) fn put_neither(canvas: &mut Drawing, tx: Tx) -> Result<(), AllocError>
+    ensures { OnOk result (Adds (node Neither tx ∷ []) canvas.old.shown canvas.new.shown) }
+{
     put_head(canvas, LEAST_WIDTH, 40)?;
-    put_left(
-        canvas,
-        Point { x: 20, y: 22 },
-        &[
-            Part::Markup("transaction "),
-            Part::Number(u64::from(tx.number())),
-            Part::Markup(" was neither refused nor committed: it has no cycle and no conflicts"),
-        ],
-    )
+    canvas.put(&[Part::Markup("<text x=\"20\" y=\"22\">")])?;
+    canvas.put_node(&Node {
+        fate: Fate::Neither,
+        tx,
+    })?;
+    canvas.put(&[Part::Markup("</text>\n")])
 }

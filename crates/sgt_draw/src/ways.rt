@@ -34,7 +34,7 @@ pub(crate) fn key_at(scene: &Scene, edge: &Edge) -> Option<Key> {
 #[derive(Clone, Copy)]
 struct Way {
     key: Key,
-    walk: u32,
+    walk: usize,
 }
 
 /// Edges by their keys.
@@ -68,7 +68,7 @@ impl Ways {
     ) -> Result<Ways, AllocError> {
         let mut ways = Vec::new(alloc);
         for number in scene.refusals.as_slice() {
-            if let Some(decision) = decisions.get(*number as usize) {
+            if let Some(decision) = decisions.get(*number) {
                 let mut from = decision.tx();
                 for step in decision.walk().unwrap_or(&[]) {
                     ways.push(Way {
@@ -84,7 +84,7 @@ impl Ways {
     }
 
     /// The first walk with this edge.
-    pub(crate) fn first(&self, key: &Key) -> Option<u32> {
+    pub(crate) fn first(&self, key: &Key) -> Option<usize> {
         let ways = self.ways.as_slice();
         let at = ways.partition_point(|way| way.key < *key);
         match ways.get(at) {

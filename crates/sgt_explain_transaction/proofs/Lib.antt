@@ -1,3 +1,6 @@
-pub mod Owning
-pub mod Pairing
-pub mod Standing
+pub mod Beside
+pub mod Clashing
+pub mod Listing
+pub mod Reading
+pub mod Showing
+pub mod Telling

@@ -1,2 +1,3 @@
 pub mod Conflicts
 pub mod Dealings
+pub mod Found

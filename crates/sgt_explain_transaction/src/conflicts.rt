@@ -1,17 +1,16 @@
 //! The conflicts of one transaction, each in its direction.
 
-ghost use Rattle.std.specs.Prelude.{◌≡◌, ◌++◌, ℕ, All, IfSome, IsTrue, List, OnOk, Option, string_bytes};
-ghost use Rattle.sgt_notation.specs.declared.SectionLine.{SectionLine};
-ghost use Rattle.sgt_explain_lines.specs.Sited.{HasBefore, StandsAt};
-ghost use Rattle.sgt_explain_lines.specs.Told.{Adds};
-ghost use Rattle.sgt_explain_transaction.specs.Conflicts.{IsClash, IsOwnConflict, pair_text, AddsConflicts};
-ghost use Rattle.sgt_explain_transaction.specs.Dealings.{IsOwnIn};
+ghost use Rattle.std.specs.Prelude.{◌≡◌, ◌++◌, ◌∷◌, [], ℕ, List, IfOk, OnOk, string_bytes};
+ghost use Rattle.std.specs.List.Sorted.{IsSorted};
+ghost use Rattle.sgt_explain_transaction.specs.Conflicts.{count_text, pair_text};
+ghost use Rattle.sgt_explain_transaction.specs.Found.{AreEntriesBefore, ShowsMore, clash_of, conflict_with, conflicts_among, conflicts_with, item_cmp};
+ghost use Rattle.sgt_explain_transaction.specs.declared.dealings.Own.{Own as AnOwn};
 
 use crate::dealings::{Own, entry_at};
+use crate::sorted::beside;
 use sgt_explain_lines::{Logged, clash, cut_line, push_conflict};
 use sgt_names::Item;
 use std::alloc::AllocError;
-use std::cmp::Ordering;
 use std::fmt::Write;
 
 /// How many conflicts are shown; the others are counted.
@@ -26,21 +25,9 @@ pub struct Pair {
     pub second: Logged,
 }
 
-fn order(one: &Own, site: u8, item: &Item) -> Ordering {
-    one.site
-        .cmp(&site)
-        .then(one.logged.entry.item().cmp(&Some(*item)))
-}
-
-/// Whether the transaction has an entry on the item, and the first of them.
-fn first_on(sorted: &[Own], site: u8, item: &Item) -> usize {
-    sorted.partition_point(|one| order(one, site, item) == Ordering::Less)
-}
-
 /// The conflict that the second entry is in with the first, which stands before it.
 fn clashing(site: u8, first: &Logged, second: &Logged) -> Option<Pair>
-    ensures clash { IfSome result (IsClash first.now second.now) }
-    ensures site { IfSome result (λ p. p.site ≡ site) }
+    ensures { result ≡ clash_of site first.now second.now }
 {
     match clash(&first.entry, &second.entry) {
         Some((item, _)) => Some(Pair {
@@ -53,16 +40,17 @@ fn clashing(site: u8, first: &Logged, second: &Logged) -> Option<Pair>
     }
 }
 
-/// The conflict of an entry of the same site with one of the transaction's, in the order of the log.
-fn pair_of(own: &Own, other: &Logged) -> Option<Pair>
-    ensures { (known : Option (List SectionLine)) (tx : ℕ) → IsOwnIn known tx own.now
-        → IfSome known (λ lines. StandsAt lines own.now.site other.now)
-        → IfSome result (IsOwnConflict known tx) }
+/// The conflict of an entry with one of the transaction's at its site, in the order of the log.
+fn pair_of(own: &Own, other: &Own) -> Option<Pair>
+    ensures { result ≡ conflict_with other.now own.now }
 {
-    if own.logged.line < other.line {
-        clashing(own.site, &own.logged, other)
+    if own.site != other.site {
+        return None;
+    }
+    if own.logged.line < other.logged.line {
+        clashing(own.site, &own.logged, &other.logged)
     } else {
-        clashing(own.site, other, &own.logged)
+        clashing(own.site, &other.logged, &own.logged)
     }
 }
 
@@ -77,8 +65,8 @@ fn push_pair(out: &mut String, pair: &Pair) -> Result<(), AllocError>
 
 /// The same, and counts it. What is too many is counted alone.
 fn show_pair(out: &mut String, pair: &Pair, count: &mut u64) -> Result<(), AllocError>
-    ensures { (known : Option (List SectionLine)) (tx : ℕ) → IsOwnConflict known tx pair.now
-        → OnOk result (AddsConflicts known tx (string_bytes out.old) (string_bytes out.new)) }
+    ensures { OnOk result
+        (ShowsMore (pair.now ∷ []) (string_bytes out.old) count.old (string_bytes out.new) count.new) }
 {
     let shown = *count;
     *count = shown.saturating_add(1);
@@ -89,16 +77,10 @@ fn show_pair(out: &mut String, pair: &Pair, count: &mut u64) -> Result<(), Alloc
     }
 }
 
-/// The conflict of an entry of the same site with one of the transaction's, if there is one.
-fn push_if_pair(
-    out: &mut String,
-    own: &Own,
-    other: &Logged,
-    count: &mut u64,
-) -> Result<(), AllocError>
-    ensures { (known : Option (List SectionLine)) (tx : ℕ) → IsOwnIn known tx own.now
-        → IfSome known (λ lines. StandsAt lines own.now.site other.now)
-        → OnOk result (AddsConflicts known tx (string_bytes out.old) (string_bytes out.new)) }
+/// The conflict of an entry with one of the transaction's, if there is one.
+fn push_if_pair(out: &mut String, own: &Own, other: &Own, count: &mut u64) -> Result<(), AllocError>
+    ensures { OnOk result (ShowsMore (conflicts_with (own.now ∷ []) other.now)
+        (string_bytes out.old) count.old (string_bytes out.new) count.new) }
 {
     match pair_of(own, other) {
         Some(pair) => show_pair(out, &pair, count),
@@ -106,37 +88,20 @@ fn push_if_pair(
     }
 }
 
-/// Whether the entry is on the item of the site.
-fn is_on(own: &Own, site: u8, item: &Item) -> bool
-    ensures { IsTrue result → own.now.site ≡ site }
-{
-    own.site == site && own.logged.entry.item() == Some(*item)
-}
-
-/// The conflicts of an entry with those of the transaction on its item, of which there are two at
-/// most.
+/// The conflicts of an entry with those of the transaction on its item.
 fn push_pairs(
     out: &mut String,
     sorted: &[Own],
-    site: u8,
-    other: &Logged,
+    other: &Own,
     count: &mut u64,
 ) -> Result<(), AllocError>
-    ensures { (known : Option (List SectionLine)) (tx : ℕ) → All (IsOwnIn known tx) sorted.now
-        → IfSome known (λ lines. StandsAt lines site other.now)
-        → OnOk result (AddsConflicts known tx (string_bytes out.old) (string_bytes out.new)) }
+    requires { IsSorted item_cmp sorted.now }
+    ensures { OnOk result (ShowsMore (conflicts_with sorted.now other.now)
+        (string_bytes out.old) count.old (string_bytes out.new) count.new) }
 {
-    let Some(item) = other.entry.item() else {
-        return Ok(());
-    };
-    let from = first_on(sorted, site, &item);
-    for at in from..from.saturating_add(2) {
-        match sorted.get(at) {
-            Some(own) if is_on(own, site, &item) => {
-                push_if_pair(out, own, other, count)?;
-            }
-            _ => return Ok(()),
-        }
+    let run = beside(sorted, other);
+    for own in run {
+        push_if_pair(out, own, other, count)?;
     }
     Ok(())
 }
@@ -148,9 +113,10 @@ pub(crate) fn push_conflicts(
     bytes: &[u8],
     end: u64,
 ) -> Result<u64, AllocError>
-    ensures { (known : Option (List SectionLine)) (tx : ℕ) → IfSome known (HasBefore bytes.now end)
-        → All (IsOwnIn known tx) sorted.now
-        → OnOk result (AddsConflicts known tx (string_bytes out.old) (string_bytes out.new)) }
+    requires { IsSorted item_cmp sorted.now }
+    ensures { IfOk result (λ count. (read : List AnOwn) × AreEntriesBefore bytes.now end read
+        × ShowsMore (conflicts_among sorted.now read) (string_bytes out.old) 0
+        (string_bytes out.new) count) }
 {
     let mut count = 0u64;
     let mut site = 0u8;
@@ -158,7 +124,8 @@ pub(crate) fn push_conflicts(
     for line in 1..end {
         let (text, behind) = cut_line(rest);
         if let Some(entry) = entry_at(&mut site, line, text) {
-            push_pairs(out, sorted, site, &Logged { line, entry }, &mut count)?;
+            let logged = Logged { line, entry };
+            push_pairs(out, sorted, &Own { site, logged }, &mut count)?;
         }
         rest = behind;
         if rest.is_empty() {
@@ -168,9 +135,9 @@ pub(crate) fn push_conflicts(
     Ok(count)
 }
 
-/// How many conflicts there are, where not all were shown.
+/// That there is no conflict, or how many there are behind those that are shown.
 pub(crate) fn push_count(out: &mut String, count: u64) -> Result<(), AllocError>
-    ensures { OnOk result (Adds (string_bytes out.old) (string_bytes out.new)) }
+    ensures { OnOk result (string_bytes out.new ≡ string_bytes out.old ++ count_text count) }
 {
     match count {
         0 => out.push_str("  with nobody\n"),

@@ -1,20 +1,21 @@
 //! What one transaction did: its entries at each site.
 
 ghost use Rattle.std.specs.Prelude.{◌≡◌, ◌↔◌, IsTrue, ◌≤◌, ◌<◌, ◌++◌, [], ℕ, List, None, Option, All, IfOk, OnOk, string_bytes};
-ghost use Rattle.std.specs.List.{cons_option};
+ghost use Rattle.std.specs.List.{cons_option, filter};
 ghost use Rattle.sgt_notation.specs.Spelling.{line_text, IsLine};
 ghost use Rattle.sgt_notation.specs.declared.SectionLine.{SectionLine};
 ghost use Rattle.sgt_explain_lines.specs.Numbered.{entry_in, site_behind};
 ghost use Rattle.sgt_explain_lines.specs.Sited.{HasBefore};
-ghost use Rattle.sgt_explain_transaction.specs.Dealings.{IsOwn, IsOwnIn, own_from, own_of, site_if_new, one_text, own_text, own_head, IsAnyOwn, TellsDealings, TellsAllOwn};
+ghost use Rattle.sgt_explain_transaction.specs.Dealings.{IsOwn, entry_from, is_own, own_of, site_if_new, one_text, own_text, own_head, IsAnyOwn, TellsDealings, TellsAllOwn};
 
 use crate::conflicts::{push_conflicts, push_count};
+use crate::sorted::by_item;
 use sgt_explain_lines::{Logged, cut_line, entry_of, push_logged};
 use sgt_names::{Entry, Tx};
 use std::alloc::{AllocError, Global};
 use std::fmt::Write;
 
-/// An entry of the transaction at a site.
+/// An entry at a site.
 #[derive(Clone, Copy)]
 pub struct Own {
     pub site: u8,
@@ -39,7 +40,7 @@ fn push_from(
     found: Option<Entry>,
 ) -> Result<(), AllocError>
     ensures { OnOk result (own.new.items
-        ≡ own.old.items ++ cons_option (own_from tx site line found) []) }
+        ≡ own.old.items ++ filter (is_own tx) (cons_option (entry_from site line found) [])) }
 {
     let Some(entry) = found else {
         return Ok(());
@@ -106,21 +107,6 @@ fn push_own(out: &mut String, own: &[Own]) -> Result<(), AllocError>
     Ok(())
 }
 
-/// The entries on items, by site and item.
-fn by_item(alloc: Global, own: &[Own]) -> Result<Vec<Own>, AllocError>
-    ensures { (known : Option (List SectionLine)) (tx : ℕ) → All (IsOwnIn known tx) own.now
-        → IfOk result (λ sorted. All (IsOwnIn known tx) sorted.items) }
-{
-    let mut sorted = Vec::new(alloc);
-    for one in own {
-        if one.logged.entry.item().is_some() {
-            sorted.push(*one)?;
-        }
-    }
-    sorted.sort_by_key(|one| (one.site, one.logged.entry.item()))?;
-    Ok(sorted)
-}
-
 /// The entries of the transaction, and the words before its conflicts.
 fn push_own_head(out: &mut String, own: &[Own]) -> Result<(), AllocError>
     ensures { OnOk result (string_bytes out.new ≡ string_bytes out.old ++ own_head own.now) }
@@ -135,9 +121,10 @@ fn has_none(own: &Vec<Own>) -> bool
     own.as_slice().is_empty()
 }
 
-/// What the transaction did in the lines before this one: its entries at each site with their
-/// lines, and its conflicts with other transactions, each in its direction. Forty conflicts are
-/// shown, and the others counted. Ok: whether it has an entry there.
+/// What the transaction did in the lines before this one: its entries at each site with their lines,
+/// and its conflicts with other transactions, each in its direction, by the line of the other's entry
+/// and then by that of its own. Forty conflicts are shown, and the others counted. Ok: whether it has
+/// an entry there.
 pub fn push_dealings(
     alloc: Global,
     out: &mut String,
@@ -156,7 +143,7 @@ pub fn push_dealings(
         return Ok(false);
     }
     push_own_head(out, own.as_slice())?;
-    let sorted = by_item(alloc, own.as_slice())?;
+    let sorted = by_item(own)?;
     let count = push_conflicts(out, sorted.as_slice(), bytes, end)?;
     push_count(out, count)?;
     Ok(true)

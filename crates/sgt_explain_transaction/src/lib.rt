@@ -3,6 +3,7 @@
 
 mod conflicts;
 mod dealings;
+mod sorted;
 
 pub use conflicts::Pair;
 pub use dealings::{Own, push_dealings};

@@ -265,6 +265,18 @@ module _ {I J V W : Type 0} (f : I → J) (g : V → W) (h : List (Transaction I
             (subst (λ (y : J). HaveConflict (map (renamed f g) h) kind from to y v w) (sym old.is) c),
       )
 
+  -- and of the item that has the name
+  pub conflict-named_item : (kind : Conflict) (from to : ℕ) (x' : J) (v w : ℕ)
+      → HaveConflict (map (renamed f g) h) kind from to x' v w
+      → (x : I) × HaveConflict h kind from to x v w × (f x ≡ x')
+  conflict-named_item kind from to x' v w c =
+      let old = named kind from to x' v w c in (
+        old.x,
+        conflict-back kind from to old.x v w old.there
+            (subst (λ (y : J). HaveConflict (map (renamed f g) h) kind from to y v w) (sym old.is) c),
+        old.is,
+      )
+
   conflict_in-back : (k : Graph) (from to : ℕ) → ConflictIn (map (renamed f g) h) k from to → ConflictIn h k from to
   conflict_in-back k from to c =
       let old = conflict-named c.kind from to c.x c.v c.w c.conflict in

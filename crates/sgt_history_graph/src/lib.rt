@@ -12,5 +12,5 @@ mod sorting;
 mod walking;
 
 pub use edge::Edge;
-pub use shown::shown_cycle;
+pub use shown::{falling_ranks, shown_cycle};
 pub use sorting::{Ordered, order};

@@ -3,7 +3,7 @@
 ghost use Rattle.std.specs.Prelude.{◌≡◌, ◌≤◌, ◌^◌, ℕ, All, IfNone, IfOk, IfSome, List};
 ghost use Rattle.sgt_history_graph.specs.First.{IsFirstCycle, TellsFirst};
 ghost use Rattle.sgt_history_graph.specs.Graph.{Goes, IsCycle, JoinsNodes};
-ghost use Rattle.sgt_history_graph.specs.Nearest.{AreRowsOf, NoneBelow};
+ghost use Rattle.sgt_history_graph.specs.Nearest.{AreFalling, AreRowsOf, NoneBelow};
 
 use crate::components::ranks_of;
 use crate::edge::Edge;
@@ -147,4 +147,24 @@ pub fn shown_cycle(
         return Ok(quick);
     }
     plain_cycle(alloc, nodes, edges, &rows, node)
+}
+
+/// A rank of each node, such that no edge leads to one of a greater rank. Nodes on a cycle have the same, and an edge that
+/// is on none leads to a lesser one. What is found is checked, and None where it doesn't pass, which no try came to.
+/// Err: memory ran out.
+pub fn falling_ranks(
+    alloc: Global,
+    nodes: usize,
+    edges: &[Edge],
+) -> Result<Option<Vec<u32>>, AllocError>
+    requires few { nodes ≤ 2 ^ 32 }
+    requires ends { All (JoinsNodes nodes) edges.now }
+    ensures { IfOk result (λ found. IfSome found (λ ranks. AreFalling edges.now ranks.items)) }
+{
+    let rows = Rows::new(alloc, nodes, edges)?;
+    let ranks = ranks_of(alloc, &rows, nodes, edges.len())?;
+    if !are_falling(edges, ranks.as_slice()) {
+        return Ok(None);
+    }
+    Ok(Some(ranks))
 }

@@ -1,24 +1,23 @@
 -- What orders of all lines and cycles come to.
-use Rattle.std.proofs.Common.{◌≡◌, ℕ, ◌<◌, ◌≤◌, List, [], ◌∷◌, ◌++◌, Option, Some, length, refl, sym, ap, ◌∙◌, subst, arith, inl, inr, ◌⊎◌, All}
-use Rattle.std.specs.Prelude.{◌↔◌, slice_get, Contains}
+use Rattle.std.proofs.Common.{◌≡◌, ℕ, ◌<◌, List, [], ◌∷◌, ◌++◌, Option, Some, length, sym, ◌∙◌, arith, inl, inr, All}
+use Rattle.std.specs.Prelude.{◌↔◌, slice_get}
 use Rattle.std.proofs.lemmas.Option.{slice_get_within}
 use Rattle.sgt_names.proofs.Lists.{All_in}
 use Rattle.sgt_names.proofs.Places.{Contains_at, Contains-from_at}
-use Rattle.sgt_history.specs.declared.named.Conflict.{Conflict}
-use Rattle.sgt_history.specs.declared.named.Conflict.TheVariants.{WriteWrite, WriteRead, ReadWrite}
-use Rattle.sgt_history.specs.declared.named.Graph.TheVariants.{Whole}
 use Rattle.sgt_history.specs.Transaction.{Transaction}
-use Rattle.sgt_history.specs.Serial.{IsCommitted, IsOrder}
-use Rattle.sgt_history.specs.Conflicts.{ConflictIn, HaveConflict, IsChain, IsCycle, Precedes}
+use Rattle.sgt_history.specs.Serial.{IsCommitted}
+use Rattle.sgt_history.specs.Conflicts.{IsChain, IsCycle, Precedes}
 use Rattle.sgt_history_graph.specs.declared.edge.Edge.{Edge}
+use Rattle.sgt_history_graph.specs.First.{IsFirstCycle}
 use Rattle.sgt_history_graph.specs.Graph as nodes
 use Rattle.sgt_history_verdict.specs.Verdict.{committed_in}
 use Rattle.sgt_history_verdict.proofs.Kept.{kept-from, kept_at, kept-both, kept-once}
 use Rattle.sgt_history_kept.specs.declared.asked.Asked.{Asked}
 use Rattle.sgt_history_kept.specs.declared.deciding.Kept.{Kept}
 use Rattle.sgt_history_kept.specs.declared.deciding.Kept.TheVariants.{Serial, Cyclic}
-use Rattle.sgt_history_kept.specs.Decided.{Adds, GoesForward, IsAskedBefore, IsInRows, IsKept, IsKeptFrom, IsSerial}
-use Rattle.sgt_history_time.specs.Kept.{IsBefore, IsEarlier, KeepsRealTime, KeepsSessions}
+use Rattle.sgt_history_kept.specs.Decided.{Adds, GoesForward, IsInRows, IsKept, IsKeptFrom, IsSerial}
+use Rattle.sgt_history_time.specs.Kept.{KeepsRealTime, KeepsSessions}
+use Rattle.sgt_history_kept.specs.FirstCycle.{IsFirstCycleOf}
 use Rattle.sgt_history_kept.specs.Placed.{ArePlaces, LeadsOn}
 use Rattle.sgt_history_time.specs.Serializable.{IsSerializableKeeping, ServesKeeping}
 use Rattle.sgt_history_time.specs.Steps.{StandsBefore}
@@ -27,7 +26,7 @@ use Rattle.sgt_history_verdict.proofs.Served.{committed-both}
 
 module _ (h : List (Transaction ℕ ℕ)) (lines : ℕ) (edges : List Edge) (a : Asked) (from : IsKeptFrom h lines edges a)
   where
-    both-commit : (first second : ℕ) → StandsBefore h a.times.items a.sessions.items first second
+    pub both-commit : (first second : ℕ) → StandsBefore h a.times.items a.sessions.items first second
         → ((t : Transaction ℕ ℕ) × IsCommitted h first t) × ((u : Transaction ℕ ℕ) × IsCommitted h second u)
     both-commit first second (inl c) = committed-both h c.kind first second c.x c.v c.w c.conflict
     both-commit first second (inr (inl e)) =
@@ -149,10 +148,28 @@ module _ (h : List (Transaction ℕ ℕ)) (lines : ℕ) (edges : List Edge) (a :
     cycle-on R S f [] is = is
     cycle-on R S f (x ∷ between) is = chain-on R S f x (between ++ x ∷ []) is
 
-    pub plain-cycle : (all : List Edge) → Adds (IsInRows a lines lines) edges all → (cycle : List ℕ)
+    plain-cycle : (all : List Edge) → Adds (IsInRows a lines lines) edges all → (cycle : List ℕ)
         → nodes.IsCycle (nodes.Goes all) cycle
         → IsCycle (StandsBefore h a.times.items a.sessions.items) cycle
     plain-cycle all adds = cycle-on (nodes.Goes all) (StandsBefore h a.times.items a.sessions.items) (step-of all adds)
+
+    chain-to : (R S : ℕ → ℕ → Type 0) → ((x y : ℕ) → R x y → S x y) → (x : ℕ) (ys : List ℕ) → IsChain R x ys
+        → nodes.IsChain S x ys
+    chain-to R S f x [] chain = tt
+    chain-to R S f x (y ∷ ys) chain = (f x y chain.0, chain-to R S f y ys chain.1)
+
+    cycle-to : (R S : ℕ → ℕ → Type 0) → ((x y : ℕ) → R x y → S x y) → (cycle : List ℕ) → IsCycle R cycle
+        → nodes.IsCycle S cycle
+    cycle-to R S f [] is = is
+    cycle-to R S f (x ∷ between) is = chain-to R S f x (between ++ x ∷ []) is
+
+    pub plain-first : (all : List Edge) → Adds (IsInRows a lines lines) edges all → (cycle : List ℕ)
+        → IsFirstCycle all cycle → IsFirstCycleOf (StandsBefore h a.times.items a.sessions.items) cycle
+    plain-first all adds cycle told = record {
+      is = plain-cycle all adds cycle told.is;
+      first = λ other is. told.first other
+          (cycle-to (StandsBefore h a.times.items a.sessions.items) (nodes.Goes all) (goes-of all adds) other is);
+    }
 
     pub plain-forward : (all : List Edge) → Adds (IsInRows a lines lines) edges all → (order : List ℕ)
         → nodes.IsOrder lines all order → GoesForward h a order

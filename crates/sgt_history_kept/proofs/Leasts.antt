@@ -1,6 +1,5 @@
 -- Orders in which of the lines that may come next the least one does.
-use Rattle.std.proofs.Common.{◌≡◌, ℕ, ◌≤◌, List, length, take, Some, sym, subst, arith, inl, inr, ◌⊎◌, All, Contains}
-use Rattle.std.specs.Prelude.{slice_get}
+use Rattle.std.proofs.Common.{ℕ, List, take, sym, subst, arith, inl, inr, All, Contains}
 use Rattle.std.proofs.lemmas.Option.{slice_get_within}
 use Rattle.sgt_names.proofs.Lists.{All_in, All-weaken}
 use Rattle.sgt_names.proofs.Places.{All-from_at, Contains-from_at, All_at}

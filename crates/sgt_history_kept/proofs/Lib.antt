@@ -5,3 +5,6 @@ pub mod Rounds
 pub mod Passing
 pub mod Leasts
 pub mod Sooner
+pub mod Risings
+pub mod Firsts
+pub mod FirstKept

@@ -1,7 +1,7 @@
 -- While an order is looked through for the first line that passes one.
-use Rattle.std.proofs.Common.{◌≡◌, ℕ, ◌+◌, ◌<◌, ◌≤◌, ◌⊎◌, List, [], Option, Some, None, length, set, refl, sym, ap, ◌∙◌, subst, arith, inl, inr}
+use Rattle.std.proofs.Common.{◌≡◌, ℕ, ◌+◌, ◌<◌, ◌≤◌, ◌⊎◌, List, [], Option, Some, None, length, set, sym, ap, ◌∙◌, subst, arith, inl, inr}
 use Rattle.std.specs.Prelude.{◌↔◌, slice_get}
-use Rattle.std.proofs.lemmas.Bool.{cases_eq, cases_lt}
+use Rattle.std.proofs.lemmas.Bool.{cases_lt}
 use Rattle.std.proofs.lemmas.Option.{same_Some, slice_get_within}
 use Rattle.sgt_history_time.specs.declared.times.Times.{Times}
 use Rattle.sgt_history_kept.specs.declared.asked.Asked.{Asked}
@@ -11,7 +11,7 @@ use Rattle.sgt_history_kept.specs.declared.passed.Reason.TheVariants as reason
 use Rattle.sgt_history_kept.specs.declared.passed.Unkept.{Unkept}
 use Rattle.sgt_history_time.specs.Kept.{IsBefore, IsEarlier, Keeps, KeepsRealTime, KeepsSessions}
 use Rattle.sgt_history_kept.specs.Seen.{ComesAhead, ComesBehind, ComesLast, EndsBefore, EndsBehind, IsLatestWith}
-use Rattle.sgt_history_kept.specs.Unkept.{IsFirstUnkept, IsNoLater, IsUnkept, KeepsTo, PassesInSession, PassesInTime, StandsAmong}
+use Rattle.sgt_history_kept.specs.Unkept.{IsFirstUnkept, IsNoLater, KeepsTo, PassesInSession, PassesInTime, StandsAmong}
 use Rattle.sgt_history_time.proofs.InSessions.{same-session}
 use Rattle.sgt_names.proofs.Elements.{get-set_here, get_set_elsewhere}
 

@@ -1,8 +1,7 @@
 -- While lines are checked to form a cycle.
-use Rattle.std.proofs.Common.{◌≡◌, ℕ, zero, suc, ◌+◌, ◌<◌, ◌≤◌, List, [], ◌∷◌, ◌++◌, Option, Some, None, length, replicate, set, refl, sym, ap, ◌∙◌, subst, arith, inl, inr, ◌⊎◌, length-append}
-use Rattle.std.specs.Prelude.{slice_get, Contains}
+use Rattle.std.proofs.Common.{◌≡◌, ℕ, Bool, true, false, zero, suc, ◌+◌, ◌<◌, ◌≤◌, List, [], ◌∷◌, ◌++◌, Option, Some, None, length, set, refl, sym, ap, ◌∙◌, subst, arith, inl, inr, ◌⊎◌, length-append}
+use Rattle.std.specs.Prelude.{◌==◌, slice_get, Contains}
 use Rattle.std.proofs.lemmas.Bool.{cases_eq, cases_lt, lt-ltb, le-ltb}
-use Rattle.std.proofs.lemmas.List.{set_past}
 use Rattle.std.proofs.lemmas.Option.{same_Some, slice_get_within}
 use Rattle.sgt_names.proofs.Lists.{back_at, front_at, within_at}
 use Rattle.sgt_history.specs.Transaction.{Transaction}
@@ -46,6 +45,13 @@ joined-note edges joined from to within in_it so x y at = elim (cases_eq x from)
 ]
 
 -- ---- a cycle
+
+pub not-empty : (n : ℕ) (r : Bool) → r ≡ (n == 0) → r ≡ false → 0 < n
+not-empty n r is unlike = elim (cases_eq n 0) [
+  | inl e ↦ let f : (n == 0) ≡ false = sym is ∙ unlike in let t : (n == 0) ≡ true = ap (λ k. k == 0) e in let g =
+      sym t ∙ f in cc
+  | inr other ↦ omega (arith, other)
+]
 
 -- of each of the first n places the line there stands in the relation to the next one
 abbrev pub LeadsTo : (ℕ → ℕ → Type 0) → List ℕ → ℕ → Type 0

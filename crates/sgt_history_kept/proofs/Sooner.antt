@@ -9,7 +9,9 @@ use Rattle.sgt_history_kept.specs.declared.asked.Asked.{Asked}
 use Rattle.sgt_history_kept.specs.declared.deciding.Kept.{Kept}
 use Rattle.sgt_history_kept.specs.declared.deciding.Kept.TheVariants.{Serial, Cyclic}
 use Rattle.sgt_history_kept.specs.Decided.{IsAskedAlone, IsFound, IsKept, IsKeptFrom}
-use Rattle.sgt_history_kept.specs.Sooner.{NoneInSessions}
+use Rattle.sgt_history_kept.specs.FirstCycle.{IsFirstCycleOf}
+use Rattle.sgt_history_kept.specs.Sooner.{IsCycleKeeping, NoneInSessions}
+use Rattle.sgt_history_kept.proofs.Rounds.{steps-cycle}
 use Rattle.sgt_history_time.proofs.Forward.{cycle-excludes}
 use Rattle.sgt_history_time.specs.declared.times.Times.{Times}
 use Rattle.sgt_history_time.specs.Serializable.{IsSerializableKeeping}
@@ -21,7 +23,7 @@ no-times times empty line x at =
     let size : length times ≡ 0 = ap length empty in
     absurd (omega (arith, slice_get_within times line (Some x) at, size))
 
-pub step-with-times : (h : List (Transaction ℕ ℕ)) (times : List (Option Times)) (sessions : List (Option ℕ)) (x y : ℕ)
+step-with-times : (h : List (Transaction ℕ ℕ)) (times : List (Option Times)) (sessions : List (Option ℕ)) (x y : ℕ)
     → StandsBefore h [] sessions x y → StandsBefore h times sessions x y
 step-with-times h times sessions x y (inl conflict) = inl conflict
 step-with-times h times sessions x y (inr (inl earlier)) = inr (inl earlier)
@@ -40,11 +42,12 @@ module _ (h : List (Transaction ℕ ℕ)) (lines : ℕ) (edges : List Edge) (a a
         from.sessioned line s (ap (λ (xs : List (Option ℕ)). slice_get xs line) (sym are.sessions_are) ∙ at);
   }
 
-  pub cycle-alone : (cycle : List ℕ) → IsCycle (StandsBefore h alone.times.items alone.sessions.items) cycle
-      → IsCycle (StandsBefore h [] a.sessions.items) cycle
-  cycle-alone cycle is =
-      subst (λ (ss : List (Option ℕ)). IsCycle (StandsBefore h [] ss) cycle) are.sessions_are
-      (subst (λ (ts : List (Option Times)). IsCycle (StandsBefore h ts alone.sessions.items) cycle) are.times_are is)
+  pub first-alone : (cycle : List ℕ) → IsFirstCycleOf (StandsBefore h alone.times.items alone.sessions.items) cycle
+      → IsFirstCycleOf (StandsBefore h [] a.sessions.items) cycle
+  first-alone cycle first =
+      subst (λ (ss : List (Option ℕ)). IsFirstCycleOf (StandsBefore h [] ss) cycle) are.sessions_are
+      (subst (λ (ts : List (Option Times)). IsFirstCycleOf (StandsBefore h ts alone.sessions.items) cycle) are.times_are
+      first)
 
   pub none-alone : IsSerializableKeeping h alone.times.items alone.sessions.items → NoneInSessions h a.sessions.items
   none-alone serial other is =
@@ -55,4 +58,14 @@ module _ (h : List (Transaction ℕ ℕ)) (lines : ℕ) (edges : List Edge) (a a
 pub found-kept : (h : List (Transaction ℕ ℕ)) (a : Asked) → NoneInSessions h a.sessions.items → (k : Kept)
     → IsFound h a k → IsKept h a k
 found-kept h a none (Serial order) is = is
-found-kept h a none (Cyclic cycle) is = record { is = is; sooner = inr none }
+found-kept h a none (Cyclic cycle) told = record { is = told.is; first = inr (none, told) }
+
+-- the first cycle of conflicts and sessions alone is told
+pub sooner-kept : (h : List (Transaction ℕ ℕ)) (a : Asked) (cycle : List ℕ)
+    → IsFirstCycleOf (StandsBefore h [] a.sessions.items) cycle
+    → IsCycleKeeping h a.times.items a.sessions.items cycle
+sooner-kept h a cycle told = record {
+  is = steps-cycle (StandsBefore h [] a.sessions.items) (StandsBefore h a.times.items a.sessions.items)
+      (step-with-times h a.times.items a.sessions.items) cycle told.is;
+  first = inl told;
+}

@@ -3,7 +3,7 @@ use Rattle.std.specs.Prelude.{◌≡◌, ◌⊎◌, ℕ, ◌<◌, List, [], leng
 use Rattle.sgt_history.specs.declared.named.Graph.TheVariants.{Whole}
 use Rattle.sgt_history.specs.Transaction.{Transaction, ArePositive}
 use Rattle.sgt_history.specs.Serial.{StandOnce}
-use Rattle.sgt_history.specs.Conflicts.{IsCycle, Precedes}
+use Rattle.sgt_history.specs.Conflicts.{Precedes}
 use Rattle.sgt_history.specs.Flaws.{IsFaultless}
 use Rattle.sgt_history_conflicts.specs.Edges.{AreEdgesOf}
 use Rattle.sgt_history_graph.specs.declared.edge.Edge.{Edge}
@@ -11,6 +11,7 @@ use Rattle.sgt_history_graph.specs.Graph.{Goes, JoinsNodes}
 use Rattle.sgt_history_kept.specs.declared.asked.Asked.{Asked}
 use Rattle.sgt_history_kept.specs.declared.deciding.Kept.{Kept}
 use Rattle.sgt_history_kept.specs.declared.deciding.Kept.TheVariants.{Serial, Cyclic}
+use Rattle.sgt_history_kept.specs.FirstCycle.{IsFirstCycleOf}
 use Rattle.sgt_history_kept.specs.Least.{IsLeastKeeping}
 use Rattle.sgt_history_kept.specs.Sooner.{IsCycleKeeping}
 use Rattle.sgt_history_time.specs.Kept.{IsBefore, IsEarlier}
@@ -47,10 +48,10 @@ abbrev pub IsKept : List (Transaction ℕ ℕ) → Asked → Kept → Type 0
 IsKept h a (Serial order) = IsSerialKeeping h a (committed_in h order.items)
 IsKept h a (Cyclic cycle) = IsCycleKeeping h a.times.items a.sessions.items cycle.items
 
--- the same, of whichever cycle
+-- the same, where all that is asked for counts alike
 abbrev pub IsFound : List (Transaction ℕ ℕ) → Asked → Kept → Type 0
 IsFound h a (Serial order) = IsSerialKeeping h a (committed_in h order.items)
-IsFound h a (Cyclic cycle) = IsCycle (StandsBefore h a.times.items a.sessions.items) cycle.items
+IsFound h a (Cyclic cycle) = IsFirstCycleOf (StandsBefore h a.times.items a.sessions.items) cycle.items
 
 -- of what is asked the sessions, and no times
 pub record IsAskedAlone (asked alone : Asked) : Type 0 where

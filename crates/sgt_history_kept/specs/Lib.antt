@@ -3,4 +3,7 @@ pub mod Decided
 pub mod Unkept
 pub mod Seen
 pub mod Least
+pub mod FirstCycle
 pub mod Sooner
+pub mod Rising
+pub mod Labels

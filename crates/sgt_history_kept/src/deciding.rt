@@ -1,10 +1,10 @@
 //! Whether an order serves and keeps what is asked.
 
-ghost use Rattle.std.specs.Prelude.{◌≡◌, ◌≤◌, ◌^◌, ◌↔◌, ◌⊎◌, All, IfOk, IfSome, IsTrue, List, ℕ};
-ghost use Rattle.sgt_history.specs.Conflicts.{IsCycle};
+ghost use Rattle.std.specs.Prelude.{◌≡◌, ◌≤◌, ◌^◌, ◌↔◌, All, IfOk, IfSome, List, ℕ};
 ghost use Rattle.sgt_history.specs.Transaction.{Transaction};
 ghost use Rattle.sgt_history_graph.specs.Graph.{JoinsNodes};
 ghost use Rattle.sgt_history_kept.specs.Decided.{IsAskedAlone, IsKept, IsKeptFrom, IsSerial, IsSerialKeeping};
+ghost use Rattle.sgt_history_kept.specs.FirstCycle.{IsFirstCycleOf};
 ghost use Rattle.sgt_history_kept.specs.Sooner.{IsCycleKeeping};
 ghost use Rattle.sgt_history_time.specs.Serializable.{IsSerializableKeeping};
 ghost use Rattle.sgt_history_time.specs.Steps.{StandsBefore};
@@ -12,11 +12,11 @@ ghost use Rattle.sgt_history_verdict.specs.Verdict.{committed_in};
 
 use crate::asked::{Asked, without_times};
 use crate::checking::goes_forward;
+use crate::first::is_first;
 use crate::least::least_order;
 use crate::plain::plainly;
 use crate::quick::quick_order;
-use crate::round::is_round;
-use crate::search::shown_lines;
+use crate::search::{Shown, shown_of};
 use sgt_history_graph::Edge;
 use std::alloc::{AllocError, Global};
 
@@ -25,7 +25,8 @@ use std::alloc::{AllocError, Global};
 pub enum Kept {
     /// Those of the lines that commit, in this order, serve, and keep it; of those that may come next always the least.
     Serial(Vec<u32>),
-    /// Each of these lines has to stand before the next, and the last before the first.
+    /// Each of these lines has to stand before the next, and the last before the first: the first cycle of conflicts and
+    /// sessions alone, or, where these have none, with real time too.
     Cyclic(Vec<u32>),
 }
 
@@ -55,34 +56,34 @@ fn checked_order(
     Ok(Some(order))
 }
 
-/// Whether the cycle is one of conflicts and sessions alone, or these have an order; `alone` is asked without times.
-fn is_sooner(
+/// The first cycle of conflicts and what is asked, if what is found is that.
+fn checked_cycle(
     alloc: Global,
     lines: usize,
     edges: &[Edge],
-    alone: &Asked,
-    cycle: &[u32],
-) -> Result<bool, AllocError>
-    requires few { lines ≤ 2 ^ 32 }
-    requires ends { All (JoinsNodes lines) edges.now }
-    ensures { IfOk result (λ yes. IsTrue yes → (h : List (Transaction ℕ ℕ))
-        → IsKeptFrom h lines edges.now alone.now
-        → IsCycle (StandsBefore h alone.now.times.items alone.now.sessions.items) cycle.now
-        ⊎ IsSerializableKeeping h alone.now.times.items alone.now.sessions.items) }
+    asked: &Asked,
+) -> Result<Option<Vec<u32>>, AllocError>
+    requires { lines ≤ 2 ^ 32 }
+    ensures { IfOk result (λ found. IfSome found (λ cycle. (h : List (Transaction ℕ ℕ))
+        → IsKeptFrom h lines edges.now asked.now
+        → IsFirstCycleOf (StandsBefore h asked.now.times.items asked.now.sessions.items) cycle.items)) }
 {
-    let round = is_round(alloc, edges, alone, cycle)?;
-    if round {
-        return Ok(true);
-    }
-    let Some(order) = checked_order(alloc, lines, edges, alone)? else {
-        return Ok(false);
+    let Some(Shown { cycle, labels }) = shown_of(alloc, lines, edges, asked)? else {
+        return Ok(None);
     };
-    drop(order);
-    Ok(true)
+    if labels.keys.len() != lines {
+        return Ok(None);
+    }
+    let first = is_first(alloc, edges, asked, cycle.as_slice(), &labels)?;
+    if !first {
+        return Ok(None);
+    }
+    Ok(Some(cycle))
 }
 
-/// The cycle to be shown, if it is one, and sooner than any with steps of time.
-fn checked_cycle(
+/// The cycle to be shown, if what is found is that: the first of conflicts and sessions alone, or, where these have an
+/// order, with real time too; `alone` is without times.
+fn first_cycle(
     alloc: Global,
     lines: usize,
     edges: &[Edge],
@@ -96,18 +97,11 @@ fn checked_cycle(
         → IsKeptFrom h lines edges.now asked.now
         → IsCycleKeeping h asked.now.times.items asked.now.sessions.items cycle.items)) }
 {
-    let Some(cycle) = shown_lines(alloc, lines, edges, asked)? else {
-        return Ok(None);
+    let Some(order) = checked_order(alloc, lines, edges, alone)? else {
+        return checked_cycle(alloc, lines, edges, alone);
     };
-    let holds = is_round(alloc, edges, asked, cycle.as_slice())?;
-    if !holds {
-        return Ok(None);
-    }
-    let sooner = is_sooner(alloc, lines, edges, alone, cycle.as_slice())?;
-    if !sooner {
-        return Ok(None);
-    }
-    Ok(Some(cycle))
+    drop(order);
+    checked_cycle(alloc, lines, edges, asked)
 }
 
 /// What the history is.
@@ -121,7 +115,7 @@ fn decided(alloc: Global, lines: usize, edges: &[Edge], asked: &Asked) -> Result
         return Ok(Kept::Serial(order));
     }
     let alone = without_times(alloc, asked)?;
-    if let Some(cycle) = checked_cycle(alloc, lines, edges, asked, &alone)? {
+    if let Some(cycle) = first_cycle(alloc, lines, edges, asked, &alone)? {
         return Ok(Kept::Cyclic(cycle));
     }
     plainly(alloc, lines, edges, asked, &alone)

@@ -5,11 +5,14 @@ mod asked;
 mod checking;
 mod deciding;
 mod drawing;
+mod first;
+mod labels;
 mod least;
 mod passed;
 mod places;
 mod plain;
 mod quick;
+mod rising;
 mod round;
 mod search;
 

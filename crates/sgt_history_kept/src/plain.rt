@@ -1,4 +1,4 @@
-//! The plain way to an order or a cycle: each two lines are looked at.
+//! The plain way to an order or the first cycle: each two lines are looked at.
 
 ghost use Rattle.std.specs.Prelude.{◌≡◌, ◌+◌, ◌≤◌, ◌<◌, ◌^◌, All, IfOk, OnOk, List, length, ℕ};
 ghost use Rattle.sgt_history.specs.Transaction.{Transaction};
@@ -9,7 +9,7 @@ ghost use Rattle.sgt_history_kept.specs.Decided.{Adds, IsAskedAlone, IsAskedBefo
 use crate::asked::Asked;
 use crate::checking::is_asked;
 use crate::deciding::Kept;
-use sgt_history_graph::{Edge, Ordered, order};
+use sgt_history_graph::{Edge, Ordered, order, shown_cycle};
 use std::alloc::{AllocError, Global};
 
 /// Puts an edge between the lines, if the first is asked to stand before the second.
@@ -46,7 +46,7 @@ fn push_rows(asked: &Asked, lines: usize, edges: &mut Vec<Edge>) -> Result<(), A
     Ok(())
 }
 
-/// An order or a cycle, by all pairs of lines.
+/// An order or the first cycle, by all pairs of lines.
 fn sorted_by_pairs(
     alloc: Global,
     lines: usize,
@@ -62,12 +62,15 @@ fn sorted_by_pairs(
     push_rows(asked, lines, &mut all)?;
     match order(alloc, lines, all.as_slice())? {
         Ordered::Order(order) => Ok(Kept::Serial(order)),
-        Ordered::Cycle(cycle) => Ok(Kept::Cyclic(cycle)),
+        Ordered::Cycle(_) => match shown_cycle(alloc, lines, all.as_slice())? {
+            Some(cycle) => Ok(Kept::Cyclic(cycle)),
+            None => unreachable!(),
+        },
     }
 }
 
-/// An order or a cycle, by all pairs of lines, and of sessions alone first; `alone` is without times. Takes time in
-/// proportion to the square of the lines.
+/// An order or the first cycle, by all pairs of lines, and of sessions alone first; `alone` is without times. Takes time
+/// in proportion to the square of the lines.
 pub(crate) fn plainly(
     alloc: Global,
     lines: usize,

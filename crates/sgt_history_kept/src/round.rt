@@ -16,7 +16,7 @@ use sgt_history_time::session_at;
 use std::alloc::{AllocError, Global};
 
 /// The line behind this place; behind the last place is the first.
-fn line_behind(lines: &[u32], place: usize) -> u32
+pub(crate) fn line_behind(lines: &[u32], place: usize) -> u32
     requires { place < length lines.now }
     ensures { slice_get lines.now (place_behind place (length lines.now)) ≡ Some result }
 {

@@ -1,11 +1,14 @@
-//! The cycle that is shown. Which one it is isn't proved: who asks for it checks it.
+//! The cycle that is shown, with labels of lines. What they are isn't proved: who asks for them checks them.
 
 ghost use Rattle.std.specs.Prelude.{◌≤◌, ◌^◌};
 
 use crate::asked::Asked;
 use crate::drawing::{Layout, Steps, begins_of, drawn, ends_of, number_of, sessions_of};
+use crate::labels::{KEYS, Labels};
 use crate::quick::nodes_of;
-use sgt_history_graph::{Edge, shown_cycle};
+use crate::rising::number_of_line;
+use crate::round::line_behind;
+use sgt_history_graph::{Edge, falling_ranks};
 use sgt_history_time::{is_before, is_earlier, session_at, times_at};
 use std::alloc::{AllocError, Global};
 
@@ -20,12 +23,13 @@ fn number_at(numbers: &[u32], place: u32) -> u32 {
     }
 }
 
-/// The least line that lies on a cycle.
-fn least_on_cycle(
+/// Ranks of lines and moments: those on a cycle have one, and a step that is on none leads to a lesser one. With the
+/// least line that lies on a cycle.
+fn ranked(
     alloc: Global,
     lines: usize,
     steps: &Steps<'_>,
-) -> Result<Option<u32>, AllocError> {
+) -> Result<Option<(Vec<u32>, u32)>, AllocError> {
     let begins = begins_of(alloc, steps.times)?;
     let Some(nodes) = nodes_of(lines, begins.len()) else {
         return Ok(None);
@@ -36,10 +40,24 @@ fn least_on_cycle(
         nodes,
     };
     let drawn = drawn(alloc, layout, steps, begins.as_slice())?;
-    match shown_cycle(alloc, nodes, drawn.as_slice())? {
-        Some(cycle) => Ok(cycle.first().copied()),
+    let Some(ranks) = falling_ranks(alloc, nodes, drawn.as_slice())? else {
+        return Ok(None);
+    };
+    match least_level(drawn.as_slice(), ranks.as_slice()) {
+        Some(node) => Ok(Some((ranks, node))),
         None => Ok(None),
     }
+}
+
+/// The least node from which an edge leads to one of the same rank.
+fn least_level(edges: &[Edge], ranks: &[u32]) -> Option<u32> {
+    let mut least = None;
+    for edge in edges {
+        if number_at(ranks, edge.from) == number_at(ranks, edge.to) {
+            least = lesser(least, edge.from);
+        }
+    }
+    least
 }
 
 /// The conflicts, by where they lead, or turned round by where from.
@@ -251,9 +269,20 @@ fn least_next(way: &Way<'_>, here: u32, distance: u32) -> Option<u32> {
     best
 }
 
-/// Of the shortest cycles through the line the one whose lines are, from it on, the least.
-fn least_round(alloc: Global, way: &Way<'_>, node: u32) -> Result<Option<Vec<u32>>, AllocError> {
-    let far = nearest(way, node);
+/// Of the shortest cycles through the line from which the walk went back the one whose lines are, from it on, the least.
+fn least_round(
+    alloc: Global,
+    steps: Steps<'_>,
+    walk: &Walk,
+    node: u32,
+) -> Result<Option<Vec<u32>>, AllocError> {
+    let ahead = turned(alloc, steps.edges, false)?;
+    let way = Way {
+        steps,
+        walk,
+        ahead: ahead.as_slice(),
+    };
+    let far = nearest(&way, node);
     if far == FAR {
         return Ok(None);
     }
@@ -261,7 +290,7 @@ fn least_round(alloc: Global, way: &Way<'_>, node: u32) -> Result<Option<Vec<u32
     let mut here = node;
     cycle.push(here)?;
     for passed in 0..far {
-        let Some(next) = least_next(way, here, far - passed) else {
+        let Some(next) = least_next(&way, here, far - passed) else {
             return Ok(None);
         };
         cycle.push(next)?;
@@ -270,39 +299,82 @@ fn least_round(alloc: Global, way: &Way<'_>, node: u32) -> Result<Option<Vec<u32
     Ok(Some(cycle))
 }
 
-/// The cycle to show of these steps.
-fn shown_of(alloc: Global, lines: usize, steps: Steps<'_>) -> Result<Option<Vec<u32>>, AllocError> {
-    let Some(node) = least_on_cycle(alloc, lines, &steps)? else {
-        return Ok(None);
-    };
-    let mut walk = Walk::new(alloc, lines, &steps)?;
-    walk.walk(&steps, node)?;
-    let ahead = turned(alloc, steps.edges, false)?;
-    let way = Way {
-        steps,
-        walk: &walk,
-        ahead: ahead.as_slice(),
-    };
-    least_round(alloc, &way, node)
+/// A cycle, and the labels that show that it is the first.
+#[derive(Drop)]
+pub(crate) struct Shown {
+    pub cycle: Vec<u32>,
+    pub labels: Labels,
 }
 
-/// The cycle to show: with sessions alone, if there is one, else with real time too. Of the least line that lies on
-/// one the shortest, of several the one whose lines are, from it on, the least. Takes time in proportion to the
-/// steps, times a logarithm.
-pub(crate) fn shown_lines<'x>(
+/// The greatest of the numbers.
+fn greatest_of(numbers: &[u32]) -> u32 {
+    let mut greatest = 0;
+    for number in numbers {
+        greatest = greatest.max(*number);
+    }
+    greatest
+}
+
+/// Labels of so many lines for a cycle from the node: a step leads nearer by one at most. `keep_to` tells more of the
+/// cycle's lines.
+fn labels_of(
+    alloc: Global,
+    lines: usize,
+    ranks: &[u32],
+    distances: &[u32],
+    node: u32,
+) -> Result<Labels, AllocError> {
+    let greatest = greatest_of(ranks);
+    let mut labels = Labels::with_capacity(alloc, lines)?;
+    for line in 0..lines {
+        let line = number_of(line);
+        let level = greatest.saturating_sub(number_at(ranks, line)) as u64;
+        labels.enters.push(level)?;
+        labels
+            .leaves
+            .push(if line < node { level + 1 } else { level })?;
+        let distance = number_at(distances, line) as u64;
+        labels.distances.push(distance)?;
+        labels.keys.push(distance * KEYS + line as u64)?;
+        labels.least.push(distance.saturating_sub(1) * KEYS)?;
+    }
+    Ok(labels)
+}
+
+/// Of each line of the cycle the next one's key is the least.
+fn keep_to(labels: &mut Labels, cycle: &[u32]) {
+    for place in 0..cycle.len() {
+        let next = line_behind(cycle, place);
+        let key = number_of_line(labels.keys.as_slice(), next as usize);
+        if let Some(least) = labels.least.get_mut(cycle[place] as usize) {
+            *least = key;
+        }
+    }
+}
+
+/// The cycle to show of conflicts and what is asked: of the least line that lies on one the shortest, of several the one
+/// whose lines are, from it on, the least. Takes time in proportion to the steps, times a logarithm.
+pub(crate) fn shown_of<'x>(
     alloc: Global,
     lines: usize,
     edges: &'x [Edge],
     asked: &'x Asked,
-) -> Result<Option<Vec<u32>>, AllocError> {
-    let mut steps = Steps {
+) -> Result<Option<Shown>, AllocError> {
+    let steps = Steps {
         edges,
         sessions: asked.sessions.as_slice(),
-        times: &[],
+        times: asked.times.as_slice(),
     };
-    if let Some(cycle) = shown_of(alloc, lines, steps)? {
-        return Ok(Some(cycle));
-    }
-    steps.times = asked.times.as_slice();
-    shown_of(alloc, lines, steps)
+    let Some((ranks, node)) = ranked(alloc, lines, &steps)? else {
+        return Ok(None);
+    };
+    let mut walk = Walk::new(alloc, lines, &steps)?;
+    walk.walk(&steps, node)?;
+    let Some(cycle) = least_round(alloc, steps, &walk, node)? else {
+        return Ok(None);
+    };
+    let Walk { distances, .. } = walk;
+    let mut labels = labels_of(alloc, lines, ranks.as_slice(), distances.as_slice(), node)?;
+    keep_to(&mut labels, cycle.as_slice());
+    Ok(Some(Shown { cycle, labels }))
 }

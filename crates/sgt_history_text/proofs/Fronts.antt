@@ -13,7 +13,7 @@ use Rattle.json.proofs.Printed.Trees.{value-json_tokens}
 use Rattle.sgt_names.proofs.Lists.{tails}
 use Rattle.json.specs.Value.{value_view}
 use Rattle.json.specs.declared.value.Value.{Value}
-use Rattle.sgt_history_text.specs.Shallow.{AfterValue, Closes, Enters, IsFront, IsScalar, NoValue, ReadsAs, arrays, empty, leaf, map_items}
+use Rattle.sgt_history_text.specs.Shallow.{AfterValue, Closes, Enters, IsFront, IsScalar, IsSeenAs, NoValue, ReadsAs, arrays, empty, leaf, map_items}
 
 -- one value stands in front at most
 pub same_front : (i j : Json) (r s : List Token) → json_tokens i ++ r ≡ json_tokens j ++ s → (i ≡ j) × (r ≡ s)
@@ -270,9 +270,13 @@ module _ {A : Type 0} (old mid new : List Token) where
       λ rest front. none rest ((front_array mid rest).0 (subst (λ l. IsFront l rest) e front))
   found_array f leaves e (Some v) (c, is) = (array c.0, e ∙ ap (λ l. begin_array ∷ l) c.1, is ∙ sym (leaves c.0))
 
-  pub found_items : (f : Json → Json) → old ≡ begin_array ∷ mid → (found : Option (Value A))
-      → MatchOption found ((rest : List Token) → Closes false mid rest
-      → ⊥) (λ v. (js : Items) × (mid ≡ items_tokens js ++ new) × (value_view v ≡ array (map_items f js)))
-      → MatchOption found (NoValue old) (λ v. ReadsAs (arrays f) old (value_view v) new)
-  found_items f e None none = λ rest front. none rest ((front_array mid rest).0 (subst (λ l. IsFront l rest) e front))
-  found_items f e (Some v) (js, text, is) = (array js, e ∙ ap (λ l. begin_array ∷ l) text, is)
+-- ---- a value of which it is seen whether it is an operation
+
+module _ {A : Type 0} (old mid new : List Token) where
+  pub row_items : old ≡ begin_array ∷ mid → (found : Option (Value A))
+      → MatchOption found ((rest : List Token) → Closes false mid rest → ⊥)
+      (λ v. (js : Items) × (mid ≡ items_tokens js ++ new) × IsSeenAs (array js) (value_view v))
+      → MatchOption found (NoValue old)
+      (λ v. (j : Json) × (old ≡ json_tokens j ++ new) × IsSeenAs j (value_view v))
+  row_items e None none = λ rest front. none rest ((front_array mid rest).0 (subst (λ l. IsFront l rest) e front))
+  row_items e (Some v) (js, text, is) = (array js, e ∙ ap (λ l. begin_array ∷ l) text, is)

@@ -89,3 +89,16 @@ module _ (b b' : Builder) (ids : List Json) (h : List (Transaction Json Json)) (
         built.closed refl built.opened);
     opened = subst (λ os. NamesOperations built.items built.values os []) (sym none_open) tt;
   }
+
+  -- what was begun is let go
+  pub built_forgotten : b'.ids ≡ b.ids → b'.items ≡ b.items → b'.values ≡ b.values
+      → closed_of b'.history ≡ closed_of b.history → open_of b'.history ≡ [] → IsBuilt b' ids h []
+  built_forgotten same_ids same_items same_values same_closed none_open = record {
+    items = built.items;
+    values = built.values;
+    ids_kept = subst (λ t. AreKept t ids) (sym same_ids) built.ids_kept;
+    items_kept = subst (λ t. AreKept t built.items) (sym same_items) built.items_kept;
+    values_kept = subst (λ t. AreKept t built.values) (sym same_values) built.values_kept;
+    closed = subst (λ c. NamesHistory built.items built.values c h) (sym same_closed) built.closed;
+    opened = subst (λ os. NamesOperations built.items built.values os []) (sym none_open) tt;
+  }

@@ -19,3 +19,7 @@ mod Objects
 pub mod Keys
 mod PlainTexts
 mod PlainLines
+mod PlainPuts
+mod Reopened
+mod Appended
+mod Seen

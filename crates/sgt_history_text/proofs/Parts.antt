@@ -1,22 +1,14 @@
 -- When a value of JSON is an operation.
 use Rattle.std.proofs.Common.{◌≡◌, ℕ, ◌+◌, ◌<◌, ◌≤◌, ◌^◌, List, [], ◌∷◌, ◌++◌, map, length, take, get_or, slice_get, Option, Some, None, IfSome, All, option_map, refl, sym, ap, ap₂, ◌∙◌, subst, arith, codes, decimal}
-use Rattle.std.specs.Borrow.{Bor}
 use Rattle.std.proofs.lemmas.Fmt.{decimal_injective}
-use Rattle.std.proofs.lemmas.List.{map_push, take_all}
-use Rattle.std.proofs.lemmas.List.Elements.{All-push}
-use Rattle.std.proofs.lemmas.Option.{slice_get-map}
 use Rattle.json.specs.Json.{Json, null, boolean, number, string, array, object, Items, no_items, item}
 use Rattle.json.specs.Find.{at}
-use Rattle.json.specs.Value.{items_of, value_view}
-use Rattle.json.specs.declared.value.Value.{Value}
-use Rattle.sgt_names.proofs.Lists.{map_at, take_next}
-use Rattle.sgt_names.proofs.Places.{All_at}
+use Rattle.json.specs.Value.{items_of}
 use Rattle.sgt_history.specs.declared.history.Kind.{Kind}
 use Rattle.sgt_history.specs.declared.history.Kind.TheVariants.{Read, Write}
 use Rattle.sgt_history.specs.declared.history.Operation.{Operation}
 use Rattle.sgt_history_text.specs.Line.{IsOperation, kind_word, operation_json}
 use Rattle.sgt_history_text.specs.Name.{IsItem, IsValue}
-use Rattle.sgt_history_text.specs.Parsed.{seen_operation}
 use Rattle.sgt_history_text.proofs.Telling.{number_is}
 
 -- an array of these elements and no fifth
@@ -76,44 +68,6 @@ same_items (x ∷ xs) (y ∷ ys) e =
     let rest : items_of xs ≡ items_of ys = cc in
     rw (first, same_items xs ys rest) refl
 
--- the operations are those of so many values
-pub record IsFront {A : Type 0} (list : List (Value A)) (n : ℕ)
-    (os : List (Operation (Bor (Value A)) (Bor (Value A)))) : Type 0 where
-  pub each : All IsOperation (map seen_operation os)
-  pub same : map value_view (take n list) ≡ map operation_json (map seen_operation os)
-
-module _ {A : Type 0} (list : List (Value A)) where
-  pub front_none : IsFront list 0 []
-  front_none = record { each = λ k d h. absurd (omega arith); same = refl }
-
-  pub front_next : (n : ℕ) (v : Value A) (o : Operation (Bor (Value A)) (Bor (Value A)))
-      (os : List (Operation (Bor (Value A)) (Bor (Value A))))
-      → slice_get list n ≡ Some v → IsOperation (seen_operation o) → value_view v ≡ operation_json (seen_operation o)
-      → IsFront list n os → IsFront list (n + 1) (os ++ o ∷ [])
-  front_next n v o os at is e front = record {
-    each = subst (λ ps. All IsOperation ps) (sym (map_push seen_operation os o))
-        (All-push IsOperation (map seen_operation os) (seen_operation o) front.each is);
-    same = ap (map value_view) (take_next list n v at) ∙ map_push value_view (take n list) v
-        ∙ ap₂ (λ xs x. xs ++ x ∷ []) front.same e
-        ∙ sym (map_push operation_json (map seen_operation os) (seen_operation o))
-        ∙ ap (map operation_json) (sym (map_push seen_operation os o));
-  }
-
-  pub front_whole : (n : ℕ) (os : List (Operation (Bor (Value A)) (Bor (Value A)))) → length list ≤ n
-      → IsFront list n os
-      → All IsOperation (map seen_operation os) × (map value_view list ≡ map operation_json (map seen_operation os))
-  front_whole n os all front = (front.each, ap (map value_view) (sym (take_all n list all)) ∙ front.same)
-
-  -- one of the values is no operation
-  pub none_of : (n : ℕ) (v : Value A) → slice_get list n ≡ Some v
-      → ((o : Operation Json Json) → IsOperation o → value_view v ≡ operation_json o → ⊥)
-      → (os : List (Operation Json Json)) → All IsOperation os → map value_view list ≡ map operation_json os → ⊥
-  none_of n v at none os all e =
-      let there : slice_get (map operation_json os) n ≡ Some (value_view v) = sym (ap (λ l. slice_get l n) e)
-      ∙ slice_get-map value_view list n ∙ ap (option_map value_view) at in
-      let o = map_at operation_json os n (value_view v) there in
-      none o.0 (All_at IsOperation os n o.0 all o.1) (sym o.2)
-
 -- ---- one of them
 
 letters : (r w : ℕ) → r ≡ 114 → w ≡ 119 → r ≡ w → ⊥
@@ -150,19 +104,3 @@ found_operation j i k n v a b c d e is_item fits above is_given = (
   record { item_is = is_item; version_fits = fits; positive = above; value_is = is_given },
   operation_is j i k n v a b c d e,
 )
-
-array_is : (xs ys : Items) → Some (array xs) ≡ Some (array ys) → xs ≡ ys
-array_is xs ys e = cc
-
--- the elements of an array are those of the other
-pub same_elements : (x : Json) (g : Option Json) (vs ps : List Json) → x ≡ array (items_of vs) → Some x ≡ g
-    → g ≡ Some (array (items_of ps)) → vs ≡ ps
-same_elements x g vs ps e there is =
-    same_items vs ps (array_is (items_of vs) (items_of ps) (ap Some (sym e) ∙ there ∙ is))
-
-pub operation_of : {A : Type 0} (os : List (Operation (Bor (Value A)) (Bor (Value A)))) (n : ℕ)
-    (o : Operation (Bor (Value A)) (Bor (Value A)))
-    → All IsOperation (map seen_operation os) → slice_get os n ≡ Some o → IsOperation (seen_operation o)
-operation_of os n o all at =
-    All_at IsOperation (map seen_operation os) n (seen_operation o) all (slice_get-map seen_operation os n
-    ∙ ap (option_map seen_operation) at)

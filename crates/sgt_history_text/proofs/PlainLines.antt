@@ -23,8 +23,7 @@ use Rattle.sgt_history.specs.declared.history.Kind.TheVariants.{Read, Write}
 use Rattle.sgt_history.specs.declared.history.Operation.{Operation}
 use Rattle.sgt_history_text.specs.Line.{IsLine, IsOperation, IsTextOf, end_word, given, kind_word, operation_json}
 use Rattle.sgt_history_text.specs.Name.{IsId, IsKey, IsValue, compact}
-use Rattle.sgt_history_text.specs.Plain.{IsCompactOf, IsPlain, MeanEach, Means, MeansLine, MeansValue, TextOperation, end_text, kind_text, led_texts, more_texts, operation_text, operation_texts, tx_text, value_text}
-use Rattle.sgt_history_text.specs.declared.plain.Plain.{Plain}
+use Rattle.sgt_history_text.specs.Plain.{IsCompactOf, IsPlain, MeanEach, Means, MeansValue, TextOperation, end_text, kind_text, led_texts, more_texts, operation_text, operation_texts, tx_text, value_text}
 use Rattle.sgt_history_text.specs.Built.{AreMoments, IsNumbered, IsNumberedOperation, IsNumberedValue}
 use Rattle.sgt_history_text.specs.Moment.{AreTold, HasSession, HasTimes, IsLineWith}
 use Rattle.sgt_history_text.specs.declared.moments.Moments.{Moments}
@@ -147,27 +146,11 @@ all_more : {A : Type 0} (P : A → Type 0) (x : A) (xs : List A) → P x → All
 all_more P x xs here behind zero d h = here
 all_more P x xs here behind (suc i) d h = behind i d (omega arith)
 
-all_behind : {A : Type 0} (P : A → Type 0) (x : A) (xs : List A) → All P (x ∷ xs) → All P xs
-all_behind P x xs all i d h = all (suc i) d (omega arith)
-
 each_is : (os : List TextOperation) (ps : List (Operation Json Json)) → MeanEach os ps → All IsOperation ps
 each_is [] [] h = all_none IsOperation
 each_is [] (p ∷ ps) h = absurd h
 each_is (o ∷ os) [] h = absurd h
 each_is (o ∷ os) (p ∷ ps) h = all_more IsOperation p ps h.0.is (each_is os ps h.1)
-
-each_means : (os : List TextOperation) → All IsPlain os → (ps : List (Operation Json Json)) × MeanEach os ps
-each_means [] h = ([], tt)
-each_means (o ∷ os) h =
-    let here : IsPlain o = h 0 o (omega arith) in
-    let rest = each_means os (all_behind IsPlain o os h) in
-    (here.0 ∷ rest.0, (here.1, rest.1))
-
-pub each_plain : (os : List TextOperation) (ps : List (Operation Json Json)) → MeanEach os ps → All IsPlain os
-each_plain [] [] h = all_none IsPlain
-each_plain [] (p ∷ ps) h = absurd h
-each_plain (o ∷ os) [] h = absurd h
-each_plain (o ∷ os) (p ∷ ps) h = all_more IsPlain o os (p, h.0) (each_plain os ps h.1)
 
 -- each with a comma behind it, and the last: as between brackets
 pub led_last : (os : List TextOperation) (o : TextOperation)
@@ -183,28 +166,6 @@ pub led_push : (os : List TextOperation) (o : TextOperation)
 led_push [] o = refl
 led_push (p ∷ os) o = ap (λ t. operation_text p ++ 44 ∷ t) (led_push os o)
     ∙ sym (append_assoc (operation_text p) (44 ∷ led_texts os) (operation_text o ++ 44 ∷ []))
-
-module _ (bytes : List ℕ) (from at behind to : ℕ) (os items : List TextOperation) (o : TextOperation)
-    (led : All IsPlain os × Spans bytes from (led_texts os) at) (next : IsPlain o
-    × Spans bytes at (operation_text o) behind) (more : items ≡ os ++ o ∷ []) where
-  all_pushed : All IsPlain items
-  all_pushed = subst (All IsPlain) (sym more) (All-push IsPlain os o led.0 next.0)
-
-  pub led_closed : Spans bytes behind (93 ∷ []) to → All IsPlain items × Spans bytes from (operation_texts items) to
-  led_closed close = (
-    all_pushed,
-    subst (λ t. Spans bytes from t to) (led_last os o ∙ ap operation_texts (sym more))
-        (spans_then bytes (led_texts os) (operation_text o ++ 93 ∷ []) from at to led.1
-        (spans_then bytes (operation_text o) (93 ∷ []) at behind to next.1 close)),
-  )
-
-  pub led_more : Spans bytes behind (44 ∷ []) to → All IsPlain items × Spans bytes from (led_texts items) to
-  led_more comma_is = (
-    all_pushed,
-    subst (λ t. Spans bytes from t to) (sym (led_push os o) ∙ ap led_texts (sym more))
-        (spans_then bytes (led_texts os) (operation_text o ++ 44 ∷ []) from at to led.1
-        (spans_then bytes (operation_text o) (44 ∷ []) at behind to next.1 comma_is)),
-  )
 
 -- ---- the line
 
@@ -267,24 +228,17 @@ whole_line line a b i j first second last =
     ∙ ap (λ t. a ++ t) (second.reads
     ∙ ap (λ t. b ++ t) (last.reads ∙ ap (λ t. 125 ∷ t) (drop_all (length line) line (le_refl (length line)))))
 
-pub plain_found : (line : List ℕ) (l : Plain) (i j : ℕ) → IsUtf8 line → IsCompactOf (IsKey 1 256) l.id.now
-    → All IsPlain l.operations.items
-    → Spans line 0 (tx_text ++ (l.id.now ++ end_text l.commits)) i
-    → Spans line i (operation_texts l.operations.items) j → Spans line j (125 ∷ []) (length line)
-    → (id : Json) × (t : Transaction Json Json) × IsLine line id t × MeansLine l id t
-plain_found line l i j utf8 id each first second last =
-    let os = l.operations.items in
-    let ps = each_means os each in
-    let text : line ≡ tx_text ++ (l.id.now ++ (end_text l.commits ++ (operation_texts os ++ 125 ∷ []))) =
+pub plain_found : (line id_text : List ℕ) (commits : Bool) (os : List TextOperation) (ps : List (Operation Json Json))
+    (i j : ℕ) → IsUtf8 line → (id : IsCompactOf (IsKey 1 256) id_text) → MeanEach os ps
+    → Spans line 0 (tx_text ++ (id_text ++ end_text commits)) i
+    → Spans line i (operation_texts os) j → Spans line j (125 ∷ []) (length line)
+    → IsLine line id.value (record { commits = commits; operations = ps })
+plain_found line id_text commits os ps i j utf8 id each first second last =
+    let text : line ≡ tx_text ++ (id_text ++ (end_text commits ++ (operation_texts os ++ 125 ∷ []))) =
     whole_line line _ _ i j first second last
-    ∙ ap (λ t. tx_text ++ t) (append_assoc l.id.now (end_text l.commits) (operation_texts os ++ 125 ∷ [])) in
-    let named : line ≡ tx_text ++ (compact id.value ++ (end_text l.commits ++ (operation_texts os ++ 125 ∷ []))) =
-    text ∙ ap (λ t. tx_text ++ (t ++ (end_text l.commits ++ (operation_texts os ++ 125 ∷ [])))) id.text_is in (
-      id.value,
-      record { commits = l.commits; operations = ps.0 },
-      plain_is line id.value l.commits os ps.0 utf8 id.is ps.1 named,
-      record { id_is = id.is; id_text = id.text_is; commits_is = refl; each = ps.1 },
-    )
+    ∙ ap (λ t. tx_text ++ t) (append_assoc id_text (end_text commits) (operation_texts os ++ 125 ∷ [])) in
+    plain_is line id.value commits os ps utf8 id.is each
+    (text ∙ ap (λ t. tx_text ++ (t ++ (end_text commits ++ (operation_texts os ++ 125 ∷ [])))) id.text_is)
 
 -- ---- with numbers
 
@@ -302,29 +256,6 @@ plain_numbered o p m js vs items values n v item_is value_is = record {
   item_is = item_is (key_numbers 0 1024 p.item m.is.item_is);
   value_is = value_is (given_numbers p.value m.is.value_is);
 }
-
--- the next operation is the one that the text means
-pub means_at : (os : List TextOperation) (ps : List (Operation Json Json)) → MeanEach os ps
-    → (n : ℕ) (o : TextOperation) → slice_get os n ≡ Some o
-    → (p : Operation Json Json) × (take n ps ++ p ∷ [] ≡ take (n + 1) ps) × Means o p
-means_at [] [] h n o at = absurd cc
-means_at [] (p ∷ ps) h n o at = absurd h
-means_at (q ∷ os) [] h n o at = absurd h
-means_at (q ∷ os) (p ∷ ps) h zero o at = (p, refl, subst (λ x. Means x p) (same_Some q o at) h.0)
-means_at (q ∷ os) (p ∷ ps) h (suc n) o at =
-    let rest = means_at os ps h.1 n o at in
-    let shift : suc (n + 1) ≡ suc n + 1 = omega arith in
-    (rest.0, ap (λ (l : List (Operation Json Json)). p ∷ l) rest.1 ∙ ap (λ k. take k (p ∷ ps)) shift, rest.2)
-
-means_length : (os : List TextOperation) (ps : List (Operation Json Json)) → MeanEach os ps → length ps ≡ length os
-means_length [] [] h = refl
-means_length [] (p ∷ ps) h = absurd h
-means_length (o ∷ os) [] h = absurd h
-means_length (o ∷ os) (p ∷ ps) h = ap suc (means_length os ps h.1)
-
-pub means_all : (os : List TextOperation) (ps : List (Operation Json Json)) → MeanEach os ps → (n : ℕ) → length os ≤ n
-    → take n ps ≡ ps
-means_all os ps h n all = take_all n ps (omega (arith, means_length os ps h, all))
 
 -- ---- where nothing more is wanted
 

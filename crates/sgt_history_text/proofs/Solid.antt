@@ -1,17 +1,15 @@
 -- What a transaction's members are is seen of what was read to some depth.
-use Rattle.std.proofs.Common.{◌≡◌, ℕ, suc, Bool, true, false, cond, List, [], ◌∷◌, map, Option, Some, None, option_map, All, IfSome, refl, sym, ap, ap₂, ◌∙◌, subst, arith, codes, decimal}
-use Rattle.std.specs.Str.{bytes_eq}
+use Rattle.std.proofs.Common.{◌≡◌, ℕ, suc, ◌<◌, ◌≤◌, Bool, true, false, List, Option, Some, None, option_map, IfSome, refl, sym, ap, ap₂, ◌∙◌, subst, arith, codes, decimal}
 use Rattle.std.proofs.lemmas.Option.{same_Some}
-use Rattle.json.specs.Json.{Json, null, boolean, number, string, array, object, Items, no_items, item, Members, no_members, member}
-use Rattle.json.specs.Find.{get_member, later_or}
-use Rattle.json.specs.Value.{items_of}
-use Rattle.sgt_history.specs.Transaction.{Transaction}
+use Rattle.json.specs.Json.{Json, null, boolean, number, string, array, object, Items, no_items, item, Members}
+use Rattle.json.specs.Find.{get, get_member}
 use Rattle.sgt_history.specs.declared.history.Operation.{Operation}
 use Rattle.sgt_history_text.specs.Line.{IsOperation, end_word, given, kind_word, operation_json}
 use Rattle.sgt_history_text.specs.Name.{IsKey, IsValue}
 use Rattle.sgt_history_time.specs.declared.times.Times.{Times}
-use Rattle.sgt_history_text.specs.Parsed.{AreTimes, IsSession, IsTransaction}
-use Rattle.sgt_history_text.specs.Shallow.{IsScalar, arrays, empty, leaf, map_items, map_members, read_members}
+use Rattle.sgt_history_text.specs.Members.{HasMembers, is_told}
+use Rattle.sgt_history_text.specs.Parsed.{AreTimes, IsHead, IsSession}
+use Rattle.sgt_history_text.specs.Shallow.{IsScalar, IsSeenAs, arrays, empty, leaf, map_items}
 
 -- it is as it is read, and nothing else is read so
 record IsSolid (f : Json → Json) (y : Json) : Type 0 where
@@ -42,24 +40,13 @@ leaf_back y s (object ms) e = absurd (not_scalar (empty true) y s (λ h. h) e)
 leaf_solid : (y : Json) → IsScalar y → IsSolid leaf y
 leaf_solid y s = record { fixed = leaf_fixed y s; back = leaf_back y s }
 
-arrays_fixed : (f : Json → Json) (y : Json) → IsScalar y → arrays f y ≡ y
+pub arrays_fixed : (f : Json → Json) (y : Json) → IsScalar y → arrays f y ≡ y
 arrays_fixed f null s = refl
 arrays_fixed f (boolean b) s = refl
 arrays_fixed f (number n) s = refl
 arrays_fixed f (string n) s = refl
 arrays_fixed f (array js) s = absurd s
 arrays_fixed f (object ms) s = absurd s
-
-arrays_back : (f : Json → Json) (y : Json) → IsScalar y → (x : Json) → arrays f x ≡ y → x ≡ y
-arrays_back f y s null e = e
-arrays_back f y s (boolean b) e = e
-arrays_back f y s (number n) e = e
-arrays_back f y s (string n) e = e
-arrays_back f y s (array js) e = absurd (not_scalar (array (map_items f js)) y s (λ h. h) e)
-arrays_back f y s (object ms) e = absurd (not_scalar (empty true) y s (λ h. h) e)
-
-arrays_solid : (f : Json → Json) (y : Json) → IsScalar y → IsSolid (arrays f) y
-arrays_solid f y s = record { fixed = arrays_fixed f y s; back = arrays_back f y s }
 
 key_scalar : (least most : ℕ) (j : Json) → IsKey least most j → IsScalar j
 key_scalar least most null k = absurd k
@@ -83,10 +70,10 @@ abbrev AreSolid : (Json → Json) → Items → Type 0
 AreSolid f no_items = Unit {0}
 AreSolid f (item j js) = IsSolid f j × AreSolid f js
 
-first_item : (x y : Json) (xs ys : Items) → item x xs ≡ item y ys → x ≡ y
+pub first_item : (x y : Json) (xs ys : Items) → item x xs ≡ item y ys → x ≡ y
 first_item x y xs ys e = cc
 
-rest_items : (x y : Json) (xs ys : Items) → item x xs ≡ item y ys → xs ≡ ys
+pub rest_items : (x y : Json) (xs ys : Items) → item x xs ≡ item y ys → xs ≡ ys
 rest_items x y xs ys e = cc
 
 pub elements : (xs ys : Items) → array xs ≡ array ys → xs ≡ ys
@@ -130,91 +117,101 @@ operation_solid o is =
       ),
     )
 
-operations_solid : (os : List (Operation Json Json)) → All IsOperation os
-    → AreSolid (arrays leaf) (items_of (map operation_json os))
-operations_solid [] all = tt
-operations_solid (o ∷ os) all =
-    (operation_solid o (all 0 o (omega arith)), operations_solid os (λ k d h. all (suc k) d (omega arith)))
+-- ---- an operation is seen of what was read of it
+
+pub seen_from : (j v : Json) → v ≡ arrays leaf j → IsSeenAs j v
+seen_from j v read o is =
+    let solid = operation_solid o is in
+    (λ e. read ∙ ap (arrays leaf) e ∙ solid.fixed, λ e. solid.back j (sym read ∙ e))
+
+abbrev pub count_items : Items → ℕ
+count_items no_items = 0
+count_items (item j js) = suc (count_items js)
+
+few_given : (v : Option Json) → count_items (given v) ≤ 1
+few_given None = omega arith
+few_given (Some j) = omega arith
+
+-- more elements are none
+pub long_none : (js : Items) → 4 < count_items js → (o : Operation Json Json) → array js ≡ operation_json o → ⊥
+long_none js long o e =
+    let same = elements js (item (string (kind_word o.kind)) (item o.item (item (number (decimal o.version)) (given o.value)))) e in
+    let size : count_items js ≡ suc (suc (suc (count_items (given o.value)))) = ap count_items same in
+    absurd (omega (arith, long, size, few_given o.value))
+
+pub seen_long : (js : Items) (v : Json) (ks : Items) → v ≡ array ks → 4 < count_items js → 4 < count_items ks
+    → IsSeenAs (array js) v
+seen_long js v ks read long long' o is = (
+  λ e. absurd (long_none js long o e),
+  λ e. absurd (long_none ks long' o (sym read ∙ e)),
+)
 
 -- ---- members
-
-later : (f : Json → Json) (o : Option Json) (b : Bool) (j : Json)
-    → later_or (option_map f o) (cond b (Some (f j)) None) ≡ option_map f (later_or o (cond b (Some j) None))
-later f None true j = refl
-later f None false j = refl
-later f (Some i) true j = refl
-later f (Some i) false j = refl
-
-get_read : (f : Json → Json) (name : List ℕ) (ms : Members)
-    → get_member name (map_members f ms) ≡ option_map f (get_member name ms)
-get_read f name no_members = refl
-get_read f name (member k j ms) =
-    ap (λ o. later_or o (cond (bytes_eq k name) (Some (f j)) None)) (get_read f name ms)
-    ∙ later f (get_member name ms) (bytes_eq k name) j
 
 some_back : (f : Json → Json) (o : Option Json) (y : Json) → IsSolid f y → option_map f o ≡ Some y → o ≡ Some y
 some_back f None y s e = absurd cc
 some_back f (Some x) y s e = ap Some (s.back x (same_Some (f x) y e))
 
-module _ (f : Json → Json) (ms : Members) (name : List ℕ) (y : Json) (s : IsSolid f y) where
-  member_on : get_member name (map_members f ms) ≡ Some y → get_member name ms ≡ Some y
-  member_on e = some_back f (get_member name ms) y s (sym (get_read f name ms) ∙ e)
+module _ (f : Json → Json) (found read : Option Json) (is : read ≡ option_map f found) (y : Json) (s : IsSolid f y)
+  where
+    member_on : read ≡ Some y → found ≡ Some y
+    member_on e = some_back f found y s (sym is ∙ e)
 
-  member_back : get_member name ms ≡ Some y → get_member name (map_members f ms) ≡ Some y
-  member_back e = get_read f name ms ∙ ap (option_map f) e ∙ ap Some s.fixed
+    member_back : found ≡ Some y → read ≡ Some y
+    member_back e = is ∙ ap (option_map f) e ∙ ap Some s.fixed
 
--- ---- read so deep, it is a transaction exactly where it is one
+-- ---- of what is kept so deep, it says what the object says
 
-pub transaction_on : (ms : Members) (id : Json) (t : Transaction Json Json)
-    → IsTransaction (object (read_members ms)) id t → IsTransaction (object ms) id t
-transaction_on ms id t is = record {
-  tx = member_on (arrays (arrays leaf)) ms (codes "tx") id (arrays_solid (arrays leaf) id (key_scalar 1 256 id is.id_is)) is.tx;
-  end = member_on (arrays (arrays leaf)) ms (codes "end") (string (end_word t.commits)) (arrays_solid (arrays leaf) (string (end_word t.commits)) tt) is.end;
-  ops = member_on (arrays (arrays leaf)) ms (codes "ops") (array (items_of (map operation_json t.operations)))
-      (array_solid (arrays leaf) (items_of (map operation_json t.operations)) (operations_solid t.operations is.each))
-      is.ops;
-  id_is = is.id_is;
-  each = is.each;
-}
+module _ (ms : Members) (v : Json) (has : HasMembers ms v) where
+  -- the member of a told name, if it has no depth
+  there_on : (name : List ℕ) → is_told name ≡ true → (y : Json) → IsScalar y
+      → get name v ≡ Some y → get_member name ms ≡ Some y
+  there_on name told y s = member_on leaf (get_member name ms) (get name v) (has name told) y (leaf_solid y s)
 
-pub transaction_back : (ms : Members) (id : Json) (t : Transaction Json Json) → IsTransaction (object ms) id t
-    → IsTransaction (object (read_members ms)) id t
-transaction_back ms id t is = record {
-  tx = member_back (arrays (arrays leaf)) ms (codes "tx") id (arrays_solid (arrays leaf) id (key_scalar 1 256 id is.id_is)) is.tx;
-  end = member_back (arrays (arrays leaf)) ms (codes "end") (string (end_word t.commits)) (arrays_solid (arrays leaf) (string (end_word t.commits)) tt) is.end;
-  ops = member_back (arrays (arrays leaf)) ms (codes "ops") (array (items_of (map operation_json t.operations)))
-      (array_solid (arrays leaf) (items_of (map operation_json t.operations)) (operations_solid t.operations is.each))
-      is.ops;
-  id_is = is.id_is;
-  each = is.each;
-}
+  there_back : (name : List ℕ) → is_told name ≡ true → (y : Json) → IsScalar y
+      → get_member name ms ≡ Some y → get name v ≡ Some y
+  there_back name told y s = member_back leaf (get_member name ms) (get name v) (has name told) y (leaf_solid y s)
 
--- ---- and says when it ran, and its session, exactly where it does
+  pub head_on : (id : Json) (commits : Bool) → IsHead v id commits → IsHead (object ms) id commits
+  head_on id commits is = record {
+    tx = there_on (codes "tx") refl id (key_scalar 1 256 id is.id_is) is.tx;
+    end = there_on (codes "end") refl (string (end_word commits)) tt is.end;
+    id_is = is.id_is;
+  }
 
-pub times_on : (ms : Members) (x : Times) → AreTimes (object (read_members ms)) x → AreTimes (object ms) x
-times_on ms x is = record {
-  begin = member_on (arrays (arrays leaf)) ms (codes "begin") (number (decimal x.begin)) (arrays_solid (arrays leaf) (number (decimal x.begin)) tt) is.begin;
-  done = member_on (arrays (arrays leaf)) ms (codes "done") (number (decimal x.done)) (arrays_solid (arrays leaf) (number (decimal x.done)) tt) is.done;
-  in_order = is.in_order;
-  fits = is.fits;
-}
+  pub head_back : (id : Json) (commits : Bool) → IsHead (object ms) id commits → IsHead v id commits
+  head_back id commits is = record {
+    tx = there_back (codes "tx") refl id (key_scalar 1 256 id is.id_is) is.tx;
+    end = there_back (codes "end") refl (string (end_word commits)) tt is.end;
+    id_is = is.id_is;
+  }
 
-pub times_back : (ms : Members) (x : Times) → AreTimes (object ms) x → AreTimes (object (read_members ms)) x
-times_back ms x is = record {
-  begin = member_back (arrays (arrays leaf)) ms (codes "begin") (number (decimal x.begin)) (arrays_solid (arrays leaf) (number (decimal x.begin)) tt) is.begin;
-  done = member_back (arrays (arrays leaf)) ms (codes "done") (number (decimal x.done)) (arrays_solid (arrays leaf) (number (decimal x.done)) tt) is.done;
-  in_order = is.in_order;
-  fits = is.fits;
-}
+  -- ---- and when it ran, and its session, exactly where it does
 
-pub session_on : (ms : Members) (s : Json) → IsSession (object (read_members ms)) s → IsSession (object ms) s
-session_on ms s is = record {
-  there = member_on (arrays (arrays leaf)) ms (codes "session") s (arrays_solid (arrays leaf) s (key_scalar 0 1024 s is.session_is)) is.there;
-  session_is = is.session_is;
-}
+  pub times_on : (x : Times) → AreTimes v x → AreTimes (object ms) x
+  times_on x is = record {
+    begin = there_on (codes "begin") refl (number (decimal x.begin)) tt is.begin;
+    done = there_on (codes "done") refl (number (decimal x.done)) tt is.done;
+    in_order = is.in_order;
+    fits = is.fits;
+  }
 
-pub session_back : (ms : Members) (s : Json) → IsSession (object ms) s → IsSession (object (read_members ms)) s
-session_back ms s is = record {
-  there = member_back (arrays (arrays leaf)) ms (codes "session") s (arrays_solid (arrays leaf) s (key_scalar 0 1024 s is.session_is)) is.there;
-  session_is = is.session_is;
-}
+  pub times_back : (x : Times) → AreTimes (object ms) x → AreTimes v x
+  times_back x is = record {
+    begin = there_back (codes "begin") refl (number (decimal x.begin)) tt is.begin;
+    done = there_back (codes "done") refl (number (decimal x.done)) tt is.done;
+    in_order = is.in_order;
+    fits = is.fits;
+  }
+
+  pub session_on : (s : Json) → IsSession v s → IsSession (object ms) s
+  session_on s is = record {
+    there = there_on (codes "session") refl s (key_scalar 0 1024 s is.session_is) is.there;
+    session_is = is.session_is;
+  }
+
+  pub session_back : (s : Json) → IsSession (object ms) s → IsSession v s
+  session_back s is = record {
+    there = there_back (codes "session") refl s (key_scalar 0 1024 s is.session_is) is.there;
+    session_is = is.session_is;
+  }

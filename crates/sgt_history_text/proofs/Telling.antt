@@ -8,10 +8,9 @@ use Rattle.json.specs.Tree.{HasNumbers}
 use Rattle.sgt_history.specs.Transaction.{Transaction, renamed_value}
 use Rattle.sgt_history_time.specs.declared.times.Times.{Times}
 use Rattle.sgt_history_text.specs.Line.{IsLine, IsTextOf, end_word}
-use Rattle.sgt_history_text.specs.Moment.{HasSession, HasTimes, IsEntry, IsLineWith, IsWantedEntry, LacksEntry}
-use Rattle.sgt_history_text.specs.Name.{IsItem}
-use Rattle.sgt_history_text.specs.Parsed.{AreTimes, IsMoment, IsSession, IsTransaction, LacksMoment, seen}
-use Rattle.sgt_history_text.specs.Shallow.{read_members}
+use Rattle.sgt_history_text.specs.Moment.{HasSession, HasTimes, IsEntry, IsLineWith, IsWantedEntry}
+use Rattle.sgt_history_text.specs.Parsed.{AreTimes, IsHead, IsMoment, IsSession, LacksMoment, seen}
+use Rattle.sgt_history_text.specs.Members.{HasMembers}
 use Rattle.sgt_history_text.specs.declared.moment.LentMoment.{LentMoment}
 use Rattle.sgt_history_text.specs.declared.wanted.Wanted.{Wanted}
 use Rattle.sgt_history_text.proofs.Kept.{key_numbers}
@@ -51,13 +50,13 @@ session_numbers j false commits (Some s) is = absurd cc
 
 -- ---- the line and its object
 
-module _ (line : List ℕ) (ms : Members) (text : IsTextOf line (object ms)) where
+module _ (line : List ℕ) (ms : Members) (text : IsTextOf line (object ms)) (v : Json) (has : HasMembers ms v) where
   same_object : (ns : Members) → IsTextOf line (object ns) → object ms ≡ object ns
   same_object ns other = same_tokens (object ms) (object ns) (sym text.tokens_are ∙ other.tokens_are)
 
-  has_times : (x : Times) → AreTimes (object (read_members ms)) x → HasTimes line x
+  has_times : (x : Times) → AreTimes v x → HasTimes line x
   has_times x read =
-      let is = times_on ms x read in
+      let is = times_on ms v has x read in
       record {
         members = ms;
         is_object = text;
@@ -68,40 +67,40 @@ module _ (line : List ℕ) (ms : Members) (text : IsTextOf line (object ms)) whe
             is.fits;
       }
 
-  are_times : (x : Times) → HasTimes line x → AreTimes (object (read_members ms)) x
+  are_times : (x : Times) → HasTimes line x → AreTimes v x
   are_times x is =
       let same = same_object is.members is.is_object in
-      times_back ms x (record {
+      times_back ms v has x (record {
         begin = ap (get (codes "begin")) same ∙ is.begin;
         done = ap (get (codes "done")) same ∙ is.done;
         in_order = is.in_order;
         fits = is.fits;
       })
 
-  has_session : (s : Json) → IsSession (object (read_members ms)) s → HasSession line s
+  has_session : (s : Json) → IsSession v s → HasSession line s
   has_session s read =
-      let is = session_on ms s read in
+      let is = session_on ms v has s read in
       record { members = ms; is_object = text; there = is.there; session_is = is.session_is }
 
-  is_session : (s : Json) → HasSession line s → IsSession (object (read_members ms)) s
+  is_session : (s : Json) → HasSession line s → IsSession v s
   is_session s is =
-      session_back ms s (record { there = ap (get (codes "session")) (same_object is.members is.is_object) ∙ is.there; session_is = is.session_is })
+      session_back ms v has s (record { there = ap (get (codes "session")) (same_object is.members is.is_object) ∙ is.there; session_is = is.session_is })
 
   pub lacks : (w : Wanted) (id : Json) (t : Transaction Json Json) (commits : Bool) → t.commits ≡ commits
-      → LacksMoment w commits (object (read_members ms))
+      → LacksMoment w commits v
       → IsLineWith w line id t → ⊥
   lacks w id t commits same (inl l) is =
       let x = is.timed l.is_wanted (same ∙ l.commits_is) in l.none x.0 (are_times x.0 x.1)
   lacks w id t commits same (inr l) is =
       let s = is.sessioned l.is_wanted (same ∙ l.commits_is) in l.none s.0 (is_session s.0 s.1)
 
-  module _ (w : Wanted) (commits : Bool) (m : LentMoment) (is : IsMoment w commits (object (read_members ms)) m) where
+  module _ (w : Wanted) (commits : Bool) (m : LentMoment) (is : IsMoment w commits v m) where
     pub entry_times : IsWantedEntry (HasTimes line) w.real_time commits m.times
-    entry_times = wanted_on (AreTimes (object (read_members ms))) (HasTimes line) w.real_time commits m.times
+    entry_times = wanted_on (AreTimes v) (HasTimes line) w.real_time commits m.times
         has_times is.times_are
 
     pub entry_session : IsWantedEntry (HasSession line) w.sessions commits (renamed_value seen m.session)
-    entry_session = wanted_on (IsSession (object (read_members ms))) (HasSession line) w.sessions commits
+    entry_session = wanted_on (IsSession v) (HasSession line) w.sessions commits
         (renamed_value seen m.session) has_session is.session_is
 
     pub line_with : (id : Json) (t : Transaction Json Json) → commits ≡ t.commits → IsLine line id t
@@ -121,9 +120,9 @@ same_end true false e = absurd cc
 same_end false true e = absurd cc
 same_end false false e = refl
 
-pub same_commits : (j id id' : Json) (t t' : Transaction Json Json) → IsTransaction j id t → IsTransaction j id' t'
-    → t.commits ≡ t'.commits
-same_commits j id id' t t' a b = same_end t.commits t'.commits (sym a.end ∙ b.end)
+pub same_commits : (j id id' : Json) (commits commits' : Bool) → IsHead j id commits → IsHead j id' commits'
+    → commits ≡ commits'
+same_commits j id id' commits commits' a b = same_end commits commits' (sym a.end ∙ b.end)
 
 -- ---- when it ran
 

@@ -10,3 +10,4 @@ pub mod Built
 pub mod Reading
 pub mod Ids
 pub mod Plain
+pub mod Members

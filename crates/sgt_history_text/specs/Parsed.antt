@@ -1,17 +1,16 @@
 -- What a line's value of JSON is.
-use Rattle.std.specs.Prelude.{◌≡◌, ◌<◌, ◌≤◌, ◌^◌, ◌⊎◌, Bool, map, All, Option, Some, codes, decimal}
+use Rattle.std.specs.Prelude.{◌≡◌, ◌<◌, ◌≤◌, ◌^◌, ◌⊎◌, Bool, Option, Some, codes, decimal}
 use Rattle.std.specs.Borrow.{Bor}
-use Rattle.json.specs.Json.{Json, string, number, array}
+use Rattle.json.specs.Json.{Json, string, number}
 use Rattle.json.specs.Find.{get}
-use Rattle.json.specs.Value.{items_of, value_view}
+use Rattle.json.specs.Value.{value_view}
 use Rattle.json.specs.declared.value.Value.{Value}
-use Rattle.sgt_history.specs.Transaction.{Transaction, renamed_operation, renamed_value}
+use Rattle.sgt_history.specs.Transaction.{renamed_operation, renamed_value}
 use Rattle.sgt_history.specs.declared.history.Operation.{Operation}
 use Rattle.sgt_history_time.specs.declared.times.Times.{Times}
-use Rattle.sgt_history_text.specs.Line.{IsOperation, end_word, operation_json}
+use Rattle.sgt_history_text.specs.Line.{end_word}
 use Rattle.sgt_history_text.specs.Moment.{IsWantedEntry, LacksEntry}
 use Rattle.sgt_history_text.specs.Name.{IsId, IsItem}
-use Rattle.sgt_history_text.specs.declared.line.Lent.{Lent}
 use Rattle.sgt_history_text.specs.declared.moment.LentMoment.{LentMoment}
 use Rattle.sgt_history_text.specs.declared.wanted.Wanted.{Wanted}
 
@@ -23,17 +22,11 @@ seen v = value_view v.now
 abbrev pub seen_operation : {A : Type 0} → Operation (Bor (Value A)) (Bor (Value A)) → Operation Json Json
 seen_operation o = renamed_operation seen seen o
 
--- the transaction whose operations are lent
-abbrev pub seen_transaction : Lent → Transaction Json Json
-seen_transaction t = record { commits = t.commits; operations = map seen_operation t.operations.items }
-
--- the value of JSON is an object with a transaction's members
-pub record IsTransaction (j id : Json) (t : Transaction Json Json) : Type 0 where
+-- the value of JSON is an object that says this id, and whether its transaction commits
+pub record IsHead (j id : Json) (commits : Bool) : Type 0 where
   pub tx : get (codes "tx") j ≡ Some id
-  pub end : get (codes "end") j ≡ Some (string (end_word t.commits))
-  pub ops : get (codes "ops") j ≡ Some (array (items_of (map operation_json t.operations)))
+  pub end : get (codes "end") j ≡ Some (string (end_word commits))
   pub id_is : IsId id
-  pub each : All IsOperation t.operations
 
 -- and says when it ran
 pub record AreTimes (j : Json) (x : Times) : Type 0 where

@@ -5,9 +5,11 @@ use Rattle.json.specs.Json.{Json}
 use Rattle.sgt_history.specs.Transaction.{Transaction}
 use Rattle.sgt_history.specs.declared.history.Kind.{Kind}
 use Rattle.sgt_history.specs.declared.history.Operation.{Operation}
-use Rattle.sgt_history_text.specs.Line.{IsOperation, end_word, kind_word}
-use Rattle.sgt_history_text.specs.Name.{IsId, compact}
-use Rattle.sgt_history_text.specs.declared.plain.Plain.{Plain}
+use Rattle.sgt_notation.specs.Private.{Spans}
+use Rattle.sgt_history_text.specs.Built.{IsAdded, IsBuilt}
+use Rattle.sgt_history_text.specs.Line.{IsLine, IsOperation, end_word, kind_word}
+use Rattle.sgt_history_text.specs.Name.{compact}
+use Rattle.sgt_history_text.specs.declared.building.Builder.{Builder}
 
 -- the byte stands for itself in a string
 abbrev pub IsBare : ℕ → Type 0
@@ -85,9 +87,24 @@ MeanEach [] (p ∷ ps) = ⊥
 MeanEach (o ∷ os) [] = ⊥
 MeanEach (o ∷ os) (p ∷ ps) = Means o p × MeanEach os ps
 
--- the line's transaction is this one, with this id
-pub record MeansLine (l : Plain) (id : Json) (t : Transaction Json Json) : Type 0 where
-  pub id_is : IsId id
-  pub id_text : l.id.now ≡ compact id
-  pub commits_is : l.commits ≡ t.commits
-  pub each : MeanEach l.operations.items t.operations
+-- ---- what is kept of them
+
+-- behind the lines that were read these operations were put, which stand between the places, written one after another
+pub record ArePut (texts : List TextOperation → List ℕ) (ids : List Json) (h : List (Transaction Json Json))
+    (bytes : List ℕ) (from to : ℕ) (b : Builder) : Type 0 where
+  pub os : List TextOperation
+  pub ps : List (Operation Json Json)
+  pub each : MeanEach os ps
+  pub text : Spans bytes from (texts os) to
+  pub built : IsBuilt b ids h ps
+
+-- so they are up to the bracket in front of the place; or some were put, where not all are in the layout
+abbrev pub ArePutUpTo : List Json → List (Transaction Json Json) → List ℕ → (from : ℕ) → Builder → Option ℕ → Type 0
+ArePutUpTo ids h bytes from b None = (begun : List (Operation Json Json)) × IsBuilt b ids h begun
+ArePutUpTo ids h bytes from b (Some to) = ArePut operation_texts ids h bytes from to b
+
+-- the line's transaction was added, or an earlier one has its id; or nothing was added
+abbrev pub IsPlainAdded : List Json → List (Transaction Json Json) → List ℕ → Builder → Option Bool → Type 0
+IsPlainAdded ids h line b None = IsBuilt b ids h []
+IsPlainAdded ids h line b (Some new) =
+    (id : Json) × (t : Transaction Json Json) × IsLine line id t × IsAdded ids h id t b new

@@ -1,9 +1,11 @@
 -- Values of JSON that are read to some depth: what nests deeper stands as an empty array or object.
-use Rattle.std.specs.Prelude.{◌≡◌, ◌↔◌, Bool, true, false, List, ◌∷◌, ◌++◌, Option, Some, None}
-use Rattle.json.specs.Json.{Json, null, boolean, number, string, array, object, Items, no_items, item, Members, no_members, member}
+use Rattle.std.specs.Prelude.{◌≡◌, ◌↔◌, ◌⊎◌, ◌<◌, Bool, true, false, List, [], ◌∷◌, ◌++◌, length, Option, Some, None}
+use Rattle.json.specs.Json.{Json, null, boolean, number, string, array, object, Items, no_items, item, Members, no_members}
 use Rattle.json.specs.Token.{Token, begin_object, begin_array}
 use Rattle.json.specs.Tree.{json_tokens, items_tokens, members_tokens}
 use Rattle.json.specs.Value.{value_view}
+use Rattle.sgt_history.specs.declared.history.Operation.{Operation}
+use Rattle.sgt_history_text.specs.Line.{IsOperation, operation_json}
 use Rattle.sgt_history_text.specs.declared.shallow.First.{First}
 use Rattle.sgt_history_text.specs.declared.shallow.First.TheVariants.{Object, Array, Scalar}
 
@@ -24,10 +26,6 @@ leaf (object ms) = empty true
 abbrev pub map_items : (Json → Json) → Items → Items
 map_items f no_items = no_items
 map_items f (item j js) = item (f j) (map_items f js)
-
-abbrev pub map_members : (Json → Json) → Members → Members
-map_members f no_members = no_members
-map_members f (member k j ms) = member k (f j) (map_members f ms)
 
 abbrev pub arrays : (Json → Json) → Json → Json
 arrays f null = null
@@ -88,6 +86,12 @@ IsOpened old None new = NoValue old
 IsOpened old (Some None) new = (j : Json) × (old ≡ json_tokens j ++ new) × IsScalar j
 IsOpened old (Some (Some b)) new = old ≡ bracket b ∷ new
 
--- what is read of an object's members
-abbrev pub read_members : Members → Members
-read_members ms = map_members (arrays (arrays leaf)) ms
+-- ---- operations
+
+-- it is an operation exactly where what was read of it is
+abbrev pub IsSeenAs : Json → Json → Type 0
+IsSeenAs j v = (o : Operation Json Json) → IsOperation o → (j ≡ operation_json o) ↔ (v ≡ operation_json o)
+
+-- an element more was kept; or more were than an operation has
+abbrev pub IsPartKept : {A : Type 0} → List A → A → List A → Type 0
+IsPartKept old v new = (new ≡ old ++ v ∷ []) ⊎ ((4 < length old) × (new ≡ old))

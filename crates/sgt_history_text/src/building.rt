@@ -1,25 +1,24 @@
 //! A history that grows by transactions, its items and values numbered.
 
-ghost use Rattle.std.specs.Prelude.{◌≡◌, ◌++◌, ◌∷◌, [], List, All, IfOk, OnOk, Option, map};
-ghost use Rattle.std.specs.Bool.{MatchBool};
+ghost use Rattle.std.specs.Prelude.{◌≡◌, ◌++◌, ◌∷◌, [], List, IfOk, OnOk, Option};
 ghost use Rattle.json.specs.Json.{Json};
 ghost use Rattle.json.specs.Tree.{HasNumbers};
 ghost use Rattle.json.specs.Value.{value_view};
+ghost use Rattle.sgt_history.specs.Cut.{end_of};
+ghost use Rattle.sgt_history.specs.History.{closed_of, open_of};
 ghost use Rattle.sgt_history.specs.Transaction.{Transaction, WritesPositive};
 ghost use Rattle.sgt_history.specs.declared.history.Operation.{Operation};
 ghost use Rattle.sgt_history_text.specs.Built.{AreKept, IsAdded, IsBuilt, IsNumbered, IsNumberedOperation, IsNumberedValue};
 ghost use Rattle.sgt_history_text.specs.Line.{IsOperation};
-ghost use Rattle.sgt_history_text.specs.Name.{IsId, IsValue, compact};
-ghost use Rattle.sgt_history_text.specs.Plain.{IsPlain, MeanEach, Means, MeansLine, MeansValue};
-ghost use Rattle.sgt_history_text.specs.Parsed.{seen, seen_operation, seen_transaction};
+ghost use Rattle.sgt_history_text.specs.Name.{IsValue, compact};
+ghost use Rattle.sgt_history_text.specs.Plain.{IsPlain, Means, MeansValue};
+ghost use Rattle.sgt_history_text.specs.Parsed.{seen, seen_operation};
 ghost use Rattle.sgt_history.specs.Transaction.{renamed_value};
 ghost use Rattle.std.specs.Prelude.{IfSome};
 
-use crate::line::Lent;
-use crate::plain::Plain;
 use crate::table::{Interned, Table};
 use json::{Value, to_vec};
-use sgt_history::{History, Operation};
+use sgt_history::{History, Line, Operation};
 use std::alloc::{AllocError, Global};
 
 /// What was read so far.
@@ -104,7 +103,7 @@ fn numbered(
 }
 
 /// One operation more of the line that is being read.
-fn push_operation(
+pub(crate) fn push_operation(
     alloc: Global,
     builder: &mut Builder,
     lent: &Operation<&Value<'_>, &Value<'_>>,
@@ -117,44 +116,6 @@ fn push_operation(
     let operation = numbered(alloc, &mut builder.items, &mut builder.values, lent)?;
     builder.history.push(operation)?;
     Ok(())
-}
-
-/// All operations of the line.
-fn push_operations(
-    alloc: Global,
-    builder: &mut Builder,
-    operations: &[Operation<&Value<'_>, &Value<'_>>],
-) -> Result<(), AllocError>
-    requires { All IsOperation (map seen_operation operations.now) }
-    ensures { (ids : List Json) (h : List (Transaction Json Json)) → IsBuilt builder.old ids h []
-        → OnOk result (IsBuilt builder.new ids h (map seen_operation operations.now)) }
-{
-    for operation in operations {
-        push_operation(alloc, builder, operation)?;
-    }
-    Ok(())
-}
-
-/// The transaction of the line, unless an earlier one has its id: false then.
-pub(crate) fn add(
-    alloc: Global,
-    builder: &mut Builder,
-    lent: &Lent<'_, '_>,
-) -> Result<bool, AllocError>
-    requires each { All IsOperation (seen_transaction lent.now).operations }
-    requires id { IsId (seen lent.now.id) }
-    ensures { (ids : List Json) (h : List (Transaction Json Json)) → IsBuilt builder.old ids h []
-        → IfOk result (λ new. IsAdded ids h (seen lent.now.id) (seen_transaction lent.now) builder.new new) }
-{
-    push_operations(alloc, builder, lent.operations.as_slice())?;
-    let text = to_vec(alloc, lent.id)?;
-    match builder.ids.intern(alloc, text.as_slice())? {
-        Interned::Old(_) => Ok(false),
-        Interned::New(_) => {
-            builder.history.close(lent.commits)?;
-            Ok(true)
-        }
-    }
 }
 
 /// The number of the value that is given, if one is, by its text.
@@ -194,7 +155,7 @@ fn numbered_plain(
 }
 
 /// One operation more of the line that is being read, by texts.
-fn push_plain(
+pub(crate) fn push_plain(
     alloc: Global,
     builder: &mut Builder,
     plain: &Operation<&[u8], &[u8]>,
@@ -210,39 +171,49 @@ fn push_plain(
     Ok(())
 }
 
-/// All operations of the line, by texts.
-fn push_all_plain(
-    alloc: Global,
-    builder: &mut Builder,
-    operations: &[Operation<&[u8], &[u8]>],
-) -> Result<(), AllocError>
-    requires { All IsPlain operations.now }
-    ensures { (ids : List Json) (h : List (Transaction Json Json)) (ps : List (Operation Json Json))
-        → IsBuilt builder.old ids h []
-        → MeanEach operations.now ps → OnOk result (IsBuilt builder.new ids h ps) }
+/// Where the last of the lines ends.
+fn last_end(lines: &[Line]) -> usize
+    ensures { result ≡ end_of 0 lines.now }
 {
-    for operation in operations {
-        push_plain(alloc, builder, operation)?;
+    match lines.last() {
+        Some(line) => line.end,
+        None => 0,
     }
-    Ok(())
 }
 
-/// The transaction of a line in the plain layout, unless an earlier one has its id: false then.
-pub(crate) fn add_plain(
+/// Lets go of the operations of the line that is being read.
+fn reopen(history: &mut History)
+    ensures closed { closed_of history.new ≡ closed_of history.old }
+    ensures open { open_of history.new ≡ [] }
+{
+    let end = last_end(history.lines.as_slice());
+    history.operations.truncate(end);
+}
+
+/// Lets go of what was read of the next line.
+pub(crate) fn forget_line(builder: &mut Builder)
+    ensures { (ids : List Json) (h : List (Transaction Json Json)) (begun : List (Operation Json Json))
+        → IsBuilt builder.old ids h begun → IsBuilt builder.new ids h [] }
+{
+    reopen(&mut builder.history);
+}
+
+/// The transaction of the line, whose operations were put, unless an earlier one has its id: false then.
+pub(crate) fn close_line(
     alloc: Global,
     builder: &mut Builder,
-    plain: &Plain<'_>,
+    id: &[u8],
+    commits: bool,
 ) -> Result<bool, AllocError>
-    requires { (id : Json) × (t : Transaction Json Json) × MeansLine plain.now id t }
-    ensures { (ids : List Json) (h : List (Transaction Json Json)) (id : Json) (t : Transaction Json Json)
-        → IsBuilt builder.old ids h []
-        → MeansLine plain.now id t → IfOk result (λ new. IsAdded ids h id t builder.new new) }
+    ensures { (ids : List Json) (h : List (Transaction Json Json)) (begun : List (Operation Json Json)) (j : Json)
+        → IsBuilt builder.old ids h begun → HasNumbers j → id.now ≡ compact j
+        → IfOk result
+        (λ new. IsAdded ids h j (record { commits = commits; operations = begun }) builder.new new) }
 {
-    push_all_plain(alloc, builder, plain.operations.as_slice())?;
-    match builder.ids.intern(alloc, plain.id)? {
+    match builder.ids.intern(alloc, id)? {
         Interned::Old(_) => Ok(false),
         Interned::New(_) => {
-            builder.history.close(plain.commits)?;
+            builder.history.close(commits)?;
             Ok(true)
         }
     }

@@ -1,15 +1,18 @@
 //! Histories, read: which text spells which history, its names as numbers, and the first line that can't be read.
 #![tactic(auto)]
 
+mod adding;
 mod building;
 mod fault;
 mod ids;
 mod line;
+mod members;
 mod moment;
 mod moments;
 mod names;
 mod operations;
 mod plain;
+mod putting;
 mod reading;
 mod shallow;
 mod table;

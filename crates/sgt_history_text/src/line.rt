@@ -1,33 +1,33 @@
-//! The transaction that a line spells.
+//! The object that a line is a text of, and whose transaction it says to be.
 
-ghost use Rattle.std.specs.Prelude.{◌≡◌, ◌≢◌, IfOk, MatchOption, map};
-ghost use Rattle.json.specs.Json.{Items, Json, Members, array, object};
+ghost use Rattle.std.specs.Prelude.{◌≡◌, Bool, IfOk, MatchOption};
+ghost use Rattle.json.specs.Json.{Json, Members, object};
 ghost use Rattle.json.specs.Lex.{tokens};
 ghost use Rattle.json.specs.Tree.{json_tokens};
-ghost use Rattle.json.specs.Value.{items_of, value_view};
-ghost use Rattle.sgt_history.specs.Transaction.{Transaction};
+ghost use Rattle.json.specs.Value.{value_view};
 ghost use Rattle.sgt_history_text.specs.Line.{IsTextOf};
-ghost use Rattle.sgt_history_text.specs.Parsed.{IsTransaction, seen, seen_transaction};
-ghost use Rattle.sgt_history_text.specs.Shallow.{read_members};
+ghost use Rattle.sgt_history_text.specs.Members.{IsReadFrom};
+ghost use Rattle.sgt_history_text.specs.Parsed.{IsHead, seen};
 
+use crate::building::Builder;
 use crate::fault::MOST_ID_BYTES;
-use crate::operations::operations;
-use crate::shallow::{members, opened};
+use crate::members::{Object, members};
+use crate::shallow::opened;
 use crate::values::{commits, is_key};
 use json::{Reader, Scratch, Value};
-use sgt_history::Operation;
 use std::alloc::{AllocError, Global};
 
-/// The object that the text is, read as deep as a transaction's members go.
+/// The object that the text is, read as deep as a transaction's members go. Its operations are put.
 fn parsed_text<'a>(
     alloc: Global,
+    builder: &mut Builder,
     text: &'a str,
     scratch: &'a mut Scratch,
-) -> Result<Option<Value<'a>>, AllocError>
+) -> Result<Option<Object<'a>>, AllocError>
     ensures { IfOk result (λ found. MatchOption found
         ((ms : Members) → tokens text.now ≡ json_tokens (object ms) → ⊥)
-        (λ v. (ms : Members) × (tokens text.now ≡ json_tokens (object ms))
-        × (value_view v ≡ object (read_members ms)))) }
+        (λ o. (ms : Members) × (tokens text.now ≡ json_tokens (object ms))
+        × IsReadFrom builder.old builder.new ms o)) }
 {
     let mut reader = Reader::new(text, scratch)?;
     let Some(bracket) = opened(&mut reader) else {
@@ -39,7 +39,7 @@ fn parsed_text<'a>(
     if !is_object {
         return Ok(None);
     }
-    let Some(value) = members(alloc, &mut reader)? else {
+    let Some(value) = members(alloc, &mut reader, builder)? else {
         return Ok(None);
     };
     if reader.next().is_some() {
@@ -48,74 +48,33 @@ fn parsed_text<'a>(
     Ok(Some(value))
 }
 
-/// The object that the line is a text of.
+/// The object that the line is a text of. Its operations are put.
 pub(crate) fn parsed<'a>(
     alloc: Global,
+    builder: &mut Builder,
     line: &'a [u8],
     scratch: &'a mut Scratch,
-) -> Result<Option<Value<'a>>, AllocError>
+) -> Result<Option<Object<'a>>, AllocError>
     ensures { IfOk result (λ found. MatchOption found
         ((ms : Members) → IsTextOf line.now (object ms) → ⊥)
-        (λ v. (ms : Members) × IsTextOf line.now (object ms) × (value_view v ≡ object (read_members ms)))) }
+        (λ o. (ms : Members) × IsTextOf line.now (object ms) × IsReadFrom builder.old builder.new ms o)) }
 {
     let Ok(text) = std::str::from_utf8(line) else {
         return Ok(None);
     };
-    parsed_text(alloc, text, scratch)
+    parsed_text(alloc, builder, text, scratch)
 }
 
-/// A transaction with its id, items and values lent.
-#[derive(Drop)]
-pub(crate) struct Lent<'v, 'a> {
-    pub id: &'v Value<'a>,
-    pub commits: bool,
-    pub operations: Vec<Operation<&'v Value<'a>, &'v Value<'a>>>,
-}
-
-/// The elements of an array.
-fn elements<'v, 'a>(value: &'v Value<'a>) -> Option<&'v [Value<'a>]>
-    ensures { MatchOption result ((js : Items) → value_view value.now ≢ array js)
-        (λ list. value_view value.now ≡ array (items_of (map value_view list.now))) }
+/// The id that the object says, lent, and whether its transaction commits.
+pub(crate) fn head<'v, 'a>(value: &'v Value<'a>) -> Option<(&'v Value<'a>, bool)>
+    ensures { MatchOption result
+        ((id : Json) (commits : Bool) → IsHead (value_view value.now) id commits → ⊥)
+        (λ head. IsHead (value_view value.now) (seen head.0) head.1) }
 {
-    match value {
-        Value::Array(list) => Some(list.as_slice()),
-        _ => None,
-    }
-}
-
-/// The transaction that the value is.
-pub(crate) fn transaction<'v, 'a>(
-    alloc: Global,
-    value: &'v Value<'a>,
-) -> Result<Option<Lent<'v, 'a>>, AllocError>
-    ensures { IfOk result (λ found. MatchOption found
-        ((id : Json) (t : Transaction Json Json) → IsTransaction (value_view value.now) id t → ⊥)
-        (λ lent. IsTransaction (value_view value.now) (seen lent.id) (seen_transaction lent))) }
-{
-    let Some(id) = value.get("tx") else {
-        return Ok(None);
-    };
+    let id = value.get("tx")?;
     if !is_key(id, 1, MOST_ID_BYTES) {
-        return Ok(None);
+        return None;
     }
-    let Some(end) = value.get("end") else {
-        return Ok(None);
-    };
-    let Some(commits) = commits(end) else {
-        return Ok(None);
-    };
-    let Some(ops) = value.get("ops") else {
-        return Ok(None);
-    };
-    let Some(list) = elements(ops) else {
-        return Ok(None);
-    };
-    let Some(operations) = operations(alloc, list)? else {
-        return Ok(None);
-    };
-    Ok(Some(Lent {
-        id,
-        commits,
-        operations,
-    }))
+    let commits = commits(value.get("end")?)?;
+    Some((id, commits))
 }

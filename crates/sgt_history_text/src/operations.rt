@@ -1,6 +1,6 @@
-//! The operations that a line's values of JSON are.
+//! The operation that a value of JSON is.
 
-ghost use Rattle.std.specs.Prelude.{◌≡◌, List, All, IfOk, IfSome, MatchOption, None, Option, map};
+ghost use Rattle.std.specs.Prelude.{◌≡◌, IfSome, MatchOption, None, Option};
 ghost use Rattle.json.specs.Find.{at};
 ghost use Rattle.json.specs.Json.{Json};
 ghost use Rattle.json.specs.Value.{value_view};
@@ -14,7 +14,6 @@ use crate::fault::MOST_ITEM_BYTES;
 use crate::values::{is_key, is_value, kind, may_have, version};
 use json::Value;
 use sgt_history::Operation;
-use std::alloc::{AllocError, Global};
 
 /// What an operation has behind its version: a value or none, and nothing more.
 fn given<'v, 'a>(value: &'v Value<'a>) -> Option<Option<&'v Value<'a>>>
@@ -60,24 +59,4 @@ pub(crate) fn operation<'v, 'a>(
         kind,
         value,
     })
-}
-
-/// The operations that the values are.
-pub(crate) fn operations<'v, 'a>(
-    alloc: Global,
-    list: &'v [Value<'a>],
-) -> Result<Option<Vec<Operation<&'v Value<'a>, &'v Value<'a>>>>, AllocError>
-    ensures { IfOk result (λ found. MatchOption found
-        ((os : List (Operation Json Json)) → All IsOperation os → map value_view list.now ≡ map operation_json os → ⊥)
-        (λ found. All IsOperation (map seen_operation found.items)
-        × (map value_view list.now ≡ map operation_json (map seen_operation found.items)))) }
-{
-    let mut operations = Vec::new(alloc);
-    for value in list {
-        let Some(operation) = operation(value) else {
-            return Ok(None);
-        };
-        operations.push(operation)?;
-    }
-    Ok(Some(operations))
 }

@@ -1,13 +1,11 @@
-//! Lines in the plain layout: `{"tx":ID,"end":END,"ops":[OPERATION,..]}`, with no space, no escape and no other
-//! member. They are read at once, with no tokens and no copies. That a line isn't found to be one says nothing of it:
+//! The parts of a line in the plain layout: `{"tx":ID,"end":END,"ops":[OPERATION,..]}`, with no space, no escape and no
+//! other member. They are read at once, with no tokens and no copies. That a part isn't found says nothing of the line:
 //! who asks has another way.
 
-ghost use Rattle.std.specs.Prelude.{ℕ, ◌≡◌, ◌≢◌, ◌≤◌, ◌<◌, ◌-◌, ◌++◌, ◌∷◌, [], List, All, IfOk, IfSome, MatchOption, codes, decimal, drop, get_or, length, take, IsTrue, ◌^◌};
-ghost use Rattle.json.specs.Json.{Json, string};
-ghost use Rattle.sgt_history.specs.Transaction.{Transaction};
-ghost use Rattle.sgt_history_text.specs.Line.{IsLine};
+ghost use Rattle.std.specs.Prelude.{ℕ, ◌≡◌, ◌≢◌, ◌≤◌, ◌<◌, ◌-◌, ◌++◌, ◌∷◌, [], List, IfSome, MatchOption, decimal, drop, get_or, length, take, IsTrue, ◌^◌};
+ghost use Rattle.json.specs.Json.{string};
 ghost use Rattle.sgt_history_text.specs.Name.{IsKey, IsValue, compact};
-ghost use Rattle.sgt_history_text.specs.Plain.{IsBare, IsCompactOf, IsPlain, MeansLine, end_text, kind_text, operation_text, operation_texts, tx_text, value_text};
+ghost use Rattle.sgt_history_text.specs.Plain.{IsBare, IsCompactOf, IsPlain, end_text, kind_text, operation_text, tx_text, value_text};
 ghost use Rattle.sgt_notation.specs.Private.{Spans};
 
 use crate::fault::{MOST_ID_BYTES, MOST_ITEM_BYTES};
@@ -15,22 +13,10 @@ use crate::values::may_have;
 use crate::whole::is_within;
 use core::dec2flt::read_digits;
 use sgt_history::{Kind, Operation};
-use std::alloc::{AllocError, Global};
-
-/// So many operations have room without a growth.
-const ROOM: usize = 8;
-
-/// A transaction whose id, items and values are lent as they stand in the line: as JSON writes them compact.
-#[derive(Drop)]
-pub(crate) struct Plain<'a> {
-    pub id: &'a [u8],
-    pub commits: bool,
-    pub operations: Vec<Operation<&'a [u8], &'a [u8]>>,
-}
 
 /// The place behind this byte.
 #[inline(always)]
-fn byte_at(bytes: &[u8], from: usize, byte: u8) -> Option<usize>
+pub(crate) fn byte_at(bytes: &[u8], from: usize, byte: u8) -> Option<usize>
     ensures { IfSome result (Spans bytes.now from (byte ∷ [])) }
 {
     if *bytes.get(from)? == byte {
@@ -189,7 +175,7 @@ fn kind_at(bytes: &[u8], from: usize) -> Option<(Kind, usize)>
 
 /// An operation, and the place behind it.
 #[inline(always)]
-fn operation_at(bytes: &[u8], from: usize) -> Option<(Operation<&[u8], &[u8]>, usize)>
+pub(crate) fn operation_at(bytes: &[u8], from: usize) -> Option<(Operation<&[u8], &[u8]>, usize)>
     ensures { IfSome result (λ r. IsPlain r.0 × Spans bytes.entry.now from (operation_text r.0) r.1) }
 {
     let (kind, at) = kind_at(bytes, from)?;
@@ -211,37 +197,6 @@ fn operation_at(bytes: &[u8], from: usize) -> Option<(Operation<&[u8], &[u8]>, u
     ))
 }
 
-/// The operations of an array whose opening bracket is passed, and the place behind the closing one.
-fn operations_at<'a>(
-    alloc: Global,
-    bytes: &'a [u8],
-    from: usize,
-) -> Result<Option<(Vec<Operation<&'a [u8], &'a [u8]>>, usize)>, AllocError>
-    requires { from ≤ length bytes.now }
-    ensures { IfOk result (λ found. IfSome found
-        (λ r. All IsPlain r.0.items × Spans bytes.entry.now from (operation_texts r.0.items) r.1)) }
-{
-    let mut operations = Vec::with_capacity(alloc, ROOM)?;
-    if let Some(to) = byte_at(bytes, from, b']') {
-        return Ok(Some((operations, to)));
-    }
-    let mut at = from;
-    for _ in 0..bytes.len() {
-        let Some((operation, behind)) = operation_at(bytes, at) else {
-            return Ok(None);
-        };
-        operations.push(operation)?;
-        let Some(next) = byte_at(bytes, behind, b',') else {
-            let Some(to) = byte_at(bytes, behind, b']') else {
-                return Ok(None);
-            };
-            return Ok(Some((operations, to)));
-        };
-        at = next;
-    }
-    Ok(None)
-}
-
 /// How the transaction ends, with the word in front of its operations, and the place behind it.
 #[inline(always)]
 fn end_at(bytes: &[u8], from: usize) -> Option<(bool, usize)>
@@ -256,7 +211,7 @@ fn end_at(bytes: &[u8], from: usize) -> Option<(bool, usize)>
 
 /// The id and the end of the transaction, and the place where its operations begin.
 #[inline(always)]
-fn head_at(line: &[u8]) -> Option<((&[u8], bool), usize)>
+pub(crate) fn head_at(line: &[u8]) -> Option<((&[u8], bool), usize)>
     ensures { IfSome result (λ r. IsCompactOf (IsKey 1 256) r.0.0.now × (r.1 ≤ length line.entry.now)
         × Spans line.entry.now 0 (tx_text ++ (r.0.0.now ++ end_text r.0.1)) r.1) }
 {
@@ -267,35 +222,11 @@ fn head_at(line: &[u8]) -> Option<((&[u8], bool), usize)>
 }
 
 /// Whether a line's end is here: its closing bracket, and no byte more.
-fn is_end(line: &[u8], from: usize) -> bool
+pub(crate) fn is_end(line: &[u8], from: usize) -> bool
     ensures { IsTrue result → Spans line.now from (125 ∷ []) (length line.now) }
 {
     match byte_at(line, from, b'}') {
         Some(to) => to == line.len(),
         None => false,
     }
-}
-
-/// The transaction of a line in this layout. None says nothing of the line.
-pub(crate) fn plain_line<'a>(alloc: Global, line: &'a [u8]) -> Result<Option<Plain<'a>>, AllocError>
-    ensures { IfOk result (λ found. IfSome found
-        (λ p. (id : Json) × (t : Transaction Json Json) × IsLine line.entry.now id t × MeansLine p id t)) }
-{
-    let Ok(_) = simdutf8::compat::from_utf8(line) else {
-        return Ok(None);
-    };
-    let Some(((id, commits), at)) = head_at(line) else {
-        return Ok(None);
-    };
-    let Some((operations, to)) = operations_at(alloc, line, at)? else {
-        return Ok(None);
-    };
-    if !is_end(line, to) {
-        return Ok(None);
-    }
-    Ok(Some(Plain {
-        id,
-        commits,
-        operations,
-    }))
 }

@@ -10,15 +10,15 @@ ghost use Rattle.sgt_history_text.specs.Reading.{IsReading, IsStop, IsToldOf, st
 ghost use Rattle.sgt_history_text.specs.Text.{Spells};
 ghost use Rattle.sgt_history_text.specs.declared.wanted.Wanted.{Wanted};
 
-use crate::building::{Builder, add, add_plain, no_lines};
+use crate::adding::add_plain;
+use crate::building::{Builder, close_line, no_lines};
 use crate::fault::{LineFault, MAX_HISTORY_LINE};
-use crate::line::{parsed, transaction};
+use crate::line::{head, parsed};
 use crate::moment::moment;
 use crate::moments::{Moments, add_moment, no_moments};
 use crate::names::Names;
-use crate::plain::plain_line;
 use crate::wanted::Wanted;
-use json::Scratch;
+use json::{Scratch, to_vec};
 use sgt_history::History;
 use sgt_history_time::Times;
 use sgt_names::{EngineFail, Source};
@@ -72,14 +72,13 @@ fn take_plain(
     if moments.wanted.sessions {
         return Ok(None);
     }
-    let Some(plain) = plain_line(alloc, line)? else {
+    let Some(new) = add_plain(alloc, builder, line)? else {
         return Ok(None);
     };
-    if add_plain(alloc, builder, &plain)? {
-        Ok(Some(None))
-    } else {
-        Ok(Some(Some(LineFault::IdAgain)))
+    if !new {
+        return Ok(Some(Some(LineFault::IdAgain)));
     }
+    Ok(Some(None))
 }
 
 /// One line more, given without its LF, by its tokens, or why it can't be read. Err: memory ran out.
@@ -94,16 +93,20 @@ fn take_tokens(
         → IsBuilt builder.old ids h []
         → AreMoments w moments.old lines h → IfOk result (IsTaken w lines ids h line.now builder.new moments.new) }
 {
-    let Some(value) = parsed(alloc, line, scratch)? else {
+    let Some(object) = parsed(alloc, builder, line, scratch)? else {
         return Ok(Some(LineFault::NotALine));
     };
-    let Some(lent) = transaction(alloc, &value)? else {
+    if !object.operations {
+        return Ok(Some(LineFault::NotALine));
+    }
+    let Some((id, commits)) = head(&object.members) else {
         return Ok(Some(LineFault::NotALine));
     };
-    let Some(moment) = moment(moments.wanted, lent.commits, &value) else {
+    let Some(moment) = moment(moments.wanted, commits, &object.members) else {
         return Ok(Some(LineFault::NotALine));
     };
-    if add(alloc, builder, &lent)? {
+    let text = to_vec(alloc, id)?;
+    if close_line(alloc, builder, text.as_slice(), commits)? {
         add_moment(alloc, moments, &moment)?;
         Ok(None)
     } else {

@@ -1,13 +1,13 @@
 //! Values of JSON, read as far as a transaction's members go: what nests deeper is passed over, and stands as an
-//! empty array or object.
+//! empty array or object. Of an array no more elements are kept than tell whether it is an operation.
 
-ghost use Rattle.std.specs.Prelude.{true, false, ◌≡◌, ◌++◌, ◌∷◌, ◌+◌, ◌≤◌, ◌<◌, List, IfOk, IfSome, MatchOption, length, if◌then◌else◌};
+ghost use Rattle.std.specs.Prelude.{true, false, ◌≡◌, ◌++◌, ◌+◌, ◌≤◌, List, IfOk, IfSome, MatchOption, OnOk, length, if◌then◌else◌};
 ghost use Rattle.std.specs.Bool.{MatchBool};
-ghost use Rattle.json.specs.Json.{Items, Json, Members, array, object};
+ghost use Rattle.json.specs.Json.{Items, Json, array};
 ghost use Rattle.json.specs.Token.{Token as SpecToken};
-ghost use Rattle.json.specs.Tree.{items_tokens, members_tokens};
+ghost use Rattle.json.specs.Tree.{items_tokens, json_tokens};
 ghost use Rattle.json.specs.Value.{value_view};
-ghost use Rattle.sgt_history_text.specs.Shallow.{Closes, Enters, IsFirst, IsOpened, NoValue, ReadsAs, arrays, empty, leaf, map_items, map_members};
+ghost use Rattle.sgt_history_text.specs.Shallow.{Closes, Enters, IsFirst, IsFront, IsOpened, IsPartKept, IsSeenAs, NoValue, ReadsAs, empty, leaf};
 
 use json::{Reader, Token, Value};
 use std::alloc::{AllocError, Global};
@@ -77,7 +77,7 @@ fn enters(reader: &mut Reader<'_>, object: bool) -> Option<bool>
 }
 
 /// Passes over the rest of an object or an array, whose opening bracket is passed. It may nest as deep as it will.
-fn skip(alloc: Global, reader: &mut Reader<'_>, object: bool) -> Result<bool, AllocError>
+pub(crate) fn skip(alloc: Global, reader: &mut Reader<'_>, object: bool) -> Result<bool, AllocError>
     ensures fewer { length reader.new ≤ length reader.old }
     ensures skips { IfOk result (λ found. MatchBool found (Closes object reader.old reader.new)
         ((rest : List SpecToken) → Closes object reader.old rest → ⊥)) }
@@ -124,7 +124,10 @@ fn passed<'a>(
 }
 
 /// A value, with no depth.
-fn leaf<'a>(alloc: Global, reader: &mut Reader<'a>) -> Result<Option<Value<'a>>, AllocError>
+pub(crate) fn leaf<'a>(
+    alloc: Global,
+    reader: &mut Reader<'a>,
+) -> Result<Option<Value<'a>>, AllocError>
     ensures fewer { length reader.new ≤ length reader.old }
     ensures shorter { IfOk result (λ found. IfSome found (λ _. length reader.new + 1 ≤ length reader.old)) }
     ensures read { IfOk result (λ found. MatchOption found (NoValue reader.old)
@@ -138,94 +141,63 @@ fn leaf<'a>(alloc: Global, reader: &mut Reader<'a>) -> Result<Option<Value<'a>>,
     }
 }
 
-/// The rest of an array of such values.
-fn leaves<'a>(alloc: Global, reader: &mut Reader<'a>) -> Result<Option<Value<'a>>, AllocError>
+/// Passes over a value. False: none comes.
+pub(crate) fn pass(alloc: Global, reader: &mut Reader<'_>) -> Result<bool, AllocError>
+    ensures fewer { length reader.new ≤ length reader.old }
+    ensures shorter { IfOk result (λ found. found ≡ true → length reader.new + 1 ≤ length reader.old) }
+    ensures passes { IfOk result (λ found. MatchBool found (IsFront reader.old reader.new) (NoValue reader.old)) }
+{
+    let Some(value) = leaf(alloc, reader)? else {
+        return Ok(false);
+    };
+    drop(value);
+    Ok(true)
+}
+
+/// So many elements an operation has at most.
+const MOST_PARTS: usize = 4;
+
+/// Keeps a further element of an array, unless more are kept than an operation has.
+fn keep_part<'a>(found: &mut Vec<Value<'a>>, value: Value<'a>) -> Result<(), AllocError>
+    ensures { OnOk result (IsPartKept found.old.items value.entry found.new.items) }
+{
+    if found.len() <= MOST_PARTS {
+        found.push(value)?;
+    }
+    Ok(())
+}
+
+/// The rest of an array, of which it is seen whether it is an operation.
+fn parts<'a>(alloc: Global, reader: &mut Reader<'a>) -> Result<Option<Value<'a>>, AllocError>
     ensures fewer { length reader.new ≤ length reader.old }
     ensures read { IfOk result (λ found. MatchOption found
         ((rest : List SpecToken) → Closes false reader.old rest → ⊥)
-        (λ v. (js : Items) × (reader.old ≡ items_tokens js ++ reader.new)
-        × (value_view v ≡ array (map_items leaf js)))) }
+        (λ v. (js : Items) × (reader.old ≡ items_tokens js ++ reader.new) × IsSeenAs (array js) (value_view v))) }
 {
     let mut found = Vec::new(alloc);
     'items: while !reader.take_end_array() {
         let Some(value) = leaf(alloc, reader)? else {
             return Ok(None);
         };
-        found.push(value)?;
+        keep_part(&mut found, value)?;
     }
     Ok(Some(Value::Array(found)))
 }
 
-/// A value, an array with its elements.
-fn list<'a>(alloc: Global, reader: &mut Reader<'a>) -> Result<Option<Value<'a>>, AllocError>
-    ensures fewer { length reader.new ≤ length reader.old }
-    ensures shorter { IfOk result (λ found. IfSome found (λ _. length reader.new + 1 ≤ length reader.old)) }
-    ensures read { IfOk result (λ found. MatchOption found (NoValue reader.old)
-        (λ v. ReadsAs (arrays leaf) reader.old (value_view v) reader.new)) }
-{
-    match first_of(reader) {
-        Some(First::Object) => passed(alloc, reader, true),
-        Some(First::Array) => leaves(alloc, reader),
-        Some(First::Scalar(value)) => Ok(Some(value)),
-        None => Ok(None),
-    }
-}
-
-/// The rest of an array of such values.
-fn lists<'a>(alloc: Global, reader: &mut Reader<'a>) -> Result<Option<Value<'a>>, AllocError>
-    ensures fewer { length reader.new ≤ length reader.old }
-    ensures read { IfOk result (λ found. MatchOption found
-        ((rest : List SpecToken) → Closes false reader.old rest → ⊥)
-        (λ v. (js : Items) × (reader.old ≡ items_tokens js ++ reader.new)
-        × (value_view v ≡ array (map_items (arrays leaf) js)))) }
-{
-    let mut found = Vec::new(alloc);
-    'items: while !reader.take_end_array() {
-        let Some(value) = list(alloc, reader)? else {
-            return Ok(None);
-        };
-        found.push(value)?;
-    }
-    Ok(Some(Value::Array(found)))
-}
-
-/// A value, an array of arrays with the elements of these.
-fn table<'a>(alloc: Global, reader: &mut Reader<'a>) -> Result<Option<Value<'a>>, AllocError>
-    ensures fewer { length reader.new ≤ length reader.old }
-    ensures shorter { IfOk result (λ found. IfSome found (λ _. length reader.new + 1 ≤ length reader.old)) }
-    ensures read { IfOk result (λ found. MatchOption found (NoValue reader.old)
-        (λ v. ReadsAs (arrays (arrays leaf)) reader.old (value_view v) reader.new)) }
-{
-    match first_of(reader) {
-        Some(First::Object) => passed(alloc, reader, true),
-        Some(First::Array) => lists(alloc, reader),
-        Some(First::Scalar(value)) => Ok(Some(value)),
-        None => Ok(None),
-    }
-}
-
-/// The rest of an object of such values.
-pub(crate) fn members<'a>(
+/// A value, of which it is seen whether it is an operation.
+pub(crate) fn row<'a>(
     alloc: Global,
     reader: &mut Reader<'a>,
 ) -> Result<Option<Value<'a>>, AllocError>
     ensures fewer { length reader.new ≤ length reader.old }
-    ensures read { IfOk result (λ found. MatchOption found
-        ((rest : List SpecToken) → Closes true reader.old rest → ⊥)
-        (λ v. (ms : Members) × (reader.old ≡ members_tokens ms ++ reader.new)
-        × (value_view v ≡ object (map_members (arrays (arrays leaf)) ms)))) }
+    ensures shorter { IfOk result (λ found. IfSome found (λ _. length reader.new + 1 ≤ length reader.old)) }
+    ensures read { IfOk result (λ found. MatchOption found (NoValue reader.old)
+        (λ v. (j : Json) × (reader.old ≡ json_tokens j ++ reader.new) × IsSeenAs j (value_view v))) }
 {
-    let mut found = Vec::new(alloc);
-    'members: loop {
-        let Ok(next) = reader.next_key() else {
-            return Ok(None);
-        };
-        let Some(key) = next else {
-            return Ok(Some(Value::Object(found)));
-        };
-        let Some(value) = table(alloc, reader)? else {
-            return Ok(None);
-        };
-        found.push((key, value))?;
+    match first_of(reader) {
+        Some(First::Object) => passed(alloc, reader, true),
+        Some(First::Array) => parts(alloc, reader),
+        Some(First::Scalar(value)) => Ok(Some(value)),
+        None => Ok(None),
     }
 }

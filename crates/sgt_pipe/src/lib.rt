@@ -6,8 +6,10 @@ mod handed;
 mod history;
 mod inbox;
 mod pipe;
+mod refusals;
 
 pub use handed::{Handed, HandedBundle, KeepFault};
 pub use history::{Act, History};
 pub use inbox::{Front, Inbox};
 pub use pipe::Pipe;
+pub use refusals::Refusals;

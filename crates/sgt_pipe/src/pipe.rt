@@ -4,15 +4,17 @@ ghost use Rattle.std.specs.Prelude.{◌≡◌, [], ◌∷◌, ◌++◌, ◌+◌,
 ghost use Rattle.sgt_names.specs.Device.{AtMost, CountsFailures, TakesFront, TakesSome};
 
 use crate::history::{Act, History};
+use crate::refusals::Refusals;
 use sgt_names::{Failed, Sink, Source};
 
 /// The reader and the writer of one talk. Its history tells, for proofs, what the reader gave, what the writer took,
-/// and at each read what both had done before it.
+/// and at each read what both had done before it; and its `refusals`, how many growths were refused to who talks.
 #[derive(Drop)]
 pub struct Pipe<R, W> {
     reader: R,
     writer: W,
     history: History,
+    refusals: Refusals,
 }
 
 impl<R: Source, W: Sink> Pipe<R, W> {
@@ -25,12 +27,24 @@ impl<R: Source, W: Sink> Pipe<R, W> {
         ensures given { result.history.given ≡ [] }
         ensures written { result.history.written ≡ [] }
         ensures waits { result.history.waits ≡ [] }
+        ensures refusals { result.refusals ≡ 0 }
     {
         Pipe {
             reader,
             writer,
             history: History::new(),
+            refusals: Refusals::new(),
         }
+    }
+
+    /// So many growths were refused to who talks.
+    pub fn tell_refusals(&mut self, refusals: Refusals)
+        ensures told { self.new.refusals ≡ refusals }
+        ensures reader { self.new.reader ≡ self.old.reader }
+        ensures writer { self.new.writer ≡ self.old.writer }
+        ensures history { self.new.history ≡ self.old.history }
+    {
+        self.refusals = refusals;
     }
 
     /// The reader and the writer.
@@ -53,6 +67,7 @@ impl<R: Source, W: Sink> Pipe<R, W> {
         ensures waits { self.new.history.waits
             ≡ self.old.history.waits ++ (self.old.history.given, self.old.history.written) ∷ [] }
         ensures writer { self.new.writer ≡ self.old.writer }
+        ensures refusals { self.new.refusals ≡ self.old.refusals }
     {
         self.history = self.history.with(&Act::Asks);
         let read = self.reader.read(buffer);
@@ -74,6 +89,7 @@ impl<R: Source, W: Sink> Pipe<R, W> {
         ensures given { self.new.history.given ≡ self.old.history.given }
         ensures waits { self.new.history.waits ≡ self.old.history.waits }
         ensures reader { self.new.reader ≡ self.old.reader }
+        ensures refusals { self.new.refusals ≡ self.old.refusals }
     {
         let wrote = self.writer.write(bytes);
         if let Ok(n) = wrote {
@@ -95,6 +111,7 @@ impl<R: Source, W: Sink> Pipe<R, W> {
         ensures given { self.new.history.given ≡ self.old.history.given }
         ensures waits { self.new.history.waits ≡ self.old.history.waits }
         ensures reader { self.new.reader ≡ self.old.reader }
+        ensures refusals { self.new.refusals ≡ self.old.refusals }
     {
         let mut at = 0;
         'writes: while at < bytes.len() {

@@ -1,5 +1,5 @@
 -- The end of a talk: what is asked of the core then, and its last bundle.
-use Rattle.std.proofs.Common.{◌≡◌, ◌≢◌, ℕ, List, [], ◌∷◌, ◌++◌, length, map, refl, sym, ◌∙◌, ap, subst, inl, inr, Option, Some, None, Ok, Err}
+use Rattle.std.proofs.Common.{◌≡◌, ◌≢◌, ◌+◌, arith, ℕ, List, [], ◌∷◌, ◌++◌, length, map, refl, sym, ◌∙◌, ap, subst, inl, inr, Option, Some, None, Ok, Err}
 use Rattle.std.specs.List.{range_with_len}
 use Rattle.std.proofs.lemmas.List.{append-nil}
 use Rattle.sgt_bundle.specs.Text.{text_of}
@@ -9,12 +9,12 @@ use Rattle.sgt_core_model.specs.Core.{CoreState, bundle_of}
 use Rattle.sgt_core_model.specs.Step.{MayStep, Run}
 use Rattle.sgt_core_model.specs.declared.reply.Reply.{Reply}
 use Rattle.sgt_core_machine.specs.Machine.{GoesOn, Parts, StandsFor}
-use Rattle.sgt_pipe.specs.declared.handed.Handed.{Handed}
 use Rattle.sgt_pipe.specs.declared.handed.KeepFault.{KeepFault}
 use Rattle.sgt_pipe.specs.declared.handed.KeepFault.TheVariants as keep
 use Rattle.sgt_serve.specs.declared.last.Last.{Last}
 use Rattle.sgt_serve.specs.declared.last.Last.TheVariants.{Done, Memory, Unwritten}
 use Rattle.sgt_serve.specs.Ended.{Closes, installs_of, open_tx}
+use Rattle.sgt_serve.specs.Place.{Kept}
 use Rattle.sgt_serve.specs.private.Closing.{ClosesSo, HandsOut, lost_by}
 use Rattle.sgt_courses.proofs.Courses.{run_on}
 
@@ -60,35 +60,49 @@ installed_some m n tx sites open_step count asked c stands =
 
 -- ---- the last bundle
 
-closed_so : (last : Last) (c d : CoreState) (kept kept' : Handed) → c.certifier.begun ≢ 0 → Closes c d
+none_refused : (k n : ℕ) → n ≡ k → n ≡ k + 0
+none_refused k n same = omega (arith, same)
+
+closed_so : (last : Last) (c d : CoreState) (kept kept' : Kept) → c.certifier.begun ≢ 0 → Closes c d
     → HandsOut last d kept kept' → ClosesSo last c kept kept'
-closed_so Done c d kept kept' some closes (idle, number, more, says) = (
+closed_so Done c d kept kept' some closes (idle, number, more, says, none) = (
   record { number = number; bundle = bundle_of d } ∷ [],
   Ok number ∷ [],
-  (inr (d, closes, idle, number, refl), refl),
+  0,
+  (inr (some, d, closes, idle, number, refl), refl, refl),
   more,
   says,
+  none_refused kept.refused kept'.refused none,
 )
-closed_so Memory c d kept kept' some closes (same, inl says) =
-    ([], [], (some, refl, inl refl), same ∙ sym (append-nil kept.items), says ∙ sym (append-nil kept.answers))
-closed_so Memory c d kept kept' some closes (same, inr says) = (
+closed_so Memory c d kept kept' some closes (same, inl (says, one)) = (
+  [],
+  [],
+  1,
+  (some, refl, inl (refl, refl)),
+  same ∙ sym (append-nil kept.items),
+  says ∙ sym (append-nil kept.answers),
+  one,
+)
+closed_so Memory c d kept kept' some closes (same, inr (says, none)) = (
   [],
   Err keep.Memory ∷ [],
-  (some, refl, inr refl),
-  same
-      ∙ sym (append-nil kept.items),
+  0,
+  (some, refl, inr (refl, refl)),
+  same ∙ sym (append-nil kept.items),
   says,
+  none_refused kept.refused kept'.refused none,
 )
-closed_so Unwritten c d kept kept' some closes (same, says) = (
+closed_so Unwritten c d kept kept' some closes (same, says, none) = (
   [],
   Err keep.Refused ∷ [],
-  (some, refl, refl),
-  same
-      ∙ sym (append-nil kept.items),
+  0,
+  (some, refl, refl, refl),
+  same ∙ sym (append-nil kept.items),
   says,
+  none_refused kept.refused kept'.refused none,
 )
 
-pub closed_over : (m n o : Parts) (begun : ℕ) (last : Last) (kept kept' : Handed)
+pub closed_over : (m n o : Parts) (begun : ℕ) (last : Last) (kept kept' : Kept)
     → ((c : CoreState) → StandsFor m c → begun ≡ c.certifier.begun) → begun ≢ 0
     → Installed m n → Asked n (map Withdraw (range_with_len 1 begun)) o
     → ((c : CoreState) → StandsFor o c → HandsOut last c kept kept')
@@ -103,25 +117,42 @@ closed_over m n o begun last kept kept' count some installs withdraws hands c st
           ran.0 then.0 ran.1 rest,
     ) (hands e at)
 
-pub closed_none : (m : Parts) (begun : ℕ) (kept : Handed)
+pub closed_none : (m : Parts) (begun : ℕ) (kept : Kept)
     → ((c : CoreState) → StandsFor m c → begun ≡ c.certifier.begun) → begun ≡ 0
     → (c : CoreState) → StandsFor m c → ClosesSo Done c kept kept
 closed_none m begun kept count none c stands = (
   [],
   [],
-  (inl (sym (count c stands) ∙ none, refl), refl),
+  0,
+  (inl (sym (count c stands) ∙ none, refl), refl, refl),
   sym (append-nil kept.items),
   sym (append-nil kept.answers),
+  none_refused kept.refused kept.refused refl,
 )
 
-pub handed_out : (m : Parts) (text lent : List ℕ) (number : ℕ) (kept kept' : Handed)
+pub handed_out : (m : Parts) (text lent : List ℕ) (number : ℕ) (kept kept' : Kept)
     → ((c : CoreState) → StandsFor m c → text ≡ text_of (bundle_of c))
     → ((c : CoreState) → StandsFor m c → c.certifier.active ≡ []) → lent ≡ text
     → kept'.items ≡ kept.items ++ (number, lent) ∷ [] → kept'.answers ≡ kept.answers ++ Ok number ∷ []
-    → (c : CoreState) → StandsFor m c → HandsOut Done c kept kept'
-handed_out m text lent number kept kept' spelled idle same more says c stands = (
+    → kept'.refused ≡ kept.refused → (c : CoreState) → StandsFor m c → HandsOut Done c kept kept'
+handed_out m text lent number kept kept' spelled idle same more says none c stands = (
   idle c stands,
   number,
   more ∙ ap (λ (t : List ℕ). kept.items ++ (number, t) ∷ []) (same ∙ spelled c stands),
   says,
+  none,
 )
+
+-- no text was made, since a growth was refused
+pub unhanded : (m : Parts) (kept kept' : Kept) → kept'.items ≡ kept.items → kept'.answers ≡ kept.answers
+    → kept'.refused ≡ kept.refused + 1 → (c : CoreState) → StandsFor m c → HandsOut Memory c kept kept'
+unhanded m kept kept' items answers one c stands = (items, inl (answers, one))
+
+-- the place didn't keep it
+pub lost_so : (f : KeepFault) (told : Last) (c : CoreState) (kept kept' : Kept) → told ≡ lost_by f
+    → kept'.items ≡ kept.items → kept'.answers ≡ kept.answers ++ Err f ∷ [] → kept'.refused ≡ kept.refused
+    → HandsOut told c kept kept'
+lost_so keep.Memory told c kept kept' same items says none =
+    subst (λ (l : Last). HandsOut l c kept kept') (sym same) (items, inr (says, none))
+lost_so keep.Refused told c kept kept' same items says none =
+    subst (λ (l : Last). HandsOut l c kept kept') (sym same) (items, says, none)

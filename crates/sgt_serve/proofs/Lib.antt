@@ -5,3 +5,4 @@ pub mod Openings
 pub mod Ways
 pub mod Served
 pub mod Stops
+pub mod Chains

@@ -1,5 +1,5 @@
 -- A whole talk, by where it stopped and how its last bundle fared.
-use Rattle.std.proofs.Common.{◌≡◌, ◌≢◌, ◌⊎◌, ◌+◌, ℕ, List, [], ◌++◌, length, take, refl, sym, ◌∙◌, ap, subst, inl, inr, append_assoc, Option, Result, Ok, Err}
+use Rattle.std.proofs.Common.{◌≡◌, ◌≢◌, ◌⊎◌, ◌+◌, ℕ, List, [], ◌++◌, length, take, refl, sym, ◌∙◌, ap, subst, inl, inr, arith, append_assoc, Option, Result, Ok, Err}
 use Rattle.std.specs.Io.KnownBytes.{IsAtEnd as NoneLeft}
 use Rattle.std.proofs.lemmas.List.{append-nil}
 use Rattle.sgt_names.specs.declared.outcome.Outcome.{Outcome}
@@ -10,7 +10,6 @@ use Rattle.sgt_input.specs.Unreadable.{unreadable_text}
 use Rattle.sgt_core_model.specs.Core.{CoreState}
 use Rattle.sgt_core_machine.specs.Machine.{Parts, StandsFor}
 use Rattle.sgt_pipe.specs.Fronts.{IsPart}
-use Rattle.sgt_pipe.specs.declared.handed.Handed.{Handed}
 use Rattle.sgt_pipe.specs.declared.handed.KeepFault.{KeepFault}
 use Rattle.sgt_pipe.specs.declared.history.History.{History}
 use Rattle.sgt_serve.specs.declared.fail.ServeFail.{ServeFail}
@@ -20,13 +19,14 @@ use Rattle.sgt_serve.specs.declared.last.Last.TheVariants as last
 use Rattle.sgt_serve.specs.declared.stop.Stop.{Stop}
 use Rattle.sgt_serve.specs.declared.stop.Stop.TheVariants as stop
 use Rattle.sgt_serve.specs.Devices.{LeavesReader, LeavesWriter}
-use Rattle.sgt_serve.specs.Ended.{IsUnreadable, SaysAll, SaysSo, Served}
+use Rattle.sgt_serve.specs.Ended.{IsUnreadable, RefusedElse, SaysAll, SaysSo, Served}
+use Rattle.sgt_serve.specs.Place.{Kept}
 use Rattle.sgt_serve.specs.Talk.{AreAnswered, Talk, handed_texts}
 use Rattle.sgt_serve.specs.private.Closing.{ClosesSo}
 use Rattle.sgt_serve.specs.private.Devices.{HearsSo, SpeaksSo}
-use Rattle.sgt_serve.specs.private.Opening.{HasSites, OpensSo}
+use Rattle.sgt_serve.specs.private.Opening.{HasSites, OpensSo, refused_by, refused_in}
 use Rattle.sgt_serve.specs.private.Serving.{TellsFront, ends_by}
-use Rattle.sgt_serve.specs.private.Talking.{Desk, HasOpened, HasStopped, SaysStop, desk}
+use Rattle.sgt_serve.specs.private.Talking.{Desk, HasOpened, HasStopped, SaysStop, desk, refused_at}
 use Rattle.sgt_serve.proofs.Openings.{is_opened, opened, opened_given}
 use Rattle.sgt_serve.proofs.Talks.{handed_more}
 use Rattle.sgt_serve.proofs.Ways.{deaf_as, silent_as}
@@ -56,13 +56,28 @@ says_by stop.ReadFault l t left rest written some none (part, wrote) = (refl, pa
 says_by stop.WriteFault l t left rest written some none (tail, may, less) = (refl, tail, inl may, less)
 says_by stop.Memory l t left rest written some none less = inr (inl less)
 
+refused_there : (s : Stop) (l : Last) (n : ℕ) → n ≡ refused_at s → RefusedElse (ends_by s l) l n
+refused_there stop.Ended last.Done n is = is
+refused_there stop.Ended last.Memory n is = inl (refl, is)
+refused_there stop.Ended last.Unwritten n is = is
+refused_there stop.TooLong last.Done n is = is
+refused_there stop.TooLong last.Memory n is = inl (refl, is)
+refused_there stop.TooLong last.Unwritten n is = is
+refused_there stop.ReadFault l n is = is
+refused_there stop.WriteFault l n is = is
+refused_there stop.Memory l n is = inr is
+
+-- those of the last bundle beside the others
+counted_last : (before now after n e k : ℕ) → now ≡ before + (n + e) → after ≡ now + k → after ≡ before + (n + (k + e))
+counted_last before now after n e k was more = omega (arith, was, more)
+
 pub is_served : (s : Stop) (l : Last) (result : Result Outcome ServeFail) (left : Option (List ℕ))
-    (sites : List SiteLine) (before kept' : Handed) (d : Desk) → result ≡ ends_by s l
+    (sites : List SiteLine) (before kept' : Kept) (d : Desk) → result ≡ ends_by s l
     → (s ≡ stop.Ended → NoneLeft left) → HasStopped s sites before d
     → ((c : CoreState) → StandsFor d.core c → ClosesSo l c d.kept kept')
     → Served result left d.given d.written before kept' × AreAnswered d.waits
 is_served s l result left sites before kept' d same none h closes =
-    let (bundles, said, ends, more, says) = closes h.talk.last h.has.stands in (
+    let (bundles, said, k, ends, more, says, refused) = closes h.talk.last h.has.stands in (
       subst (λ (r : Result Outcome ServeFail). Served r left d.given d.written before kept') (sym same) (record {
         talk = h.talk;
         is = h.has.is;
@@ -75,11 +90,17 @@ is_served s l result left sites before kept' d same none h closes =
             ∙ (append_assoc before.items (handed_texts h.talk.bundles) (handed_texts bundles)
             ∙ ap (λ (ks : List (ℕ × List ℕ)). before.items ++ ks) (sym (handed_more h.talk.bundles bundles))));
         said = h.has.said;
+        refused = h.has.refused;
         cuts = h.has.cuts;
         said_last = said;
+        refused_last = k;
         answers = says ∙ (ap (λ (xs : List (Result ℕ KeepFault)). xs ++ said) h.has.answers
             ∙ append_assoc before.answers h.has.said said);
         ends = ends;
+        refused_else = h.has.refused_else;
+        lacks = refused_there s l h.has.refused_else h.one_else;
+        refusals = counted_last before.refused d.kept.refused kept'.refused h.has.refused h.has.refused_else k
+            h.has.refusals refused;
       }),
       h.has.answered,
     )
@@ -131,10 +152,19 @@ yes_ended stop.Memory l e = absurd cc
 
 -- ---- a talk that has its sites alone
 
+-- the place was asked for nothing
+abbrev IsUnasked : (kept kept' : Kept) → ℕ → Type 0
+IsUnasked kept kept' n = (kept'.items ≡ kept.items) × (kept'.answers ≡ kept.answers)
+    × (kept'.refused ≡ kept.refused + n)
+
+no_turn : (k n m : ℕ) → n ≡ k + m → n ≡ k + (0 + (0 + m))
+no_turn k n m is = omega (arith, is)
+
 served_front : (result : Result Outcome ServeFail) (left : Option (List ℕ)) (sites : List SiteLine)
-    (history : History) (held written : List ℕ) (kept : Handed) → HasSites sites history held
-    → SaysSo result last.Done (opened sites) left held written → Served result left history.given written kept kept
-served_front result left sites history held written kept h says = record {
+    (history : History) (held written : List ℕ) (kept kept' : Kept) (n : ℕ) → HasSites sites history held
+    → RefusedElse result last.Done n → IsUnasked kept kept' n
+    → SaysSo result last.Done (opened sites) left held written → Served result left history.given written kept kept'
+served_front result left sites history held written kept kept' n h lacks (items, answers, refused) says = record {
   talk = opened sites;
   is = is_opened sites h.begun;
   rest = held;
@@ -142,25 +172,31 @@ served_front result left sites history held written kept h says = record {
   fared = last.Done;
   says = says;
   last = [];
-  handed = sym (append-nil kept.items);
+  handed = items ∙ sym (append-nil kept.items);
   said = [];
-  cuts = refl;
+  refused = 0;
+  cuts = (refl, refl);
   said_last = [];
-  answers = sym (append-nil kept.answers);
-  ends = (inl (refl, refl), refl);
+  answers = answers ∙ sym (append-nil kept.answers);
+  refused_last = 0;
+  ends = (inl (refl, refl), refl, refl);
+  refused_else = n;
+  lacks = lacks;
+  refusals = no_turn kept.refused kept'.refused n refused;
 }
 
 pub served_memory : (left : Option (List ℕ)) (sites : List SiteLine) (history : History) (held : List ℕ)
-    (kept : Handed) → HasSites sites history held
-    → Served (Err fail.Memory) left history.given history.written kept kept
-served_memory left sites history held kept h =
-    served_front (Err fail.Memory) left sites history held history.written kept h (inr (inr (refl, h.written)))
+    (kept kept' : Kept) → HasSites sites history held → IsUnasked kept kept' 1
+    → Served (Err fail.Memory) left history.given history.written kept kept'
+served_memory left sites history held kept kept' h unasked =
+    served_front (Err fail.Memory) left sites history held history.written kept kept' 1 h (inr refl) unasked
+    (inr (inr (refl, h.written)))
 
 pub served_ended : (left : Option (List ℕ)) (sites : List SiteLine) (history : History) (held : List ℕ)
-    (kept : Handed) → NoneLeft left → HasSites sites history held → sites ≢ [] → held ≡ []
-    → Served (Ok outcome.Yes) left history.given history.written kept kept
-served_ended left sites history held kept end h some none =
-    served_front (Ok outcome.Yes) left sites history held history.written kept h (
+    (kept kept' : Kept) → NoneLeft left → HasSites sites history held → sites ≢ [] → held ≡ []
+    → IsUnasked kept kept' 0 → Served (Ok outcome.Yes) left history.given history.written kept kept'
+served_ended left sites history held kept kept' end h some none unasked =
+    served_front (Ok outcome.Yes) left sites history held history.written kept kept' 0 h refl unasked (
       refl,
       some,
       [],
@@ -169,10 +205,12 @@ served_ended left sites history held kept end h some none =
     )
 
 pub served_unread : (l : Last) (left : Option (List ℕ)) (sites : List SiteLine) (history : History) (held : List ℕ)
-    (kept : Handed) → l ≡ last.Done → HasSites sites history held
-    → IsPart held → Served (Err (fail.ReadFault l)) left history.given history.written kept kept
-served_unread l left sites history held kept done h part =
-    served_front (Err (fail.ReadFault l)) left sites history held history.written kept h (done, part, h.written)
+    (kept kept' : Kept) → l ≡ last.Done → HasSites sites history held
+    → IsPart held → IsUnasked kept kept' 0
+    → Served (Err (fail.ReadFault l)) left history.given history.written kept kept'
+served_unread l left sites history held kept kept' done h part unasked =
+    served_front (Err (fail.ReadFault l)) left sites history held history.written kept kept' 0 h refl unasked
+    (done, part, h.written)
 
 told_so : (result : Result Outcome ServeFail) (left : Option (List ℕ)) (sites : List SiteLine) (old new : History)
     (held : List ℕ) (fault : NotationFault) → HasSites sites old held
@@ -196,13 +234,23 @@ told_so (Err fail.Memory) left sites old new held fault h not (same, given, wait
 told_so (Err (fail.ReadFault l)) left sites old new held fault h not (tells, given, waits) = absurd tells
 told_so (Err fail.BundleFault) left sites old new held fault h not (tells, given, waits) = absurd tells
 
+told_lacks : (result : Result Outcome ServeFail) (number : ℕ) (fault : NotationFault) (old new : History)
+    → TellsFront result number fault old new → RefusedElse result last.Done (refused_in result)
+told_lacks (Ok o) number fault old new tells = refl
+told_lacks (Err fail.Memory) number fault old new tells = inr refl
+told_lacks (Err (fail.ReadFault l)) number fault old new tells = refl
+told_lacks (Err (fail.WriteFault l)) number fault old new tells = refl
+told_lacks (Err fail.BundleFault) number fault old new tells = refl
+
 pub served_told : (result : Result Outcome ServeFail) (left : Option (List ℕ)) (sites : List SiteLine)
-    (old new : History) (held : List ℕ) (fault : NotationFault) (kept : Handed)
+    (old new : History) (held : List ℕ) (fault : NotationFault) (kept kept' : Kept)
     → HasSites sites old held → IsUnreadable sites left held fault → TellsFront result (length sites + 1) fault old new
-    → Served result left new.given new.written kept kept × AreAnswered new.waits
-served_told result left sites old new held fault kept h not tells = (
-  subst (λ (given : List ℕ). Served result left given new.written kept kept) (sym tells.1)
-      (served_front result left sites old held new.written kept h
+    → IsUnasked kept kept' (refused_in result)
+    → Served result left new.given new.written kept kept' × AreAnswered new.waits
+served_told result left sites old new held fault kept kept' h not tells unasked = (
+  subst (λ (given : List ℕ). Served result left given new.written kept kept') (sym tells.1)
+      (served_front result left sites old held new.written kept kept' (refused_in result) h
+      (told_lacks result (length sites + 1) fault old new tells) unasked
       (told_so result left sites old new held fault h not tells)),
   subst AreAnswered (sym tells.2) h.answered,
 )
@@ -220,7 +268,10 @@ deaf_told (Err (fail.WriteFault l)) number fault old new a b k m reads (tells, g
     deaf_as a b old.given new.given k m told given count
 deaf_told (Err fail.BundleFault) number fault old new a b k m reads (tells, given, waits) told count = absurd tells
 
-pub has_opened : (sites : List SiteLine) (kept : Handed) (core : Parts) (history : History) (gathered held : List ℕ)
+none_more : (k : ℕ) → k ≡ k + (0 + 0)
+none_more k = omega arith
+
+pub has_opened : (sites : List SiteLine) (kept : Kept) (core : Parts) (history : History) (gathered held : List ℕ)
     → HasSites sites history held → sites ≢ []
     → StandsFor core (opened sites).last → gathered ≡ [] → HasOpened sites kept (desk kept core history gathered held)
 has_opened sites kept core history gathered held h some stands none = record {
@@ -231,12 +282,16 @@ has_opened sites kept core history gathered held h some stands none = record {
     some = some;
     kept = sym (append-nil kept.items);
     said = [];
-    cuts = refl;
+    refused = 0;
+    cuts = (refl, refl);
     answers = sym (append-nil kept.answers);
+    refused_else = 0;
+    refusals = none_more kept.refused;
     stands = stands;
     answered = h.answered;
   };
   none = refl;
+  none_else = refl;
   asked = opened_given sites history held h;
   told = sym (ap (λ (ws : List ℕ). ws ++ gathered) h.written ∙ none);
 }
@@ -244,11 +299,12 @@ has_opened sites kept core history gathered held h some stands none = record {
 -- ---- a fault in front of the talk
 
 pub served_err : (e : ServeFail) (left : Option (List ℕ)) (sites : List SiteLine) (history : History) (held : List ℕ)
-    (kept : Handed) → OpensSo (Err e) left sites history held
-    → Served (Err e) left history.given history.written kept kept × AreAnswered history.waits
-served_err (fail.ReadFault l) left sites history held kept (done, h, part) =
-    (served_unread l left sites history held kept done h part, h.answered)
-served_err fail.Memory left sites history held kept (some, h) =
-    (served_memory left some history held kept h, h.answered)
-served_err (fail.WriteFault l) left sites history held kept opens = absurd opens
-served_err fail.BundleFault left sites history held kept opens = absurd opens
+    (kept kept' : Kept) → OpensSo (Err e) left sites history held
+    → IsUnasked kept kept' (refused_by e)
+    → Served (Err e) left history.given history.written kept kept' × AreAnswered history.waits
+served_err (fail.ReadFault l) left sites history held kept kept' (done, h, part) unasked =
+    (served_unread l left sites history held kept kept' done h part unasked, h.answered)
+served_err fail.Memory left sites history held kept kept' (some, h) unasked =
+    (served_memory left some history held kept kept' h unasked, h.answered)
+served_err (fail.WriteFault l) left sites history held kept kept' opens unasked = absurd opens
+served_err fail.BundleFault left sites history held kept kept' opens unasked = absurd opens

@@ -22,28 +22,27 @@ use Rattle.sgt_serve.specs.declared.fail.ServeFail.{ServeFail}
 use Rattle.sgt_serve.specs.declared.fail.ServeFail.TheVariants as fail
 use Rattle.sgt_serve.specs.declared.last.Last.{Last}
 use Rattle.sgt_serve.specs.declared.last.Last.TheVariants as last
-use Rattle.sgt_pipe.specs.declared.handed.Handed.{Handed}
 use Rattle.sgt_pipe.specs.declared.handed.KeepFault.{KeepFault}
 use Rattle.sgt_pipe.specs.declared.handed.KeepFault.TheVariants as keep
-use Rattle.sgt_serve.specs.Place.{PlaceSaid}
+use Rattle.sgt_serve.specs.Place.{Kept, PlaceSaid}
 use Rattle.sgt_courses.specs.Course.{Numbered, cut_line}
 use Rattle.sgt_serve.specs.Talk.{IsTalk, Talk, asked_text, handed_texts, told_text}
 
 -- ---- behind the lines
 
--- what is told of what stands behind the last line: nothing of nothing, and of a part of one without
--- its LF, whatever it holds, that it can't be read
-abbrev pub IsRest : (rest tail : List ℕ) → Type 0
-IsRest rest tail = ((rest ≡ []) × (tail ≡ []))
-    ⊎ ((rest ≢ []) × IsPart rest × (tail ≡ codes "! L1\n"))
+-- what is told of what stands behind the last line: nothing of nothing, and behind the first turn of a
+-- part of one without its LF, whatever it holds, that it can't be read
+abbrev pub IsRest : Talk → (rest tail : List ℕ) → Type 0
+IsRest t rest tail = ((rest ≡ []) × (tail ≡ []))
+    ⊎ ((rest ≢ []) × (t.turns ≢ []) × IsPart rest × (tail ≡ codes "! L1\n"))
 
 -- so at the end of the input, where nothing is left
-abbrev pub IsAtEnd : (left : Option (List ℕ)) → (rest tail : List ℕ) → Type 0
-IsAtEnd left rest tail = NoneLeft left × IsRest rest tail
+abbrev pub IsAtEnd : Talk → (left : Option (List ℕ)) → (rest tail : List ℕ) → Type 0
+IsAtEnd t left rest tail = NoneLeft left × IsRest t rest tail
 
--- a line that is too long
-abbrev pub IsAtTooLong : (rest tail : List ℕ) → Type 0
-IsAtTooLong rest tail = IsLongerThan max_line rest × (tail ≡ codes "! L2\n")
+-- behind the first turn a line that is too long
+abbrev pub IsAtTooLong : Talk → (rest tail : List ℕ) → Type 0
+IsAtTooLong t rest tail = (t.turns ≢ []) × IsLongerThan max_line rest × (tail ≡ codes "! L2\n")
 
 -- behind these sites the line is neither the next one's nor, where there is one, an event's or a cut
 pub record IsMisplaced (sites : List SiteLine) (line : List ℕ) : Type 0 where
@@ -90,25 +89,26 @@ Closes old new = (replies : List Reply) × Run old (closing_events old) replies 
 -- was begun since the last cut, and else that of the state that the closing comes to
 abbrev pub EndsWith : CoreState → List Numbered → Type 0
 EndsWith c last = ((c.certifier.begun ≡ 0) × (last ≡ []))
-    ⊎ ((d : CoreState) × Closes c d × (d.certifier.active ≡ []) × (number : ℕ)
+    ⊎ ((c.certifier.begun ≢ 0) × (d : CoreState) × Closes c d × (d.certifier.active ≡ []) × (number : ℕ)
     × (last ≡ record { number = number; bundle = bundle_of d } ∷ []))
 
--- how the last bundle fared, and what the place answered: it is kept, if there is one; or there was no
--- memory for it, here or at the place; or the place refused it
-abbrev pub EndsSo : Last → CoreState → List Numbered → List (Result ℕ KeepFault) → Type 0
-EndsSo last.Done c bundles said = EndsWith c bundles
-    × (said ≡ map (λ (n : Numbered). Ok n.number) bundles)
-EndsSo last.Memory c bundles said = (c.certifier.begun ≢ 0) × (bundles ≡ [])
-    × ((said ≡ []) ⊎ (said ≡ Err keep.Memory ∷ []))
-EndsSo last.Unwritten c bundles said = (c.certifier.begun ≢ 0) × (bundles ≡ [])
-    × (said ≡ Err keep.Refused ∷ [])
+-- how the last bundle fared, what the place answered, and how many growths were refused here: it is
+-- kept, if there is one; or there was no memory for it, since one was refused, or the place told just
+-- that; or the place refused it
+abbrev pub EndsSo : Last → CoreState → List Numbered → List (Result ℕ KeepFault) → ℕ → Type 0
+EndsSo last.Done c bundles said refused = EndsWith c bundles
+    × (said ≡ map (λ (n : Numbered). Ok n.number) bundles) × (refused ≡ 0)
+EndsSo last.Memory c bundles said refused = (c.certifier.begun ≢ 0) × (bundles ≡ [])
+    × (((said ≡ []) × (refused ≡ 1)) ⊎ ((said ≡ Err keep.Memory ∷ []) × (refused ≡ 0)))
+EndsSo last.Unwritten c bundles said refused = (c.certifier.begun ≢ 0) × (bundles ≡ [])
+    × (said ≡ Err keep.Refused ∷ []) × (refused ≡ 0)
 
 -- what may be written behind the answers
-abbrev pub MayClose : (rest tail : List ℕ) → Type 0
-MayClose rest tail = (tail ≡ []) ⊎ (IsRest rest tail ⊎ IsAtTooLong rest tail)
+abbrev pub MayClose : Talk → (rest tail : List ℕ) → Type 0
+MayClose t rest tail = (tail ≡ []) ⊎ (IsRest t rest tail ⊎ IsAtTooLong t rest tail)
 
 abbrev pub MayBehind : Talk → (left : Option (List ℕ)) → (rest tail : List ℕ) → Type 0
-MayBehind t left rest tail = MayClose rest tail ⊎ IsAtUnreadable t left rest tail
+MayBehind t left rest tail = MayClose t rest tail ⊎ IsAtUnreadable t left rest tail
 
 -- all answers were written, and this behind them
 abbrev pub WroteAll : Talk → (tail written : List ℕ) → Type 0
@@ -120,15 +120,15 @@ WroteLess all written = (n : ℕ) × (n < length all) × (written ≡ take n all
 
 -- all answers were written up to the end, or to a line that is too long
 abbrev pub SaysAll : Talk → (left : Option (List ℕ)) → (rest written : List ℕ) → Type 0
-SaysAll t left rest written = (tail : List ℕ) × (IsAtEnd left rest tail ⊎ IsAtTooLong rest tail)
+SaysAll t left rest written = (tail : List ℕ) × (IsAtEnd t left rest tail ⊎ IsAtTooLong t rest tail)
     × WroteAll t tail written
 
 -- what a talk was answered that has this result, where its last bundle fared so
 abbrev pub SaysSo : Result Outcome ServeFail → Last → Talk → (left : Option (List ℕ)) → (rest written : List ℕ) → Type 0
 SaysSo (Ok outcome.Yes) fared t left rest written = (fared ≡ last.Done) × (t.sites ≢ [])
-    × (tail : List ℕ) × IsAtEnd left rest tail × WroteAll t tail written
+    × (tail : List ℕ) × IsAtEnd t left rest tail × WroteAll t tail written
 SaysSo (Ok outcome.Unreadable) fared t left rest written = (fared ≡ last.Done)
-    × (tail : List ℕ) × (IsAtTooLong rest tail ⊎ IsAtUnreadable t left rest tail)
+    × (tail : List ℕ) × (IsAtTooLong t rest tail ⊎ IsAtUnreadable t left rest tail)
     × WroteAll t tail written
 SaysSo (Ok outcome.No) fared t left rest written = ⊥
 SaysSo (Err (fail.ReadFault l)) fared t left rest written = (l ≡ fared) × IsPart rest
@@ -142,12 +142,18 @@ SaysSo (Err fail.Memory) fared t left rest written =
     ((fared ≡ last.Memory) × SaysAll t left rest written)
     ⊎ (WroteLess (told_text t) written ⊎ ((t.turns ≡ []) × (written ≡ [])))
 
+-- how many growths were refused beside the turns and the last bundle: one where want of memory is told,
+-- and not of the last bundle
+abbrev pub RefusedElse : Result Outcome ServeFail → Last → ℕ → Type 0
+RefusedElse (Err fail.Memory) fared refused = ((fared ≡ last.Memory) × (refused ≡ 0)) ⊎ (refused ≡ 1)
+RefusedElse _ fared refused = refused ≡ 0
+
 -- ---- a whole talk
 
 -- what was given, written and handed out, beside what was handed out before, where this is the result
--- and the reader tells that so much is left
+-- and the reader tells that so much is left; and how many growths were refused, beside those before
 pub record Served (result : Result Outcome ServeFail) (left : Option (List ℕ)) (given written : List ℕ)
-    (before after : Handed) : Type 0 where
+    (before after : Kept) : Type 0 where
   pub talk : Talk
   pub is : IsTalk talk
   pub rest : List ℕ
@@ -159,7 +165,13 @@ pub record Served (result : Result Outcome ServeFail) (left : Option (List ℕ))
   pub handed : after.items ≡ before.items ++ handed_texts (talk.bundles ++ last)
   -- what the place answered over the talk, and at its end
   pub said : List (Result ℕ KeepFault)
-  pub cuts : PlaceSaid talk.turns said
+  pub refused : ℕ
+  pub cuts : PlaceSaid talk.turns said refused
   pub said_last : List (Result ℕ KeepFault)
   pub answers : after.answers ≡ before.answers ++ (said ++ said_last)
-  pub ends : EndsSo fared talk.last last said_last
+  pub refused_last : ℕ
+  pub ends : EndsSo fared talk.last last said_last refused_last
+  -- want of memory is told where a growth was refused, each time anew, and nowhere else
+  pub refused_else : ℕ
+  pub lacks : RefusedElse result fared refused_else
+  pub refusals : after.refused ≡ before.refused + (refused + (refused_last + refused_else))

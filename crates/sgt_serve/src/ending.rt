@@ -9,6 +9,7 @@ ghost use Rattle.sgt_core_model.specs.Step.{Run};
 ghost use Rattle.sgt_core_model.specs.declared.reply.Reply.{Reply as AReply};
 ghost use Rattle.sgt_core_machine.specs.Machine.{GoesOn, StandsFor};
 ghost use Rattle.sgt_serve.specs.Ended.{installs_of, open_tx};
+ghost use Rattle.sgt_serve.specs.Place.{kept_at};
 ghost use Rattle.sgt_serve.specs.private.Closing.{ClosesSo, HandsOut, lost_by};
 
 use crate::bundles::Bundles;
@@ -17,7 +18,7 @@ use sgt_core_machine::Core;
 use sgt_core_model::CoreFault;
 use sgt_names::{SiteNo, Tx};
 use sgt_notation::Event;
-use sgt_pipe::KeepFault;
+use sgt_pipe::{KeepFault, Refusals};
 use std::alloc::Global;
 
 /// Installs the open step at each site, where it lacks.
@@ -68,12 +69,15 @@ fn lost(fault: KeepFault) -> Last
     }
 }
 
-/// Hands out the bundle of a core that is given up.
-fn hand_out<B: Bundles>(alloc: Global, core: Core, bundles: &mut B) -> Last
+/// Hands out the bundle of a core that is given up, and of which all was withdrawn: where a transaction is active yet,
+/// a growth was refused to its withdrawal.
+fn hand_out<B: Bundles>(alloc: Global, core: Core, bundles: &mut B, refusals: &mut Refusals) -> Last
     ensures { (c : CoreState) → StandsFor core c
-        → HandsOut result c (B.handed bundles.old) (B.handed bundles.new) }
+        → HandsOut result c (kept_at (B.handed bundles.old) refusals.old)
+        (kept_at (B.handed bundles.new) refusals.new) }
 {
     let Ok(text) = core.into_text(alloc) else {
+        refusals.note();
         return Last::Memory;
     };
     match bundles.keep(text.as_slice()) {
@@ -83,9 +87,15 @@ fn hand_out<B: Bundles>(alloc: Global, core: Core, bundles: &mut B) -> Last
 }
 
 /// Ends a talk whose core is this one.
-pub(crate) fn close<B: Bundles>(alloc: Global, mut core: Core, bundles: &mut B) -> Last
+pub(crate) fn close<B: Bundles>(
+    alloc: Global,
+    mut core: Core,
+    bundles: &mut B,
+    refusals: &mut Refusals,
+) -> Last
     ensures { (c : CoreState) → StandsFor core c
-        → ClosesSo result c (B.handed bundles.old) (B.handed bundles.new) }
+        → ClosesSo result c (kept_at (B.handed bundles.old) refusals.old)
+        (kept_at (B.handed bundles.new) refusals.new) }
 {
     let begun = core.begun();
     if begun == 0 {
@@ -93,5 +103,5 @@ pub(crate) fn close<B: Bundles>(alloc: Global, mut core: Core, bundles: &mut B) 
     }
     install_open(&mut core);
     withdraw_active(&mut core, begun);
-    hand_out(alloc, core, bundles)
+    hand_out(alloc, core, bundles, refusals)
 }

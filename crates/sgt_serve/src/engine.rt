@@ -6,7 +6,9 @@ ghost use Rattle.sgt_pipe.specs.Acts.{all_reads};
 ghost use Rattle.sgt_pipe.specs.Fronts.{IsLineOf};
 ghost use Rattle.sgt_serve.specs.Devices.{LeavesReader, LeavesWriter};
 ghost use Rattle.sgt_serve.specs.Ended.{Served};
+ghost use Rattle.sgt_serve.specs.Place.{kept_at};
 ghost use Rattle.sgt_serve.specs.Talk.{AreAnswered};
+ghost use Rattle.sgt_serve.specs.private.Opening.{refused_in};
 ghost use Rattle.sgt_serve.specs.private.Serving.{ServesFrom, TellsFront, closed_by, ends_by};
 ghost use Rattle.sgt_serve.specs.private.Talking.{desk};
 
@@ -20,7 +22,7 @@ use crate::talking::{Server, talk};
 use sgt_input::unreadable_line;
 use sgt_names::{Outcome, Sink, Source};
 use sgt_notation::NotationFault;
-use sgt_pipe::{Inbox, Pipe};
+use sgt_pipe::{Inbox, Pipe, Refusals};
 use std::alloc::Global;
 
 /// The result of an outcome, where the last bundle fared so.
@@ -47,33 +49,40 @@ fn ended(stop: Stop, last: Last) -> Result<Outcome, ServeFail>
     }
 }
 
-/// Talks from the first line on, which is of so many bytes and asks for something, and ends the talk.
+/// Talks from the first line on, which is of so many bytes and asks for something, and ends the talk. The growths that
+/// were refused to it come too.
 fn serve_talk<R: Source, W: Sink, B: Bundles>(
     pipe: &mut Pipe<R, W>,
     inbox: &mut Inbox,
     mut server: Server,
     bundles: &mut B,
     n: usize,
-) -> Result<Outcome, ServeFail>
+) -> (Result<Outcome, ServeFail>, Refusals)
     requires { IsLineOf inbox.old.held n }
-    ensures serves { ServesFrom result n (R.tells pipe.new.reader)
-        (desk (B.handed bundles.old) server.core pipe.old.history server.answers.items inbox.old.held)
-        pipe.new.history (B.handed bundles.new) }
-    ensures hears { LeavesReader result (R.tells pipe.old.reader) (R.tells pipe.new.reader)
+    ensures serves { ServesFrom result.0 n (R.tells pipe.new.reader)
+        (desk (kept_at (B.handed bundles.old) server.refusals) server.core pipe.old.history
+        server.answers.items inbox.old.held)
+        pipe.new.history (kept_at (B.handed bundles.new) result.1) }
+    ensures hears { LeavesReader result.0 (R.tells pipe.old.reader) (R.tells pipe.new.reader)
         pipe.old.history.given
         pipe.new.history.given (R.failures pipe.old.reader) (R.failures pipe.new.reader)
         inbox.new.reads }
-    ensures speaks { LeavesWriter result (W.holds pipe.old.writer) (W.holds pipe.new.writer)
+    ensures speaks { LeavesWriter result.0 (W.holds pipe.old.writer) (W.holds pipe.new.writer)
         pipe.old.history.written
         pipe.new.history.written (W.failures pipe.old.writer) (W.failures pipe.new.writer) }
-    ensures ends { result ≡ Ok Outcome.Yes → NoneLeft (R.tells pipe.new.reader) }
+    ensures ends { result.0 ≡ Ok Outcome.Yes → NoneLeft (R.tells pipe.new.reader) }
     ensures asks { R.asked pipe.new.reader + inbox.new.reads
         ≡ R.asked pipe.old.reader + inbox.old.reads }
 {
     let stop = talk(pipe, inbox, &mut server, bundles, n);
-    let Server { alloc, core, .. } = server;
-    let last = close(alloc, core, bundles);
-    ended(stop, last)
+    let Server {
+        alloc,
+        core,
+        mut refusals,
+        ..
+    } = server;
+    let last = close(alloc, core, bundles, &mut refusals);
+    (ended(stop, last), refusals)
 }
 
 /// Tells that the line of this number can't be read.
@@ -82,17 +91,73 @@ fn tell_unreadable<R: Source, W: Sink>(
     pipe: &mut Pipe<R, W>,
     line: u64,
     fault: NotationFault,
+    refusals: &mut Refusals,
 ) -> Result<Outcome, ServeFail>
     ensures tells { TellsFront result line fault pipe.old.history pipe.new.history }
     ensures speaks { LeavesWriter result (W.holds pipe.old.writer) (W.holds pipe.new.writer)
         pipe.old.history.written
         pipe.new.history.written (W.failures pipe.old.writer) (W.failures pipe.new.writer) }
     ensures reader { pipe.new.reader ≡ pipe.old.reader }
+    ensures notes { refusals.new ≡ refusals.old + refused_in result }
 {
-    let text = unreadable_line(alloc, line, fault)?;
+    let Ok(text) = unreadable_line(alloc, line, fault) else {
+        refusals.note();
+        return Err(ServeFail::Memory);
+    };
     match pipe.write_all(text.as_slice()) {
         Ok(()) => Ok(Outcome::Unreadable),
         Err(_) => Err(ServeFail::WriteFault(Last::Done)),
+    }
+}
+
+/// Serves a talk, and notes the growths that are refused to it, of which there are none yet.
+fn serve_noting<R: Source, W: Sink, B: Bundles>(
+    alloc: Global,
+    pipe: &mut Pipe<R, W>,
+    bundles: &mut B,
+    refusals: &mut Refusals,
+) -> Result<Outcome, ServeFail>
+    requires given { pipe.old.history.given ≡ [] }
+    requires written { pipe.old.history.written ≡ [] }
+    requires waits { pipe.old.history.waits ≡ [] }
+    requires quiet { refusals.old ≡ 0 }
+    ensures served { Served result (R.tells pipe.new.reader) pipe.new.history.given
+        pipe.new.history.written (kept_at (B.handed bundles.old) refusals.old)
+        (kept_at (B.handed bundles.new) refusals.new) }
+    ensures flushed { AreAnswered pipe.new.history.waits }
+    ensures reader { (reads : ℕ) × LeavesReader result (R.tells pipe.old.reader)
+        (R.tells pipe.new.reader) pipe.old.history.given
+        pipe.new.history.given (R.failures pipe.old.reader) (R.failures pipe.new.reader) reads
+        × (R.asked pipe.new.reader + reads ≡ R.asked pipe.old.reader + all_reads) }
+    ensures writer { LeavesWriter result (W.holds pipe.old.writer) (W.holds pipe.new.writer)
+        pipe.old.history.written
+        pipe.new.history.written (W.failures pipe.old.writer) (W.failures pipe.new.writer) }
+    ensures ends { result ≡ Ok Outcome.Yes → NoneLeft (R.tells pipe.new.reader) }
+{
+    let Ok(mut inbox) = Inbox::new(alloc) else {
+        refusals.note();
+        return Err(ServeFail::Memory);
+    };
+    let mut sites = Vec::new(alloc);
+    match read_sites(alloc, pipe, &mut inbox, &mut sites, refusals) {
+        Ok(opened) => match opened {
+            Opened::Begun(n) => match server_of(alloc, sites) {
+                Ok(server) => {
+                    let (told, noted) = serve_talk(pipe, &mut inbox, server, bundles, n);
+                    *refusals = noted;
+                    told
+                }
+                Err(_) => {
+                    refusals.note();
+                    Err(ServeFail::Memory)
+                }
+            },
+            Opened::Ended => Ok(Outcome::Yes),
+            Opened::Unreadable(fault) => {
+                tell_unreadable(alloc, pipe, sites.len() as u64 + 1, fault, refusals)
+            }
+        },
+        Err(fault) => Err(fault),
     }
 }
 
@@ -110,7 +175,8 @@ fn tell_unreadable<R: Source, W: Sink>(
 /// Yes at the end of the input; Unreadable where a line was too long, or one in front can't be read. An Err beats
 /// both: ReadFault where the reader failed, or 2^64 - 1 reads were made, and WriteFault where the writer failed, and
 /// then the talk is ended as ever, which the fault tells of; BundleFault where the place refused the last bundle;
-/// Memory where there is no memory to begin with, for an answer, or for the last bundle.
+/// Memory where there is no memory to begin with, for an answer, or for the last bundle. The pipe tells then how many
+/// growths were refused here.
 pub fn serve<R: Source, W: Sink, B: Bundles>(
     alloc: Global,
     pipe: &mut Pipe<R, W>,
@@ -119,9 +185,11 @@ pub fn serve<R: Source, W: Sink, B: Bundles>(
     requires given { pipe.old.history.given ≡ [] }
     requires written { pipe.old.history.written ≡ [] }
     requires waits { pipe.old.history.waits ≡ [] }
-    // what was given, written and kept are those of a course
+    // what was given, written and kept are those of a course; and want of memory is told where a growth was
+    // refused here, or the place told it
     ensures served { Served result (R.tells pipe.new.reader) pipe.new.history.given
-        pipe.new.history.written (B.handed bundles.old) (B.handed bundles.new) }
+        pipe.new.history.written (kept_at (B.handed bundles.old) 0)
+        (kept_at (B.handed bundles.new) pipe.new.refusals) }
     // at each read: all that was given before it is answered
     ensures flushed { AreAnswered pipe.new.history.waits }
 
@@ -135,21 +203,8 @@ pub fn serve<R: Source, W: Sink, B: Bundles>(
         pipe.new.history.written (W.failures pipe.old.writer) (W.failures pipe.new.writer) }
     ensures ends { result ≡ Ok Outcome.Yes → NoneLeft (R.tells pipe.new.reader) }
 {
-    let Ok(mut inbox) = Inbox::new(alloc) else {
-        return Err(ServeFail::Memory);
-    };
-    let mut sites = Vec::new(alloc);
-    match read_sites(alloc, pipe, &mut inbox, &mut sites) {
-        Ok(opened) => match opened {
-            Opened::Begun(n) => match server_of(alloc, sites) {
-                Ok(server) => serve_talk(pipe, &mut inbox, server, bundles, n),
-                Err(_) => Err(ServeFail::Memory),
-            },
-            Opened::Ended => Ok(Outcome::Yes),
-            Opened::Unreadable(fault) => {
-                tell_unreadable(alloc, pipe, sites.len() as u64 + 1, fault)
-            }
-        },
-        Err(fault) => Err(fault),
-    }
+    let mut refusals = Refusals::new();
+    let told = serve_noting(alloc, pipe, bundles, &mut refusals);
+    pipe.tell_refusals(refusals);
+    told
 }

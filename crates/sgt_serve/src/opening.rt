@@ -1,6 +1,6 @@
 //! The sites that a talk begins with, and what answers over them.
 
-ghost use Rattle.std.specs.Prelude.{◌≡◌, ◌≢◌, ◌≤◌, ◌+◌, ◌*◌, [], None, Some, Ok, length, IfOk, MatchBool};
+ghost use Rattle.std.specs.Prelude.{◌≡◌, ◌≢◌, ◌≤◌, ◌+◌, ◌*◌, [], None, Some, Ok, length, IfOk, OnOk, OnErr, MatchBool};
 ghost use Rattle.std.specs.Io.KnownBytes.{IsAtEnd as NoneLeft};
 ghost use Rattle.sgt_names.specs.Limits.{buffer_size};
 ghost use Rattle.sgt_notation.specs.Events.{IsEventLine, event_text};
@@ -11,7 +11,7 @@ ghost use Rattle.sgt_pipe.specs.Fronts.{IsLineOf, IsPart};
 ghost use Rattle.sgt_courses.specs.Course.{cut_line};
 ghost use Rattle.sgt_serve.specs.Devices.{LeavesReader};
 ghost use Rattle.sgt_serve.specs.Talk.{starting};
-ghost use Rattle.sgt_serve.specs.private.Opening.{Asks, HasSites, OpensOn, OpensSo, ReadsFront, TakesNext};
+ghost use Rattle.sgt_serve.specs.private.Opening.{Asks, HasSites, OpensOn, OpensSo, ReadsFront, TakesNext, refused_in};
 
 use crate::fail::ServeFail;
 use crate::last::Last;
@@ -21,7 +21,7 @@ use sgt_core_machine::Core;
 use sgt_input::{items_of, take_site};
 use sgt_names::{Sink, Source};
 use sgt_notation::{NotationFault, SiteLine, read_event};
-use sgt_pipe::{Front, Inbox, Pipe};
+use sgt_pipe::{Front, Inbox, Pipe, Refusals};
 use sgt_site::SiteFault;
 use std::alloc::{AllocError, Global};
 
@@ -49,15 +49,25 @@ fn take_line(
     alloc: Global,
     inbox: &mut Inbox,
     sites: &mut Vec<SiteLine>,
+    refusals: &mut Refusals,
     n: usize,
 ) -> Result<Option<Opened>, AllocError>
     requires { IsLineOf inbox.old.held n }
     ensures takes { IfOk result (TakesNext n sites.old.items sites.new.items inbox.old.held inbox.new.held) }
     ensures reads { inbox.new.reads ≡ inbox.old.reads }
     ensures held { result ≢ Ok None → inbox.new ≡ inbox.old }
+    ensures quiet { OnOk result (refusals.new ≡ refusals.old) }
+    ensures notes { OnErr result (refusals.new ≡ refusals.old + 1) }
 {
     let line = &inbox.held()[..n];
-    if take_site(alloc, sites, line)? {
+    let taken = match take_site(alloc, sites, line) {
+        Ok(taken) => taken,
+        Err(fault) => {
+            refusals.note();
+            return Err(fault);
+        }
+    };
+    if taken {
         inbox.pass(n + 1);
         return Ok(None);
     }
@@ -86,6 +96,7 @@ fn read_on<R: Source, W: Sink>(
         ≡ R.asked pipe.old.reader + inbox.old.reads }
     ensures falls { result ≡ Ok None → (inbox.old.reads ≡ inbox.new.reads + 1)
         × (length inbox.new.held ≤ length inbox.old.held + buffer_size) }
+    ensures quiet { refused_in result ≡ 0 }
 {
     match inbox.fill(pipe) {
         Ok(0) if any && inbox.held().is_empty() => Ok(Some(Opened::Ended)),
@@ -101,6 +112,7 @@ fn go_on<R: Source, W: Sink>(
     pipe: &mut Pipe<R, W>,
     inbox: &mut Inbox,
     sites: &mut Vec<SiteLine>,
+    refusals: &mut Refusals,
 ) -> Result<Option<Opened>, ServeFail>
     requires has { HasSites sites.old.items pipe.old.history inbox.old.held }
     ensures opens { OpensOn result (R.tells pipe.new.reader) sites.new.items pipe.new.history inbox.new.held }
@@ -115,9 +127,10 @@ fn go_on<R: Source, W: Sink>(
     ensures falls { result ≡ Ok None
         → length inbox.new.held + inbox.new.reads * (buffer_size + 1) + 1
         ≤ length inbox.old.held + inbox.old.reads * (buffer_size + 1) }
+    ensures notes { refusals.new ≡ refusals.old + refused_in result }
 {
     match inbox.front() {
-        Front::Line(n) => Ok(take_line(alloc, inbox, sites, n)?),
+        Front::Line(n) => Ok(take_line(alloc, inbox, sites, refusals, n)?),
         Front::TooLong => Ok(Some(Opened::Unreadable(NotationFault::TooLong))),
         Front::Part => read_on(pipe, inbox, !sites.is_empty()),
     }
@@ -129,6 +142,7 @@ pub(crate) fn read_sites<R: Source, W: Sink>(
     pipe: &mut Pipe<R, W>,
     inbox: &mut Inbox,
     sites: &mut Vec<SiteLine>,
+    refusals: &mut Refusals,
 ) -> Result<Opened, ServeFail>
     requires has { HasSites sites.old.items pipe.old.history inbox.old.held }
     ensures opens { OpensSo result (R.tells pipe.new.reader) sites.new.items pipe.new.history inbox.new.held }
@@ -140,9 +154,10 @@ pub(crate) fn read_sites<R: Source, W: Sink>(
     ensures ends { result ≡ Ok Opened.Ended → NoneLeft (R.tells pipe.new.reader) }
     ensures asks { R.asked pipe.new.reader + inbox.new.reads
         ≡ R.asked pipe.old.reader + inbox.old.reads }
+    ensures notes { refusals.new ≡ refusals.old + refused_in result }
 {
     'lines: loop {
-        if let Some(opened) = go_on(alloc, pipe, inbox, sites)? {
+        if let Some(opened) = go_on(alloc, pipe, inbox, sites, refusals)? {
             return Ok(opened);
         }
     }
@@ -168,6 +183,7 @@ pub(crate) fn server_of(alloc: Global, sites: Vec<SiteLine>) -> Result<Server, A
     requires { IsOpening sites.items }
     ensures stands { IfOk result (λ server. StandsFor server.core (starting sites.items)) }
     ensures none { IfOk result (λ server. server.answers.items ≡ []) }
+    ensures quiet { IfOk result (λ server. server.refusals ≡ 0) }
 {
     let core = core_of(alloc, sites)?;
     Server::new(alloc, core)

@@ -1,9 +1,9 @@
 //! Places for bundles: one in memory, and one that keeps none.
 
-ghost use Rattle.std.specs.Prelude.{◌≡◌, []};
+ghost use Rattle.std.specs.Prelude.{◌≡◌, ◌<◌, [], Err};
 
 use crate::bundles::Bundles;
-use sgt_pipe::{Handed, HandedBundle, KeepFault};
+use sgt_pipe::{Handed, HandedBundle, KeepFault, Refusals};
 use std::alloc::Global;
 
 /// Bundles in memory, numbered from 1. It refuses one, if it is told so, at one of its calls.
@@ -14,6 +14,7 @@ pub struct MemBundles {
     calls: u64,
     refuse_at: u64,
     handed: Handed,
+    refusals: Refusals,
 }
 
 impl MemBundles {
@@ -27,6 +28,7 @@ impl MemBundles {
             calls: 0,
             refuse_at,
             handed: Handed::new(),
+            refusals: Refusals::new(),
         }
     }
 
@@ -39,24 +41,31 @@ impl MemBundles {
 
     // Keeps a copy of the text, if it may, and tells how many there are then.
     fn copy(&mut self, text: &[u8]) -> Result<u64, KeepFault>
-        ensures { self.new.handed ≡ self.old.handed }
+        ensures handed { self.new.handed ≡ self.old.handed }
+        ensures memory { result ≡ Err KeepFault.Memory → self.old.refusals < self.new.refusals }
     {
         self.calls = self.calls.saturating_add(1);
         if self.calls == self.refuse_at {
             return Err(KeepFault::Refused);
         }
         let Ok(kept) = Vec::from_slice(self.alloc, text) else {
+            self.refusals.note();
             return Err(KeepFault::Memory);
         };
         match self.texts.push(kept) {
             Ok(()) => Ok(self.texts.len() as u64),
-            Err(_) => Err(KeepFault::Memory),
+            Err(_) => {
+                self.refusals.note();
+                Err(KeepFault::Memory)
+            }
         }
     }
 }
 
 impl Bundles for MemBundles {
     ghost handed = { λ b. b.handed };
+
+    ghost refusals = { λ b. b.refusals };
 
     fn keep(&mut self, text: &[u8]) -> Result<u64, KeepFault> {
         let answer = self.copy(text);
@@ -86,6 +95,9 @@ impl NoBundles {
 
 impl Bundles for NoBundles {
     ghost handed = { λ b. b.handed };
+
+    // none: it takes no memory
+    ghost refusals = { λ _. 0 };
 
     fn keep(&mut self, text: &[u8]) -> Result<u64, KeepFault> {
         let answer = match self.count.checked_add(1) {

@@ -7,7 +7,7 @@ ghost use Rattle.sgt_notation.specs.Lines.{IsLongerThan};
 ghost use Rattle.sgt_core_machine.specs.Machine.{Parts};
 ghost use Rattle.sgt_pipe.specs.Ends.{LosesWriter, Speaks};
 ghost use Rattle.sgt_pipe.specs.Fronts.{IsLineOf, IsPart};
-ghost use Rattle.sgt_pipe.specs.declared.handed.Handed.{Handed};
+ghost use Rattle.sgt_serve.specs.Place.{Kept, kept_at};
 ghost use Rattle.sgt_serve.specs.private.Devices.{HearsOr, HearsSo, SpeaksOr, SpeaksSo};
 ghost use Rattle.sgt_serve.specs.private.Talking.{Flushes, OpensTo, SaysLast, Stops, StopsOr, TakesFront, desk};
 
@@ -17,15 +17,16 @@ use crate::turning::answer;
 use crate::writing::write_answer;
 use sgt_core_machine::Core;
 use sgt_names::{Failed, Sink, Source};
-use sgt_pipe::{Front, Inbox, Pipe};
+use sgt_pipe::{Front, Inbox, Pipe, Refusals};
 use std::alloc::{AllocError, Global};
 
-/// What answers: a core, and the answers that are not written yet.
+/// What answers: a core, and the answers that are not written yet. It notes each growth that is refused.
 #[derive(Drop)]
 pub(crate) struct Server {
     pub(crate) alloc: Global,
     pub(crate) core: Core,
     pub(crate) answers: Vec<u8>,
+    pub(crate) refusals: Refusals,
 }
 
 /// How many bytes of answers are gathered before they are written, and the room that is made for them.
@@ -38,12 +39,14 @@ impl Server {
     pub(crate) fn new(alloc: Global, core: Core) -> Result<Server, AllocError>
         ensures core { IfOk result (λ server. server.core ≡ core) }
         ensures none { IfOk result (λ server. server.answers.items ≡ []) }
+        ensures quiet { IfOk result (λ server. server.refusals ≡ 0) }
     {
         let answers = Vec::with_capacity(alloc, ROOM)?;
         Ok(Server {
             alloc,
             core,
             answers,
+            refusals: Refusals::new(),
         })
     }
 
@@ -55,20 +58,30 @@ impl Server {
         n: usize,
     ) -> Result<(), AllocError>
         requires { IsLineOf inbox.old.held n }
-        ensures takes { TakesFront result n (B.handed bundles.old) (B.handed bundles.new) self.old.core
+        ensures takes { TakesFront result n (kept_at (B.handed bundles.old) self.old.refusals)
+            (kept_at (B.handed bundles.new) self.new.refusals) self.old.core
             self.new.core self.old.answers.items
             self.new.answers.items inbox.old.held inbox.new.held }
         ensures reads { inbox.new.reads ≡ inbox.old.reads }
         ensures falls { OnOk result (length inbox.new.held + 1 ≤ length inbox.old.held) }
     {
         let line = &inbox.held()[..n];
-        let answer = answer(self.alloc, &mut self.core, bundles, line);
+        let answer = answer(
+            self.alloc,
+            &mut self.core,
+            bundles,
+            &mut self.refusals,
+            line,
+        );
         match write_answer(&mut self.answers, line, &answer) {
             Ok(()) => {
                 inbox.pass(n + 1);
                 Ok(())
             }
-            Err(fault) => Err(fault),
+            Err(fault) => {
+                self.refusals.note();
+                Err(fault)
+            }
         }
     }
 }
@@ -131,7 +144,7 @@ fn say<R: Source, W: Sink>(pipe: &mut Pipe<R, W>, line: &[u8], stop: Stop) -> St
 /// Stops where a line is too long.
 fn stop_long<R: Source, W: Sink>(pipe: &mut Pipe<R, W>, answers: &mut Vec<u8>, rest: &[u8]) -> Stop
     requires { IsLongerThan max_line rest.now }
-    ensures stops { (kept : Handed) (core : Parts)
+    ensures stops { (kept : Kept) (core : Parts)
         → Stops result (desk kept core pipe.old.history answers.old.items rest.now)
         (desk kept core pipe.new.history answers.new.items rest.now) }
     ensures speaks { SpeaksSo result (W.holds pipe.old.writer) (W.holds pipe.new.writer)
@@ -150,7 +163,7 @@ fn stop_long<R: Source, W: Sink>(pipe: &mut Pipe<R, W>, answers: &mut Vec<u8>, r
 /// Stops at the end of the input, where all answers are written and this is held.
 fn stop_at_end<R: Source, W: Sink>(pipe: &mut Pipe<R, W>, rest: &[u8]) -> Stop
     requires { IsPart rest.now }
-    ensures stops { (kept : Handed) (core : Parts)
+    ensures stops { (kept : Kept) (core : Parts)
         → Stops result (desk kept core pipe.old.history [] rest.now)
         (desk kept core pipe.new.history [] rest.now) }
     ensures speaks { SpeaksSo result (W.holds pipe.old.writer) (W.holds pipe.new.writer)
@@ -169,7 +182,7 @@ fn stop_at_end<R: Source, W: Sink>(pipe: &mut Pipe<R, W>, rest: &[u8]) -> Stop
 /// Reads on, where all answers are written. None: there is more to answer.
 fn fill_on<R: Source, W: Sink>(pipe: &mut Pipe<R, W>, inbox: &mut Inbox) -> Option<Stop>
     requires { IsPart inbox.old.held }
-    ensures stops { (kept : Handed) (core : Parts)
+    ensures stops { (kept : Kept) (core : Parts)
         → StopsOr result (desk kept core pipe.old.history [] inbox.old.held)
         (desk kept core pipe.new.history [] inbox.new.held) }
     ensures hears { HearsOr result (R.tells pipe.old.reader) (R.tells pipe.new.reader)
@@ -199,7 +212,7 @@ fn read_on<R: Source, W: Sink>(
     answers: &mut Vec<u8>,
 ) -> Option<Stop>
     requires { IsPart inbox.old.held }
-    ensures stops { (kept : Handed) (core : Parts)
+    ensures stops { (kept : Kept) (core : Parts)
         → StopsOr result (desk kept core pipe.old.history answers.old.items inbox.old.held)
         (desk kept core pipe.new.history answers.new.items inbox.new.held) }
     ensures hears { HearsOr result (R.tells pipe.old.reader) (R.tells pipe.new.reader)
@@ -231,10 +244,10 @@ fn take_line<R: Source, W: Sink, B: Bundles>(
 ) -> Option<Stop>
     requires { IsLineOf inbox.old.held n }
     ensures stops { StopsOr result
-        (desk (B.handed bundles.old) server.old.core pipe.old.history server.old.answers.items
-        inbox.old.held)
-        (desk (B.handed bundles.new) server.new.core pipe.new.history server.new.answers.items
-        inbox.new.held) }
+        (desk (kept_at (B.handed bundles.old) server.old.refusals) server.old.core
+        pipe.old.history server.old.answers.items inbox.old.held)
+        (desk (kept_at (B.handed bundles.new) server.new.refusals) server.new.core
+        pipe.new.history server.new.answers.items inbox.new.held) }
     ensures speaks { SpeaksOr result (W.holds pipe.old.writer) (W.holds pipe.new.writer)
         pipe.old.history.written
         pipe.new.history.written (W.failures pipe.old.writer) (W.failures pipe.new.writer) }
@@ -261,10 +274,10 @@ fn go_on<R: Source, W: Sink, B: Bundles>(
     bundles: &mut B,
 ) -> Option<Stop>
     ensures stops { StopsOr result
-        (desk (B.handed bundles.old) server.old.core pipe.old.history server.old.answers.items
-        inbox.old.held)
-        (desk (B.handed bundles.new) server.new.core pipe.new.history server.new.answers.items
-        inbox.new.held) }
+        (desk (kept_at (B.handed bundles.old) server.old.refusals) server.old.core
+        pipe.old.history server.old.answers.items inbox.old.held)
+        (desk (kept_at (B.handed bundles.new) server.new.refusals) server.new.core
+        pipe.new.history server.new.answers.items inbox.new.held) }
     ensures hears { HearsOr result (R.tells pipe.old.reader) (R.tells pipe.new.reader)
         pipe.old.history.given
         pipe.new.history.given (R.failures pipe.old.reader) (R.failures pipe.new.reader)
@@ -293,10 +306,10 @@ fn talk_on<R: Source, W: Sink, B: Bundles>(
     bundles: &mut B,
 ) -> Stop
     ensures stops { Stops result
-        (desk (B.handed bundles.old) server.old.core pipe.old.history server.old.answers.items
-        inbox.old.held)
-        (desk (B.handed bundles.new) server.new.core pipe.new.history server.new.answers.items
-        inbox.new.held) }
+        (desk (kept_at (B.handed bundles.old) server.old.refusals) server.old.core
+        pipe.old.history server.old.answers.items inbox.old.held)
+        (desk (kept_at (B.handed bundles.new) server.new.refusals) server.new.core
+        pipe.new.history server.new.answers.items inbox.new.held) }
     ensures hears { HearsSo result (R.tells pipe.old.reader) (R.tells pipe.new.reader)
         pipe.old.history.given
         pipe.new.history.given (R.failures pipe.old.reader) (R.failures pipe.new.reader)
@@ -326,10 +339,10 @@ pub(crate) fn talk<R: Source, W: Sink, B: Bundles>(
 ) -> Stop
     requires { IsLineOf inbox.old.held n }
     ensures stops { OpensTo result n
-        (desk (B.handed bundles.old) server.old.core pipe.old.history server.old.answers.items
-        inbox.old.held)
-        (desk (B.handed bundles.new) server.new.core pipe.new.history server.new.answers.items
-        inbox.new.held) }
+        (desk (kept_at (B.handed bundles.old) server.old.refusals) server.old.core
+        pipe.old.history server.old.answers.items inbox.old.held)
+        (desk (kept_at (B.handed bundles.new) server.new.refusals) server.new.core
+        pipe.new.history server.new.answers.items inbox.new.held) }
     ensures hears { HearsSo result (R.tells pipe.old.reader) (R.tells pipe.new.reader)
         pipe.old.history.given
         pipe.new.history.given (R.failures pipe.old.reader) (R.failures pipe.new.reader)

@@ -58,6 +58,15 @@ ReadsFront result any left held held' old new =
         × (new.given ≡ old.given)
     ReadsMore _ any left held held' old new = ⊥
 
+-- how many growths were refused where this is the result
+abbrev pub refused_by : ServeFail → ℕ
+refused_by fail.Memory = 1
+refused_by _ = 0
+
+abbrev pub refused_in : {A : Type 0} → Result A ServeFail → ℕ
+refused_in (Ok a) = 0
+refused_in (Err e) = refused_by e
+
 -- the lines of some sites were taken, and behind them comes this; or there was a fault
 abbrev pub OpensSo : Result Opened ServeFail → Option (List ℕ) → List SiteLine → History → List ℕ → Type 0
 OpensSo (Ok (Begun n)) left sites history held = HasSites sites history held × (sites ≢ [])

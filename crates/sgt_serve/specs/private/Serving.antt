@@ -5,7 +5,6 @@ use Rattle.sgt_names.specs.declared.outcome.Outcome.TheVariants as outcome
 use Rattle.sgt_notation.specs.declared.event.SiteLine.{SiteLine}
 use Rattle.sgt_notation.specs.declared.fault.NotationFault.{NotationFault}
 use Rattle.sgt_input.specs.Unreadable.{unreadable_text}
-use Rattle.sgt_pipe.specs.declared.handed.Handed.{Handed}
 use Rattle.sgt_pipe.specs.declared.history.History.{History}
 use Rattle.sgt_serve.specs.declared.fail.ServeFail.{ServeFail}
 use Rattle.sgt_serve.specs.declared.fail.ServeFail.TheVariants as fail
@@ -14,6 +13,7 @@ use Rattle.sgt_serve.specs.declared.last.Last.TheVariants as last
 use Rattle.sgt_serve.specs.declared.stop.Stop.{Stop}
 use Rattle.sgt_serve.specs.declared.stop.Stop.TheVariants.{Ended, TooLong, ReadFault, WriteFault, Memory}
 use Rattle.sgt_serve.specs.Ended.{Served}
+use Rattle.sgt_serve.specs.Place.{Kept}
 use Rattle.sgt_serve.specs.Talk.{AreAnswered}
 use Rattle.sgt_serve.specs.private.Opening.{Asks}
 use Rattle.sgt_serve.specs.private.Talking.{Desk, HasOpened}
@@ -33,8 +33,8 @@ ends_by WriteFault l = Err (fail.WriteFault l)
 ends_by Memory l = Err fail.Memory
 
 -- the talk whose first line has n bytes and asks for something is served
-abbrev pub ServesFrom : Result Outcome ServeFail → ℕ → Option (List ℕ) → Desk → History → Handed → Type 0
-ServesFrom result n left old history kept = (sites : List SiteLine) (before : Handed)
+abbrev pub ServesFrom : Result Outcome ServeFail → ℕ → Option (List ℕ) → Desk → History → Kept → Type 0
+ServesFrom result n left old history kept = (sites : List SiteLine) (before : Kept)
     → HasOpened sites before old → Asks (take n old.held)
     → Served result left history.given history.written before kept × AreAnswered history.waits
 

@@ -1,5 +1,6 @@
-use Rattle.std.proofs.Common.{rules, ◌≡◌, ◌≤◌, ◌+◌, ◌∙◌, ◌++◌, List, ℕ, ap, refl, arith, length}
-use Rattle.std.specs.Prelude.{IsErr, IsErrOf, Ok}
+use Rattle.std.proofs.Common.{rules, ◌≡◌, ◌≤◌, ◌+◌, ◌∙◌, ◌++◌, List, ℕ, ap, refl, arith, length, subst}
+use Rattle.std.specs.Prelude.{IsErr, IsErrOf, IsTrue, Ok}
+use Rattle.std.proofs.lemmas.Bool.{false≢true}
 use Rattle.sgt_names.specs.declared.outcome.EngineFail.TheVariants.{ReadFault}
 use Rattle.sgt_notation.specs.Lines.{coming}
 use Rattle.sgt_audit_workers.specs.Cut.{longest}
@@ -143,6 +144,7 @@ pieces-preserved g c =
           c.in_ok-append_line-in-Line.ensures.ok;
       asks = omega (arith, ap (λ a. a.reads) takes.2.lines, c.next_line.ensures.asks, c.pieces.invariant.asks);
       quiet = gave.quiet ∙ c.pieces.invariant.quiet;
+      ready = λ drained. absurd (false≢true (subst IsTrue c.if-latest.false (c.pieces.invariant.ready drained).0));
     }
 
 pub returns-in_err-append-in-Cut-clause-piece : goal.returns-in_err-append-in-Cut-clause-piece
@@ -217,3 +219,39 @@ returns-in-TooLong-clause-piece g c =
     stops-before first _ c.args.lines.now.reads c.next_line.new.lines.reads c.args.room.most
     (length l) before c.take_held.new.lines told section (Ok stop.Long) far short c.next_line.ensures.few
     (omega (arith, c.next_line.ensures.short)) (long-left _ _ _ l gave.gives)
+
+pub returns-then-latest-clause-piece : goal.returns-then-latest-clause-piece
+returns-then-latest-clause-piece g c =
+    let first = coming c.args.lines.now (g.R.Source.tells c.args.reader.now) in
+    let told = g.R.Source.tells c.pieces.reader in
+    let before = c.args.section.now.items in
+    let section = c.take_held.new.section.items in
+    let takes = c.in_ok-stop.ensures.takes in
+    let far =
+    far-held first c.args.lines.now.reads before c.pieces.lines c.take_held.new.lines told c.pieces.section.items
+    section takes.0 c.pieces.invariant.far takes.2 in
+    let short = short-held c.args.room.most before c.pieces.section.items section c.pieces.invariant.short
+    c.in_ok-stop.ensures.short in
+    stops-here first c.args.lines.now.reads c.args.room.most before c.take_held.new.lines told section
+    (Ok stop.Room) far short (refl, refl)
+
+pub returns-in_err-next_line-clause-ready : goal.returns-in_err-next_line-clause-ready
+returns-in_err-next_line-clause-ready g c drained = absurd (false≢true (subst IsTrue c.if-latest.false (c.pieces.invariant.ready drained).0))
+
+pub returns-in_err-append_line-in-Line-clause-ready : goal.returns-in_err-append_line-in-Line-clause-ready
+returns-in_err-append_line-in-Line-clause-ready g c drained = absurd (false≢true (subst IsTrue c.if-latest.false (c.pieces.invariant.ready drained).0))
+
+pub returns-then-ends-clause-ready : goal.returns-then-ends-clause-ready
+returns-then-ends-clause-ready g c drained = absurd (false≢true (subst IsTrue c.if-latest.false (c.pieces.invariant.ready drained).0))
+
+pub returns-in_err-append-in-Cut-clause-ready : goal.returns-in_err-append-in-Cut-clause-ready
+returns-in_err-append-in-Cut-clause-ready g c drained = absurd (false≢true (subst IsTrue c.if-latest.false (c.pieces.invariant.ready drained).0))
+
+pub returns-in-Cut-clause-ready : goal.returns-in-Cut-clause-ready
+returns-in-Cut-clause-ready g c drained = absurd (false≢true (subst IsTrue c.if-latest.false (c.pieces.invariant.ready drained).0))
+
+pub returns-in-End-clause-ready : goal.returns-in-End-clause-ready
+returns-in-End-clause-ready g c drained = absurd (false≢true (subst IsTrue c.if-latest.false (c.pieces.invariant.ready drained).0))
+
+pub returns-in-TooLong-clause-ready : goal.returns-in-TooLong-clause-ready
+returns-in-TooLong-clause-ready g c drained = absurd (false≢true (subst IsTrue c.if-latest.false (c.pieces.invariant.ready drained).0))

@@ -1,4 +1,4 @@
-use Rattle.std.proofs.Common.{◌≡◌, ◌+◌, ◌∙◌, [], List, arith, length, subst, sym}
+use Rattle.std.proofs.Common.{◌≡◌, ◌+◌, ◌∙◌, [], List, arith, inl, inr, length, subst, sym}
 use Rattle.std.specs.Prelude.{IfOk}
 use Rattle.sgt_audit_workers.specs.Reads.{reader}
 use Rattle.sgt_audit_workers.specs.declared.sections.Section.{Section}
@@ -69,3 +69,9 @@ pub returns-in-None-clause-asked : goal.returns-in-None-clause-asked
 returns-in-None-clause-asked g c first left has was =
     let came = rw c.in-None.is at (c.take_section.ensures.came first left has) in
     c.judge_last.ensures.asked first left came (c.take_section.ensures.asked first left has was)
+
+pub returns-in-Some-clause-ready : goal.returns-in-Some-clause-ready
+returns-in-Some-clause-ready g c drained = inl (c.take_section.ensures.ready drained).1
+
+pub returns-in-None-clause-ready : goal.returns-in-None-clause-ready
+returns-in-None-clause-ready g c drained = inr c.judge_last.ensures.none

@@ -15,6 +15,7 @@ loop-section-init g c = record {
   asked = λ first left is was. was;
   few = omega (arith, c.new-ahead.ensures.len);
   most = refl;
+  ready = λ drained. (drained, refl);
 }
 
 pub loop-section-preserved : goal.loop-section-preserved
@@ -26,4 +27,8 @@ loop-section-preserved g c =
           (inv.asked first left is was);
       few = omega (arith, c.read_on.ensures.few, inv.few);
       most = c.read_on.ensures.most ∙ inv.most;
+      ready = λ drained.
+          let was = inv.ready drained in
+          let is = c.read_on.ensures.ready was.0 in
+          (is.0, is.1 ∙ was.1);
     }

@@ -1,4 +1,5 @@
 use Rattle.std.proofs.Common.{◌≡◌, ◌≤◌, ℕ, List, Option, vec_len}
+use Rattle.sgt_audit_workers.specs.Cut.{KeepsReady}
 use Rattle.sgt_audit_workers.specs.Reads.{Reader, reader}
 use Rattle.sgt_audit_workers.specs.private.Texts.{HasRead, IsAsked, IsLeft}
 use Rattle.sgt_audit_workers.proofs.sections.read_ahead.Given as goal
@@ -14,4 +15,6 @@ invariant-loop-section g l =
           → IsAsked first l.fn.text old → IsAsked first l.text now;
       few : vec_len l.ahead ≤ l._section;
       most : l.text.most ≡ l.fn.text.most;
+      ready : KeepsReady l.fn.text.latest.is_drained l.text.latest.is_drained (g.R.Source.asked l.fn.source)
+          (g.R.Source.asked l.source);
     }

@@ -1,9 +1,9 @@
 use Rattle.std.proofs.Common.{◌∙◌, ◌≡◌, ◌<◌, ◌≤◌, ◌-◌, ◌+◌, [], ◌∷◌, ◌++◌, List, ℕ, ap, refl, sym, subst, arith, length, take, Err}
-use Rattle.sgt_certify.proofs.Taken.{nothing-taken, held-taken, line-taken, cut-taken, end-taken, long-taken, spends_on}
+use Rattle.sgt_certify.proofs.Taken.{nothing-taken, held-taken, line-taken, cut-taken, end-taken, fault-taken, long-taken, spends_on}
 use Rattle.std.proofs.lemmas.List.{length-append}
 use Rattle.sgt_notation.specs.Lines.{Ahead}
 use Rattle.sgt_certify.specs.Reach.{AreShort}
-use Rattle.sgt_certify.proofs.Reached.{line-kept, held-kept, few-kept, last-kept, last-kept_line, drop-few, long-further, long-behind, long-all, cut-further, cut-behind, cut-all, end-further, end-behind, end-all}
+use Rattle.sgt_certify.proofs.Reached.{line-kept, held-kept, few-kept, last-kept, last-kept_line, drop-few, long-further, long-behind, long-all, cut-further, cut-behind, cut-all, end-further, end-behind, end-all, fault-further, fault-behind, fault-all}
 use Rattle.sgt_notation.proofs.Texts.{spends-none, fault-met}
 use Rattle.sgt_certify.proofs.taking.take_lines.Goals as goal
 

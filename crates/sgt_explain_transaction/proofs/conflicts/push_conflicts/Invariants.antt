@@ -1,17 +1,10 @@
-use Rattle.std.proofs.Common.{ℕ, All, List, Option}
-use Rattle.std.specs.Prelude.{IfSome, string_bytes}
-use Rattle.sgt_notation.specs.declared.SectionLine.{SectionLine}
-use Rattle.sgt_explain_lines.specs.Sited.{HasBefore, HasLines}
-use Rattle.sgt_explain_lines.proofs.Siting.{IsGone}
-use Rattle.sgt_explain_transaction.specs.Conflicts.{AddsConflicts}
-use Rattle.sgt_explain_transaction.specs.Dealings.{IsOwnIn}
+use Rattle.std.proofs.Common.{List}
+use Rattle.std.specs.Prelude.{string_bytes}
+use Rattle.sgt_explain_transaction.specs.declared.dealings.Own.{Own}
+use Rattle.sgt_explain_transaction.specs.Found.{ShowsMore, conflicts_among}
+use Rattle.sgt_explain_transaction.proofs.Reading.{IsRead}
 use Rattle.sgt_explain_transaction.proofs.conflicts.push_conflicts.Given as goal
 
 abbrev pub invariant-loop-line : goal.invariant-loop-line
-invariant-loop-line l = record {
-  told : (known : Option (List SectionLine)) (tx : ℕ) → IfSome known (HasBefore l.bytes l.end)
-      → All (IsOwnIn known tx) l.sorted
-      → AddsConflicts known tx (string_bytes l.initial.out) (string_bytes l.out);
-  gone : (lines : List SectionLine) (h : HasLines l.bytes l.end lines)
-      → IsGone l.bytes l.end lines h l.line l.rest l.site;
-}
+invariant-loop-line l = (read : List Own) × IsRead l.bytes l.end l.line l.rest l.site read
+    × ShowsMore (conflicts_among l.sorted read) (string_bytes l.initial.out) 0 (string_bytes l.out) l.count

@@ -1,12 +1,8 @@
-use Rattle.std.proofs.Common.{ℕ, All, List, Option}
-use Rattle.std.specs.Prelude.{IfSome, string_bytes}
-use Rattle.sgt_notation.specs.declared.SectionLine.{SectionLine}
-use Rattle.sgt_explain_lines.specs.Sited.{StandsAt}
-use Rattle.sgt_explain_transaction.specs.Conflicts.{AddsConflicts}
-use Rattle.sgt_explain_transaction.specs.Dealings.{IsOwnIn}
+use Rattle.std.proofs.Common.{take}
+use Rattle.std.specs.Prelude.{string_bytes}
+use Rattle.sgt_explain_transaction.specs.Found.{ShowsMore, conflicts_with}
 use Rattle.sgt_explain_transaction.proofs.conflicts.push_pairs.Given as goal
 
-abbrev pub invariant-loop-at : goal.invariant-loop-at
-invariant-loop-at l = (known : Option (List SectionLine)) (tx : ℕ) → All (IsOwnIn known tx) l.sorted
-    → IfSome known (λ lines. StandsAt lines l.site l.other)
-    → AddsConflicts known tx (string_bytes l.initial.out) (string_bytes l.out)
+abbrev pub invariant-loop-own : goal.invariant-loop-own
+invariant-loop-own l = ShowsMore (conflicts_with (take l.own-index l.run) l.other) (string_bytes l.initial.out)
+    l.initial.count (string_bytes l.out) l.count

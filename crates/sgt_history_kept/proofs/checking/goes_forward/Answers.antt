@@ -1,4 +1,4 @@
-use Rattle.std.proofs.Common.{◌≡◌, ℕ, Bool, List, Option, subst, All}
+use Rattle.std.proofs.Common.{ℕ, Bool, List, Option, subst, All}
 use Rattle.std.specs.Prelude.{IsTrue, ◌↔◌}
 use Rattle.std.proofs.lemmas.Result.{IfOk-weaker}
 use Rattle.sgt_history.specs.Transaction.{Transaction}

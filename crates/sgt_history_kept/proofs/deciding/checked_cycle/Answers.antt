@@ -1,22 +1,16 @@
-use Rattle.std.proofs.Common.{inl, inr, subst}
-use Rattle.sgt_history.specs.Conflicts.{IsCycle}
+use Rattle.std.proofs.Common.{◌≡◌, ◌∙◌, ℕ, length, sym, subst}
+use Rattle.sgt_history_kept.specs.Decided.{IsKeptFrom}
+use Rattle.sgt_history_kept.specs.FirstCycle.{IsFirstCycleOf}
 use Rattle.sgt_history_time.specs.Steps.{StandsBefore}
-use Rattle.sgt_history_kept.proofs.Sooner.{alone-from, cycle-alone, none-alone}
 use Rattle.sgt_history_kept.proofs.deciding.checked_cycle.Goals as goal
 
 pub returns : goal.returns
 returns c = λ h from.
     let a = c.args.asked.now in
-    let alone = c.args.alone.now in
-    let n = c.args.lines in
     let edges = c.args.edges.now in
-    record {
-      is = subst (IsCycle (StandsBefore h a.times.items a.sessions.items)) c.as_slice.ensures.value
-          (c.in_ok-holds.ensures c.if-not-holds.false h n from);
-      sooner = elim (c.in_ok-sooner.ensures c.if-not-sooner.false h
-          (alone-from h n edges a alone c.requires.alone from)) [
-            | inl round ↦ inl (cycle-alone h n edges a alone c.requires.alone from c.in-Some.cycle.items
-                (subst (IsCycle (StandsBefore h alone.times.items alone.sessions.items)) c.as_slice-2.ensures.value round))
-            | inr serial ↦ inr (none-alone h n edges a alone c.requires.alone from serial)
-          ];
-    }
+    let labels = c.in-Some.field-0.labels in
+    let same : length labels.keys.items ≡ c.args.lines = sym labels.keys.ok.0 ∙ sym c.len.ensures
+    ∙ c.if-len-lines.false in
+    subst (IsFirstCycleOf (StandsBefore h a.times.items a.sessions.items)) c.as_slice.ensures.value
+    (c.in_ok-first.ensures c.if-not-first.false h
+    (subst (λ (n : ℕ). IsKeptFrom h n edges a) (sym same) from))

@@ -1,5 +1,4 @@
-use Rattle.std.proofs.Common.{List, All, subst, sym}
-use Rattle.sgt_history_graph.specs.declared.edge.Edge.{Edge}
+use Rattle.std.proofs.Common.{All, subst, sym}
 use Rattle.sgt_history_graph.specs.Ordered.{IsOrdered}
 use Rattle.sgt_history_kept.specs.Decided.{IsStepAmong}
 use Rattle.sgt_history_kept.proofs.Leasts.{among-sound, order-least, steps-join}

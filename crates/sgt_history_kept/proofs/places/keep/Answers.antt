@@ -1,4 +1,4 @@
-use Rattle.std.proofs.Common.{◌∙◌, ap, sym, arith, List, ℕ, Option}
+use Rattle.std.proofs.Common.{◌∙◌, ap, arith, List, ℕ, Option}
 use Rattle.std.specs.Prelude.{slice_get}
 use Rattle.sgt_history_kept.proofs.Placing.{places-next}
 use Rattle.sgt_history_kept.proofs.places.keep.Goals as goal

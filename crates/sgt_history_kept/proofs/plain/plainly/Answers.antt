@@ -1,9 +1,7 @@
-use Rattle.std.proofs.Common.{List, inl, subst, []}
+use Rattle.std.proofs.Common.{subst}
 use Rattle.std.proofs.lemmas.Result.{IfOk-weaker}
 use Rattle.sgt_history_kept.specs.Decided.{IsFound}
-use Rattle.sgt_history_kept.proofs.Rounds.{steps-cycle}
-use Rattle.sgt_history_kept.proofs.Sooner.{alone-from, cycle-alone, found-kept, none-alone, step-with-times}
-use Rattle.sgt_history_time.specs.Steps.{StandsBefore}
+use Rattle.sgt_history_kept.proofs.Sooner.{alone-from, first-alone, found-kept, none-alone, sooner-kept}
 use Rattle.sgt_history_verdict.specs.Verdict.{committed_in}
 use Rattle.sgt_history_kept.proofs.plain.plainly.Goals as goal
 
@@ -14,12 +12,7 @@ returns-in-Cyclic c = λ h from.
     let cycle = c.in-Cyclic.cycle.items in
     let found = subst (IsFound h alone) c.in-Cyclic.is (c.in_ok-cycle.ensures h
     (alone-from h c.args.lines c.args.edges.now a alone c.requires.alone from)) in
-    let in_sessions = cycle-alone h c.args.lines c.args.edges.now a alone c.requires.alone from cycle found in
-    record {
-      is = steps-cycle (StandsBefore h [] a.sessions.items) (StandsBefore h a.times.items a.sessions.items)
-          (step-with-times h a.times.items a.sessions.items) cycle in_sessions;
-      sooner = inl in_sessions;
-    }
+    sooner-kept h a cycle (first-alone h c.args.lines c.args.edges.now a alone c.requires.alone from cycle found)
 
 pub returns : goal.returns
 returns c =

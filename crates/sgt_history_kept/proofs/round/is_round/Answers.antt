@@ -1,19 +1,10 @@
-use Rattle.std.proofs.Common.{◌≡◌, ◌<◌, ◌∙◌, ℕ, Bool, true, false, List, Option, length, get_or, sym, ap, subst, arith, inl, inr, ◌⊎◌}
-use Rattle.std.specs.Prelude.{◌==◌}
-use Rattle.std.proofs.lemmas.Bool.{cases_eq}
+use Rattle.std.proofs.Common.{ℕ, List, Option, length, get_or, sym, subst, ◌⊎◌}
 use Rattle.std.proofs.lemmas.Option.{slice_get-get_or}
 use Rattle.sgt_history_graph.specs.Graph.{Goes}
 use Rattle.sgt_history_kept.specs.Decided.{AreJoined, IsAskedBefore}
 use Rattle.sgt_history_time.specs.Steps.{StandsBefore}
-use Rattle.sgt_history_kept.proofs.Rounds.{leads-next, leads-round, round-steps, steps-cycle}
+use Rattle.sgt_history_kept.proofs.Rounds.{leads-next, leads-round, not-empty, round-steps, steps-cycle}
 use Rattle.sgt_history_kept.proofs.round.is_round.Goals as goal
-
-not-empty : (n : ℕ) (r : Bool) → r ≡ (n == 0) → r ≡ false → 0 < n
-not-empty n r is unlike = elim (cases_eq n 0) [
-  | inl e ↦ let f : (n == 0) ≡ false = sym is ∙ unlike in let t : (n == 0) ≡ true = ap (λ k. k == 0) e in let g =
-      sym t ∙ f in cc
-  | inr other ↦ omega (arith, other)
-]
 
 pub loop-place-preserved : goal.loop-place-preserved
 loop-place-preserved c =

@@ -1,4 +1,4 @@
-use Rattle.std.proofs.Common.{sym}
+use Rattle.std.proofs.Common.{arith, sym}
 use Rattle.sgt_serve.proofs.Openings.{any_filled, filled_any, opens_line, opens_read}
 use Rattle.sgt_serve.proofs.opening.go_on.Goals as goal
 
@@ -16,3 +16,6 @@ returns-in-Part-clause-opens g c =
     (any_filled c.args.sites.now.items _ c.is_empty.result (sym c.args.sites.now.ok.0) c.is_empty.ensures)
     (filled_any c.args.sites.now.items _ c.is_empty.result (sym c.args.sites.now.ok.0) c.is_empty.ensures)
     c.read_on.ensures.reads
+
+pub returns-in-Part-clause-notes : goal.returns-in-Part-clause-notes
+returns-in-Part-clause-notes g c = omega (arith, c.read_on.ensures.quiet)

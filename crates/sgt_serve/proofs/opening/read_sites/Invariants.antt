@@ -10,6 +10,7 @@ invariant-lines g l = record {
   hears : Hears (g.R.Source.tells l.fn.pipe.reader) (g.R.Source.tells l.pipe.reader) l.fn.pipe.history.given
       l.pipe.history.given (g.R.Source.failures l.fn.pipe.reader) (g.R.Source.failures l.pipe.reader);
   writer : l.pipe.writer ≡ l.fn.pipe.writer;
+  quiet : l.refusals ≡ l.fn.refusals;
   asks : g.R.Source.asked l.pipe.reader + l.inbox.reads ≡ g.R.Source.asked l.fn.pipe.reader + l.fn.inbox.reads;
 }
 

@@ -27,4 +27,5 @@ writes-preserved g c =
       given = e.given ∙ c.writes.invariant.given;
       waits = e.waits ∙ c.writes.invariant.waits;
       reader = e.reader ∙ c.writes.invariant.reader;
+      refusals = e.refusals ∙ c.writes.invariant.refusals;
     }

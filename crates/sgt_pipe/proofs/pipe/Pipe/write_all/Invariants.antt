@@ -11,6 +11,7 @@ invariant-writes g l = record {
   given : l.self.history.given ≡ l.fn.self.history.given;
   waits : l.self.history.waits ≡ l.fn.self.history.waits;
   reader : l.self.reader ≡ l.fn.self.reader;
+  refusals : l.self.refusals ≡ l.fn.self.refusals;
 }
 
 abbrev pub decreases-writes : goal.decreases-writes
