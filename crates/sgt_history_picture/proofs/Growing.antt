@@ -1,8 +1,9 @@
 -- A picture that grows by steps.
-use Rattle.std.proofs.Common.{◌≡◌, ◌<◌, ◌≤◌, ℕ, zero, suc, ◌+◌, List, [], ◌∷◌, ◌++◌, get_or, length, take, map, codes, refl, sym, ap, ◌∙◌, subst, append_assoc, append-nil}
+use Rattle.std.proofs.Common.{◌≡◌, ◌<◌, ◌≤◌, ℕ, zero, suc, ◌+◌, List, [], ◌∷◌, ◌++◌, get_or, length, take, map, codes, decimal, refl, sym, ap, ◌∙◌, subst, append_assoc, append-nil}
 use Rattle.std.proofs.lemmas.List.{map_push, take_all}
 use Rattle.std.proofs.lemmas.Option.{slice_get-get_or}
 use Rattle.sgt_names.proofs.Lists.{take_next}
+use Rattle.sgt_markup.specs.Escaped.{escaped}
 use Rattle.sgt_history_picture.specs.Drawn.{AreDrawn, IsHeaded, IsMoreTold}
 use Rattle.sgt_history_picture.specs.Label.{box_text, headline_text, more_text, name_text, title_text, words_text}
 use Rattle.sgt_history_picture.specs.Private.{ArePut, Grows, IsPut, IsQuiet}
@@ -165,6 +166,19 @@ pub more-told : (more : ℕ) (front behind text : List ℕ) → text ≡ front +
     → IsMoreTold more text
 more-told zero front behind text is = tt
 more-told (suc n) front behind text is = (front, behind, is)
+
+-- behind a text's place and quotes the words stand
+pub more-shown : (more : ℕ) (old new a n q : List ℕ)
+    → new ≡ old ++ (a ++ (n ++ (q ++ (codes ">and " ++ (escaped (decimal more)
+    ++ (codes " more, the last of them back to the first</text>\n" ++ []))))))
+    → IsMoreTold more new
+more-shown more old new a n q is =
+    more-told more (old ++ (a ++ (n ++ q))) [] new (is ∙ regroup old a n q (codes ">and ") (escaped (decimal more))
+    (codes " more, the last of them back to the first</text>\n"))
+  where
+    regroup : (o a n q g m t : List ℕ)
+        → o ++ (a ++ (n ++ (q ++ (g ++ (m ++ (t ++ [])))))) ≡ (o ++ (a ++ (n ++ q))) ++ ((g ++ (m ++ t)) ++ [])
+    regroup o a n q g m t = simp (append_assoc, append-nil)
 
 pub more-behind : (more : ℕ) (old text foot : List ℕ) → IsMoreTold more old → text ≡ old ++ foot → IsMoreTold more text
 more-behind zero old text foot told whole = tt

@@ -340,10 +340,8 @@ fn put_more(canvas: &mut Canvas, steps: usize, more: usize) -> Result<(), AllocE
 fn drawn_of<'a, 'b>(steps: &'a [Told<'b>]) -> &'a [Told<'b>]
     ensures { result.now ≡ take most_steps steps.now }
 {
-    if steps.len() <= MOST_STEPS {
-        return steps;
-    }
-    &steps[..MOST_STEPS]
+    let most = steps.len().min(MOST_STEPS);
+    &steps[..most]
 }
 
 /// The picture of a cycle's steps, under a headline.
