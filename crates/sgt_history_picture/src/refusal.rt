@@ -32,7 +32,7 @@ fn drawn(alloc: Global, is_dot: bool, cycle: &Cycle<'_>) -> Result<Vec<u8>, Allo
 }
 
 /// The picture of the cycle that an answer of `sgt certify` tells behind `no ranks` or `no order`, as SVG or as
-/// Graphviz text: each of its steps is drawn once, in the order in which it is told, and no other. None where it tells
+/// Graphviz text: each of its first 200 steps is drawn once, in the order in which it is told, and no other. None where it tells
 /// no cycle.
 pub fn refusal_picture_of(
     alloc: Global,
