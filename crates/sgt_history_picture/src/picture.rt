@@ -367,8 +367,8 @@ pub(crate) fn picture(
 }
 
 /// The picture of the cycle that an answer of `sgt check` tells, as SVG: its name stands there, and each of its steps
-/// is drawn once, in the order in which it is told, and no other: of more than 200 the first, and how many more there
-/// are. None where it tells no cycle.
+/// is drawn once, in the order in which it is told, and no other: of more than 200 the first, and a line says how many
+/// more there are. None where it tells no cycle.
 pub fn picture_of(alloc: Global, answer: &[u8]) -> Result<Option<Vec<u8>>, AllocError>
     ensures some { IfOk result (λ r. IfSome r (λ text. IsPictureOf answer.now text.items)) }
     ensures none { IfOk result
