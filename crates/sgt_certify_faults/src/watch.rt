@@ -76,24 +76,30 @@ impl Parties {
         }
     }
 
+    /// Where to look for the transaction first.
+    fn hint(&mut self, tx: Tx, number: usize) {
+        if let Some(hint) = self.hints.get_mut(tx.number() as usize % HINTS) {
+            *hint = number;
+        }
+    }
+
     /// One more entry of the transaction: its number.
     fn add(&mut self, entry: &Entry) -> Result<usize, AllocError> {
         let tx = entry.tx();
         let asked = asked_by(entry);
-        if let Some(number) = self.number_of(tx) {
-            if let Some(party) = self.list.get_mut(number) {
-                if party.end.is_none() {
-                    party.end = asked;
-                }
-            }
+        let Some(number) = self.number_of(tx) else {
+            let number = self.list.len();
+            self.numbers.insert(tx, number)?;
+            self.list.push(Party { tx, end: asked })?;
+            self.hint(tx, number);
             return Ok(number);
+        };
+        if let Some(party) = self.list.get_mut(number) {
+            if party.end.is_none() {
+                party.end = asked;
+            }
         }
-        let number = self.list.len();
-        self.numbers.insert(tx, number)?;
-        self.list.push(Party { tx, end: asked })?;
-        if let Some(hint) = self.hints.get_mut(tx.number() as usize % HINTS) {
-            *hint = number;
-        }
+        self.hint(tx, number);
         Ok(number)
     }
 

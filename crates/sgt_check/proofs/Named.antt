@@ -140,20 +140,20 @@ module _ (w : Wanted) (options : Options) (bytes : List ℕ) (r : Reading) (is :
     items = is.items;
     steps = a.steps;
     are = record {
-      some = a.are.some;
+      some = a.shown.are.some;
       each = All-weaken (IsStep m a.graph) (IsStepOf named (nth is.items) a.graph) a.steps (λ s step. step-on s step)
-          a.are.each;
-      onward = a.are.onward;
+          a.shown.are.each;
+      onward = a.shown.are.onward;
     };
-    is = cycle_is-on (nth is.items) (nth is.values) m is.apart a.graph (lines_of a.steps) a.cycle_is.is;
-    first = λ other c. a.cycle_is.first other (cycle_is-back (nth is.items) (nth is.values) m is.apart a.graph other c);
+    is = cycle_is-on (nth is.items) (nth is.values) m is.apart a.graph (lines_of a.steps) a.shown.cycle_is.is;
+    first = λ other c. a.shown.cycle_is.first other (cycle_is-back (nth is.items) (nth is.values) m is.apart a.graph other c);
     shown = All-from_at (λ (s : Step). (kind : Conflict) (x : Json) (v w : ℕ) → IsAmong a.graph kind
         → HaveConflict named kind s.from s.to x v w
         → IsShownBefore s.kind (nth is.items s.item) s.from_version kind x v)
         a.steps
-        (λ place s at. shown-first a.graph a.ranks a.ranks_are s (All_at (IsStep m a.graph) a.steps place s a.are.each at)
-        (All_at (λ (s : Step). (t : Step) → IsStep m a.graph t → Leads t s.from s.to → IsToldBefore a.ranks s t)
-        a.steps place s a.told_first at));
+        (λ place s at. shown-first a.graph a.shown.ranks a.shown.ranks_are s (All_at (IsStep m a.graph) a.steps place s a.shown.are.each at)
+        (All_at (λ (s : Step). (t : Step) → IsStep m a.graph t → Leads t s.from s.to → IsToldBefore a.shown.ranks s t)
+        a.steps place s a.shown.told_first at));
     text_is = a.text_is ∙ ap (λ (s : Spelling ℕ ℕ). cycle_text s a.steps) spelled_as;
   }
 

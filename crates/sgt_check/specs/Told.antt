@@ -67,16 +67,20 @@ pub record IsFaultyTold (n : Naming) (h : List (Transaction ℕ ℕ)) (text : Li
   pub told : IsToldAs h fault
   pub text_is : text ≡ fault_text (spelled n) h fault.line fault.flaw told.o told.evidence
 
-pub record IsCyclicTold (n : Naming) (h : List (Transaction ℕ ℕ)) (text : List ℕ) : Type 0 where
-  pub faultless : IsFaultless h
-  pub graph : Graph
-  pub graph_is : IsLeastGraph h graph
-  pub steps : List Step
+-- the steps of the graph's first cycle, each told before all others from its line to the next
+pub record AreShown (n : Naming) (h : List (Transaction ℕ ℕ)) (graph : Graph) (steps : List Step) : Type 0 where
   pub are : AreSteps h graph steps
   pub cycle_is : IsFirstOf h graph (lines_of steps)
   pub ranks : List ℕ
   pub ranks_are : AreRanks n.items ranks
   pub told_first : AreToldFirst h graph ranks steps
+
+pub record IsCyclicTold (n : Naming) (h : List (Transaction ℕ ℕ)) (text : List ℕ) : Type 0 where
+  pub faultless : IsFaultless h
+  pub graph : Graph
+  pub graph_is : IsLeastGraph h graph
+  pub steps : List Step
+  pub shown : AreShown n h graph steps
   pub text_is : text ≡ cycle_text (spelled n) steps
 
 abbrev pub IsTold : Options → Naming → List (Transaction ℕ ℕ) → Outcome → List ℕ → Type 0

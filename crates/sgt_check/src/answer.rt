@@ -3,7 +3,7 @@
 ghost use Rattle.std.specs.Prelude.{◌≡◌, ℕ, List, IfOk};
 ghost use Rattle.sgt_check.specs.Answer.{IsAnswer, neither};
 ghost use Rattle.sgt_check.specs.Text.{line_fault_text, unreadable_text};
-ghost use Rattle.sgt_check.specs.Told.{IsCyclicTold, IsFaultyTold, IsTold, yes_text};
+ghost use Rattle.sgt_check.specs.Told.{AreShown, IsCyclicTold, IsFaultyTold, IsTold, yes_text};
 ghost use Rattle.sgt_history.specs.Flaws.{IsFirstFault};
 ghost use Rattle.sgt_history.specs.History.{closed_of};
 ghost use Rattle.sgt_history.specs.Transaction.{Transaction};
@@ -20,7 +20,7 @@ use crate::yes::{push_counts, push_order};
 use sgt_history::{History, Line};
 use sgt_history_faults::{Fault, Judged, Touch, judge};
 use sgt_history_text::{HistoryText, LineFault, Reading};
-use sgt_history_verdict::{Cyclic, Decided, Verdict, decide_judged, steps_of};
+use sgt_history_verdict::{Cyclic, Decided, Step, Verdict, decide_judged, steps_of};
 use sgt_names::Outcome;
 use sgt_notation::push_number;
 use std::alloc::{AllocError, Global};
@@ -47,14 +47,24 @@ pub fn faulty_text(
     Ok(text)
 }
 
-/// The text of a cycle.
-pub fn cyclic_text(alloc: Global, naming: &Naming, cyclic: &Cyclic) -> Result<Vec<u8>, AllocError>
-    requires { (h : List (Transaction ℕ ℕ)) × IsCyclic h cyclic.now }
-    ensures { IfOk result (λ text. (h : List (Transaction ℕ ℕ)) → IsCyclic h cyclic.now
-        → IsCyclicTold naming.now h text.items) }
+/// The steps of a cycle. What they were found by is let go.
+fn shown_steps(alloc: Global, naming: &Naming, cyclic: Cyclic) -> Result<Vec<Step>, AllocError>
+    requires { (h : List (Transaction ℕ ℕ)) × IsCyclic h cyclic }
+    ensures { IfOk result (λ steps. (h : List (Transaction ℕ ℕ)) → IsCyclic h cyclic
+        → AreShown naming.now h cyclic.graph steps.items) }
 {
     let ranks = ranks_of(alloc, &naming.items)?;
-    let steps = steps_of(alloc, cyclic, ranks.as_slice())?;
+    let steps = steps_of(alloc, &cyclic, ranks.as_slice())?;
+    Ok(steps)
+}
+
+/// The text of a cycle.
+pub fn cyclic_text(alloc: Global, naming: &Naming, cyclic: Cyclic) -> Result<Vec<u8>, AllocError>
+    requires { (h : List (Transaction ℕ ℕ)) × IsCyclic h cyclic }
+    ensures { IfOk result (λ text. (h : List (Transaction ℕ ℕ)) → IsCyclic h cyclic
+        → IsCyclicTold naming.now h text.items) }
+{
+    let steps = shown_steps(alloc, naming, cyclic)?;
     let mut text = Vec::new(alloc);
     push_cycle(&mut text, naming, steps.as_slice())?;
     Ok(text)
@@ -98,7 +108,7 @@ fn faultless_answer(
         Verdict::Faulty(_) => unreachable!(),
         Verdict::Cyclic(cyclic) => Ok(Answer {
             outcome: Outcome::No,
-            text: cyclic_text(alloc, naming, &cyclic)?,
+            text: cyclic_text(alloc, naming, cyclic)?,
         }),
     }
 }

@@ -50,7 +50,7 @@ fn conflicts_answer(
         Verdict::Faulty(_) => unreachable!(),
         Verdict::Cyclic(cyclic) => Ok(Answer {
             outcome: Outcome::No,
-            text: cyclic_text(alloc, naming, &cyclic)?,
+            text: cyclic_text(alloc, naming, cyclic)?,
         }),
     }
 }

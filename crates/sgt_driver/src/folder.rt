@@ -1,10 +1,11 @@
 //! The folder of a server's bundles.
 
 ghost use Rattle.std.specs.Prelude.{◌≡◌, ◌<◌, Err};
+ghost use Rattle.sgt_folder.specs.Keeping.{refusals_of};
 
 use crate::streams::Streams;
 use sgt_folder::{Folder, FolderBundles, FolderFault};
-use sgt_serve::{Bundles, Handed, HandedBundle, KeepFault, Refusals};
+use sgt_serve::{Bundles, Handed, HandedBundle, KeepFault};
 use sgt_status::LineName;
 use std::alloc::Global;
 use std::fs::{File, ReadDir};
@@ -184,7 +185,6 @@ pub struct ToldBundles<'a, S> {
     folder: &'a str,
     bundles: FolderBundles<SystemFolder<'a>>,
     handed: Handed,
-    refusals: Refusals,
 }
 
 // Why the folder can't be opened.
@@ -210,7 +210,6 @@ impl<'a, S: Streams> ToldBundles<'a, S> {
                 folder,
                 bundles,
                 handed: Handed::new(),
-                refusals: Refusals::new(),
             }),
             Err(fault) => Err(unopened(bundles.into_folder(), fault)),
         }
@@ -230,14 +229,13 @@ impl<'a, S: Streams> ToldBundles<'a, S> {
     // Keeps the text, and tells standard error why it can't be written, if that isn't for want of memory.
     fn answer_to(&mut self, text: &[u8]) -> Result<u64, KeepFault>
         ensures handed { self.new.handed ≡ self.old.handed }
-        ensures memory { result ≡ Err KeepFault.Memory → self.old.refusals < self.new.refusals }
+        ensures memory { result ≡ Err KeepFault.Memory
+            → refusals_of self.old.bundles.asked.calls.items
+            < refusals_of self.new.bundles.asked.calls.items }
     {
         match self.bundles.keep(text) {
             Ok(number) => Ok(number),
-            Err(FolderFault::Memory) => {
-                self.refusals.note();
-                Err(KeepFault::Memory)
-            }
+            Err(FolderFault::Memory) => Err(KeepFault::Memory),
             Err(fault) => {
                 self.tell(fault);
                 Err(KeepFault::Refused)
@@ -249,7 +247,8 @@ impl<'a, S: Streams> ToldBundles<'a, S> {
 impl<S: Streams> Bundles for ToldBundles<'_, S> {
     ghost handed = { λ b. b.handed };
 
-    ghost refusals = { λ b. b.refusals };
+    // what the folder's calls told
+    ghost refusals = { λ b. refusals_of b.bundles.asked.calls.items };
 
     fn keep(&mut self, text: &[u8]) -> Result<u64, KeepFault> {
         let answer = self.answer_to(text);

@@ -1,10 +1,11 @@
 -- A picture that grows by steps.
-use Rattle.std.proofs.Common.{◌≡◌, ◌<◌, ◌≤◌, ℕ, ◌+◌, List, [], ◌∷◌, ◌++◌, get_or, length, take, map, codes, refl, sym, ap, ◌∙◌, subst, append_assoc, append-nil}
+use Rattle.std.proofs.Common.{◌≡◌, ◌<◌, ◌≤◌, ℕ, zero, suc, ◌+◌, List, [], ◌∷◌, ◌++◌, get_or, length, take, map, codes, decimal, refl, sym, ap, ◌∙◌, subst, append_assoc, append-nil}
 use Rattle.std.proofs.lemmas.List.{map_push, take_all}
 use Rattle.std.proofs.lemmas.Option.{slice_get-get_or}
 use Rattle.sgt_names.proofs.Lists.{take_next}
-use Rattle.sgt_history_picture.specs.Drawn.{AreDrawn, IsHeaded}
-use Rattle.sgt_history_picture.specs.Label.{box_text, headline_text, name_text, title_text, words_text}
+use Rattle.sgt_markup.specs.Escaped.{escaped}
+use Rattle.sgt_history_picture.specs.Drawn.{AreDrawn, IsHeaded, IsMoreTold}
+use Rattle.sgt_history_picture.specs.Label.{box_text, headline_text, more_text, name_text, title_text, words_text}
 use Rattle.sgt_history_picture.specs.Private.{ArePut, Grows, IsPut, IsQuiet}
 use Rattle.sgt_history_picture.specs.Told.{Step, step_of}
 use Rattle.sgt_history_picture.specs.declared.told.Told.{Told}
@@ -158,6 +159,35 @@ headed steps name old titled told drawn_to text foot is (kinds, is', quiet) are 
   where
     regroup : (a b c d e : List ℕ) → (((a ++ b) ++ c) ++ d) ++ e ≡ a ++ (b ++ (c ++ (d ++ e)))
     regroup a b c d e = simp append_assoc
+
+-- ---- how many more
+
+pub more-told : (more : ℕ) (front behind text : List ℕ) → text ≡ front ++ (more_text more ++ behind)
+    → IsMoreTold more text
+more-told zero front behind text is = tt
+more-told (suc n) front behind text is = (front, behind, is)
+
+-- behind a text's place and quotes the words stand
+pub more-shown : (more : ℕ) (old new a n q : List ℕ)
+    → new ≡ old ++ (a ++ (n ++ (q ++ (codes ">and " ++ (escaped (decimal more)
+    ++ (codes " more, the last of them back to the first</text>\n" ++ []))))))
+    → IsMoreTold more new
+more-shown more old new a n q is =
+    more-told more (old ++ (a ++ (n ++ q))) [] new (is ∙ regroup old a n q (codes ">and ") (escaped (decimal more))
+    (codes " more, the last of them back to the first</text>\n"))
+  where
+    regroup : (o a n q g m t : List ℕ)
+        → o ++ (a ++ (n ++ (q ++ (g ++ (m ++ (t ++ [])))))) ≡ (o ++ (a ++ (n ++ q))) ++ ((g ++ (m ++ t)) ++ [])
+    regroup o a n q g m t = simp (append_assoc, append-nil)
+
+pub more-behind : (more : ℕ) (old text foot : List ℕ) → IsMoreTold more old → text ≡ old ++ foot → IsMoreTold more text
+more-behind zero old text foot told whole = tt
+more-behind (suc n) old text foot (front, behind, is) whole = (
+  front,
+  behind ++ foot,
+  whole ∙ ap (λ (t : List ℕ). t ++ foot) is ∙ append_assoc front (more_text (suc n) ++ behind) foot
+      ∙ ap (λ (t : List ℕ). front ++ t) (append_assoc (more_text (suc n)) behind foot),
+)
 
 -- ---- a text of three pieces
 

@@ -1,8 +1,8 @@
 -- What is drawn of a cycle.
-use Rattle.std.specs.Prelude.{◌≡◌, ◌≢◌, ℕ, Bool, true, false, List, [], ◌∷◌, ◌++◌, codes}
+use Rattle.std.specs.Prelude.{◌≡◌, ◌≢◌, ⊤, ℕ, zero, suc, ◌-◌, Bool, true, false, List, [], ◌∷◌, ◌++◌, codes, length, take}
 use Rattle.sgt_draw.specs.Picture.{IsPicture}
 use Rattle.sgt_history_picture.specs.Graph.{graph_text}
-use Rattle.sgt_history_picture.specs.Label.{box_text, headline_text, name_text, title_text, words_text}
+use Rattle.sgt_history_picture.specs.Label.{box_text, headline_text, more_text, name_text, title_text, words_text}
 use Rattle.sgt_history_picture.specs.Told.{IsCycleTold, Step}
 
 -- no title begins in the text
@@ -22,11 +22,22 @@ AreDrawn text (s ∷ steps) = (front : List ℕ) × (frame : List ℕ) × (link 
 abbrev pub IsHeaded : (name text : List ℕ) → Type 0
 IsHeaded name text = (front : List ℕ) × (behind : List ℕ) × (text ≡ front ++ (headline_text name ++ behind))
 
--- a picture of these steps under this headline: each step is drawn once, in this order, and no other
+-- so many steps of a cycle are drawn at most
+abbrev pub most_steps : ℕ
+most_steps = 200
+
+-- where steps are left out, how many stands there
+abbrev pub IsMoreTold : ℕ → List ℕ → Type 0
+IsMoreTold zero text = ⊤
+IsMoreTold (suc n) text = (front : List ℕ) × (behind : List ℕ) × (text ≡ front ++ (more_text (suc n) ++ behind))
+
+-- a picture of these steps under this headline: each of the first 200 is drawn once, in this order, and no other; and
+-- how many more there are is told
 pub record IsCyclePicture (headline : List ℕ) (steps : List Step) (text : List ℕ) : Type 0 where
   pub picture : IsPicture text
   pub headed : IsHeaded headline text
-  pub drawn : AreDrawn text steps
+  pub drawn : AreDrawn text (take most_steps steps)
+  pub more : IsMoreTold (length steps - most_steps) text
 
 -- a picture of the cycle that the answer tells, under its name
 pub record IsPictureOf (answer text : List ℕ) : Type 0 where

@@ -1,5 +1,5 @@
 -- How a step of a cycle is written in a picture. What isn't markup is escaped.
-use Rattle.std.specs.Prelude.{ℕ, List, ◌++◌, codes}
+use Rattle.std.specs.Prelude.{ℕ, List, ◌++◌, codes, decimal}
 use Rattle.sgt_markup.specs.Escaped.{escaped}
 use Rattle.sgt_history_picture.specs.Short.{shown}
 use Rattle.sgt_history_picture.specs.Told.{Step, kind_text}
@@ -27,3 +27,7 @@ title_text s = codes "<title>" ++ (label_text s ++ codes "</title>")
 -- the words beside its arrow: the kind, and what shows it, all of it up to 104 bytes
 abbrev pub words_text : Step → List ℕ
 words_text s = codes ">" ++ (kind_text s.kind ++ (codes " " ++ (shown 40 64 s.about ++ codes "</text></g>")))
+
+-- how many steps are left out
+abbrev pub more_text : ℕ → List ℕ
+more_text n = codes ">and " ++ (escaped (decimal n) ++ codes " more, the last of them back to the first</text>\n")

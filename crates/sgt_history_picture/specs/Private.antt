@@ -1,5 +1,6 @@
 -- A picture as far as it is made.
 use Rattle.std.specs.Prelude.{◌≡◌, ◌==◌, ℕ, List, [], ◌∷◌, ◌++◌, if◌then◌else◌}
+use Rattle.sgt_history_picture.specs.Drawn.{IsMoreTold}
 use Rattle.sgt_history_picture.specs.Label.{box_text, name_text, title_text, words_text}
 use Rattle.sgt_history_picture.specs.Told.{Step}
 
@@ -45,3 +46,7 @@ pub record IsPut (s : Step) (old new : List ℕ) : Type 0 where
 abbrev pub ArePut : List Step → (old new : List ℕ) → Type 0
 ArePut [] old new = Grows old new
 ArePut (s ∷ steps) old new = (between : List ℕ) × IsPut s old between × ArePut steps between new
+
+-- what is quiet stands behind what there was, and tells how many steps are left out
+abbrev pub IsMorePut : ℕ → (old new : List ℕ) → Type 0
+IsMorePut more old new = Grows old new × IsMoreTold more new

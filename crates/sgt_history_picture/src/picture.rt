@@ -1,11 +1,10 @@
 //! The picture of a cycle: its transactions one below the other, an arrow for each step, and the last one's way back
 //! to the first.
 
-ghost use Rattle.std.specs.Prelude.{◌≡◌, ◌++◌, List, ℕ, IfNone, IfOk, IfSome, OnOk, map};
-ghost use Rattle.sgt_draw.specs.Picture.{IsPicture};
-ghost use Rattle.sgt_history_picture.specs.Drawn.{AreDrawn, IsHeaded, IsPictureOf};
+ghost use Rattle.std.specs.Prelude.{◌≡◌, ◌++◌, List, ℕ, IfNone, IfOk, IfSome, OnOk, map, take};
+ghost use Rattle.sgt_history_picture.specs.Drawn.{IsCyclePicture, IsPictureOf, most_steps};
 ghost use Rattle.sgt_history_picture.specs.Label.{box_text, headline_text, name_text, title_text, words_text};
-ghost use Rattle.sgt_history_picture.specs.Private.{ArePut, Grows, IsPut, IsQuiet};
+ghost use Rattle.sgt_history_picture.specs.Private.{ArePut, Grows, IsMorePut, IsPut, IsQuiet};
 ghost use Rattle.sgt_history_picture.specs.Told.{IsCycleTold, Step, kind_text, step_of};
 
 use crate::cycle::cycle_in;
@@ -118,6 +117,9 @@ fn put_sample(canvas: &mut Canvas, at: (u64, u64), kind: Kind) -> Result<(), All
         Part::Markup(meaning_of(kind)),
     ])
 }
+
+/// So many steps are drawn at most. More are too many to look at.
+const MOST_STEPS: usize = 200;
 
 /// What else than conflicts stands in a cycle.
 #[derive(Clone, Copy, PartialEq, Eq)]
@@ -296,12 +298,17 @@ fn put_step(
     put_words(canvas, step)
 }
 
-/// The steps, one below the other.
-fn put_steps(canvas: &mut Canvas, steps: &[Told<'_>], boxes: u64) -> Result<(), AllocError>
+/// The steps, one below the other: all that there are, or more are left out.
+fn put_steps(
+    canvas: &mut Canvas,
+    steps: &[Told<'_>],
+    boxes: u64,
+    are_all: bool,
+) -> Result<(), AllocError>
     ensures { OnOk result (ArePut (map step_of steps.now) canvas.old canvas.new) }
 {
     for place in 0..steps.len() {
-        let is_last = steps.len() - place == 1;
+        let is_last = are_all && steps.len() - place == 1;
         put_step(
             canvas,
             &steps[place],
@@ -312,6 +319,31 @@ fn put_steps(canvas: &mut Canvas, steps: &[Told<'_>], boxes: u64) -> Result<(), 
     Ok(())
 }
 
+/// How many steps are left out, below the arrow of the last one that is drawn.
+fn put_more(canvas: &mut Canvas, steps: usize, more: usize) -> Result<(), AllocError>
+    ensures { OnOk result (IsMorePut more canvas.old canvas.new) }
+{
+    if more == 0 {
+        return Ok(());
+    }
+    canvas.put(&[
+        Part::Markup("\n<text x=\"60\" y=\""),
+        Part::Number(top_of(steps as u64).saturating_add(12)),
+        Part::Markup("\""),
+        Part::Markup(">and "),
+        Part::Number(more as u64),
+        Part::Markup(" more, the last of them back to the first</text>\n"),
+    ])
+}
+
+/// The steps that are drawn: two hundred at most.
+fn drawn_of<'a, 'b>(steps: &'a [Told<'b>]) -> &'a [Told<'b>]
+    ensures { result.now ≡ take most_steps steps.now }
+{
+    let most = steps.len().min(MOST_STEPS);
+    &steps[..most]
+}
+
 /// The picture of a cycle's steps, under a headline.
 pub(crate) fn picture(
     alloc: Global,
@@ -319,21 +351,24 @@ pub(crate) fn picture(
     steps: &[Told<'_>],
     legend: Legend,
 ) -> Result<Vec<u8>, AllocError>
-    ensures picture { IfOk result (λ text. IsPicture text.items) }
-    ensures headed { IfOk result (λ text. IsHeaded headline.now text.items) }
-    ensures drawn { IfOk result (λ text. AreDrawn text.items (map step_of steps.now)) }
+    ensures { IfOk result (λ text. IsCyclePicture headline.now (map step_of steps.now) text.items) }
 {
+    let drawn = drawn_of(steps);
+    let more = steps.len().saturating_sub(MOST_STEPS);
+    let boxes = box_width(drawn);
+    let size = (width(headline, drawn, boxes), height(drawn.len(), more));
     let mut canvas = Canvas::new(alloc, false)?;
-    let boxes = box_width(steps);
-    put_head(&mut canvas, (width(headline, steps, boxes), height(steps)))?;
+    put_head(&mut canvas, size)?;
     put_headline(&mut canvas, headline)?;
     put_kinds(&mut canvas, legend)?;
-    put_steps(&mut canvas, steps, boxes)?;
+    put_steps(&mut canvas, drawn, boxes, more == 0)?;
+    put_more(&mut canvas, drawn.len(), more)?;
     canvas.into_text()
 }
 
 /// The picture of the cycle that an answer of `sgt check` tells, as SVG: its name stands there, and each of its steps
-/// is drawn once, in the order in which it is told, and no other. None where it tells no cycle.
+/// is drawn once, in the order in which it is told, and no other: of more than 200 the first, and a line says how many
+/// more there are. None where it tells no cycle.
 pub fn picture_of(alloc: Global, answer: &[u8]) -> Result<Option<Vec<u8>>, AllocError>
     ensures some { IfOk result (λ r. IfSome r (λ text. IsPictureOf answer.now text.items)) }
     ensures none { IfOk result

@@ -45,9 +45,10 @@ pub(crate) fn width(headline: &[u8], steps: &[Told<'_>], boxes: u64) -> u64 {
     most.saturating_add(WORDS).max(LEAST_WIDTH).max(above)
 }
 
-/// How high the picture is.
-pub(crate) fn height(steps: &[Told<'_>]) -> u64 {
-    top_of(steps.len() as u64)
+/// How high the picture of so many steps is, with room for a line below where more are left out.
+pub(crate) fn height(steps: usize, more: usize) -> u64 {
+    let below = if more == 0 { 0u64 } else { PITCH / 2 };
+    top_of(steps as u64).saturating_add(below)
 }
 
 /// Where the box of the transaction at this place begins.

@@ -31,9 +31,9 @@ fn drawn(alloc: Global, is_dot: bool, cycle: &Cycle<'_>) -> Result<Vec<u8>, Allo
     picture(alloc, headline.as_slice(), steps, Legend::Logs)
 }
 
-/// The picture of the cycle that an answer of `sgt certify` tells behind `no ranks` or `no order`, as SVG or as
-/// Graphviz text: each of its steps is drawn once, in the order in which it is told, and no other. None where it tells
-/// no cycle.
+/// The picture of the cycle that an answer of `sgt certify` tells behind `no ranks` or `no order`: as SVG, which draws
+/// the first 200 of its steps and says how many more there are, or as Graphviz text, which has all. Each is drawn once,
+/// in the order in which it is told, and no other. None where the answer tells no cycle.
 pub fn refusal_picture_of(
     alloc: Global,
     is_dot: bool,

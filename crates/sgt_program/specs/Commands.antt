@@ -15,6 +15,7 @@ use Rattle.sgt_check.specs.Answer as check
 use Rattle.sgt_check.specs.declared.options.Options.{Options}
 use Rattle.sgt_check_kept.specs.Answer as keeping
 use Rattle.sgt_check_order.specs.Answer as against
+use Rattle.sgt_draw.specs.declared.task.Wanted.{Wanted as Picture}
 use Rattle.sgt_draw_logs.specs.Drawing as draw
 use Rattle.sgt_explain_logs.specs.Either as explain
 use Rattle.sgt_explain.specs.Topics.{IsRuleOf, topic_name}
@@ -148,10 +149,10 @@ AnswersExplain asked status told written written' =
 
 -- at 0 the picture of a valid bundle, or of the one that `certify` makes of logs; at 1 the line of a no, or the picture
 -- of the cycle that shows that logs have no certificate
-abbrev pub AnswersDraw : (is_dot : Bool) (status : ℕ) (told written written' : Option (List ℕ)) → Type 0
-AnswersDraw is_dot status told written written' =
-    ByStatus (λ outcome. draw.WroteDrawing is_dot told outcome written written')
-    (draw.WroteDrawingFront is_dot told written written') status
+abbrev pub AnswersDraw : (wanted : Picture) (status : ℕ) (told written written' : Option (List ℕ)) → Type 0
+AnswersDraw wanted status told written written' =
+    ByStatus (λ outcome. draw.WroteDrawing wanted told outcome written written')
+    (draw.WroteDrawingFront wanted told written written') status
 
 -- a rule: its text at 0, which begins with its name, and nothing else but a front at 3 and 4
 pub record AnswersRule (topic : Topic) (status : ℕ) (written written' : Option (List ℕ)) : Type 0 where
@@ -170,8 +171,8 @@ Answers Certify = AnswersCertify
 Answers (Check wanted) = AnswersCheck wanted
 Answers (Explain asked) = AnswersExplain asked
 Answers (Rule topic) = λ status told written written'. AnswersRule topic status written written'
-Answers Draw = AnswersDraw false
-Answers (DrawWith tx is_dot) = AnswersDraw is_dot
+Answers Draw = AnswersDraw (record { tx = None; is_dot = false })
+Answers (DrawWith tx is_dot) = AnswersDraw (record { tx = tx; is_dot = is_dot })
 Answers (Run workers tries) = AnswersRun tries
 
 -- a command that reads nothing: what a rule is

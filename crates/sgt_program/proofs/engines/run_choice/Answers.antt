@@ -2,6 +2,7 @@ use Rattle.std.proofs.Common.{◌≡◌, false, inl, inr, refl, subst, sym}
 use Rattle.std.specs.Prelude.{⊤, IfOk, OnErr}
 use Rattle.sgt_audit.specs.declared.verdict.Verdict.{Verdict}
 use Rattle.sgt_certify.specs.Answer as certify
+use Rattle.sgt_draw.specs.declared.task.Wanted.{Wanted as Picture}
 use Rattle.sgt_draw_logs.specs.Drawing as draw
 use Rattle.sgt_core.specs.Replay as replay
 use Rattle.sgt_service.specs.Report as run
@@ -69,8 +70,9 @@ returns-in-Draw-clause-answers g c =
     let told = g.R.Source.tells c.args.reader.now in
     let old = g.W.Sink.holds c.args.writer.now in
     let new = g.W.Sink.holds c.draw_either.new.writer in
-    rw c.in-Draw.is (status-answers (λ outcome. draw.WroteDrawing false told outcome old new)
-    (draw.WroteDrawingFront false told old new)
+    let wanted : Picture = record { tx = None; is_dot = false } in
+    rw c.in-Draw.is (status-answers (λ outcome. draw.WroteDrawing wanted told outcome old new)
+    (draw.WroteDrawingFront wanted told old new)
     c.draw_either.result c.draw_either.ensures.answer c.draw_either.ensures.front)
 
 pub returns-in-DrawWith-clause-answers : goal.returns-in-DrawWith-clause-answers
@@ -78,9 +80,9 @@ returns-in-DrawWith-clause-answers g c =
     let told = g.R.Source.tells c.args.reader.now in
     let old = g.W.Sink.holds c.args.writer.now in
     let new = g.W.Sink.holds c.draw_either-in-DrawWith.new.writer in
-    let is_dot = c.in-DrawWith.is_dot in
-    rw c.in-DrawWith.is (status-answers (λ outcome. draw.WroteDrawing is_dot told outcome old new)
-    (draw.WroteDrawingFront is_dot told old new)
+    let wanted : Picture = record { tx = c.in-DrawWith.tx; is_dot = c.in-DrawWith.is_dot } in
+    rw c.in-DrawWith.is (status-answers (λ outcome. draw.WroteDrawing wanted told outcome old new)
+    (draw.WroteDrawingFront wanted told old new)
     c.draw_either-in-DrawWith.result c.draw_either-in-DrawWith.ensures.answer c.draw_either-in-DrawWith.ensures.front)
 
 pub returns-in-AuditWith-clause-answers : goal.returns-in-AuditWith-clause-answers
