@@ -1,7 +1,8 @@
 //! The picture of all that a reader gives.
 
-ghost use Rattle.std.specs.Prelude.{◌≡◌, ◌≢◌, ◌<◌, ◌↔◌, Err, IfOk, OnErr, IfSome};
+ghost use Rattle.std.specs.Prelude.{◌≡◌, ◌≢◌, ◌<◌, ◌↔◌, length, Err, IfOk, OnErr, IfSome};
 ghost use Rattle.sgt_devices.specs.Devices.{LeavesKeptReader, LeavesWriter};
+ghost use Rattle.sgt_audit.specs.Faults.{BeginsNoneBehind};
 ghost use Rattle.sgt_certify.specs.Answer.{HasCertificate};
 ghost use Rattle.sgt_explain_logs.specs.Explained.{AreLogs};
 ghost use Rattle.sgt_draw_logs.specs.Drawing.{IsDrawing, WroteDrawing, WroteDrawingFront};
@@ -19,6 +20,8 @@ fn answer<R: Source>(alloc: Global, wanted: Wanted, reader: &mut R) -> Result<An
         (λ a. IsDrawing wanted (R.tells reader.old) a.outcome a.text.items) }
     ensures exact { IfOk result (λ a. IfSome (R.tells reader.old)
         (λ bytes. AreLogs bytes → (a.outcome ≡ Outcome.Yes ↔ HasCertificate bytes))) }
+    ensures none_behind { IfOk result (λ _. IfSome (R.tells reader.old) (λ bytes. (AreLogs bytes → ⊥)
+        → IfSome (R.tells reader.new) (λ left. BeginsNoneBehind bytes (length left) (R.last reader.new)))) }
     ensures reader { LeavesKeptReader R.tells R.failures result reader.old reader.new }
     ensures write_fault { result ≢ Err EngineFail.WriteFault }
 {
@@ -52,6 +55,11 @@ pub fn draw_either<R: Source, W: Sink>(
         (W.holds writer.new)) }
     ensures exact { IfOk result (λ outcome. IfSome (R.tells reader.old)
         (λ bytes. AreLogs bytes → (outcome ≡ Outcome.Yes ↔ HasCertificate bytes))) }
+
+    // Of what isn't logs nothing is read behind the line with the first fault.
+    ensures none_behind { IfOk result (λ _. IfSome (R.tells reader.old) (λ bytes. (AreLogs bytes → ⊥)
+        → IfSome (R.tells reader.new) (λ left. BeginsNoneBehind bytes (length left) (R.last reader.new)))) }
+
     ensures front { OnErr result (WroteDrawingFront wanted (R.tells reader.old)
         (W.holds writer.old) (W.holds writer.new)) }
 

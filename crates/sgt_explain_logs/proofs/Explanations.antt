@@ -1,9 +1,10 @@
 -- An explanation of bytes that were read.
-use Rattle.std.proofs.Common.{◌≡◌, ◌↔◌, ℕ, List, Bool, true, false, IsTrue, Option, Some, None, Result, Ok, Err, IfOk, inl, inr, subst, sym, ◌∙◌}
+use Rattle.std.proofs.Common.{◌≡◌, ◌↔◌, ℕ, List, length, Bool, true, false, IsTrue, Option, Some, None, Result, Ok, Err, IfOk, inl, inr, subst, sym, ◌∙◌}
 use Rattle.std.specs.Prelude.{IfSome, OnErr}
 use Rattle.std.proofs.lemmas.Bool.{true≢false}
 use Rattle.sgt_names.specs.declared.outcome.EngineFail.{EngineFail}
 use Rattle.sgt_names.specs.declared.outcome.Outcome.{Outcome}
+use Rattle.sgt_audit.specs.Faults.{BeginsNoneBehind}
 use Rattle.sgt_audit.specs.declared.verdict.Verdict.{Verdict}
 use Rattle.sgt_explain.specs.Asked.{transaction_in}
 use Rattle.sgt_explain.specs.Explained as bundle
@@ -90,3 +91,22 @@ module _ (asked : Asked) (told : Option (List ℕ)) (v : Verdict) (front : List 
   pub bundle-front : (r : Result Explained EngineFail) → OnErr r (bundle.WroteExplainedByFront asked front v old new)
       → OnErr r (WroteExplanationFront told old new)
   bundle-front r wrote = turned r (wrote-front asked told v front on old new r wrote)
+
+-- ---- how far was read
+
+abbrev pub StopsThere : (told now : Option (List ℕ)) (last : ℕ) → Type 0
+StopsThere told now last = IfSome told
+    (λ bytes. (AreLogs bytes → ⊥) → IfSome now (λ left. BeginsNoneBehind bytes (length left) last))
+
+pub stops-other : {A E : Type 0} (r : Result A E) (told now : Option (List ℕ)) (last : ℕ)
+    → IfSome told (λ bytes. IfSome now (λ left. BeginsNoneBehind bytes (length left) last))
+    → IfOk r (λ _. StopsThere told now last)
+stops-other (Err fail) told now last h = tt
+stops-other (Ok a) None now last h = tt
+stops-other (Ok a) (Some bytes) now last h = λ other. h
+
+pub stops-logs : {A E : Type 0} (r : Result A E) (told now : Option (List ℕ)) (last : ℕ) → IfSome told AreLogs
+    → IfOk r (λ _. StopsThere told now last)
+stops-logs (Err fail) told now last are = tt
+stops-logs (Ok a) None now last are = tt
+stops-logs (Ok a) (Some bytes) now last are = λ other. absurd (other are)

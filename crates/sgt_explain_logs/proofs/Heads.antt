@@ -6,7 +6,7 @@ use Rattle.std.proofs.lemmas.Bool.{false≢true}
 use Rattle.sgt_explain_logs.specs.Explained.{AreLogs, BeginsWith, logs_head}
 
 -- of two fronts of one text one is a front of the other
-fronts : (xs ys us vs : List ℕ) → xs ++ ys ≡ us ++ vs
+pub fronts : (xs ys us vs : List ℕ) → xs ++ ys ≡ us ++ vs
     → ((r : List ℕ) × (us ≡ xs ++ r)) ⊎ ((r : List ℕ) × (xs ≡ us ++ r))
 fronts [] ys us vs e = inl (us, refl)
 fronts (x ∷ xs) ys [] vs e = inr (x ∷ xs, refl)

@@ -2,4 +2,5 @@ pub mod Explanations
 pub mod Findings
 pub mod Firsts
 pub mod Heads
+pub mod Opens
 pub mod Wrote

@@ -1,5 +1,5 @@
 -- What an explanation of logs writes.
-use Rattle.std.specs.Prelude.{◌≡◌, ◌⊎◌, ℕ, Bool, IsTrue, List, [], ◌∷◌, ◌++◌, codes, Option, Some, None, IfSome}
+use Rattle.std.specs.Prelude.{◌≡◌, ◌⊎◌, ℕ, Bool, IsTrue, List, [], ◌∷◌, ◌++◌, length, codes, Option, Some, None, IfSome}
 use Rattle.std.specs.Io.KnownBytes.{Appends}
 use Rattle.sgt_names.specs.Device.{AppendsOrForgets, WritesFront}
 use Rattle.sgt_names.specs.declared.outcome.Outcome.{Outcome}
@@ -21,6 +21,15 @@ logs_head second = format_line second ++ 10 ∷ codes "site "
 
 abbrev pub AreLogs : List ℕ → Type 0
 AreLogs bytes = (second : Bool) × BeginsWith (logs_head second) bytes
+
+-- these bytes are a front of that, so that more of them may make logs
+abbrev pub IsOpenHead : List ℕ → Type 0
+IsOpenHead bytes = (second : Bool) × BeginsWith bytes (logs_head second)
+
+-- so far were logs told from all else: no read was made, or what had been read before the last one was such a front
+abbrev pub IsPeeked : {R : Type 0} → (old new : R) → (text : List ℕ) → (last : ℕ) → Type 0
+IsPeeked old new text last = (new ≡ old)
+    ⊎ ((before came : List ℕ) × IsOpenHead before × (text ≡ before ++ came) × (length came ≡ last))
 
 -- the line is the first of the text, without its LF
 abbrev pub IsFirstLine : (text line : List ℕ) → Type 0

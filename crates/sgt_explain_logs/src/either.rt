@@ -3,8 +3,9 @@
 ghost use Rattle.std.specs.Prelude.{◌≡◌, ◌≢◌, ◌<◌, ◌≤◌, Some, Option, ℕ, List, Err, length, IfOk, IfSome, OnErr, IsErrOf};
 ghost use Rattle.sgt_names.specs.Limits.{most_reads};
 ghost use Rattle.sgt_devices.specs.Devices.{LeavesKeptReader, LeavesWriter};
+ghost use Rattle.sgt_audit.specs.Faults.{BeginsNoneBehind};
 ghost use Rattle.sgt_explain_logs.specs.Either.{WroteExplanation, WroteExplanationFront};
-ghost use Rattle.sgt_explain_logs.specs.Explained.{IsFound, WroteExplained, WroteExplainedFront};
+ghost use Rattle.sgt_explain_logs.specs.Explained.{AreLogs, IsFound, WroteExplained, WroteExplainedFront};
 
 use crate::engine::explain_logs;
 use crate::peeking::peek;
@@ -33,7 +34,7 @@ fn explain_held<W: Sink>(
         asks: Asks::none(),
         last: 0,
     };
-    explain_logs(alloc, asked.transaction(), &mut reader, writer)
+    explain_logs(alloc, asked, &mut reader, writer)
 }
 
 /// Explains what the reader gives: logs without a certificate, whose line 2 begins with `site `, by what `certify` answers
@@ -48,6 +49,10 @@ pub fn explain_either<R: Source, W: Sink>(
     ensures answer { IfOk result
         (λ explained. WroteExplanation asked (R.tells reader.old) explained (W.holds writer.old)
         (W.holds writer.new)) }
+
+    // Of what isn't logs nothing is read behind the line with the first fault.
+    ensures none_behind { IfOk result (λ _. IfSome (R.tells reader.old) (λ bytes. (AreLogs bytes → ⊥)
+        → IfSome (R.tells reader.new) (λ left. BeginsNoneBehind bytes (length left) (R.last reader.new)))) }
     ensures front { OnErr result
         (WroteExplanationFront (R.tells reader.old) (W.holds writer.old) (W.holds writer.new)) }
     ensures reader { LeavesKeptReader R.tells R.failures result reader.old reader.new }

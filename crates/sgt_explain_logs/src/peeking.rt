@@ -2,7 +2,8 @@
 
 ghost use Rattle.std.specs.Prelude.{◌≡◌, ◌≢◌, ◌<◌, ◌≤◌, ◌↔◌, ◌++◌, ℕ, List, Err, false, true, IfOk, IfSome, IsErrOf, IsTrue, length};
 ghost use Rattle.std.specs.Io.KnownBytes.{Consumes};
-ghost use Rattle.sgt_explain_logs.specs.Explained.{AreLogs, BeginsWith};
+ghost use Rattle.sgt_audit.specs.Faults.{BeginsNoneBehind};
+ghost use Rattle.sgt_explain_logs.specs.Explained.{AreLogs, BeginsWith, IsOpenHead};
 
 use crate::answer::behind;
 use sgt_explain::{empty_buffer, take_some};
@@ -32,6 +33,7 @@ pub fn are_logs(bytes: &[u8]) -> bool
 /// Whether so few bytes are there that more of them may be those of logs.
 fn is_open(bytes: &[u8]) -> bool
     ensures closed { result ≡ false → (more : List ℕ) → AreLogs (bytes.now ++ more) → AreLogs bytes.now }
+    ensures opened { result ≡ true → IsOpenHead bytes.now }
     ensures few { result ≡ true → length bytes.now ≤ 11 }
 {
     if begins_with(HEAD, bytes) {
@@ -54,6 +56,8 @@ pub fn peek<R: Source>(alloc: Global, reader: &mut R) -> Result<Peeked, EngineFa
         (λ peeked. Consumes (R.tells reader.old) (R.tells reader.new) peeked.text.items) }
     ensures are { IfOk result
         (λ peeked. IfSome (R.tells reader.old) (λ bytes. IsTrue peeked.are_logs ↔ AreLogs bytes)) }
+    ensures none_behind { IfOk result (λ _. IfSome (R.tells reader.old) (λ bytes. IfSome (R.tells reader.new)
+        (λ left. BeginsNoneBehind bytes (length left) (R.last reader.new)))) }
     ensures quiet { result ≢ Err EngineFail.ReadFault
         → R.failures reader.new ≡ R.failures reader.old }
     ensures read_fault { IsErrOf result EngineFail.ReadFault

@@ -18,3 +18,9 @@ returns-clause-closed c = λ closed. closed-logs c.args.bytes.now
 
 pub returns-clause-few : goal.returns-clause-few
 returns-clause-few c = λ opened. few-bytes true c.args.bytes.now (c.begins_with-2.ensures.0 opened)
+
+pub returns-then-begins_with-clause-opened : goal.returns-then-begins_with-clause-opened
+returns-then-begins_with-clause-opened c = λ opened. (false, c.begins_with.ensures.0 c.if-begins_with.true)
+
+pub returns-clause-opened : goal.returns-clause-opened
+returns-clause-opened c = λ opened. (true, c.begins_with-2.ensures.0 opened)
