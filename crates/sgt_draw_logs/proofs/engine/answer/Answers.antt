@@ -22,7 +22,7 @@ returns-in_ok-bytes-clause-answer g c =
     IfOk-weaker c.logs_answer.result _ _
     (λ a is. inl (
       are-told told peeked.are_logs c.if-peeked.true c.in_ok-peeked.ensures.are,
-      logs-told c.args.wanted.is_dot told c.as_slice.result.now same a.outcome a.text.items is,
+      logs-told c.args.wanted told c.as_slice.result.now same a.outcome a.text.items is,
     )) c.logs_answer.ensures.answer
 
 pub returns-in_ok-bytes-clause-exact : goal.returns-in_ok-bytes-clause-exact
