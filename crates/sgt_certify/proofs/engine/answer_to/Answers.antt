@@ -26,16 +26,16 @@ returns-then-not-all-clause-decided c bytes are faultless none =
     absurd (subst (λ (b : Bool). AreAll (taken.Text c.in-Text.text b) bytes) c.if-not-all.true
     (subst (λ (t : Taken). AreAll t bytes) c.in-Text.is are))
 
-pub returns-in-Text-clause-answer : goal.returns-in-Text-clause-answer
-returns-in-Text-clause-answer c =
+pub returns-else-not-all-clause-answer : goal.returns-else-not-all-clause-answer
+returns-else-not-all-clause-answer c =
     let text = c.in-Text.text.items in
     IfOk-weaker c.found_answer.result _ _ (λ a answer told from.
     taken-answer told text a.text.items true a.outcome
     (subst (IsTaken told text) c.if-not-all.false (subst (IsTakenSo told) c.in-Text.is from)) answer)
     c.found_answer.ensures.answer
 
-pub returns-in-Text-clause-by : goal.returns-in-Text-clause-by
-returns-in-Text-clause-by c bytes are faultless r is passes =
+pub returns-else-not-all-clause-by : goal.returns-else-not-all-clause-by
+returns-else-not-all-clause-by c bytes are faultless r is passes =
     let same : c.in-Text.text.items ≡ bytes =
     subst (λ (b : Bool). AreAll (taken.Text c.in-Text.text b) bytes) c.if-not-all.false
     (subst (λ (t : Taken). AreAll t bytes) c.in-Text.is are) in
@@ -44,8 +44,8 @@ returns-in-Text-clause-by c bytes are faultless r is passes =
     (c.found_answer.ensures.by (subst IsFaultless (sym same) faultless) r is
     (subst (λ (t : List ℕ). Passes t r) (sym same) passes))
 
-pub returns-in-Text-clause-decided : goal.returns-in-Text-clause-decided
-returns-in-Text-clause-decided c bytes are faultless none =
+pub returns-else-not-all-clause-decided : goal.returns-else-not-all-clause-decided
+returns-else-not-all-clause-decided c bytes are faultless none =
     let same : c.in-Text.text.items ≡ bytes =
     subst (λ (b : Bool). AreAll (taken.Text c.in-Text.text b) bytes) c.if-not-all.false
     (subst (λ (t : Taken). AreAll t bytes) c.in-Text.is are) in
@@ -54,7 +54,7 @@ returns-in-Text-clause-decided c bytes are faultless none =
     (c.found_answer.ensures.decided (subst IsFaultless (sym same) faultless)
     (λ r is passes. none r is (subst (λ (t : List ℕ). Passes t r) same passes)))
 
-pub returns-clause-answer : goal.returns-clause-answer
-returns-clause-answer c told from =
+pub returns-in_ok-fault_answer-in-Fault-clause-answer : goal.returns-in_ok-fault_answer-in-Fault-clause-answer
+returns-in_ok-fault_answer-in-Fault-clause-answer c told from =
     fault-answer told _ c.in-Fault.first.line c.in-Fault.first.fault _ (subst (IsTakenSo told) c.in-Fault.is from)
     c.in_ok-fault_answer-in-Fault.ensures
