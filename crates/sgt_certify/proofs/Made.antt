@@ -104,6 +104,14 @@ taken-answer None text written all outcome taken answer = tt
 taken-answer (Some bytes) text written all outcome (more, is, goes) answer =
     subst (λ t. IsAnswer t outcome written) (sym is) (answer more goes)
 
+-- the answer to all texts with this fault is that to the bytes that were told
+pub fault-answer : (told : Option (List ℕ)) (written : List ℕ) (line : ℕ) (fault : Fault) (outcome : Outcome)
+    → IfSome told (λ bytes. IsFirstFault bytes line fault)
+    → ((bytes : List ℕ) → IsFirstFault bytes line fault → IsAnswer bytes outcome written)
+    → IfSome told (λ bytes. IsAnswer bytes outcome written)
+fault-answer None written line fault outcome first answer = tt
+fault-answer (Some bytes) written line fault outcome first answer = answer bytes first
+
 -- the answer to a text is that to it with nothing behind it
 pub whole-answer : (text written : List ℕ) (outcome : Outcome) → IsAnswer text outcome written → (more : List ℕ)
     → GoesOn true more → IsAnswer (text ++ more) outcome written

@@ -1,11 +1,10 @@
 //! A fault, looked for while a text is read.
 
-ghost use Rattle.std.specs.Prelude.{◌≡◌, ◌++◌, ℕ, List, length, IsTrue, IfOk, IfSome, IfNone};
+ghost use Rattle.std.specs.Prelude.{◌≡◌, ◌≢◌, ◌<◌, ◌≤◌, ◌↔◌, ◌+◌, ◌-◌, ◌%◌, ◌++◌, ℕ, List, false, length, IsTrue, IfOk, IfSome, IfNone};
 ghost use Rattle.sgt_certify.specs.Reach.{AreShort, IsJudgedTo, IsWithinRoom};
 ghost use Rattle.sgt_certify_faults.specs.Faults.{IsFirstFault};
 
 use sgt_certify_faults::{FirstFault, Watch, fault_within};
-use sgt_notation::Lines;
 use std::alloc::{AllocError, Global};
 
 /// How many bytes a page has.
@@ -29,8 +28,8 @@ pub struct Early {
     alloc: Global,
     /// What says when to judge them, as long as that is right.
     watch: Option<Watch>,
-    /// Whether the last read ended within a page. What writes much into a pipe fills its pages, and a file gives whole
-    /// ones up to its end; so the next read may have to wait.
+    /// Whether what was read for the last line that wasn't held whole ended within a page. What writes much into a pipe
+    /// fills its pages, and a file gives whole ones up to its end; so the next read may have to wait.
     is_drained: bool,
     /// They are watched once there are so many bytes.
     due: usize,
@@ -52,12 +51,16 @@ impl Early {
         })
     }
 
-    /// Notes how the last read ended, if the line was not held whole: so many bytes were held before the line was read.
-    pub fn note_read(&mut self, before: usize, line: &[u8], lines: &Lines)
-        ensures { self.new.judged ≡ self.old.judged }
+    /// Notes how what was read for a line ended, if it wasn't held whole: so many bytes were held before it was read, and
+    /// these are behind it.
+    pub fn note_read(&mut self, before: usize, line: &[u8], behind: &[u8])
+        ensures judged { self.new.judged ≡ self.old.judged }
+        ensures none { length line.now + length behind.now + 1 ≤ before
+            → self.new.is_drained ≡ self.old.is_drained }
+        ensures some { before < length line.now + length behind.now + 1
+            → (IsTrue self.new.is_drained ↔ (length line.now + length behind.now + 1 - before) % 4096 ≢ 0) }
     {
-        let behind = lines.held().len().saturating_add(1);
-        let given = line.len().saturating_add(behind).saturating_sub(before);
+        let given = (line.len() + behind.len() + 1).saturating_sub(before);
         if given > 0 {
             self.is_drained = given % PAGE != 0;
         }
@@ -84,6 +87,23 @@ impl Early {
         many <= self.judged.saturating_mul(MORE).saturating_add(JUDGED)
     }
 
+    /// Whether the text is to be judged now.
+    fn is_due(&mut self, text: &[u8]) -> Result<bool, AllocError>
+        ensures same { self.new.judged ≡ self.old.judged }
+        ensures room { IfOk result
+            (λ due. due ≡ false → IsWithinRoom self.new.judged (length text.now)) }
+    {
+        let suspected = self.suspects(text)?;
+        if suspected {
+            self.watch = None;
+            return Ok(true);
+        }
+        if self.has_room(text.len()) {
+            return Ok(false);
+        }
+        Ok(true)
+    }
+
     /// The first fault of these lines, if one is looked for and found.
     pub fn look(&mut self, text: &[u8]) -> Result<Option<FirstFault>, AllocError>
         ensures found { IfOk result (λ found. IfSome found (λ first. (more : List ℕ)
@@ -94,17 +114,17 @@ impl Early {
         ensures room { IfOk result
             (λ found. IfNone found (IsWithinRoom self.new.judged (length text.now))) }
     {
-        let suspected = self.suspects(text)?;
-        if !suspected && self.has_room(text.len()) {
+        let due = self.is_due(text)?;
+        if !due {
             return Ok(None);
         }
-        if suspected {
-            self.watch = None;
+        let found = fault_within(self.alloc, text)?;
+        match found {
+            Some(first) => Ok(Some(first)),
+            None => {
+                self.judged = text.len();
+                Ok(None)
+            }
         }
-        if let Some(first) = fault_within(self.alloc, text)? {
-            return Ok(Some(first));
-        }
-        self.judged = text.len();
-        Ok(None)
     }
 }

@@ -88,6 +88,9 @@ fn no_answer(
     ensures by { IsFaultless text.items → all ≡ true → (r : AnyReason) → reason ≡ Some r
         → Passes text.items r
         → IfOk result (λ a. (a.outcome ≡ Outcome.No) × IsToldBy text.items r a.text.items) }
+    ensures decided { IsFaultless text.items → all ≡ true
+        → ((r : AnyReason) → reason ≡ Some r → Passes text.items r → ⊥)
+        → IfOk result (λ a. IsDecidedAnswer text.items a.outcome a.text.items) }
     ensures err { IfErr result (λ e. e ≡ EngineFail.Memory) }
 {
     let bytes = text.as_slice();
@@ -105,6 +108,9 @@ fn found_answer(alloc: Global, text: Vec<u8>, found: Found) -> Result<Answer, En
     ensures by { IsFaultless text.items → (r : AnyReason) → found ≡ Refused r
         → Passes text.items r
         → IfOk result (λ a. (a.outcome ≡ Outcome.No) × IsToldBy text.items r a.text.items) }
+    ensures decided { IsFaultless text.items
+        → ((r : AnyReason) → found ≡ Refused r → Passes text.items r → ⊥)
+        → IfOk result (λ a. IsDecidedAnswer text.items a.outcome a.text.items) }
     ensures err { IfErr result (λ e. e ≡ EngineFail.Memory) }
 {
     match found {
@@ -141,6 +147,9 @@ fn answer_to(alloc: Global, taken: Taken, found: Found) -> Result<Answer, Engine
     ensures by { (bytes : List ℕ) → AreAll taken bytes → IsFaultless bytes
         → (r : AnyReason) → found ≡ Refused r → Passes bytes r
         → IfOk result (λ a. (a.outcome ≡ Outcome.No) × IsToldBy bytes r a.text.items) }
+    ensures decided { (bytes : List ℕ) → AreAll taken bytes → IsFaultless bytes
+        → ((r : AnyReason) → found ≡ Refused r → Passes bytes r → ⊥)
+        → IfOk result (λ a. IsDecidedAnswer bytes a.outcome a.text.items) }
     ensures err { IfErr result (λ e. e ≡ EngineFail.Memory) }
 {
     match taken {

@@ -84,17 +84,20 @@ fn take_lines<R: Source>(
     let mut line = Vec::new(alloc);
     'lines: loop {
         take_held(lines, text)?;
-        if let Some(first) = early.look(text.as_slice())? {
+        let so_far = text.as_slice();
+        if let Some(first) = early.look(so_far)? {
             return Ok(Stop::Fault(first));
         }
         let before = lines.held().len();
         match lines.next(reader, &mut line, MAX_LINE) {
             Ok(Next::Line) => {
-                early.note_read(before, line.as_slice(), lines);
-                push_line(text, line.as_slice())?;
+                let whole = line.as_slice();
+                early.note_read(before, whole, lines.held());
+                push_line(text, whole)?;
             }
             Ok(Next::Cut) => {
-                text.extend_from_slice(line.as_slice())?;
+                let last = line.as_slice();
+                text.extend_from_slice(last)?;
                 return Ok(Stop::All);
             }
             Ok(Next::End) => return Ok(Stop::All),

@@ -3,7 +3,7 @@ use Rattle.std.proofs.lemmas.List.{append-nil}
 use Rattle.std.proofs.lemmas.Result.{IfOk-weaker}
 use Rattle.sgt_certify_faults.specs.Faults.{GoesOn, IsFirstFault}
 use Rattle.sgt_certify.specs.Answer.{IsAnswer}
-use Rattle.sgt_certify.specs.Reasons.{IsToldBy, Passes}
+use Rattle.sgt_certify.specs.Reasons.{IsDecidedAnswer, IsToldBy, Passes}
 use Rattle.sgt_certify.proofs.Made.{whole-answer}
 use Rattle.sgt_certify.proofs.engine.no_answer.Goals as goal
 
@@ -42,3 +42,19 @@ returns-clause-by c faultless all r is passes =
     IfOk-weaker c.faultless_answer.result _ _
     (λ a told. (told.0, subst (λ (t : List ℕ). IsToldBy t r a.text.items) same told.1))
     (c.faultless_answer.ensures.by r is (subst (λ (t : List ℕ). Passes t r) (sym same) passes))
+
+pub returns-in-Some-clause-decided : goal.returns-in-Some-clause-decided
+returns-in-Some-clause-decided c faultless all none =
+    let first =
+    (rw c.in-Some.is at c.in_ok-first.ensures.found) [] (subst (λ (b : Bool). GoesOn b []) (sym all) refl) in
+    let here = subst (λ (t : List ℕ). IsFirstFault t c.in-Some.first.line c.in-Some.first.fault) (append-nil _
+    ∙ c.as_slice-bytes.ensures.value) first in
+    absurd (faultless c.in-Some.first.line c.in-Some.first.fault here.has)
+
+pub returns-clause-decided : goal.returns-clause-decided
+returns-clause-decided c faultless all none =
+    let same = c.as_slice-bytes.ensures.value in
+    IfOk-weaker c.faultless_answer.result _ _
+    (λ a told. subst (λ (t : List ℕ). IsDecidedAnswer t a.outcome a.text.items) same told)
+    (c.faultless_answer.ensures.decided
+    (λ r is passes. none r is (subst (λ (t : List ℕ). Passes t r) same passes)))

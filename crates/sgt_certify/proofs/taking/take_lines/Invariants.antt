@@ -1,7 +1,7 @@
-use Rattle.std.proofs.Common.{◌≡◌, ◌≤◌, ◌+◌, length}
+use Rattle.std.proofs.Common.{◌≡◌, ◌≤◌, ◌+◌, ◌*◌, length}
 use Rattle.std.specs.Io.KnownBytes.{Consumes}
 use Rattle.sgt_notation.specs.Lines.{coming, most_left, Spends}
-use Rattle.sgt_certify.specs.Reach.{AreShort}
+use Rattle.sgt_certify.specs.Reach.{AreShort, IsJudgedTo}
 use Rattle.sgt_certify.proofs.taking.take_lines.Given as goal
 
 abbrev pub invariant-lines : goal.invariant-lines
@@ -12,6 +12,7 @@ invariant-lines g l =
     × (g.R.Source.asked l.reader + l.lines.reads ≡ g.R.Source.asked l.initial.reader + 4294967295)
     × AreShort l.text.items × (4294967295 ≤ l.lines.reads + length l.text.items)
     × (length l.lines.held ≤ g.R.Source.last l.reader)
+    × IsJudgedTo l.text.items l.early.judged × (length l.text.items ≤ 16 * l.early.judged + 67108864)
 
 abbrev pub decreases-lines : goal.decreases-lines
 decreases-lines g l = most_left l.lines
