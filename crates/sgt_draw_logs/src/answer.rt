@@ -73,11 +73,7 @@ fn shown(
 }
 
 /// The answer to logs without a certificate.
-pub(crate) fn logs_answer(
-    alloc: Global,
-    wanted: Wanted,
-    bytes: &[u8],
-) -> Result<Answer, EngineFail>
+pub(crate) fn logs_answer(alloc: Global, wanted: Wanted, bytes: &[u8]) -> Result<Answer, EngineFail>
     ensures answer { IfOk result
         (λ a. IsLogsDrawing wanted (Some bytes.now) a.outcome a.text.items) }
     ensures exact { IfOk result (λ a. a.outcome ≡ Outcome.Yes ↔ HasCertificate bytes.now) }

@@ -112,9 +112,9 @@ in-line-two : (second : Bool) (before xs ys more : List ℕ) → before ≡ form
 in-line-two second before xs ys more is site = λ n f first. omega (
   arith,
   beyond-format second xs more first.rest first.stage first.next f
-  (front-plain xs ys (codes "site ") site site-plain)
-  (sym (ap (λ (t : List ℕ). t ++ more) is ∙ append_assoc (format_line second) (10 ∷ xs) more) ∙ first.text)
-  first.comes first.breaks,
+      (front-plain xs ys (codes "site ") site site-plain)
+      (sym (ap (λ (t : List ℕ). t ++ more) is ∙ append_assoc (format_line second) (10 ∷ xs) more) ∙ first.text)
+      first.comes first.breaks,
   ap length is,
   length-append (format_line second) (10 ∷ xs),
 )

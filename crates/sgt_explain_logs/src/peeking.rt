@@ -12,6 +12,7 @@ use std::alloc::Global;
 
 /// How logs begin in the first format, `sgt 1`, and in the second.
 const HEAD: &[u8] = b"sgt 1\nsite ";
+
 const HEAD_2: &[u8] = b"sgt 2\nsite ";
 
 fn begins_with(text: &[u8], word: &[u8]) -> bool
