@@ -3,8 +3,8 @@
 
 usage: open_pipe.py PROGRAM [COMMAND ..]
 
-A command is audit, workers, certify, explain or draw: the first three where none is named. For each command and fault
-the text up to and with the faulty line goes into a pipe, whole, line by line, and that line alone behind the others; for
+A command is audit, workers, certify, explain or draw: all where none is named. For each command and fault the text up to
+and with the faulty line goes into a pipe, whole, line by line, and that line alone behind the others; for
 `certify` also behind some thousand lines. The pipe stays open, and nothing more comes. The answer has to be there within
 two seconds. Then a stream that doesn't end follows a fault: the program has to end, with less than 50 MB.
 """
@@ -192,7 +192,7 @@ def main():
         return
     if not words or any(word not in COMMANDS for word in words[1:]):
         sys.exit(__doc__)
-    program, commands = words[0], words[1:] or ["audit", "workers", "certify"]
+    program, commands = words[0], words[1:] or list(COMMANDS)
     wrong = 0
     for command in commands:
         wrong += check(program, command) + endless(program, command)
