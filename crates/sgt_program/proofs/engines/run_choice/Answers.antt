@@ -1,4 +1,4 @@
-use Rattle.std.proofs.Common.{◌≡◌, false, inl, inr, refl, subst, sym}
+use Rattle.std.proofs.Common.{◌≡◌, None, false, inl, inr, refl, subst, sym}
 use Rattle.std.specs.Prelude.{⊤, IfOk, OnErr}
 use Rattle.sgt_audit.specs.declared.verdict.Verdict.{Verdict}
 use Rattle.sgt_certify.specs.Answer as certify
