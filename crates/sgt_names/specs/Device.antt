@@ -1,6 +1,8 @@
 -- What a reader tells over one read, and a writer over one write: of its bytes, and of how often it
 -- has failed.
-use Rattle.std.specs.Prelude.{◌≡◌, ◌≤◌, ◌<◌, ℕ, ◌+◌, List, ◌++◌, length, take, ⊤, Option, Some, None, Result, Ok, Err}
+use Rattle.std.specs.Prelude.{◌≡◌, ◌≤◌, ◌<◌, ℕ, ◌+◌, List, ◌++◌, length, take, ⊤, Option, Some, None, Result, Ok, Err, if◌then◌else◌, nat_lt}
+use Rattle.sgt_names.specs.declared.source.Flow.{Flow}
+use Rattle.sgt_names.specs.declared.source.Flow.TheVariants.{Still, Flowing, Drained}
 use Rattle.std.specs.Io.KnownBytes.{Consumes, Appends, IsAtEnd}
 
 -- over a failure: what was told before is told still, or nothing is
@@ -52,3 +54,9 @@ AtMost (Err e) most = ⊤
 abbrev pub TakesSome : {E : Type 0} → Result ℕ E → ℕ → Type 0
 TakesSome (Ok n) size = 0 < size → 0 < n
 TakesSome (Err e) size = ⊤
+
+-- how the bytes of a source come, once a read gave so many of those that it was asked for
+abbrev pub flow_behind : Flow → (given wanted : ℕ) → Flow
+flow_behind Still given wanted = Still
+flow_behind Flowing given wanted = if nat_lt given wanted then Drained else Flowing
+flow_behind Drained given wanted = if nat_lt given wanted then Drained else Flowing

@@ -2,7 +2,7 @@
 
 use crate::asks::Asks;
 use crate::sink::Sink;
-use crate::source::{Failed, Source};
+use crate::source::{Failed, Flow, Source};
 use std::alloc::Global;
 
 /// Bytes in memory, given out as many at a time as there is room for. Reading them never fails.
@@ -15,6 +15,7 @@ pub struct Bytes<'a> {
 
 impl Source for Bytes<'_> {
     ghost use Rattle.std.specs.Prelude.{Some};
+    ghost use Rattle.sgt_names.specs.declared.source.Flow.TheVariants.{Still};
 
     ghost tells = { λ s. Some s.rest.now };
 
@@ -23,6 +24,12 @@ impl Source for Bytes<'_> {
     ghost asked = { λ s. s.asks.count };
 
     ghost last = { λ s. s.last };
+
+    ghost flows = { λ _. Still };
+
+    fn flow(&self) -> Flow {
+        Flow::Still
+    }
 
     fn read(&mut self, buffer: &mut [u8]) -> Result<usize, Failed> {
         self.asks = self.asks.one_more();

@@ -39,7 +39,7 @@ pub use number::{BadNumber, Tx};
 pub use outcome::{EngineFail, Outcome};
 pub use sink::{Sink, write_all};
 pub use site_no::SiteNo;
-pub use source::{Failed, Source};
+pub use source::{Failed, Flow, Source};
 pub use standard::{FromRead, ToWrite};
 
 /// The value of an item.

@@ -6,7 +6,7 @@ ghost use Rattle.sgt_names.specs.Memory.{MustFail, Supplies, IsFull, IsSpent, Ta
 
 use crate::asks::Asks;
 use crate::sink::Sink;
-use crate::source::{Failed, Source};
+use crate::source::{Failed, Flow, Source};
 use std::alloc::{AllocError, Global};
 use std::marker::Model;
 
@@ -60,6 +60,8 @@ impl<'a> MemSource<'a> {
 }
 
 impl Source for MemSource<'_> {
+    ghost use Rattle.sgt_names.specs.declared.source.Flow.TheVariants.{Still};
+
     ghost tells = { λ s. Some s.rest };
 
     ghost failures = { λ s. s.failures };
@@ -67,6 +69,12 @@ impl Source for MemSource<'_> {
     ghost asked = { λ s. s.asked };
 
     ghost last = { λ s. s.last };
+
+    ghost flows = { λ _. Still };
+
+    fn flow(&self) -> Flow {
+        Flow::Still
+    }
 
     fn read(&mut self, buffer: &mut [u8]) -> Result<usize, Failed>
         ensures bytes { TakesFront (Some self.old.rest) (Some self.new.rest) result buffer.new }
