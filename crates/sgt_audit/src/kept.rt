@@ -11,7 +11,7 @@ use crate::sections::{Sections, add_entry_to, add_line_to, add_to};
 use crate::walks::Walks;
 use sgt_audit_decisions::Decided;
 use sgt_names::Entry;
-use sgt_notation::{SectionLine, front_word_line};
+use sgt_notation::{SectionLine, front_entry_line, front_word_line};
 use std::alloc::AllocError;
 
 /// A certificate and the sections that were read behind it.
@@ -27,7 +27,7 @@ pub struct Kept {
 
 /// What became of the line at the front of bytes.
 #[derive(Drop)]
-pub(crate) enum Passed {
+pub enum Passed {
     /// It was taken, with its LF: so many bytes.
     Line(usize),
     /// It has this fault.
@@ -117,6 +117,21 @@ impl Kept {
             _ => self.next_line(line)?,
         };
         match found {
+            Some(fault) => Ok(Passed::Faulty(fault)),
+            None => Ok(Passed::Line(n)),
+        }
+    }
+
+    /// The next line, if it stands at the front of the bytes as most writers of logs spell it: it is read where it stands.
+    #[inline(always)]
+    pub(crate) fn front(&mut self, bytes: &[u8]) -> Result<Passed, AllocError>
+        ensures sections { is_some self.new.sections ≡ is_some self.old.sections }
+        ensures passes { IfOk result (Passes bytes.now self.old self.new) }
+    {
+        let Some((line, n)) = front_entry_line(bytes) else {
+            return self.next_word(bytes);
+        };
+        match self.next_read(&line)? {
             Some(fault) => Ok(Passed::Faulty(fault)),
             None => Ok(Passed::Line(n)),
         }

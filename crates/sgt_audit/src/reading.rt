@@ -14,7 +14,7 @@ use crate::faults::{Fault, FirstFault};
 use crate::kept::{Kept, Passed};
 use crate::machine::{Machine, Progress};
 use sgt_names::{EngineFail, Source};
-use sgt_notation::{Lines, LinesFault, Next, front_entry_line};
+use sgt_notation::{Lines, LinesFault, Next};
 use std::alloc::{AllocError, Global};
 
 /// Feeds what was kept the lines that are held whole, up to the first fault. The number is that of the next line.
@@ -33,20 +33,11 @@ fn feed_kept(
     ensures sections { is_some kept.new.sections ≡ is_some kept.old.sections }
 {
     'lines: loop {
-        let passed = match front_entry_line(lines.held()) {
-            Some((line, n)) => {
-                if let Some(fault) = kept.next_read(&line)? {
-                    return Ok(Some(fault));
-                }
-                n
-            }
-            None => match kept.next_word(lines.held())? {
-                Passed::Line(n) => n,
-                Passed::Faulty(fault) => return Ok(Some(fault)),
-                Passed::Unread => return Ok(None),
-            },
-        };
-        lines.pass(passed);
+        match kept.front(lines.held())? {
+            Passed::Line(n) => lines.pass(n),
+            Passed::Faulty(fault) => return Ok(Some(fault)),
+            Passed::Unread => return Ok(None),
+        }
         *number += 1;
     }
 }

@@ -36,3 +36,11 @@ Passes bytes old new (Line n) = (line : SectionLine) × IsFrontLine bytes line n
 Passes bytes old new (Faulty f) = (line : SectionLine) × (n : ℕ) × IsFrontLine bytes line n
     × ((s : Stage) → IsAt old s → Follows s (line_text line) (Reading new) (Some f))
 Passes bytes old new Unread = new ≡ old
+
+-- the same of a machine: the line it took is the next of the text
+abbrev pub PassesFront : List ℕ → (old new : Progress) → Passed → Type 0
+PassesFront bytes old new (Line n) = (line : SectionLine) × IsFrontLine bytes line n
+    × ((s : Stage) → Stands old s → Follows s (line_text line) new None)
+PassesFront bytes old new (Faulty f) = (line : SectionLine) × (n : ℕ) × IsFrontLine bytes line n
+    × ((s : Stage) → Stands old s → Follows s (line_text line) new (Some f))
+PassesFront bytes old new Unread = new ≡ old
