@@ -4,8 +4,8 @@
 usage: open_pipe.py PROGRAM [COMMAND ..]
 
 A command is audit, workers, certify, explain or draw: all where none is named. For each command and fault the text up to
-and with the faulty line goes into a pipe, whole, line by line, and that line alone behind the others; for
-`certify` also behind some thousand lines. The pipe stays open, and nothing more comes. The answer has to be there within
+and with the faulty line goes into a pipe, whole, line by line, and that line alone behind the others; also a text that
+fills pages of 4,096 bytes, and for `certify` one of some thousand lines. The pipe stays open, and nothing more comes. The answer has to be there within
 two seconds. Then a stream that doesn't end follows a fault: the program has to end, with less than 50 MB.
 """
 import os
@@ -100,6 +100,15 @@ def long_case():
     return before, "r1[x]=5\n", f"no line {before.count(chr(10)) + 1} F10\n"
 
 
+def of_pages(command, pages):
+    """A read of another value, behind items, in so many pages of 4,096 bytes."""
+    before = FIRST + ("" if command == "certify" else HEAD) + "site 0\n"
+    room = pages * 4096 - len(before) - len("r1[a0000000]=\n")
+    items, digits = divmod(room - 1, len("item a0000000=0\n"))
+    before += "".join(f"item a{item:07}=0\n" for item in range(items))
+    return before, f"r1[a0000000]={'7' * (digits + 1)}\n", f"no line {before.count(chr(10)) + 1} F10\n"
+
+
 def feed(pipe, pieces):
     """Writes the pieces, one after another, as far as they are read."""
     try:
@@ -145,6 +154,12 @@ def check(program, command):
             if not told.startswith(wanted):
                 wrong += 1
                 print(f"{command}, {how}: {wanted.strip()} is wanted behind {whole!r:.300}, not {told[:80]!r}")
+    for pages in (1, 2, 3):
+        before, line, wanted = of_pages(command, pages)
+        told = answer(program, command, [before + line])
+        if not told.startswith(wanted):
+            wrong += 1
+            print(f"{command}, {pages} pages: {wanted.strip()} is wanted, and not {told[:80]!r}")
     if command == "certify":
         before, line, wanted = long_case()
         for how, pieces in (("whole", [before + line]), ("by lines", lines_of(before + line))):

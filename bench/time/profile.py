@@ -5,7 +5,7 @@ usage: profile.py PROGRAM [COMMAND ..]
 
 PROGRAM is a built `sgt`, COMMAND one of audit, serial, certify, explain, replay and run; all where none is said. Inputs: a bundle
 of 100,000 lines (16 sites of 64 items; for certify without its line 2), as many lines of events, and a thousand scripts with
-disjoint items, by one worker. It prints instructions a line (of `run`: a script), each function with at least a hundredth of them
+disjoint items, by one worker; each is read from a file. It prints instructions a line (of `run`: a script), each function with at least a hundredth of them
 by itself. What the compiler puts into its caller is counted there.
 """
 import collections
@@ -46,9 +46,12 @@ def profile(program, command):
     """Instructions by function, and how many units they are for."""
     words, text, count = input_of(command)
     with tempfile.TemporaryDirectory() as folder:
-        out = os.path.join(folder, "out")
-        subprocess.run(["valgrind", "--tool=callgrind", f"--callgrind-out-file={out}", program] + words, input=text,
-                       stdout=subprocess.DEVNULL, stderr=subprocess.DEVNULL)
+        out, given = os.path.join(folder, "out"), os.path.join(folder, "in")
+        with open(given, "wb") as file:
+            file.write(text)
+        with open(given, "rb") as file:
+            subprocess.run(["valgrind", "--tool=callgrind", f"--callgrind-out-file={out}", program] + words, stdin=file,
+                           stdout=subprocess.DEVNULL, stderr=subprocess.DEVNULL)
         told = subprocess.run(["callgrind_annotate", "--threshold=100", out], capture_output=True, text=True).stdout
     by = collections.Counter()
     for line in told.split("\n"):

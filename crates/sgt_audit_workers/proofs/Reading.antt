@@ -10,7 +10,7 @@ use Rattle.sgt_names.specs.declared.outcome.EngineFail.{EngineFail}
 use Rattle.sgt_notation.specs.Lines.{Ahead, Gives, IsLongerThan, ReadFaultIsDue, Spends, coming, passed}
 use Rattle.sgt_notation.specs.declared.lines.Next.TheVariants.{Line, Cut, TooLong, End}
 use Rattle.sgt_audit.proofs.ReaderAtStage.{spends_on}
-use Rattle.sgt_audit_workers.specs.Cut.{FailsDuly, IsNoted, IsPiece, IsShort, StopsAt, Takes, longest}
+use Rattle.sgt_audit_workers.specs.Cut.{FailsDuly, IsPiece, IsShort, StopsAt, Takes, longest}
 use Rattle.sgt_audit_workers.specs.declared.cutting.Stop.{Stop}
 use Rattle.sgt_audit_workers.specs.declared.cutting.Stop.TheVariants as stop
 
@@ -46,29 +46,6 @@ pub line-more : (limit : ℕ) (old new : Option (List ℕ)) (l : List ℕ) → G
 line-more limit None new l gives = tt
 line-more limit (Some bytes) None l gives = absurd gives
 line-more limit (Some bytes) (Some rest) l gives = gives.2 ∙ sym (append_assoc l (10 ∷ []) rest)
-
--- how what was read for a line ended
-pub noted : (limit : ℕ) (told told' : Option (List ℕ)) (old new : Ahead) (l : List ℕ) (was is : Bool)
-    → Gives limit (coming old told) Line l (coming new told')
-    → (length l + length new.held + 1 ≤ length old.held → is ≡ was)
-    → (length old.held < length l + length new.held + 1
-    → (IsTrue is ↔ (length l + length new.held + 1 - length old.held) % 4096 ≢ 0)) → IsNoted told told' was is
-noted limit None told' old new l was is gives none some = tt
-noted limit (Some xs) None old new l was is gives none some = absurd gives
-noted limit (Some xs) (Some ys) old new l was is gives none some =
-    let many : length old.held + length xs ≡ length l + (length new.held + length ys + 1) =
-    omega (
-      arith,
-      ap length gives.2,
-      length-append old.held xs,
-      length-append l (10 ∷ (new.held ++ ys)),
-      length-append new.held ys,
-    ) in (
-      λ same. none (omega (arith, many, same)),
-      λ less. let given : length l + length new.held + 1 - length old.held ≡ length xs - length ys =
-          omega (arith, many, less) in
-          subst (λ n. IsTrue is ↔ n % 4096 ≢ 0) given (some (omega (arith, many, less))),
-    )
 
 -- ---- a piece so far
 

@@ -1,5 +1,5 @@
 -- What was read of a text in one piece.
-use Rattle.std.specs.Prelude.{◌≡◌, ◌≢◌, ◌<◌, ◌≤◌, ◌+◌, ◌-◌, ◌%◌, ◌↔◌, ⊤, ℕ, Bool, IsTrue, List, ◌++◌, length, take, Option, Some, None, IfSome, Result, Ok, Err}
+use Rattle.std.specs.Prelude.{◌≡◌, ◌≢◌, ◌<◌, ◌≤◌, ◌+◌, ℕ, Bool, IsTrue, List, ◌++◌, length, take, Option, Some, None, IfSome, Result, Ok, Err}
 use Rattle.std.specs.Io.KnownBytes.{Consumes, IsAtEnd}
 use Rattle.sgt_names.specs.Limits.{max_line, most_reads}
 use Rattle.sgt_names.specs.declared.outcome.EngineFail.{EngineFail}
@@ -51,14 +51,6 @@ pub record Takes (count : ℕ) (old new : Ahead) (before after : List ℕ) : Typ
   pub section : after ≡ before ++ take count old.held
 
 -- ---- whether the next read may have to wait
-
--- For a line the source gave its bytes from here to here. If there are some, the next read may have to wait exactly
--- where they don't come to whole pages; else as before.
-abbrev pub IsNoted : (old new : Option (List ℕ)) → (was is : Bool) → Type 0
-IsNoted None new was is = ⊤
-IsNoted (Some bytes) None was is = ⊥
-IsNoted (Some bytes) (Some rest) was is = (length bytes ≡ length rest → is ≡ was)
-    × (length rest < length bytes → (IsTrue is ↔ (length bytes - length rest) % 4096 ≢ 0))
 
 -- no read is begun where it may have to wait
 abbrev pub KeepsReady : (was is : Bool) → (asked asked' : ℕ) → Type 0

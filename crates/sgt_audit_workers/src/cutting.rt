@@ -1,11 +1,11 @@
 //! A reader, cut behind the last line of each section.
 
-ghost use Rattle.std.specs.Prelude.{ℕ, ◌≡◌, ◌≢◌, ◌<◌, ◌≤◌, ◌⊎◌, ◌↔◌, ◌+◌, ◌-◌, ◌%◌, ◌++◌, ◌∷◌, [], Err, length, IsTrue, IfOk, IfErr, IfSome, OnOk, OnErr, IsErrOf};
+ghost use Rattle.std.specs.Prelude.{ℕ, ◌≡◌, ◌≢◌, ◌<◌, ◌≤◌, ◌⊎◌, ◌↔◌, ◌+◌, ◌++◌, ◌∷◌, [], Err, length, IsTrue, IfOk, IfErr, IfSome, OnOk, OnErr, IsErrOf};
 ghost use Rattle.sgt_notation.specs.Lines.{GaveNext, coming, stream};
-ghost use Rattle.sgt_audit_workers.specs.Cut.{FailsDuly, IsNoted, IsPiece, KeepsReady, Takes};
+ghost use Rattle.sgt_audit_workers.specs.Cut.{FailsDuly, IsPiece, KeepsReady, Takes};
 
 use memchr::{memmem, memrchr};
-use sgt_names::{EngineFail, MAX_LINE, Source};
+use sgt_names::{EngineFail, Flow, MAX_LINE, Source};
 use sgt_notation::{Lines, LinesFault, Next};
 
 /// Where a piece of a text stops.
@@ -25,13 +25,9 @@ pub enum Stop {
 #[derive(Drop)]
 pub struct Latest {
     pub line: Vec<u8>,
-    /// Whether what was read for the last line that wasn't held whole ended within a page. What writes much into a pipe
-    /// fills its pages, and a file gives whole ones up to its end.
+    /// Whether the source was drained once that line was read.
     pub is_drained: bool,
 }
-
-/// How many bytes a page has.
-const PAGE: usize = 4_096;
 
 /// How much of a text is wanted in one piece: once it has `enough` bytes no more is read for it, and held lines are
 /// put behind it only where it has at most so many bytes as `most` with them.
@@ -39,20 +35,6 @@ const PAGE: usize = 4_096;
 pub struct Room {
     pub enough: usize,
     pub most: usize,
-}
-
-/// Notes how what was read for a line ended, if it wasn't held whole: so many bytes were held before it was read, and
-/// these are behind it.
-fn note_read(is_drained: &mut bool, before: usize, line: &[u8], behind: &[u8])
-    ensures none { length line.now + length behind.now + 1 ≤ before
-        → is_drained.new ≡ is_drained.old }
-    ensures some { before < length line.now + length behind.now + 1
-        → (IsTrue is_drained.new ↔ (length line.now + length behind.now + 1 - before) % 4096 ≢ 0) }
-{
-    let given = (line.len() + behind.len() + 1).saturating_sub(before);
-    if given > 0 {
-        *is_drained = given % PAGE != 0;
-    }
 }
 
 /// What comes next, as `next` of `Lines` tells it; and behind a line, whether the next read may have to wait.
@@ -76,13 +58,12 @@ pub fn next_line<R: Source>(
         → FailsDuly lines.old.reads (coming lines.old (R.tells reader.old))
         (R.failures reader.old) (R.failures reader.new) (R.asked reader.old) (R.asked reader.new) }
     ensures write_fault { result ≢ Err EngineFail.WriteFault }
-    ensures noted { IfOk result (λ next. next ≡ Next.Line
-        → IsNoted (R.tells reader.old) (R.tells reader.new) is_drained.old is_drained.new) }
+    ensures noted { IfOk result
+        (λ _. IsTrue is_drained.new ↔ (R.flows reader.new ≡ Flow.Drained)) }
 {
-    let before = lines.held().len();
     match lines.next(reader, line, limit) {
         Ok(next) => {
-            note_read(is_drained, before, line.as_slice(), lines.held());
+            *is_drained = reader.flow() == Flow::Drained;
             Ok(next)
         }
         Err(LinesFault::Memory) => Err(EngineFail::Memory),

@@ -80,7 +80,7 @@ fn take_lines<R: Source>(
     ensures reader { LeavesReader R.tells R.failures R.asked result reader.old reader.new }
     ensures write_fault { result ≢ Err EngineFail.WriteFault }
 {
-    let mut early = Early::new(alloc)?;
+    let mut early = Early::new(alloc, reader.flow())?;
     let mut line = Vec::new(alloc);
     'lines: loop {
         take_held(lines, text)?;
@@ -88,11 +88,9 @@ fn take_lines<R: Source>(
         if let Some(first) = early.look(so_far)? {
             return Ok(Stop::Fault(first));
         }
-        let before = lines.held().len();
         match lines.next(reader, &mut line, MAX_LINE) {
             Ok(Next::Line) => {
                 let whole = line.as_slice();
-                early.note_read(before, whole, lines.held());
                 push_line(text, whole)?;
             }
             Ok(Next::Cut) => {

@@ -10,11 +10,14 @@ use sgt_names::{Failed, Sink};
 use std::alloc::Global;
 use std::cell::Cell;
 use std::fs::File;
-use std::io;
 use std::io::{Read, Write};
+use std::{fs, io};
 
 // How often a read or a write that a signal interrupts is begun: so often that it never gives up.
 pub(crate) const TRIES: u64 = u64::MAX;
+
+// The number of standard input, as a file.
+const STANDARD: &str = "/dev/fd/0";
 
 /// Whether the program's own words on how it ended would be one too many: the system has a reason why a read failed,
 /// which is told alone, or the reader of what is written went away, and nobody is told.
@@ -62,6 +65,18 @@ impl<I> Input<I> {
         match self {
             Input::Standard(_) => "standard input",
             Input::File(_) => file,
+        }
+    }
+
+    // Whether all that will be read stands there, in a file. Where the system doesn't say, it may come as a stream.
+    fn is_still(&self, rt: &HostRuntime) -> bool {
+        let found = match self {
+            Input::Standard(_) => fs::metadata(rt, STANDARD),
+            Input::File(file) => file.metadata(),
+        };
+        match found {
+            Ok(found) => found.is_file(),
+            Err(_) => false,
         }
     }
 }
@@ -123,6 +138,11 @@ impl<S, I> Steady<'_, S, Input<I>> {
     /// What it is called that is read.
     pub(crate) fn name<'b>(&self, file: &'b str) -> &'b str {
         self.inner.name(file)
+    }
+
+    /// Whether all that will be read stands there, in a file.
+    pub(crate) fn is_still(&self, rt: &HostRuntime) -> bool {
+        self.inner.is_still(rt)
     }
 }
 

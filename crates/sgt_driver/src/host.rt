@@ -160,7 +160,11 @@ pub(crate) fn over<S: Streams, H: Threads + Wait + Sync, W: Sink>(
     let mut errors = ToWrite::new(LastWords::new(host.streams.errors(), host.hush));
     let mut fronted = Fronted::new(writer);
     let status = {
-        let mut reader = FromRead::new(&mut steady);
+        let mut reader = if steady.is_still(host.rt) {
+            FromRead::still(&mut steady)
+        } else {
+            FromRead::new(&mut steady)
+        };
         program(
             host.threads,
             host.rt.alloc(),

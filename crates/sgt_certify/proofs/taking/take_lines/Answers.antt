@@ -58,12 +58,10 @@ lines-preserved g c =
       last-kept_line c.take_held.new.lines.reads _ (length c.take_held.new.lines.held) _ _ _ _
           c.in-Ok-Line.ensures.reads c.in-Ok-Line.ensures.still
           (λ less. rw c.in-Ok-Line.field-0-is at c.in-Ok-Line.ensures.fresh less) c.in-Ok-Line.ensures.bounded kept,
-      subst (λ n. IsJudgedTo after n) (sym c.note_read.ensures.judged)
-          (judged-on text (l ++ 10 ∷ []) after c.look.new.self.judged (added ∙ append_assoc text l (10 ∷ [])) judged),
+      judged-on text (l ++ 10 ∷ []) after c.look.new.self.judged (added ∙ append_assoc text l (10 ∷ [])) judged,
       omega (
         arith,
         room,
-        c.note_read.ensures.judged,
         c.in-Ok-Line.ensures.line.1,
         ap length added,
         length-append (text ++ l) (10 ∷ []),
