@@ -34,6 +34,8 @@ WAIT = 60
 # What a failing call may leave as it would be: the call, what it is of, and why nothing is told.
 FORGIVEN = [
     ("open", "/dev/null", "what starts a program looks whether its three streams are open, before it does anything"),
+    ("statx", "/dev/fd/0", "input of which nothing can be told is read as a stream: the answer is the same"),
+    ("statx", "", "so is an open file"),
     ("isatty", "*", "a stream of which nothing can be told is taken for no terminal"),
     ("close", "*", "it is let go in any case, and what has to last was synced before"),
     ("unlink", "*.part", "what is left beside a bundle's name is none"),
@@ -73,14 +75,15 @@ def texts():
         "cycle": of_row("only_cycle_bundle"), "broken": of_row("explain_f10"), "scripts": of_row("two_sites_run"),
         "history": of_row("history_write_skew"), "long": made("make_history.py", "even", "3000"),
         "given": of_row("history_against_an_order"), "order": of_row("history_against_an_order", "order"),
-        "a.sgt": of_row("chain_of_two", "a.sgt"), "b.sgt": of_row("chain_of_two", "b.sgt"), "talk": TALK,
+        "a.sgt": of_row("chain_of_two", "a.sgt"), "b.sgt": of_row("chain_of_two", "b.sgt"), "talk": TALK, "same": b"",
     }
 
 
 # A talk in which a cut that failed is asked for again.
 TALK = b"site 0 x=5 y=2\nb\nr1[0.x]\nw1[0.y]=7\nc1\nx\nx\nb\nr1[0.y]\nc1\n"
 
-# A case: its words, what it reads, what it writes; whether threads make its answer free. `<` before a name: standard input.
+# A case: its words, what it reads, what it writes; whether threads make its answer free. `<` before a name: standard input; `>`: standard
+# output, and nothing may be written there.
 CASES = [
     Case("audit", "audit big", "big"),
     Case("audit_standard_input", "audit", "<big"),
@@ -125,6 +128,8 @@ CASES = [
     Case("replay", "replay", "<events"),
     Case("replay_bundle", "replay --bundle out events", "events", "out"),
     Case("replay_strict", "replay --strict --bundle out -o replies events", "events", "out replies"),
+    Case("replay_over_its_output", "replay --bundle same events", "events >same"),
+    Case("audit_over_its_output", "audit -o ./same cycle", "cycle >same"),
     Case("run", "run --workers 1", "<scripts"),
     Case("run_workers", "run --workers 2 scripts", "scripts", "", True),
     Case("run_bundle", "run --workers 1 --bundle out scripts", "scripts", "out"),
@@ -151,19 +156,20 @@ class Trial:
             os.unlink(told)
         shutil.rmtree(here, ignore_errors=True)
         os.mkdir(here)
-        source = "/dev/null"
+        source, target = "/dev/null", os.path.join(self.folder, "output")
         for name in case.reads.split():
-            path = os.path.join(here, name.lstrip("<"))
+            path = os.path.join(here, name.lstrip("<>"))
             source = path if name.startswith("<") else source
+            target = path if name.startswith(">") else target
             with open(path, "wb") as file:
-                file.write(self.texts[name.lstrip("<")])
-        with open(source, "rb") as standard:
-            done = subprocess.run([self.program, *case.words.split()], stdin=standard, capture_output=True, timeout=WAIT, cwd=here,
-                                  env=dict(os.environ, CALLS_TO=told, GROWTHS_TO=told, **environment))
+                file.write(self.texts[name.lstrip("<>")])
+        with open(source, "rb") as standard, open(target, "wb") as output:
+            done = subprocess.run([self.program, *case.words.split()], stdin=standard, stdout=output, stderr=subprocess.PIPE, timeout=WAIT,
+                                  cwd=here, env=dict(os.environ, CALLS_TO=told, GROWTHS_TO=told, **environment))
         files = {os.path.relpath(os.path.join(at, name), here): text_of(os.path.join(at, name))
                  for at, _, names in os.walk(here) for name in names}
         calls = text_of(told).decode().split("\n")[:-1] if os.path.exists(told) else None
-        return Run(done.returncode, done.stdout, done.stderr.decode(errors="replace"), files, calls)
+        return Run(done.returncode, text_of(target), done.stderr.decode(errors="replace"), files, calls)
 
     def failed_at(self, case, how, number):
         return self.run(case, LD_PRELOAD=self.failing, FAIL_HOW=how, FAIL_AT=str(number))
@@ -187,7 +193,7 @@ class Trial:
 def harmed(trial, case, plain, found):
     """A file that isn't as it was or should be, in words, or None."""
     for name in case.reads.split():
-        name = name.lstrip("<")
+        name = name.lstrip("<>")
         if found.files.get(name) != trial.texts[name]:
             return f"{name}, which is read, is changed"
     for name, text in found.files.items():
