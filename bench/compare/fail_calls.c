@@ -2,6 +2,7 @@
  *
  * FAIL_AT     the number of the call that fails; 0: none
  * FAIL_HOW    `error`: it fails with EIO (a write with ENOSPC, a new thread with EAGAIN); then each call is counted.
+ *             `memory`: the same with ENOMEM.
  *             `signal`: it fails with EINTR; `short`: it takes or gives one byte. Then reads and writes alone are counted.
  *             `gone`: it fails with EPIPE. Then writes to standard output alone are counted.
  * CALLS_TO    the file to which each call is told, a line each; `!` stands before the one that failed
@@ -42,6 +43,10 @@ static int is_how(const char *how) {
     return strcmp(getenv("FAIL_HOW"), how) == 0;
 }
 
+static int is_error(void) {
+    return is_how("error") || is_how("memory");
+}
+
 static int is_now(const char *name, const char *what) {
     int is_failing = __sync_add_and_fetch(&made, 1) == atol(getenv("FAIL_AT"));
     tell(is_failing, name, what);
@@ -50,9 +55,9 @@ static int is_now(const char *name, const char *what) {
 
 /* Whether the call fails, of those that are counted where errors are. */
 static int fails(const char *name, const char *what, int error) {
-    if (!is_how("error") || !is_now(name, what))
+    if (!is_error() || !is_now(name, what))
         return 0;
-    errno = error;
+    errno = is_how("memory") ? ENOMEM : error;
     return 1;
 }
 
@@ -79,7 +84,7 @@ static const char *of(int file, char room[LINE]) {
 /* What a read or a write does in place of all: -1 where it fails, 0 where it has one byte, 1 where nothing is changed. */
 static int moves(const char *name, int file, int error) {
     char room[LINE];
-    if (is_how("error")) {
+    if (is_error()) {
         if (!fails(name, of(file, room), error))
             return 1;
         return -1;

@@ -5,16 +5,18 @@ usage: fail_calls.py PROGRAM [--growths] [CASE ..]
 
 PROGRAM is the program itself, not a script that starts it, and built without AddressSanitizer. A run holds where its status is 4, standard
 error says a word that isn't about memory, and what was written is a front of the answer; or where nothing but that call differs, of those
-that FORGIVEN names with the reason. In no run is a file changed that is read, or half a bundle left under a bundle's name. Then each read
-and each write is interrupted by a signal, and is done for one byte alone: the answer has to be the undisturbed one. Where the reader of
-standard output went away the status is 4, and nothing is said of it. With --growths each growth of memory is refused too: the undisturbed
-answer, or status 3 with a word on memory alone (of `serve` refuse_serve.py looks closer). Of `serve --bundles` the order of calls is
-looked at: a bundle is written, synced and linked, and the folder synced, before its number is told.
+that FORGIVEN names with the reason. That holds too where the system has no memory for the call. In no run is a file changed that is read,
+or half a bundle left under a bundle's name. Then each read and each write is interrupted by a signal, and is done for one byte alone: the
+answer has to be the undisturbed one. Where the reader of standard output went away the status is 4, and nothing is said of it. With
+--growths each growth of memory is refused too: the undisturbed answer, or status 3 with a word on memory alone (of `serve`
+refuse_serve.py looks closer). Of `serve --bundles` the order of calls is looked at: a bundle is written, synced and linked, and the folder
+synced, before its number is told.
 
 Prints what doesn't hold, and a line for each case; ends with status 1 where something doesn't hold. Needs gcc; half a minute, with --growths
 five.
 """
 import argparse
+import errno
 import fnmatch
 import os
 import re
@@ -78,6 +80,9 @@ def texts():
         "a.sgt": of_row("chain_of_two", "a.sgt"), "b.sgt": of_row("chain_of_two", "b.sgt"), "talk": TALK, "same": b"",
     }
 
+
+# What the system says where it has no memory for a call, which is no growth of the program's.
+NO_MEMORY = os.strerror(errno.ENOMEM)
 
 # A talk in which a cut that failed is asked for again.
 TALK = b"site 0 x=5 y=2\nb\nr1[0.x]\nw1[0.y]=7\nc1\nx\nx\nb\nr1[0.y]\nc1\n"
@@ -249,7 +254,7 @@ def fault_of(trial, case, plain, found, call):
         return f"status {found.status}"
     if not re.search("^sgt: ", found.errors, re.M):
         return "no word"
-    if "memory" in found.errors:
+    if "memory" in found.errors.replace(NO_MEMORY, ""):
         return f"told as memory: {found.errors!r}"
     if not is_front(case, plain, found):
         return f"another answer: {found.output[:80]!r}"
@@ -272,18 +277,18 @@ def fault_of_growth(trial, case, plain, found):
     return None
 
 
-def each_failing(trial, case, plain):
+def each_failing(trial, case, plain, how):
     """How many calls there were, and what is wrong where one fails."""
     number, wrong = 0, []
     while True:
         number += 1
-        found = trial.failed_at(case, "error", number)
+        found = trial.failed_at(case, how, number)
         call = next((line for line in found.calls or [] if line.startswith("!")), None)
         if call is None:
             return number - 1, wrong
         fault = fault_of(trial, case, plain, found, call)
         if fault:
-            wrong.append(f"call {number}, {call[1:].replace(trial.folder, '')}: {fault} {last_word(found)}")
+            wrong.append(f"{how} {number}, {call[1:].replace(trial.folder, '')}: {fault} {last_word(found)}")
 
 
 def each_disturbed(trial, case, plain, how):
@@ -360,7 +365,8 @@ def tried(trial, case, with_growths):
     plain = trial.failed_at(case, "error", 0)
     if plain.status not in (0, 1, 2) or plain.calls is None:
         return [f"status {plain.status} undisturbed {last_word(plain)}"]
-    calls, wrong = each_failing(trial, case, plain)
+    calls, wrong = each_failing(trial, case, plain, "error")
+    wrong += each_failing(trial, case, plain, "memory")[1]
     moves, interrupted = each_disturbed(trial, case, plain, "signal")
     _, short = each_disturbed(trial, case, plain, "short")
     wrong += interrupted + short + each_gone(trial, case, plain)

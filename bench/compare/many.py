@@ -6,10 +6,13 @@ usage: many.py PROGRAM [CASE ..]
 Of transactions, items of a history, lines, sessions, operations and members of one line, blanks of one line, cuts, names in a folder
 and reads there are 70,000 each, and the answers are known beforehand. Prints what differs, and ends with status 1 then. A minute.
 """
+import fcntl
 import os
 import subprocess
 import sys
 import tempfile
+import termios
+import time
 
 MANY = 70_000
 WAIT = 120
@@ -46,6 +49,8 @@ def of_check():
     yield "check, items", ["check"], text_of(plain), yes, 0
     yield "check, items and a cycle", ["check"], text_of(plain + skew(MANY)), no, 1
     yield "check, an order", ["check", "--order"], text_of(plain), yes + order, 0
+    late = [f'{line[:-1]},"begin":{2 * MANY},"done":{2 * MANY + 1}}}' for line in skew(MANY)]
+    yield "check --real-time, a cycle", ["check", "--real-time"], text_of(timed + late), no, 1
     yield "check --real-time", ["check", "--real-time", "--order"], text_of(timed), yes + order, 0
     for name, lines in (("one session", of_one), ("sessions", of_many)):
         yield f"check --sessions, {name}", ["check", "--sessions", "--order"], text_of(lines), yes + order, 0
@@ -107,10 +112,11 @@ def differs(name, done, answer, status, is_front=False):
 
 
 def in_folder(program):
-    """A service in whose folder many files stand goes on behind the greatest number."""
+    """A service in whose folder many files stand, one with a name that is no UTF-8, goes on behind the greatest number."""
     with tempfile.TemporaryDirectory() as folder:
         for name in range(MANY):
             open(f"{folder}/other{name}", "w").close()
+        open(os.path.join(folder.encode(), b"\xff"), "w").close()
         for number in (3, 9, 5):
             open(f"{folder}/{number:08}.sgt", "w").close()
         done = run(program, ["serve", "--bundles", folder], b"site 0 x=0\nb\nc1\nx\n")
@@ -121,18 +127,25 @@ def against(program):
     """An order of many, from outside."""
     with tempfile.TemporaryDirectory() as folder:
         with open(f"{folder}/order", "w") as file:
-            file.writelines(f"{tx}\n" for tx in range(MANY))
+            file.writelines(f"{tx}\n" for tx in range(MANY - 1))
+            file.write(" " * MANY + f"{MANY - 1}\n")
         done = run(program, ["check", "--against", "order"], text_of(history()), folder)
         return differs("check --against", done, "yes ", 0, is_front=True)
 
 
 def by_many_reads(program):
-    """A section that comes by many reads."""
+    """A section that comes by many reads: nothing is written before all that was written is read."""
     lines = bundle()
     for words in (["audit"], ["audit", "--workers", "4"]):
         running = subprocess.Popen([program, *words], stdin=subprocess.PIPE, stdout=subprocess.PIPE, stderr=subprocess.PIPE)
-        for line in lines:
-            os.write(running.stdin.fileno(), (line + "\n").encode())
+        pipe = running.stdin.fileno()
+        try:
+            for at in range(0, len(lines), 3):
+                os.write(pipe, text_of(lines[at:at + 3]))
+                while fcntl.ioctl(pipe, termios.FIONREAD, b"    ") != b"\0\0\0\0" and running.poll() is None:
+                    time.sleep(0)
+        except OSError:
+            pass
         out, err = running.communicate(timeout=WAIT)
         done = subprocess.CompletedProcess(words, running.returncode, out, err)
         if differs(" ".join(words) + ", line by line", done, f"yes {MANY} committed 0 refused 0 withdrawn\n", 0):

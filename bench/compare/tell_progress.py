@@ -48,7 +48,7 @@ def main():
     if len(sys.argv) != 2 or "--help" in sys.argv:
         sys.exit(__doc__)
     program, failed = os.path.abspath(sys.argv[1]), 0
-    bundle = made("make_bundle.py", "2500000", "3", "20")
+    bundle = made("make_bundle.py", "2500000", "16", "20")
     first, _, rest = bundle.split(b"\n", 2)
     texts = [("audit", bundle), ("serial", bundle), ("certify", first + b"\n" + rest), ("replay", made("make_events.py", "1200000", "3", "20")),
              ("check", made("make_history.py", "even", "1100000"))]

@@ -1,5 +1,5 @@
 -- What a page shows of an answer.
-use Rattle.std.specs.Prelude.{◌≡◌, ◌<◌, ◌≤◌, ◌==◌, ◌⊎◌, ◌++◌, ◌∷◌, [], ℕ, List, codes, length}
+use Rattle.std.specs.Prelude.{◌≡◌, ◌≢◌, ◌<◌, ◌≤◌, ◌==◌, ◌⊎◌, ◌++◌, ◌∷◌, [], ℕ, List, Some, codes, length, slice_get}
 use Rattle.std.specs.List.{after_first, before_first, position_or_len}
 use Rattle.sgt_page.specs.Page.{Shown, fixed, page_text}
 use Rattle.sgt_page.specs.Verdict.{IsVerdict}
@@ -14,10 +14,14 @@ title_of answer = codes "sgt " ++ (answer.command.now ++ (codes " " ++ answer.fi
 abbrev pub IsOfLines : List ℕ → Type 0
 IsOfLines front = (front ≡ []) ⊎ ((lines : List ℕ) × (front ≡ lines ++ 10 ∷ []))
 
--- the front is all of the text where that has 16,384 bytes at most, and else lines of no more with which it begins
+-- no line ends from here to there
+abbrev pub HasNoLineEnd : (text : List ℕ) → (here there : ℕ) → Type 0
+HasNoLineEnd text here there = (at : ℕ) → here ≤ at → at < there → slice_get text at ≢ Some 10
+
+-- the front is all of the text where that has 16,384 bytes at most, and else the lines that end within so many
 abbrev pub IsFrontOf : (front text : List ℕ) → Type 0
 IsFrontOf front text = ((rest : List ℕ) × (text ≡ front ++ rest)) × (length text ≤ 16384 → front ≡ text)
-    × (16384 < length text → (length front ≤ 16384) × IsOfLines front)
+    × (16384 < length text → (length front ≤ 16384) × IsOfLines front × HasNoLineEnd text (length front) 16384)
 
 -- the first line of the text, and what stands behind its LF; or all of the text, where it has none
 abbrev pub IsCutAtLine : (text first behind : List ℕ) → Type 0

@@ -1,7 +1,7 @@
 //! What a page shows of an answer.
 
 ghost use Rattle.std.specs.Prelude.{◌≡◌, ◌≤◌, ◌-◌, ◌⊎◌, IfOk, Some, slice_get, string_bytes};
-ghost use Rattle.sgt_page.specs.Answer.{IsFrontOf, IsPageOf, IsSmall, title_of};
+ghost use Rattle.sgt_page.specs.Answer.{HasNoLineEnd, IsFrontOf, IsPageOf, IsSmall, title_of};
 
 use crate::cut::cut_at_line;
 use crate::page::{Page, page_of};
@@ -37,8 +37,9 @@ pub struct Answered<'a> {
 fn whole_lines(text: &[u8]) -> usize
     ensures bound { result ≤ 16384 }
     ensures line { (result ≡ 0) ⊎ ((1 ≤ result) × (slice_get text.now (result - 1) ≡ Some 10)) }
+    ensures last { HasNoLineEnd text.now result 16384 }
 {
-    for left_out in 0..MOST_TEXT {
+    'ends: for left_out in 0..MOST_TEXT {
         let end = MOST_TEXT - left_out;
         if text.get(end - 1) == Some(&b'\n') {
             return end;
@@ -48,17 +49,13 @@ fn whole_lines(text: &[u8]) -> usize
 }
 
 // The answer, in whole lines, as much of it as is shown.
-fn front_of(text: &str) -> &str
+fn front_of(text: &[u8]) -> &[u8]
     ensures { IsFrontOf result.now text.now }
 {
     if text.len() <= MOST_TEXT {
         return text;
     }
-    let end = whole_lines(text.as_bytes());
-    match text.split_at_checked(end) {
-        Some((front, _)) => front,
-        None => "",
-    }
+    &text[..whole_lines(text)]
 }
 
 // The picture, if it isn't too large, or what stands in its place.
@@ -98,7 +95,7 @@ pub fn page_of_answer(alloc: Global, answer: Answered<'_>) -> Result<Vec<u8>, Al
             name: name.as_bytes(),
             meaning: meaning.as_bytes(),
             picture: small(answer.picture),
-            text: front_of(answer.text).as_bytes(),
+            text: front_of(answer.text.as_bytes()),
         },
     )
 }

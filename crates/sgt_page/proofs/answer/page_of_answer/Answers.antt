@@ -14,7 +14,7 @@ returns c =
         name = c.as_bytes-3.result;
         meaning = c.as_bytes-4.result;
         picture = c.small.result;
-        text = c.as_bytes-5.result;
+        text = c.front_of.result;
       };
       title = c.as_bytes.ensures.value ∙ c.in_ok-title.ensures;
       first = c.cut_at_line.result.0.now;
@@ -28,7 +28,6 @@ returns c =
           (sym c.as_bytes-3.ensures.value)
           (subst (λ (m : List ℕ). IsCutAtLine c.args.answer.rule.now c.cut_at_line-2.result.0.now m)
           (sym c.as_bytes-4.ensures.value) c.cut_at_line-2.ensures);
-      text = subst (λ (t : List ℕ). IsFrontOf t c.args.answer.text.now) (sym c.as_bytes-5.ensures.value)
-          c.front_of.ensures;
+      text = subst (λ (t : List ℕ). IsFrontOf c.front_of.result.now t) c.as_bytes-5.ensures.value c.front_of.ensures;
       is = is;
     }) c.page_of.ensures
