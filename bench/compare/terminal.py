@@ -62,7 +62,10 @@ def run(program, is_typed, is_shown, words, text):
         running = subprocess.Popen([program, *words], stdin=given, stdout=subprocess.PIPE, stderr=shown, cwd=folder)
         os.close(shown)
         os.close(given)
-        os.write(typed, text + CONTROL_D if is_typed else text)
+        try:
+            os.write(typed, text + CONTROL_D if is_typed else text)
+        except OSError:
+            pass
         if not is_typed:
             os.close(typed)
         told = read_of(reads)
