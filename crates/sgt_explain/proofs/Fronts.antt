@@ -438,14 +438,6 @@ pub cut-verdict : (text front : List ℕ) (place n : ℕ) (f : Fault) (v : Verdi
 cut-verdict text front place n f v m e is =
     subst₂ (λ (t : List ℕ) (u : Verdict). IsVerdict t u) (sym e) (sym is) (cut-there text place n f m).0
 
--- and of a text that ended
-pub end-told : (told : Option (List ℕ)) (text front : List ℕ) (v : Verdict) → IfSome told (λ bytes. text ≡ bytes)
-    → front ≡ text → IsVerdict text v → IsFrontOf text v text
-    → IfSome told (λ bytes. IsVerdict bytes v × IsFrontOf bytes v front)
-end-told told text front v same e verdict of =
-    told-of told text (λ bytes. IsVerdict bytes v × IsFrontOf bytes v front) same
-    (verdict, subst (IsFrontOf text v) (sym e) of)
-
 -- ---- how far was read
 
 told-no_further : (told now : Option (List ℕ)) (text : List ℕ) (place n : ℕ) (f : Fault) → Consumes told now text
@@ -625,8 +617,3 @@ begun w stands none unseen one = (
   },
   unseen,
 )
-
--- what was judged is in the text
-pub behind-within : (w : Watch) (text : List ℕ) → IsBehind w text → w.judged ≤ length text
-behind-within w text b =
-    omega (arith, b.place, ap length b.text, length-append (text_of_lines (lines_so_far b.stage)) b.opened)
