@@ -31,11 +31,11 @@ use Rattle.sgt_explain.proofs.Taken.{behind-none, came-all, came-front, told-bac
 
 -- ---- two parts of a list
 
-drop-front : (xs ys : List ℕ) (n : ℕ) → n ≡ length xs → drop n (xs ++ ys) ≡ ys
+pub drop-front : (xs ys : List ℕ) (n : ℕ) → n ≡ length xs → drop n (xs ++ ys) ≡ ys
 drop-front xs ys n e =
     drop-append-le n xs ys (omega (arith, e)) ∙ ap (λ (t : List ℕ). t ++ ys) (drop_all n xs (omega (arith, e)))
 
-take-front : (xs ys : List ℕ) (n : ℕ) → n ≡ length xs → take n (xs ++ ys) ≡ xs
+pub take-front : (xs ys : List ℕ) (n : ℕ) → n ≡ length xs → take n (xs ++ ys) ≡ xs
 take-front xs ys n e = take-append-le n xs ys (omega (arith, e)) ∙ take_all n xs (omega (arith, e))
 
 take-behind : (xs ys : List ℕ) (n m : ℕ) → m ≤ length ys → n ≡ length xs + m → take n (xs ++ ys) ≡ xs ++ take m ys
@@ -170,7 +170,7 @@ ends-nowhere w text none = subst HasNoLf (tail_whole text w.seen) none
 pub passed-line : (old w : Watch) (text : List ℕ) (n : ℕ) → IsBehind w text → HasGoneOn old w None
     → old.seen < w.seen + n + 1
 passed-line old w text n b (inl passed) = omega (arith, passed, b.begun)
-passed-line old w text n b (inr same) = omega (arith, ap (λ (x : Watch). x.seen) same)
+passed-line old w text n b (inr same) = omega (arith, same.1)
 
 module _ (w : Watch) (text : List ℕ) (n : ℕ) (b : IsBehind w text) (at : EndsLine w text n) where
   abbrev pub the-line : List ℕ
