@@ -3,10 +3,8 @@ use Rattle.std.proofs.Common.{◌≡◌, ◌↔◌, ℕ, List, Option, Some, Non
 use Rattle.std.specs.Prelude.{IfSome}
 use Rattle.sgt_names.specs.declared.outcome.EngineFail.{EngineFail}
 use Rattle.sgt_names.specs.declared.outcome.Outcome.{Outcome}
-use Rattle.sgt_names.specs.declared.outcome.Outcome.TheVariants.{Yes, No}
+use Rattle.sgt_names.specs.declared.outcome.Outcome.TheVariants.{Yes}
 use Rattle.sgt_bundle.specs.Text.{Spells}
-use Rattle.sgt_audit.specs.Verdict.{text_of}
-use Rattle.sgt_audit.specs.declared.faults.Fault.{Fault}
 use Rattle.sgt_audit.specs.declared.verdict.Verdict.TheVariants as verdict
 use Rattle.sgt_explain.specs.Explained.{IsVerdictOn}
 use Rattle.sgt_certify.specs.Answer.{HasCertificate}
@@ -23,11 +21,6 @@ pub drawn-yes : (wanted : Wanted) (told : Option (List ℕ)) (front text : List 
 drawn-yes wanted None front text committed refused withdrawn on (b, valid, spelled, picture) = (b, valid, tt, picture)
 drawn-yes wanted (Some bytes) front text committed refused withdrawn on (b, valid, spelled, picture) =
     (b, valid, subst (λ (t : List ℕ). Spells t b) on.1 spelled, picture)
-
-pub drawn-no : (wanted : Wanted) (told : Option (List ℕ)) (front text : List ℕ) (line : ℕ) (fault : Fault)
-    → IsVerdictOn told (verdict.No line fault) front → text ≡ text_of (verdict.No line fault) → IsDrawn wanted told No text
-drawn-no wanted None front text line fault on is = (line, fault, tt, is)
-drawn-no wanted (Some bytes) front text line fault on is = (line, fault, on.0, is)
 
 -- of logs, by the bytes that were read
 pub logs-told : (wanted : Wanted) (told : Option (List ℕ)) (bytes : List ℕ) → IfSome told (λ xs. bytes ≡ xs)

@@ -31,11 +31,11 @@ use Rattle.sgt_explain.proofs.Taken.{behind-none, came-all, came-front, told-bac
 
 -- ---- two parts of a list
 
-drop-front : (xs ys : List ℕ) (n : ℕ) → n ≡ length xs → drop n (xs ++ ys) ≡ ys
+pub drop-front : (xs ys : List ℕ) (n : ℕ) → n ≡ length xs → drop n (xs ++ ys) ≡ ys
 drop-front xs ys n e =
     drop-append-le n xs ys (omega (arith, e)) ∙ ap (λ (t : List ℕ). t ++ ys) (drop_all n xs (omega (arith, e)))
 
-take-front : (xs ys : List ℕ) (n : ℕ) → n ≡ length xs → take n (xs ++ ys) ≡ xs
+pub take-front : (xs ys : List ℕ) (n : ℕ) → n ≡ length xs → take n (xs ++ ys) ≡ xs
 take-front xs ys n e = take-append-le n xs ys (omega (arith, e)) ∙ take_all n xs (omega (arith, e))
 
 take-behind : (xs ys : List ℕ) (n m : ℕ) → m ≤ length ys → n ≡ length xs + m → take n (xs ++ ys) ≡ xs ++ take m ys
@@ -170,7 +170,7 @@ ends-nowhere w text none = subst HasNoLf (tail_whole text w.seen) none
 pub passed-line : (old w : Watch) (text : List ℕ) (n : ℕ) → IsBehind w text → HasGoneOn old w None
     → old.seen < w.seen + n + 1
 passed-line old w text n b (inl passed) = omega (arith, passed, b.begun)
-passed-line old w text n b (inr same) = omega (arith, ap (λ (x : Watch). x.seen) same)
+passed-line old w text n b (inr same) = omega (arith, same.1)
 
 module _ (w : Watch) (text : List ℕ) (n : ℕ) (b : IsBehind w text) (at : EndsLine w text n) where
   abbrev pub the-line : List ℕ
@@ -438,14 +438,6 @@ pub cut-verdict : (text front : List ℕ) (place n : ℕ) (f : Fault) (v : Verdi
 cut-verdict text front place n f v m e is =
     subst₂ (λ (t : List ℕ) (u : Verdict). IsVerdict t u) (sym e) (sym is) (cut-there text place n f m).0
 
--- and of a text that ended
-pub end-told : (told : Option (List ℕ)) (text front : List ℕ) (v : Verdict) → IfSome told (λ bytes. text ≡ bytes)
-    → front ≡ text → IsVerdict text v → IsFrontOf text v text
-    → IfSome told (λ bytes. IsVerdict bytes v × IsFrontOf bytes v front)
-end-told told text front v same e verdict of =
-    told-of told text (λ bytes. IsVerdict bytes v × IsFrontOf bytes v front) same
-    (verdict, subst (IsFrontOf text v) (sym e) of)
-
 -- ---- how far was read
 
 told-no_further : (told now : Option (List ℕ)) (text : List ℕ) (place n : ℕ) (f : Fault) → Consumes told now text
@@ -625,8 +617,3 @@ begun w stands none unseen one = (
   },
   unseen,
 )
-
--- what was judged is in the text
-pub behind-within : (w : Watch) (text : List ℕ) → IsBehind w text → w.judged ≤ length text
-behind-within w text b =
-    omega (arith, b.place, ap length b.text, length-append (text_of_lines (lines_so_far b.stage)) b.opened)

@@ -3,6 +3,7 @@ pub mod FaultyLine
 pub mod FaultyText
 pub mod Finding
 pub mod FoundSteps
+pub mod FrontLines
 pub mod Fronts
 pub mod KeptDecisions
 pub mod ListedItems

@@ -1,5 +1,5 @@
 -- What a reader has given so far.
-use Rattle.std.proofs.Common.{◌≡◌, ◌≢◌, ◌<◌, ◌≤◌, ◌+◌, ℕ, List, [], ◌++◌, length, Option, Some, None, Result, Ok, Err, inl, inr, refl, ap, sym, ◌∙◌, subst, arith, append_assoc, append-nil, length-append}
+use Rattle.std.proofs.Common.{◌≡◌, ◌≢◌, ◌<◌, ◌≤◌, ◌+◌, ℕ, List, [], ◌++◌, length, Option, Some, None, Result, Ok, Err, inl, inr, ap, sym, ◌∙◌, subst, arith, append_assoc, append-nil, length-append}
 use Rattle.std.specs.Prelude.{IfSome, IsErrOf}
 use Rattle.std.specs.Io.KnownBytes.{Consumes, IsAtEnd, prepend_known}
 use Rattle.sgt_names.specs.Limits.{most_reads}
@@ -28,13 +28,6 @@ consumes-on (Some xs) None now came more took later = absurd took
 consumes-on (Some xs) (Some ys) None came more took later = absurd later
 consumes-on (Some xs) (Some ys) (Some zs) came more took later =
     took ∙ ap (λ (t : List ℕ). came ++ t) later ∙ sym (append_assoc came more zs)
-
-consumes-none : (told : Option (List ℕ)) → Consumes told told []
-consumes-none None = tt
-consumes-none (Some xs) = refl
-
-pub came-none : (old : List ℕ) (told : Option (List ℕ)) → CameBehind old old told told
-came-none old told = ([], sym (append-nil old), consumes-none told)
 
 pub came-more : (old text new more : List ℕ) (told mid now : Option (List ℕ)) → CameBehind old text told mid
     → Consumes mid now more → new ≡ text ++ more → CameBehind old new told now

@@ -43,6 +43,11 @@ pub record MeetsFault (bytes : List ℕ) (end n : ℕ) (f : Fault) : Type 0 wher
   pub faulty : IsFaultyLine stage line rest f ends
   pub place : end ≡ length (text_of_lines (lines_so_far stage)) + ends
 
+-- lines were judged, or the last of them has the first fault
+abbrev pub HasFedSome : List ℕ → Watch → Option Fault → Type 0
+HasFedSome text w None = IsBehind w text
+HasFedSome text w (Some f) = MeetsFault text w.judged w.number f
+
 -- each line that is whole was judged, or the last of them has the first fault
 abbrev pub HasFed : List ℕ → Watch → Option Fault → Type 0
 HasFed text w None = IsBehind w text × HasNoLf (drop w.seen text)
@@ -57,9 +62,9 @@ HasJudged text w (Some f) = MeetsFault text w.judged w.number f
 abbrev pub HasPassed : (old new : Watch) → Type 0
 HasPassed old new = old.seen < new.judged
 
--- so it is where a line was judged
+-- so it is where a line was judged; or none was, and no more was looked at
 abbrev pub HasGoneOn : (old new : Watch) → Option Fault → Type 0
-HasGoneOn old new None = HasPassed old new ⊎ (new ≡ old)
+HasGoneOn old new None = HasPassed old new ⊎ ((new.judged ≡ old.judged) × (new.seen ≡ old.seen))
 HasGoneOn old new (Some f) = HasPassed old new
 
 -- ---- reading

@@ -6,13 +6,13 @@ ghost use Rattle.sgt_devices.specs.Devices.{LeavesKeptReader};
 ghost use Rattle.sgt_audit.specs.Faults.{BeginsNoneBehind, ReadsNoFurther};
 ghost use Rattle.sgt_audit.specs.Verdict.{IsVerdict};
 ghost use Rattle.sgt_explain.specs.Front.{IsFrontOf, ReadsOn};
-ghost use Rattle.sgt_explain.specs.Watched.{HasFed, HasGoneOn, HasJudged, HasPassed, IsBehind, MeetsFault};
+ghost use Rattle.sgt_explain.specs.Watched.{HasFed, HasFedSome, HasGoneOn, HasJudged, HasPassed, IsBehind, MeetsFault};
 
 use crate::reading::{empty_buffer, take_some};
-use sgt_audit::{Fault, Machine, Verdict, verdict_on};
+use sgt_audit::{Fault, Machine, Passed, Verdict, verdict_on};
 use sgt_names::{EngineFail, MOST_READS, Source};
 use sgt_notation::find_lf;
-use std::alloc::Global;
+use std::alloc::{AllocError, Global};
 
 /// Bytes that were read, and the verdict on all that they are the front of.
 #[derive(Drop)]
@@ -45,6 +45,33 @@ impl Watch {
         }
     }
 
+    /// Judges the lines in front that the auditor reads where they stand, up to the first fault. Where a line was begun
+    /// that isn't whole, none is.
+    fn feed_front(&mut self, text: &[u8]) -> Result<Option<Fault>, AllocError>
+        requires { IsBehind self.old text.now }
+        ensures fed { IfOk result (HasFedSome text.now self.new) }
+        ensures on { IfOk result (HasGoneOn self.old self.new) }
+    {
+        'lines: while self.seen == self.judged {
+            match self.machine.front(&text[self.seen..])? {
+                Passed::Line(n) => {
+                    self.judged += n;
+                    self.seen = self.judged;
+                    self.number += 1;
+                }
+                Passed::Faulty(fault) => {
+                    let Some(n) = find_lf(&text[self.seen..]) else {
+                        unreachable!()
+                    };
+                    self.judged += n + 1;
+                    return Ok(Some(fault));
+                }
+                Passed::Unread => return Ok(None),
+            }
+        }
+        Ok(None)
+    }
+
     /// Judges the lines that are whole, up to the first fault.
     fn feed(&mut self, text: &[u8]) -> Result<Option<Fault>, EngineFail>
         requires { IsBehind self.old text.now }
@@ -52,7 +79,13 @@ impl Watch {
         ensures on { IfOk result (HasGoneOn self.old self.new) }
         ensures err { IfErr result (λ e. e ≡ EngineFail.Memory) }
     {
-        'lines: while let Some(n) = find_lf(&text[self.seen..]) {
+        'lines: loop {
+            if let Some(fault) = self.feed_front(text)? {
+                return Ok(Some(fault));
+            }
+            let Some(n) = find_lf(&text[self.seen..]) else {
+                return Ok(None);
+            };
             let start = self.judged;
             let end = self.seen + n;
             self.judged = end + 1;
@@ -62,7 +95,6 @@ impl Watch {
             }
             self.number += 1;
         }
-        Ok(None)
     }
 
     /// The same, and of a line without an LF whether it is too long.

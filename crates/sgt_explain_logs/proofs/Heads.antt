@@ -1,7 +1,7 @@
 -- How logs begin, and what a front of some bytes shows of that.
-use Rattle.std.proofs.Common.{◌≡◌, ◌↔◌, ◌⊎◌, ◌≤◌, Bool, true, false, IsTrue, ℕ, List, [], ◌∷◌, ◌++◌, length, Option, Some, None, inl, inr, refl, sym, ap, ap₂, ◌∙◌, subst, arith, append_assoc, append-nil, length-append}
+use Rattle.std.proofs.Common.{◌≡◌, ◌↔◌, ◌⊎◌, ◌≤◌, Bool, true, false, IsTrue, ℕ, List, [], ◌∷◌, ◌++◌, length, Option, Some, None, inl, inr, refl, sym, ap, ap₂, subst, arith, length-append}
 use Rattle.std.specs.Prelude.{IfSome}
-use Rattle.std.specs.Io.KnownBytes.{Consumes, IsAtEnd}
+use Rattle.std.specs.Io.KnownBytes.{Consumes}
 use Rattle.std.proofs.lemmas.Bool.{false≢true}
 use Rattle.sgt_explain_logs.specs.Explained.{AreLogs, BeginsWith, logs_head}
 
@@ -41,33 +41,13 @@ pub few-bytes : (second : Bool) (bytes : List ℕ) → BeginsWith bytes (logs_he
 few-bytes false bytes (rest, e) = omega (arith, ap length e, length-append bytes rest)
 few-bytes true bytes (rest, e) = omega (arith, ap length e, length-append bytes rest)
 
-more-logs : (bytes more : List ℕ) → AreLogs bytes → AreLogs (bytes ++ more)
-more-logs bytes more (second, (rest, e)) =
-    (second, (rest ++ more, ap (λ (t : List ℕ). t ++ more) e ∙ append_assoc (logs_head second) rest more))
-
 -- ---- of the bytes that a reader tells
-
-yes : (bytes : List ℕ) → AreLogs bytes → IsTrue true ↔ AreLogs bytes
-yes bytes are = (λ _. are, λ _. refl)
 
 no : (bytes : List ℕ) → (AreLogs bytes → ⊥) → IsTrue false ↔ AreLogs bytes
 no bytes other = (λ is. absurd (false≢true is), λ are. absurd (other are))
-
-pub told-logs : (told now : Option (List ℕ)) (text : List ℕ) → Consumes told now text → AreLogs text
-    → IfSome told (λ bytes. IsTrue true ↔ AreLogs bytes)
-told-logs None now text came are = tt
-told-logs (Some xs) None text came are = absurd came
-told-logs (Some xs) (Some ys) text came are = yes xs (subst AreLogs (sym came) (more-logs text ys are))
 
 pub told-other : (told now : Option (List ℕ)) (text : List ℕ) → Consumes told now text → (AreLogs text → ⊥)
     → ((more : List ℕ) → AreLogs (text ++ more) → AreLogs text) → IfSome told (λ bytes. IsTrue false ↔ AreLogs bytes)
 told-other None now text came other closed = tt
 told-other (Some xs) None text came other closed = absurd came
 told-other (Some xs) (Some ys) text came other closed = no xs (λ are. other (closed ys (subst AreLogs came are)))
-
-pub told-ended : (told now : Option (List ℕ)) (text : List ℕ) → Consumes told now text → IsAtEnd now
-    → (AreLogs text → ⊥) → IfSome told (λ bytes. IsTrue false ↔ AreLogs bytes)
-told-ended None now text came ended other = tt
-told-ended (Some xs) None text came ended other = absurd came
-told-ended (Some xs) (Some ys) text came ended other =
-    no xs (λ are. other (subst AreLogs (came ∙ ap (λ (t : List ℕ). text ++ t) ended ∙ append-nil text) are))
