@@ -4,10 +4,12 @@
 usage: many.py PROGRAM [CASE ..]
 
 Of transactions, items of a history, lines, sessions, operations and members of one line, blanks of one line, cuts, names in a folder
-and reads there are 70,000 each, and the answers are known beforehand. Prints what differs, and ends with status 1 then. A minute.
+and reads there are 70,000 each, and the answers are known beforehand; 2 GB of memory have to be enough. Prints what differs, and ends
+with status 1 then. A minute.
 """
 import fcntl
 import os
+import resource
 import subprocess
 import sys
 import tempfile
@@ -16,6 +18,7 @@ import time
 
 MANY = 70_000
 WAIT = 120
+ROOM = 2_000_000_000
 
 
 def history():
@@ -99,7 +102,8 @@ def cases():
 
 
 def run(program, words, text, folder="."):
-    return subprocess.run([program, *words], input=text, capture_output=True, timeout=WAIT, cwd=folder)
+    return subprocess.run([program, *words], input=text, capture_output=True, timeout=WAIT, cwd=folder,
+                          preexec_fn=lambda: resource.setrlimit(resource.RLIMIT_AS, (ROOM, ROOM)))
 
 
 def differs(name, done, answer, status, is_front=False):

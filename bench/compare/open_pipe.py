@@ -55,6 +55,7 @@ LOGS = [
 BARE = [
     (SITE + "p1[x]=1\nn1\nw2[x]=1\nc2\nr3[x]=1\nw3[y]=1\n", "n3\n", 12),
     (SITE + "p1[x]=1\nn1\nw2[x]=1\nc2\n" + UNTOUCHED + "site 1\nitem z=0\n", "c1\n", 13),
+    (SITE + "w1[x]=1\nc1\n" + UNTOUCHED + "site 1\nitem z=0\n", "a1\n", 13),
 ]
 
 # of bundles: line 2, the lines before the fault, its line, and its number

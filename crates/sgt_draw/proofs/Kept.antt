@@ -63,9 +63,6 @@ node-written is_dot n b e k first last number =
     ∙ ap (λ (i : ℕ). before is_dot n.fate ++ (escaped (decimal i) ++ (e ++ []))) number
     ∙ ap (λ (t : List ℕ). before is_dot n.fate ++ (escaped (decimal n.tx) ++ t)) (append-nil e ∙ last)
 
-pub kept-blank : (is_dot : Bool) (text : List ℕ) → text ≡ head_of is_dot → IsKept is_dot [] text
-kept-blank is_dot text is = record { rest = []; headed = is ∙ sym (append-nil (head_of is_dot)); shows = tt }
-
 -- ---- the whole
 
 same : (is_dot : Bool) (nodes : List Node) (text whole : List ℕ) → IsKept is_dot nodes text → IsBegun is_dot text

@@ -1,14 +1,14 @@
 -- A committed transaction among others.
-use Rattle.std.proofs.Common.{◌≡◌, ◌≢◌, ◌⊎◌, ℕ, ◌+◌, ◌-◌, ◌<◌, ◌≤◌, suc, List, [], ◌∷◌, Bool, Option, Some, None, get_or, length, map, take, drop, refl, sym, ap, ◌∙◌, subst, arith, inl, inr, All, Contains}
+use Rattle.std.proofs.Common.{◌≡◌, ◌≢◌, ◌⊎◌, ℕ, ◌+◌, ◌-◌, ◌<◌, ◌≤◌, suc, List, [], ◌∷◌, Bool, Option, Some, get_or, length, map, take, drop, refl, sym, ap, ◌∙◌, subst, arith, inl, inr, All, Contains}
 use Rattle.std.specs.Prelude.{slice_get, ◌==◌, if◌then◌else◌}
 use Rattle.std.specs.List.{filter_map}
-use Rattle.std.proofs.lemmas.Bool.{cases_Bool, eq-eqb, eqb-true, ne_eqb}
-use Rattle.std.proofs.lemmas.List.{drop_all, take_all}
+use Rattle.std.proofs.lemmas.Bool.{cases_Bool, eq-eqb, eqb-true}
+use Rattle.std.proofs.lemmas.List.{take_all}
 use Rattle.std.proofs.lemmas.List.Elements.{All-map, All-contains, All-more, All-weaker, Contains-push_cases}
 use Rattle.std.proofs.lemmas.List.Sorted.{All-permutation, Contains-permutation}
 use Rattle.std.proofs.lemmas.Option.{slice_get-get_or, same_Some}
-use Rattle.sgt_names.proofs.Elements.{contains-none, get-mapped}
-use Rattle.sgt_names.proofs.Lists.{drop_next, take_next}
+use Rattle.sgt_names.proofs.Elements.{get-mapped}
+use Rattle.sgt_names.proofs.Lists.{take_next}
 use Rattle.sgt_names.proofs.Places.{Contains_at, Contains-from_at, slice_get-drop, slice_get-take_at}
 use Rattle.sgt_bundle.specs.Certificate.{IsCommitted, decided_tx}
 use Rattle.sgt_bundle.specs.declared.certificate.Decision.{Decision}
@@ -113,10 +113,6 @@ own-next places i whole old new within before now kept p c there at =
       | inr last ↦ now c (ap (slice_get whole) last ∙ at)
     ]
 
-pub own-none : (places : List ℕ) (whole new : List Numbered) (p : ℕ) (c : Numbered) → Contains (take 0 places) p
-    → slice_get whole p ≡ Some c → Contains new c
-own-none places whole new p c there at = absurd (contains-none p there)
-
 pub own-all : (places : List ℕ) (i : ℕ) (whole new : List Numbered) → length places ≤ i
     → ((p : ℕ) (c : Numbered) → Contains (take i places) p → slice_get whole p ≡ Some c → Contains new c)
     → (p : ℕ) (c : Numbered) → Contains places p → slice_get whole p ≡ Some c → Contains new c
@@ -130,21 +126,6 @@ once-next ends i old new within all added kept =
     All-more (Contains new) ends i 0 within (All-weaker (Contains old) (Contains new) kept (take i ends) all) added
 
 -- ---- the decision on a transaction
-
-pub on-drop : (tx i : ℕ) (ds : List Decision) (d : Decision) → slice_get ds i ≡ Some d → decided_tx d ≢ tx
-    → decision_on tx (drop i ds) ≡ decision_on tx (drop (i + 1) ds)
-on-drop tx i ds d at other =
-    ap (decision_on tx) (drop_next ds i d at)
-    ∙ ap (λ (b : Bool). if b then Some d else decision_on tx (drop (i + 1) ds)) (ne_eqb (decided_tx d) tx other)
-
-pub on-here : (tx i : ℕ) (ds : List Decision) (d : Decision) → slice_get ds i ≡ Some d → decided_tx d ≡ tx
-    → decision_on tx (drop i ds) ≡ Some d
-on-here tx i ds d at same =
-    ap (decision_on tx) (drop_next ds i d at)
-    ∙ ap (λ (b : Bool). if b then Some d else decision_on tx (drop (i + 1) ds)) (eq-eqb (decided_tx d) tx same)
-
-pub on-end : (tx i : ℕ) (ds : List Decision) → length ds ≤ i → decision_on tx (drop i ds) ≡ None
-on-end tx i ds all = ap (decision_on tx) (drop_all i ds all)
 
 -- the nodes that are wanted of one
 pub wanted-one : (is_dot : Bool) (tx : ℕ) (ds : List Decision) (o : Option Decision) (nodes : List Node)

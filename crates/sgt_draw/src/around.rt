@@ -1,7 +1,7 @@
 //! A committed transaction with its neighbours: those that it is in conflict with, as the operations on an item follow
 //! one another.
 
-ghost use Rattle.std.specs.Prelude.{◌≡◌, ◌≢◌, ℕ, All, Contains, Some, IfNone, IfOk, IfSome, OnOk, map, slice_get};
+ghost use Rattle.std.specs.Prelude.{◌≡◌, ◌≢◌, ℕ, All, Contains, Some, IfNone, IfOk, IfSome, OnOk, length, map, min, slice_get};
 ghost use Rattle.sgt_bundle.specs.Certificate.{IsCommitted};
 ghost use Rattle.sgt_draw.specs.Private.{row_node};
 ghost use Rattle.sgt_draw.specs.Wanted.{AreAround};
@@ -87,7 +87,8 @@ fn standing_of(places: &[usize], place: usize) -> usize
 
 /// Those of the places that are drawn: two hundred, with this one among them.
 fn drawn_of(places: &[usize], place: usize) -> &[usize]
-    ensures { Contains places.now place → Contains result.now place }
+    ensures own { Contains places.now place → Contains result.now place }
+    ensures many { length result.now ≡ min 200 (length places.now) }
 {
     let most = MOST_DRAWN as usize;
     let at = standing_of(places, place);

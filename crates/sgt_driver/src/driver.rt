@@ -195,6 +195,10 @@ fn run<S: Streams, H: Threads + Wait + Sync>(
         Err(status) => return status,
     };
     let choice = choose(rt.alloc(), line.words.as_slice());
+    // The words are read once more where they are run: what is read then has to be what they name.
+    if let Err(NoChoice::Memory) = &choice {
+        return refuse(streams, hush, NoWords::Memory);
+    }
     let is_shown = !line.is_quiet && streams.is_shown();
     let host = Host {
         rt,

@@ -95,13 +95,6 @@ keeps_memory number text _ _ (unnamed {made} {named} {fault} came m n) e =
     memory_on made named ((remove, came) ∷ []) (names_memory number text named (Err fault) n (err_of fault e))
 keeps_memory number text _ _ (unmade {made} {fault} m) e = makes_memory number made (Err fault) m (err_of fault e)
 
--- the number that is told is that under which it is kept
-pub keeps_number : (number : ℕ) (text : List ℕ) (calls : List Call) (result : Result ℕ FolderFault) → Keeps number text calls result
-    → (n : ℕ) → result ≡ Ok n → n ≡ number
-keeps_number number text _ _ (kept {made} {named} came m k) n e = same_number number n e
-keeps_number number text _ _ (unnamed {made} {named} {fault} came m k) n e = fault_not fault n e
-keeps_number number text _ _ (unmade {made} {fault} m) n e = fault_not fault n e
-
 -- ---- courses at the values of a run
 
 pub unstored_at : (number : ℕ) (text : List ℕ) (fault : FolderFault) (result : Came) → result ≡ Err fault

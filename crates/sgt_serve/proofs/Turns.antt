@@ -23,11 +23,6 @@ use Rattle.sgt_courses.specs.Course.{IsUncut, cut_line}
 use Rattle.sgt_serve.specs.private.Turning.{Takes, cut_fault_of, refused_for, uncut_by}
 use Rattle.sgt_serve.specs.Place.{Kept, PlaceSays, refused_to}
 
--- a reply that isn't want of memory
-pub unrefused : (reply : Reply) → (reply ≡ Fault core_fault.Memory → ⊥) → refused_to reply ≡ 0
-unrefused (Fault core_fault.Memory) not = absurd (not refl)
-unrefused reply not = refl
-
 -- a fault that isn't E8
 pub refused_once : (f : CoreFault) → (f ≡ core_fault.ActiveLeft → ⊥) → refused_for f ≡ 1
 refused_once core_fault.ActiveLeft not = absurd (not refl)

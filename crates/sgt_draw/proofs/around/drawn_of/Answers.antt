@@ -3,8 +3,8 @@ use Rattle.std.proofs.lemmas.Option.{slice_get_within}
 use Rattle.sgt_draw.proofs.Neighbours.{in-window}
 use Rattle.sgt_draw.proofs.around.drawn_of.Goals as goal
 
-pub returns : goal.returns
-returns c = λ there.
+pub returns-clause-own : goal.returns-clause-own
+returns-clause-own c = λ there.
     let at = c.standing_of-at.result in
     let begin = c.min-begin.result in
     let end = c.min-end.result in
