@@ -23,9 +23,6 @@ ok_told told = Ok told
 number_not : {P : Type 0} (n : ℕ) (fault : FolderFault) → ok_number n ≡ err_number fault → P
 number_not n fault e = cc
 
-fault_not : {P : Type 0} (fault : FolderFault) (n : ℕ) → err_number fault ≡ ok_number n → P
-fault_not fault n e = cc
-
 same_number : (m n : ℕ) → ok_number m ≡ ok_number n → n ≡ m
 same_number m n e = cc
 
