@@ -1,22 +1,13 @@
--- Texts between places, and how values of JSON are written in the plain layout.
-use Rattle.std.proofs.Common.{◌≡◌, ℕ, zero, suc, ◌+◌, ◌-◌, ◌<◌, ◌≤◌, Bool, true, false, cond, List, [], ◌∷◌, ◌++◌, length, take, drop, get_or, map, Option, Some, None, inl, refl, sym, ap, ◌∙◌, subst, arith, decimal, codes, append_assoc, append-nil, length-append, length-drop, take-append-drop}
-use Rattle.std.specs.Borrow.{Bor}
-use Rattle.std.specs.Prelude.{IfSome, ◌^◌}
+-- Texts between places, and keys and values in the plain layout.
+use Rattle.std.proofs.Common.{◌≡◌, ℕ, suc, ◌+◌, ◌-◌, ◌<◌, ◌≤◌, List, [], ◌∷◌, ◌++◌, length, take, drop, get_or, inl, refl, sym, ap, ◌∙◌, subst, arith, decimal, append_assoc, append-nil, length-append, length-drop, take-append-drop}
+use Rattle.std.specs.Prelude.{◌^◌}
 use Rattle.std.proofs.lemmas.List.{take_all, take-append-le, drop-drop, length-take-le, get_or-take, get_or-drop}
-use Rattle.json.specs.Json.{Json, null, boolean, number, string, array, object, item, no_items}
-use Rattle.json.specs.Print.{escape, escape_byte, print_from}
-use Rattle.json.specs.Token.{Token}
-use Rattle.json.specs.Token as token
-use Rattle.json.specs.Tree.{json_tokens, items_tokens}
-use Rattle.json.specs.Value.{items_of}
+use Rattle.json.specs.Json.{Json, number, string}
+use Rattle.json.specs.Print.{escape, print_from}
 use Rattle.json.proofs.Printed.Strings.{escape_byte_plain}
 use Rattle.sgt_notation.specs.Private.{Spans}
-use Rattle.sgt_history.specs.declared.history.Kind.{Kind}
-use Rattle.sgt_history.specs.declared.history.Kind.TheVariants.{Read, Write}
-use Rattle.sgt_history.specs.declared.history.Operation.{Operation}
-use Rattle.sgt_history_text.specs.Line.{given, kind_word, operation_json}
 use Rattle.sgt_history_text.specs.Name.{IsKey, IsValue, compact}
-use Rattle.sgt_history_text.specs.Plain.{IsBare, IsCompactOf, IsPlain, MeanEach, Means, MeansValue, TextOperation, kind_text, more_texts, operation_text, operation_texts, value_text}
+use Rattle.sgt_history_text.specs.Plain.{IsBare, IsCompactOf}
 
 -- ---- texts between places
 
@@ -82,36 +73,6 @@ pub compact_number : (digits : List ℕ) → compact (number digits) ≡ digits
 unfolding print_from
 compact_number digits = append-nil digits
 
--- ---- how values are printed
-
-abbrev pub comma : Bool → List ℕ
-comma c = cond c (44 ∷ []) []
-
-pub print_key : (j : Json) (least most : ℕ) → IsKey least most j → (c : Bool) (ts : List Token)
-    → print_from c (json_tokens j ++ ts) ≡ comma c ++ (compact j ++ print_from true ts)
-unfolding print_from
-print_key null least most k c ts = absurd k
-print_key (boolean b) least most k c ts = absurd k
-print_key (number s) least most k true ts = ap (λ t. 44 ∷ (t ++ print_from true ts)) (sym (append-nil s))
-print_key (number s) least most k false ts = ap (λ t. t ++ print_from true ts) (sym (append-nil s))
-print_key (string s) least most k true ts =
-    ap (λ t. 44 ∷ (t ++ print_from true ts)) (sym (append-nil (34 ∷ (escape s ++ 34 ∷ []))))
-print_key (string s) least most k false ts =
-    ap (λ t. t ++ print_from true ts) (sym (append-nil (34 ∷ (escape s ++ 34 ∷ []))))
-print_key (array js) least most k c ts = absurd k
-print_key (object ms) least most k c ts = absurd k
-
-pub print_value : (j : Json) → IsValue j → (ts : List Token)
-    → print_from true (json_tokens j ++ ts) ≡ 44 ∷ (compact j ++ print_from true ts)
-unfolding print_from
-print_value null k ts = refl
-print_value (boolean true) k ts = refl
-print_value (boolean false) k ts = refl
-print_value (number s) k ts = ap (λ t. 44 ∷ (t ++ print_from true ts)) (sym (append-nil s))
-print_value (string s) k ts = ap (λ t. 44 ∷ (t ++ print_from true ts)) (sym (append-nil (34 ∷ (escape s ++ 34 ∷ []))))
-print_value (array js) k ts = absurd k
-print_value (object ms) k ts = absurd k
-
 module _ (bytes text : List ℕ) (from to : ℕ) (is : text ≡ take (to - from) (drop from bytes)) where
   written : (j : Json) (Is : Json → Type 0) → Is j → Spans bytes from (compact j) to
       → IsCompactOf Is text × Spans bytes from text to
@@ -143,43 +104,3 @@ module _ (bytes text : List ℕ) (from to : ℕ) (is : text ≡ take (to - from)
   written_number_value n fits spans =
       written (number (decimal n)) IsValue (inl (n, fits, refl))
       (subst (λ t. Spans bytes from t to) (sym (compact_number (decimal n))) spans)
-
--- ---- operations
-
-abbrev value_of : (v : Option (Bor (List ℕ))) → IfSome v (λ v. IsCompactOf IsValue v.now) → Option Json
-value_of None h = None
-value_of (Some v) h = Some h.value
-
-means_value : (v : Option (Bor (List ℕ))) (h : IfSome v (λ v. IsCompactOf IsValue v.now)) → MeansValue v (value_of v h)
-means_value None h = tt
-means_value (Some v) h = h.text_is
-
-value_fits : (v : Option (Bor (List ℕ))) (h : IfSome v (λ v. IsCompactOf IsValue v.now)) → IfSome (value_of v h) IsValue
-value_fits None h = tt
-value_fits (Some v) h = h.is
-
-pub means_operation : (o : TextOperation) → IsCompactOf (IsKey 0 1024) o.item.now → o.version < 2 ^ 64
-    → (o.kind ≡ Write → 0 < o.version)
-    → IfSome o.value (λ v. IsCompactOf IsValue v.now) → IsPlain o
-means_operation o named fits positive value = (
-  record { version = o.version; item = named.value; kind = o.kind; value = value_of o.value value },
-  record {
-    version_is = refl;
-    kind_is = refl;
-    item_is = named.text_is;
-    value_is = means_value o.value value;
-    is = record { item_is = named.is; version_fits = fits; positive = positive; value_is = value_fits o.value value };
-  },
-)
-
-pub spans_operation : (bytes : List ℕ) (o : TextOperation) (a b c d e f g : ℕ) → Spans bytes a (kind_text o.kind) b
-    → Spans bytes b o.item.now c
-    → Spans bytes c (44 ∷ []) d → Spans bytes d (decimal o.version) e → Spans bytes e (value_text o.value) f
-    → Spans bytes f (93 ∷ []) g
-    → Spans bytes a (operation_text o) g
-spans_operation bytes o a b c d e f g kind name comma_is version value bracket =
-    spans_then bytes (kind_text o.kind) _ a b g kind
-    (spans_then bytes o.item.now _ b c g name
-    (spans_then bytes (44 ∷ []) _ c d g comma_is
-    (spans_then bytes (decimal o.version) _ d e g version
-    (spans_then bytes (value_text o.value) (93 ∷ []) e f g value bracket))))
