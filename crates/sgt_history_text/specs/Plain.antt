@@ -1,5 +1,5 @@
 -- Lines in the plain layout: `tx`, `end` and `ops` in this order and no other member, a space behind a comma or a colon
--- or none, no escape.
+-- or none, no escape but the shortest ones in values.
 use Rattle.std.specs.Prelude.{◌≡◌, ℕ, ◌≤◌, Bool, true, false, List, [], ◌∷◌, ◌++◌, All, Option, Some, None, IfSome, codes, flat_map, map}
 use Rattle.std.specs.Borrow.{Bor}
 use Rattle.json.specs.Json.{Json}

@@ -1,6 +1,6 @@
 //! The parts of a line in the plain layout: `{"tx":ID,"end":END,"ops":[OPERATION,..]}`, with a space behind a comma or a
-//! colon or none, no escape and no other member. They are read at once, with no tokens and no copies. That a part isn't
-//! found says nothing of the line: who asks has another way.
+//! colon or none, no other member, no escape in an id or an item, and the shortest ones in values. They are read at
+//! once, with no tokens and no copies. That a part isn't found says nothing of the line: who asks has another way.
 
 ghost use Rattle.std.specs.Prelude.{true, false, ℕ, ◌≡◌, ◌≤◌, ◌<◌, ◌-◌, ◌∷◌, [], List, IfSome, decimal, drop, get_or, length, take, IsTrue, ◌^◌};
 ghost use Rattle.json.specs.Json.{string};
@@ -9,6 +9,7 @@ ghost use Rattle.sgt_history_text.specs.Plain.{IsBare, IsCompactOf, IsGivenAt, I
 ghost use Rattle.sgt_history_text.specs.Written.{AreWritten, IsLead};
 ghost use Rattle.sgt_notation.specs.Private.{Spans};
 
+use crate::escapes::escape_at;
 use crate::fault::{MOST_ID_BYTES, MOST_ITEM_BYTES};
 use crate::values::may_have;
 use crate::whole::is_within;
@@ -59,7 +60,7 @@ fn from_place(bytes: &[u8], from: usize) -> Option<&[u8]>
 
 /// The place behind this word.
 #[inline(always)]
-fn word_at(bytes: &[u8], from: usize, word: &[u8]) -> Option<usize>
+pub(crate) fn word_at(bytes: &[u8], from: usize, word: &[u8]) -> Option<usize>
     ensures { IfSome result (Spans bytes.now from word.now) }
 {
     if from > bytes.len() {
@@ -154,6 +155,22 @@ fn key_at(bytes: &[u8], from: usize, least: usize, most: usize) -> Option<(&[u8]
     Some((between(bytes, from, to)?, to))
 }
 
+/// A string with the shortest escapes: the place behind it.
+#[inline(never)]
+fn escaped_at(bytes: &[u8], from: usize) -> Option<usize>
+    ensures { IfSome result (λ to. (s : List ℕ) × Spans bytes.now from (compact (string s)) to) }
+{
+    let mut at = byte_at(bytes, from, b'"')?;
+    for _ in 0..bytes.len() {
+        let end = bare_end(bytes, at);
+        if let Some(to) = byte_at(bytes, end, b'"') {
+            return Some(to);
+        }
+        at = escape_at(bytes, end)?;
+    }
+    None
+}
+
 /// A value of an item that is a string or a whole number, and the place behind it.
 fn value_at(bytes: &[u8], from: usize) -> Option<(&[u8], usize)>
     ensures { IfSome result (λ r. IsCompactOf IsValue r.0.now × Spans bytes.entry.now from r.0.now r.1) }
@@ -161,7 +178,10 @@ fn value_at(bytes: &[u8], from: usize) -> Option<(&[u8], usize)>
     if let Some((_, to)) = string_at(bytes, from) {
         return Some((between(bytes, from, to)?, to));
     }
-    let (_, to) = number_at(bytes, from)?;
+    if let Some((_, to)) = number_at(bytes, from) {
+        return Some((between(bytes, from, to)?, to));
+    }
+    let to = escaped_at(bytes, from)?;
     Some((between(bytes, from, to)?, to))
 }
 
