@@ -1,4 +1,4 @@
-use Rattle.std.proofs.Common.{◌≡◌, ◌+◌, length, arith, subst}
+use Rattle.std.proofs.Common.{◌≡◌, length, arith, subst}
 use Rattle.sgt_history.specs.History.{closed_of}
 use Rattle.sgt_history_faults.specs.Given.{AreGivenTo}
 use Rattle.sgt_history_faults.proofs.Bounds.{begin-next}

@@ -1,4 +1,4 @@
-use Rattle.std.proofs.Common.{[], ◌∷◌, ◌∙◌, ap, ap₂, subst, sym}
+use Rattle.std.proofs.Common.{[], ◌∷◌, ◌∙◌, ap₂, subst, sym}
 use Rattle.sgt_notation.specs.Private.{Spans}
 use Rattle.sgt_history_text.proofs.PlainTexts.{long_text, spans_then}
 use Rattle.sgt_history_text.proofs.escapes.long_at.Goals as goal
