@@ -130,7 +130,7 @@ pub fn collect(alloc: Global, history: &History) -> Result<Collected, AllocError
     let mut table = vec![in alloc; nothing; items_of(history.operations.as_slice())]?;
     let mine = table.as_mut_slice();
     let mut collected = Collected {
-        touches: Vec::new(alloc),
+        touches: Vec::with_capacity(alloc, history.operations.len())?,
         first: None,
     };
     let mut begin = 0;

@@ -89,7 +89,7 @@ fn give_line(
 pub fn given_of(alloc: Global, history: &History) -> Result<Vec<Given>, AllocError>
     ensures { IfOk result (λ given. AreGivenTo (closed_of history.now) (length history.now.lines.items) given.items) }
 {
-    let mut given = Vec::new(alloc);
+    let mut given = Vec::with_capacity(alloc, history.operations.len())?;
     let mut begin = 0;
     for line in 0..history.lines.len() {
         give_line(history, line, begin, &mut given)?;

@@ -222,24 +222,6 @@ match_on : {P Q : Type 0} (R : Type 0) (r : Bool) → (P → Q) → MatchBool r 
 match_on R true on found = on found
 match_on R false on found = found
 
--- so a member with it changes nothing
-pub taken_untold : (old new : List Token) (k : List ℕ) (ms : Members) → is_told k ≡ false → IsFront old new
-    → IsToldTaken old new k ms ms
-taken_untold old new k ms none (j, e) = record {
-  j = j;
-  text = e;
-  kept = λ name told. sym (cond-false (bytes_eq k name) _ _ (untold k name none told));
-}
-
-pub taken_told : (old new : List Token) (k : List ℕ) (before after : Members) (v : Json) → ReadsAs leaf old v new
-    → ((name : List ℕ) → get_member name after ≡ get_with before k v name)
-    → IsToldTaken old new k before after
-taken_told old new k before after v (j, e, is) put = record {
-  j = j;
-  text = e;
-  kept = λ name told. put name ∙ ap (λ i. get_with before k i name) is;
-}
-
 module _ (old new : List Token) (k : List ℕ) (f f' : Found) (b b' : Builder) where
   -- a member of another name than "ops" leaves the operations
   pub taken_member : bytes_eq k (codes "ops") ≡ false → f'.operations ≡ f.operations → b' ≡ b

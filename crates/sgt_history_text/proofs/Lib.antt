@@ -18,6 +18,7 @@ pub mod Telling
 mod Objects
 pub mod Keys
 mod PlainTexts
+mod Written
 mod PlainLines
 mod PlainPuts
 mod Reopened

@@ -1,171 +1,226 @@
 -- A line in the plain layout spells its transaction.
-use Rattle.std.proofs.Common.{◌≡◌, ℕ, zero, suc, ◌+◌, ◌<◌, ◌≤◌, ◌^◌, Bool, true, false, cond, List, [], ◌∷◌, ◌++◌, length, take, drop, get_or, map, slice_get, All, Option, Some, None, refl, sym, ap, ◌∙◌, subst, arith, decimal, codes, append_assoc, append-nil, le_refl}
+use Rattle.std.proofs.Common.{◌≡◌, ℕ, suc, ◌<◌, ◌≤◌, ◌^◌, Bool, true, false, List, [], ◌∷◌, ◌++◌, length, map, All, Option, Some, None, refl, sym, ap, ◌∙◌, subst, arith, decimal, codes, append_assoc, append-nil, le_refl}
 use Rattle.std.specs.Borrow.{Bor}
 use Rattle.std.specs.Prelude.{IfSome, IsUtf8}
-use Rattle.std.proofs.lemmas.List.{drop_all, take_all}
+use Rattle.std.proofs.lemmas.List.{drop_all}
 use Rattle.std.proofs.lemmas.Bool.{false≢true}
-use Rattle.std.proofs.lemmas.Option.{same_Some}
-use Rattle.std.proofs.lemmas.List.Elements.{All-push}
-use Rattle.json.specs.Json.{Json, null, boolean, number, string, array, object, item, no_items, Members, member, no_members}
+use Rattle.std.proofs.lemmas.Grind.{flat_map-append}
+use Rattle.std.proofs.lemmas.List.Sums.{fold-append}
+use Rattle.json.specs.Json.{Json, string, array, object, Members, member, no_members}
 use Rattle.json.specs.Lex.{tokens}
-use Rattle.json.specs.Print.{escape_byte, print_from}
+use Rattle.json.specs.Print.{ArePrintable, ends, escape_byte, print_from}
+use Rattle.json.specs.Spaced.{print_spaced}
 use Rattle.json.specs.Token.{Token}
 use Rattle.json.specs.Token as token
 use Rattle.json.specs.Tree.{HasNumbers, ItemsHaveNumbers, json_tokens, items_tokens}
 use Rattle.json.specs.Value.{items_of}
 use Rattle.json.proofs.Printed.Decimals.{IsNumber-decimal}
-use Rattle.json.proofs.Printed.Tokens.{tokens-print}
+use Rattle.json.proofs.Printed.Tokens.{tokens-print_spaced}
 use Rattle.json.proofs.Printed.Trees.{ArePrintable-json_tokens}
 use Rattle.sgt_notation.specs.Private.{Spans}
 use Rattle.sgt_history.specs.Transaction.{Transaction}
 use Rattle.sgt_history.specs.declared.history.Kind.{Kind}
 use Rattle.sgt_history.specs.declared.history.Kind.TheVariants.{Read, Write}
 use Rattle.sgt_history.specs.declared.history.Operation.{Operation}
-use Rattle.sgt_history_text.specs.Line.{IsLine, IsOperation, IsTextOf, end_word, given, kind_word, operation_json}
-use Rattle.sgt_history_text.specs.Name.{IsId, IsKey, IsValue, compact}
-use Rattle.sgt_history_text.specs.Plain.{IsCompactOf, IsPlain, MeanEach, Means, MeansValue, TextOperation, end_text, kind_text, led_texts, more_texts, operation_text, operation_texts, tx_text, value_text}
+use Rattle.sgt_history_text.specs.Line.{IsLine, IsOperation, end_word, given, kind_word, operation_json}
+use Rattle.sgt_history_text.specs.Name.{IsId, IsKey, IsValue}
+use Rattle.sgt_history_text.specs.Plain.{IsCompactOf, IsGivenAt, IsHeadAt, IsOperationAt, IsPlain, Means, TextOperation, end_text, end_tokens, given_tokens, head_tokens, kind_text, operation_tokens, operations_tokens}
+use Rattle.sgt_history_text.specs.Written.{AreWritten, IsLead, ended_by}
 use Rattle.sgt_history_text.specs.Built.{AreMoments, IsNumbered, IsNumberedOperation, IsNumberedValue}
 use Rattle.sgt_history_text.specs.Moment.{AreTold, HasSession, HasTimes, IsLineWith}
 use Rattle.sgt_history_text.specs.declared.moments.Moments.{Moments}
 use Rattle.sgt_history_text.specs.declared.wanted.Wanted.{Wanted}
 use Rattle.sgt_history_text.proofs.Kept.{given_numbers, key_numbers, value_numbers}
-use Rattle.sgt_history_text.proofs.PlainTexts.{comma, print_key, print_value, spans_then}
+use Rattle.sgt_history_text.proofs.PlainTexts.{compact_number}
+use Rattle.sgt_history_text.proofs.Written.{closes_array, closes_object, ended_key, led, led_key, led_value, written_bare, written_none, written_then}
 
--- ---- an operation, as it is printed
+-- ---- an operation
 
-print_front : (k : Kind) (c : Bool) (rest : List Token)
-    → print_from c (token.begin_array ∷ token.string (kind_word k) ∷ rest)
-    ≡ comma c ++ (91 ∷ 34 ∷ (kind_word k ++ 34 ∷ print_from true rest))
+pub given_none : (bytes : List ℕ) (from : ℕ) → from ≤ length bytes → IsGivenAt bytes from None from
+given_none bytes from within =
+    record { value = None; is = tt; means = tt; text = written_none bytes from true within }
+
+pub given_there : (bytes : List ℕ) (from at to : ℕ) (v : Bor (List ℕ)) → IsLead bytes from true at
+    → IsCompactOf IsValue v.now × Spans bytes at v.now to → IsGivenAt bytes from (Some v) to
+given_there bytes from at to v lead found = record {
+  value = Some found.0.value;
+  is = found.0.is;
+  means = found.0.text_is;
+  text = led_value bytes from at to true lead found.0.value found.0.is
+      (subst (λ t. Spans bytes at t to) found.0.text_is found.1);
+}
+
+given_closed : (v : Option Json) → given_tokens v ++ token.end_array ∷ [] ≡ items_tokens (given v)
+given_closed None = refl
+given_closed (Some j) = refl
+
+kind_is : (k : Kind) → kind_text k ≡ print_from false (token.begin_array ∷ token.string (kind_word k) ∷ [])
 unfolding print_from escape_byte
-print_front Read true rest = refl
-print_front Read false rest = refl
-print_front Write true rest = refl
-print_front Write false rest = refl
+kind_is Read = refl
+kind_is Write = refl
 
-print_given : (v : Option (Bor (List ℕ))) (j : Option Json) → MeansValue v j → IfSome j IsValue → (ts : List Token)
-    → print_from true (items_tokens (given j) ++ ts) ≡ value_text v ++ 93 ∷ print_from true ts
-unfolding print_from
-print_given None None h k ts = refl
-print_given None (Some j) h k ts = absurd h
-print_given (Some v) None h k ts = absurd h
-print_given (Some v) (Some j) h k ts =
-    ap (print_from true) (append_assoc (json_tokens j) (token.end_array ∷ []) ts)
-    ∙ (print_value j k (token.end_array ∷ ts) ∙ ap (λ t. 44 ∷ (t ++ 93 ∷ print_from true ts)) (sym h))
+module _ (bytes : List ℕ) (o : TextOperation) (a b name_at c version_at d e f : ℕ)
+    (word : Spans bytes a (kind_text o.kind) b) (to_name : IsLead bytes b true name_at)
+    (name : IsCompactOf (IsKey 0 1024) o.item.now × Spans bytes name_at o.item.now c)
+    (to_version : IsLead bytes c true version_at)
+    (version : (o.version < 2 ^ 64) × Spans bytes version_at (decimal o.version) d)
+    (positive : o.kind ≡ Write → 0 < o.version) (value : IsGivenAt bytes d o.value e)
+    (close : Spans bytes e (93 ∷ []) f) where
+  abbrev meant : Operation Json Json
+  meant = record { version = o.version; item = name.0.value; kind = o.kind; value = value.value }
 
-text_behind : (k : Kind) (name digits value rest : List ℕ)
-    → (kind_text k ++ (name ++ 44 ∷ (digits ++ (value ++ 93 ∷ [])))) ++ rest
-    ≡ 91 ∷ 34 ∷ (kind_word k ++ 34 ∷ 44 ∷ (name ++ 44 ∷ (digits ++ (value ++ 93 ∷ rest))))
-text_behind k name digits value rest =
-    let inner : (name ++ 44 ∷ (digits ++ (value ++ 93 ∷ []))) ++ rest ≡ name ++ 44 ∷ (digits ++ (value ++ 93 ∷ rest)) =
-    append_assoc name _ rest ∙ ap (λ t. name ++ 44 ∷ t) (append_assoc digits _ rest
-    ∙ ap (λ t. digits ++ t) (append_assoc value (93 ∷ []) rest)) in
-    append_assoc (kind_text k) _ rest ∙ ap (λ t. kind_text k ++ t) inner
-    ∙ ap (λ t. 91 ∷ 34 ∷ t) (append_assoc (kind_word k) (34 ∷ 44 ∷ []) _)
+  abbrev number_token : Token
+  number_token = token.number (decimal o.version)
+
+  end_written : AreWritten bytes d true (items_tokens (given value.value)) f
+  end_written = subst (λ ts. AreWritten bytes d true ts f) (given_closed value.value)
+      (written_then bytes d e f true (given_tokens value.value) (token.end_array ∷ []) value.text
+      (closes_array bytes e f (ended_by true (given_tokens value.value)) close))
+
+  version_written : AreWritten bytes c true (number_token ∷ items_tokens (given value.value)) f
+  version_written = written_then bytes c d f true (number_token ∷ []) (items_tokens (given value.value))
+      (led bytes c version_at d true number_token [] refl to_version (written_bare bytes version_at d false
+      (number_token ∷ [])
+      (subst (λ t. Spans bytes version_at t d) (sym (compact_number (decimal o.version))) version.1))) end_written
+
+  name_written : AreWritten bytes b true
+      (json_tokens name.0.value ++ number_token ∷ items_tokens (given value.value)) f
+  name_written = written_then bytes b c f true (json_tokens name.0.value) _
+      (led_key bytes b name_at c true to_name 0 1024 name.0.value name.0.is
+      (subst (λ t. Spans bytes name_at t c) name.0.text_is name.1))
+      (subst (λ v. AreWritten bytes c v (number_token ∷ items_tokens (given value.value)) f)
+      (sym (ended_key true 0 1024 name.0.value name.0.is)) version_written)
+
+  pub operation_there : IsOperationAt bytes a o f
+  operation_there = record {
+    operation = meant;
+    means = record {
+      version_is = refl;
+      kind_is = refl;
+      item_is = name.0.text_is;
+      value_is = value.means;
+      is = record { item_is = name.0.is; version_fits = version.0; positive = positive; value_is = value.is };
+    };
+    text = written_then bytes a b f false (token.begin_array ∷ token.string (kind_word o.kind) ∷ []) _
+        (written_bare bytes a b false (token.begin_array ∷ token.string (kind_word o.kind) ∷ [])
+        (subst (λ t. Spans bytes a t b) (kind_is o.kind) word)) name_written;
+  }
+
+-- ---- operations
 
 given_have : (j : Option Json) → IfSome j IsValue → ItemsHaveNumbers (given j)
 given_have None k = tt
 given_have (Some j) k = (value_numbers j k, tt)
 
-module _ (o : TextOperation) (p : Operation Json Json) (m : Means o p) where
-  text_of : operation_text o ≡ kind_text p.kind ++
-      (compact p.item ++ 44 ∷ (decimal p.version ++ (value_text o.value ++ 93 ∷ [])))
-  text_of =
-      ap (λ k. kind_text k ++ (o.item.now ++ 44 ∷ (decimal o.version ++ (value_text o.value ++ 93 ∷ [])))) m.kind_is
-      ∙ (ap (λ t. kind_text p.kind ++ (t ++ 44 ∷ (decimal o.version ++ (value_text o.value ++ 93 ∷ [])))) m.item_is
-      ∙ ap (λ n. kind_text p.kind ++ (compact p.item ++ 44 ∷ (decimal n ++ (value_text o.value ++ 93 ∷ []))))
-      m.version_is)
+operation_numbers : (p : Operation Json Json) → IsOperation p → HasNumbers (operation_json p)
+operation_numbers p is = (
+  tt,
+  (
+    key_numbers 0 1024 p.item is.item_is,
+    (IsNumber-decimal p.version is.version_fits, given_have p.value is.value_is),
+  ),
+)
 
-  print_rest : (ts : List Token)
-      → print_from true (json_tokens p.item ++ token.number (decimal p.version) ∷ (items_tokens (given p.value) ++ ts))
-      ≡ 44 ∷ (compact p.item ++ 44 ∷ (decimal p.version ++ (value_text o.value ++ 93 ∷ print_from true ts)))
-  unfolding print_from
-  print_rest ts =
-      print_key p.item 0 1024 m.is.item_is true
-      (token.number (decimal p.version) ∷ (items_tokens (given p.value) ++ ts))
-      ∙ ap (λ t. 44 ∷ (compact p.item ++ 44 ∷ (decimal p.version ++ t)))
-      (print_given o.value p.value m.value_is m.is.value_is ts)
-
-  print_operation : (c : Bool) (ts : List Token)
-      → print_from c (json_tokens (operation_json p) ++ ts) ≡ comma c ++ (operation_text o ++ print_from true ts)
-  print_operation c ts =
-      ap (λ l. print_from c (token.begin_array ∷ token.string (kind_word p.kind) ∷ l))
-      (append_assoc (json_tokens p.item) (token.number (decimal p.version) ∷ items_tokens (given p.value)) ts)
-      ∙ (print_front p.kind c _ ∙ ap (λ t. comma c ++ (91 ∷ 34 ∷ (kind_word p.kind ++ 34 ∷ t))) (print_rest ts)
-      ∙ ap (λ t. comma c ++ t)
-      (sym (text_behind p.kind (compact p.item) (decimal p.version) (value_text o.value) (print_from true ts))
-      ∙ ap (λ t. t ++ print_from true ts) (sym text_of)))
-
-  operation_numbers : HasNumbers (operation_json p)
-  operation_numbers = (
-    tt,
-    (
-      key_numbers 0 1024 p.item m.is.item_is,
-      (IsNumber-decimal p.version m.is.version_fits, given_have p.value m.is.value_is),
-    ),
-  )
-
--- ---- operations
-
-print_more : (os : List TextOperation) (ps : List (Operation Json Json)) → MeanEach os ps → (ts : List Token)
-    → print_from true (items_tokens (items_of (map operation_json ps)) ++ ts) ≡ more_texts os ++ print_from true ts
-unfolding print_from
-print_more [] [] h ts = refl
-print_more [] (p ∷ ps) h ts = absurd h
-print_more (o ∷ os) [] h ts = absurd h
-print_more (o ∷ os) (p ∷ ps) h ts =
-    let rest = items_tokens (items_of (map operation_json ps)) in
-    ap (print_from true) (append_assoc (json_tokens (operation_json p)) rest ts)
-    ∙ (print_operation o p h.0 true (rest ++ ts) ∙ ap (λ t. 44 ∷ (operation_text o ++ t)) (print_more os ps h.1 ts)
-    ∙ ap (λ t. 44 ∷ t) (sym (append_assoc (operation_text o) (more_texts os) (print_from true ts))))
-
-print_operations : (os : List TextOperation) (ps : List (Operation Json Json)) → MeanEach os ps → (ts : List Token)
-    → print_from false (items_tokens (items_of (map operation_json ps)) ++ ts) ≡ operation_texts os ++ print_from true
-    ts
-unfolding print_from
-print_operations [] [] h ts = refl
-print_operations [] (p ∷ ps) h ts = absurd h
-print_operations (o ∷ os) [] h ts = absurd h
-print_operations (o ∷ os) (p ∷ ps) h ts =
-    let rest = items_tokens (items_of (map operation_json ps)) in
-    ap (print_from false) (append_assoc (json_tokens (operation_json p)) rest ts)
-    ∙ (print_operation o p h.0 false (rest ++ ts) ∙ ap (λ t. operation_text o ++ t) (print_more os ps h.1 ts)
-    ∙ sym (append_assoc (operation_text o) (more_texts os) (print_from true ts)))
-
-each_numbers : (os : List TextOperation) (ps : List (Operation Json Json)) → MeanEach os ps
+each_numbers : (ps : List (Operation Json Json)) → All IsOperation ps
     → ItemsHaveNumbers (items_of (map operation_json ps))
-each_numbers [] [] h = tt
-each_numbers [] (p ∷ ps) h = absurd h
-each_numbers (o ∷ os) [] h = absurd h
-each_numbers (o ∷ os) (p ∷ ps) h = (operation_numbers o p h.0, each_numbers os ps h.1)
+each_numbers [] each = tt
+each_numbers (p ∷ ps) each =
+    (operation_numbers p (each 0 p (omega arith)), each_numbers ps (λ i d h. each (suc i) d (omega arith)))
 
-all_none : {A : Type 0} (P : A → Type 0) → All P []
-all_none P i d h = absurd (omega arith)
+-- with the closing bracket
+pub closed_tokens : (ps : List (Operation Json Json))
+    → operation_tokens ps ++ token.end_array ∷ [] ≡ operations_tokens ps
+closed_tokens [] = refl
+closed_tokens (p ∷ ps) =
+    append_assoc (json_tokens (operation_json p)) (operation_tokens ps) (token.end_array ∷ [])
+    ∙ ap (λ ts. json_tokens (operation_json p) ++ ts) (closed_tokens ps)
 
-all_more : {A : Type 0} (P : A → Type 0) (x : A) (xs : List A) → P x → All P xs → (i : ℕ) (d : A)
-    → i < length (x ∷ xs) → P (get_or (x ∷ xs) i d)
-all_more P x xs here behind zero d h = here
-all_more P x xs here behind (suc i) d h = behind i d (omega arith)
+-- one more
+pub pushed_tokens : (ps : List (Operation Json Json)) (p : Operation Json Json)
+    → operation_tokens ps ++ json_tokens (operation_json p) ≡ operation_tokens (ps ++ p ∷ [])
+pushed_tokens ps p =
+    sym (flat_map-append (λ p. json_tokens (operation_json p)) ps (p ∷ [])
+    ∙ ap (λ ts. operation_tokens ps ++ ts) (append-nil (json_tokens (operation_json p))))
 
-each_is : (os : List TextOperation) (ps : List (Operation Json Json)) → MeanEach os ps → All IsOperation ps
-each_is [] [] h = all_none IsOperation
-each_is [] (p ∷ ps) h = absurd h
-each_is (o ∷ os) [] h = absurd h
-each_is (o ∷ os) (p ∷ ps) h = all_more IsOperation p ps h.0.is (each_is os ps h.1)
+ended_given : (c : Bool) (v : Option Json) → ended_by c (items_tokens (given v)) ≡ true
+ended_given c None = refl
+ended_given c (Some j) = fold-append (λ _ t. ends t) c (json_tokens j) (token.end_array ∷ [])
 
--- each with a comma behind it, and the last: as between brackets
-pub led_last : (os : List TextOperation) (o : TextOperation)
-    → led_texts os ++ (operation_text o ++ 93 ∷ []) ≡ operation_texts (os ++ o ∷ [])
-led_last [] o = refl
-led_last (p ∷ []) o = append_assoc (operation_text p) (44 ∷ []) (operation_text o ++ 93 ∷ [])
-led_last (p ∷ q ∷ os) o =
-    append_assoc (operation_text p) (44 ∷ led_texts (q ∷ os)) (operation_text o ++ 93 ∷ [])
-    ∙ ap (λ t. operation_text p ++ 44 ∷ t) (led_last (q ∷ os) o)
+ended_operation : (c : Bool) (p : Operation Json Json) → ended_by c (json_tokens (operation_json p)) ≡ true
+ended_operation c p =
+    fold-append (λ _ t. ends t) true (json_tokens p.item)
+    (token.number (decimal p.version) ∷ items_tokens (given p.value)) ∙ ended_given true p.value
 
-pub led_push : (os : List TextOperation) (o : TextOperation)
-    → led_texts (os ++ o ∷ []) ≡ led_texts os ++ (operation_text o ++ 44 ∷ [])
-led_push [] o = refl
-led_push (p ∷ os) o = ap (λ t. operation_text p ++ 44 ∷ t) (led_push os o)
-    ∙ sym (append_assoc (operation_text p) (44 ∷ led_texts os) (operation_text o ++ 44 ∷ []))
+pub ended_push : (ps : List (Operation Json Json)) (p : Operation Json Json)
+    → ended_by false (operation_tokens (ps ++ p ∷ [])) ≡ true
+ended_push ps p =
+    ap (ended_by false) (sym (pushed_tokens ps p))
+    ∙ fold-append (λ _ t. ends t) false (operation_tokens ps) (json_tokens (operation_json p))
+    ∙ ended_operation (ended_by false (operation_tokens ps)) p
+
+-- ---- the front of a line
+
+end_key_is : print_from false (token.key (codes "end") ∷ []) ≡ 34 ∷ 101 ∷ 110 ∷ 100 ∷ 34 ∷ 58 ∷ []
+unfolding print_from escape_byte
+end_key_is = refl
+
+ops_key_is : print_from false (token.key (codes "ops") ∷ []) ≡ 34 ∷ 111 ∷ 112 ∷ 115 ∷ 34 ∷ 58 ∷ []
+unfolding print_from escape_byte
+ops_key_is = refl
+
+bracket_is : print_from false (token.begin_array ∷ []) ≡ 91 ∷ []
+unfolding print_from
+bracket_is = refl
+
+tx_is : print_from false (token.begin_object ∷ token.key (codes "tx") ∷ [])
+    ≡ 123 ∷ 34 ∷ 116 ∷ 120 ∷ 34 ∷ 58 ∷ []
+unfolding print_from escape_byte
+tx_is = refl
+
+end_is : (commits : Bool) → end_text commits ≡ print_from false (token.string (end_word commits) ∷ [])
+unfolding print_from escape_byte
+end_is true = refl
+end_is false = refl
+
+pub end_there : (bytes : List ℕ) (commits : Bool) (a b c d e f g h i : ℕ) → IsLead bytes a true b
+    → Spans bytes b (34 ∷ 101 ∷ 110 ∷ 100 ∷ 34 ∷ 58 ∷ []) c → IsLead bytes c false d
+    → Spans bytes d (end_text commits) e → IsLead bytes e true f
+    → Spans bytes f (34 ∷ 111 ∷ 112 ∷ 115 ∷ 34 ∷ 58 ∷ []) g → IsLead bytes g false h
+    → Spans bytes h (91 ∷ []) i → AreWritten bytes a true (end_tokens commits) i
+end_there bytes commits a b c d e f g h i to_end end to_word word to_ops ops to_bracket bracket =
+    let end_key = token.key (codes "end") in
+    let said = token.string (end_word commits) in
+    let ops_key = token.key (codes "ops") in
+    written_then bytes a c i true (end_key ∷ []) (said ∷ ops_key ∷ token.begin_array ∷ [])
+    (led bytes a b c true end_key [] refl to_end
+    (written_bare bytes b c false (end_key ∷ []) (subst (λ t. Spans bytes b t c) (sym end_key_is) end)))
+    (written_then bytes c e i false (said ∷ []) (ops_key ∷ token.begin_array ∷ [])
+    (led bytes c d e false said [] refl to_word
+    (written_bare bytes d e false (said ∷ []) (subst (λ t. Spans bytes d t e) (end_is commits) word)))
+    (written_then bytes e g i true (ops_key ∷ []) (token.begin_array ∷ [])
+    (led bytes e f g true ops_key [] refl to_ops
+    (written_bare bytes f g false (ops_key ∷ []) (subst (λ t. Spans bytes f t g) (sym ops_key_is) ops)))
+    (led bytes g h i false token.begin_array [] refl to_bracket
+    (written_bare bytes h i false (token.begin_array ∷ []) (subst (λ t. Spans bytes h t i) (sym bracket_is) bracket)))))
+
+pub head_there : (line id : List ℕ) (commits : Bool) (a b c d : ℕ)
+    → Spans line 0 (123 ∷ 34 ∷ 116 ∷ 120 ∷ 34 ∷ 58 ∷ []) a → IsLead line a false b
+    → IsCompactOf (IsKey 1 256) id × Spans line b id c → AreWritten line c true (end_tokens commits) d
+    → IsHeadAt line id commits d
+head_there line id commits a b c d word to_id found end =
+    let front = token.begin_object ∷ token.key (codes "tx") ∷ [] in
+    record {
+      name = found.0.value;
+      is = found.0.is;
+      text_is = found.0.text_is;
+      text = written_then line 0 a d false front (json_tokens found.0.value ++ end_tokens commits)
+          (written_bare line 0 a false front (subst (λ t. Spans line 0 t a) (sym tx_is) word))
+          (written_then line a c d false (json_tokens found.0.value) (end_tokens commits)
+          (led_key line a b c false to_id 1 256 found.0.value found.0.is
+          (subst (λ t. Spans line b t c) found.0.text_is found.1))
+          (subst (λ v. AreWritten line c v (end_tokens commits) d)
+          (sym (ended_key false 1 256 found.0.value found.0.is)) end));
+    }
 
 -- ---- the line
 
@@ -173,72 +228,58 @@ abbrev members_of : Json → Bool → List (Operation Json Json) → Members
 members_of id commits ps =
     member (codes "tx") id (member (codes "end") (string (end_word commits)) (member (codes "ops") (array (items_of (map operation_json ps))) no_members))
 
-print_end : (c : Bool) (ts : List Token) → print_from true (token.key (codes "end") ∷ token.string (end_word c) ∷ token.key (codes "ops") ∷ token.begin_array ∷ ts)
-    ≡ end_text c ++ print_from false ts
-unfolding print_from escape_byte
-print_end true ts = refl
-print_end false ts = refl
+line_tokens : (id : Json) (commits : Bool) (ps : List (Operation Json Json))
+    → head_tokens id commits ++ (operations_tokens ps ++ token.end_object ∷ [])
+    ≡ json_tokens (object (members_of id commits ps))
+line_tokens id commits ps = ap (λ ts. token.begin_object ∷ token.key (codes "tx") ∷ ts)
+    (append_assoc (json_tokens id) (end_tokens commits) (operations_tokens ps ++ token.end_object ∷ []))
 
-print_tx : (ts : List Token) → print_from false (token.begin_object ∷ token.key (codes "tx") ∷ ts) ≡ tx_text ++ print_from false ts
-unfolding print_from escape_byte
-print_tx ts = refl
+line_numbers : (id : Json) (commits : Bool) (ps : List (Operation Json Json)) → IsId id
+    → All IsOperation ps → HasNumbers (object (members_of id commits ps))
+line_numbers id commits ps k each = (key_numbers 1 256 id k, (tt, (each_numbers ps each, tt)))
 
-print_line : (id : Json) (commits : Bool) (os : List TextOperation) (ps : List (Operation Json Json)) → IsId id
-    → MeanEach os ps
-    → compact (object (members_of id commits ps)) ≡ tx_text ++
-    (compact id ++ (end_text commits ++ (operation_texts os ++ 125 ∷ [])))
-unfolding print_from
-print_line id commits os ps k each =
-    let rest = items_tokens (items_of (map operation_json ps)) ++ token.end_object ∷ [] in
-    let ending = token.key (codes "end") ∷ token.string (end_word commits) ∷ token.key (codes "ops") ∷ token.begin_array ∷ rest in
-    print_tx (json_tokens id ++ ending)
-    ∙ ap (λ t. tx_text ++ t) (print_key id 1 256 k false ending
-    ∙ ap (λ t. compact id ++ t) (print_end commits rest
-    ∙ ap (λ t. end_text commits ++ t) (print_operations os ps each (token.end_object ∷ []))))
+-- what is written from the first place to the last are the tokens of the text
+tokens_written : (line : List ℕ) (ts : List Token) → AreWritten line 0 false ts (length line) → ArePrintable ts
+    → tokens line ≡ ts
+tokens_written line ts w printable =
+    let whole : line ≡ print_spaced false w.spaced =
+    w.text.reads
+    ∙ (ap (λ t. print_spaced false w.spaced ++ t) (drop_all (length line) line (le_refl (length line)))
+    ∙ append-nil (print_spaced false w.spaced)) in
+    ap tokens whole
+    ∙ (tokens-print_spaced w.spaced w.gaps (subst ArePrintable (sym w.tokens_are) printable) ∙ w.tokens_are)
 
-line_numbers : (id : Json) (commits : Bool) (os : List TextOperation) (ps : List (Operation Json Json)) → IsId id
-    → MeanEach os ps
-    → HasNumbers (object (members_of id commits ps))
-line_numbers id commits os ps k each = (key_numbers 1 256 id k, (tt, (each_numbers os ps each, tt)))
+head_open : (id : Json) (commits : Bool) → ended_by false (head_tokens id commits) ≡ false
+head_open id commits = fold-append (λ _ t. ends t) false (json_tokens id) (end_tokens commits)
 
-plain_is : (line : List ℕ) (id : Json) (commits : Bool) (os : List TextOperation) (ps : List (Operation Json Json))
-    → IsUtf8 line → IsId id → MeanEach os ps
-    → line ≡ tx_text ++ (compact id ++ (end_text commits ++ (operation_texts os ++ 125 ∷ [])))
-    → IsLine line id (record { commits = commits; operations = ps })
-plain_is line id commits os ps utf8 k each e =
+pub plain_found : (line id_text : List ℕ) (commits : Bool) (ps : List (Operation Json Json)) (i j : ℕ) → IsUtf8 line
+    → (head : IsHeadAt line id_text commits i) → All IsOperation ps
+    → AreWritten line i false (operations_tokens ps) j → Spans line j (125 ∷ []) (length line)
+    → IsLine line head.name (record { commits = commits; operations = ps })
+plain_found line id_text commits ps i j utf8 head each written last =
+    let id = head.name in
+    let ops = operations_tokens ps in
     let whole = object (members_of id commits ps) in
+    let rest : AreWritten line i false (ops ++ token.end_object ∷ []) (length line) =
+    written_then line i j (length line) false ops (token.end_object ∷ []) written
+    (closes_object line j (length line) (ended_by false ops) last) in
+    let all : AreWritten line 0 false (json_tokens whole) (length line) =
+    subst (λ ts. AreWritten line 0 false ts (length line)) (line_tokens id commits ps)
+    (written_then line 0 i (length line) false (head_tokens id commits) (ops ++ token.end_object ∷ []) head.text
+    (subst (λ c. AreWritten line i c (ops ++ token.end_object ∷ []) (length line)) (sym (head_open id commits)) rest)) in
     record {
       members = members_of id commits ps;
       is_object = record {
         utf8 = utf8;
-        tokens_are = ap tokens (e ∙ sym (print_line id commits os ps k each))
-            ∙ tokens-print (json_tokens whole) (ArePrintable-json_tokens whole (line_numbers id commits os ps k each));
+        tokens_are = tokens_written line (json_tokens whole) all
+            (ArePrintable-json_tokens whole (line_numbers id commits ps head.is each));
       };
       tx = refl;
       end = refl;
       ops = refl;
-      id_is = k;
-      each = each_is os ps each;
+      id_is = head.is;
+      each = each;
     }
-
-whole_line : (line a b : List ℕ) (i j : ℕ) → Spans line 0 a i → Spans line i b j
-    → Spans line j (125 ∷ []) (length line) → line ≡ a ++ (b ++ 125 ∷ [])
-whole_line line a b i j first second last =
-    first.reads
-    ∙ ap (λ t. a ++ t) (second.reads
-    ∙ ap (λ t. b ++ t) (last.reads ∙ ap (λ t. 125 ∷ t) (drop_all (length line) line (le_refl (length line)))))
-
-pub plain_found : (line id_text : List ℕ) (commits : Bool) (os : List TextOperation) (ps : List (Operation Json Json))
-    (i j : ℕ) → IsUtf8 line → (id : IsCompactOf (IsKey 1 256) id_text) → MeanEach os ps
-    → Spans line 0 (tx_text ++ (id_text ++ end_text commits)) i
-    → Spans line i (operation_texts os) j → Spans line j (125 ∷ []) (length line)
-    → IsLine line id.value (record { commits = commits; operations = ps })
-plain_found line id_text commits os ps i j utf8 id each first second last =
-    let text : line ≡ tx_text ++ (id_text ++ (end_text commits ++ (operation_texts os ++ 125 ∷ []))) =
-    whole_line line _ _ i j first second last
-    ∙ ap (λ t. tx_text ++ t) (append_assoc id_text (end_text commits) (operation_texts os ++ 125 ∷ [])) in
-    plain_is line id.value commits os ps utf8 id.is each
-    (text ∙ ap (λ t. tx_text ++ (t ++ (end_text commits ++ (operation_texts os ++ 125 ∷ [])))) id.text_is)
 
 -- ---- with numbers
 

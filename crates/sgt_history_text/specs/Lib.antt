@@ -9,5 +9,6 @@ pub mod Table
 pub mod Built
 pub mod Reading
 pub mod Ids
+pub mod Written
 pub mod Plain
 pub mod Members

@@ -1,14 +1,19 @@
--- Lines in the plain layout: `tx`, `end` and `ops` in this order and no other member, no space, no escape.
-use Rattle.std.specs.Prelude.{◌≡◌, ℕ, ◌≤◌, Bool, true, false, List, [], ◌∷◌, ◌++◌, Option, Some, None, codes, decimal, IsUtf8}
+-- Lines in the plain layout: `tx`, `end` and `ops` in this order and no other member, a space behind a comma or a colon
+-- or none, no escape but the shortest ones in values.
+use Rattle.std.specs.Prelude.{◌≡◌, ℕ, ◌≤◌, Bool, true, false, List, [], ◌∷◌, ◌++◌, All, Option, Some, None, IfSome, codes, flat_map, map}
 use Rattle.std.specs.Borrow.{Bor}
 use Rattle.json.specs.Json.{Json}
+use Rattle.json.specs.Token.{Token}
+use Rattle.json.specs.Token as token
+use Rattle.json.specs.Tree.{items_tokens, json_tokens}
+use Rattle.json.specs.Value.{items_of}
 use Rattle.sgt_history.specs.Transaction.{Transaction}
 use Rattle.sgt_history.specs.declared.history.Kind.{Kind}
 use Rattle.sgt_history.specs.declared.history.Operation.{Operation}
-use Rattle.sgt_notation.specs.Private.{Spans}
 use Rattle.sgt_history_text.specs.Built.{IsAdded, IsBuilt}
-use Rattle.sgt_history_text.specs.Line.{IsLine, IsOperation, end_word, kind_word}
-use Rattle.sgt_history_text.specs.Name.{compact}
+use Rattle.sgt_history_text.specs.Line.{IsLine, IsOperation, end_word, kind_word, operation_json}
+use Rattle.sgt_history_text.specs.Name.{IsId, IsValue, compact}
+use Rattle.sgt_history_text.specs.Written.{AreWritten, IsLead, ended_by}
 use Rattle.sgt_history_text.specs.declared.building.Builder.{Builder}
 
 -- the byte stands for itself in a string
@@ -25,41 +30,37 @@ pub record IsCompactOf (Is : Json → Type 0) (text : List ℕ) : Type 0 where
 abbrev pub TextOperation : Type 0
 TextOperation = Operation (Bor (List ℕ)) (Bor (List ℕ))
 
--- ---- how they are written
-
--- `["r",`
+-- `["r"`
 abbrev pub kind_text : Kind → List ℕ
-kind_text kind = 91 ∷ 34 ∷ (kind_word kind ++ 34 ∷ 44 ∷ [])
+kind_text kind = 91 ∷ 34 ∷ (kind_word kind ++ 34 ∷ [])
 
--- `,` and the value
-abbrev pub value_text : Option (Bor (List ℕ)) → List ℕ
-value_text None = []
-value_text (Some v) = 44 ∷ v.now
-
-abbrev pub operation_text : TextOperation → List ℕ
-operation_text o = kind_text o.kind ++ (o.item.now ++ 44 ∷ (decimal o.version ++ (value_text o.value ++ 93 ∷ [])))
-
--- each with a comma behind it
-abbrev pub led_texts : List TextOperation → List ℕ
-led_texts [] = []
-led_texts (o ∷ os) = operation_text o ++ 44 ∷ led_texts os
-
--- with commas between them, and the bracket behind the last
-abbrev pub more_texts : List TextOperation → List ℕ
-more_texts [] = 93 ∷ []
-more_texts (o ∷ os) = 44 ∷ (operation_text o ++ more_texts os)
-
-abbrev pub operation_texts : List TextOperation → List ℕ
-operation_texts [] = 93 ∷ []
-operation_texts (o ∷ os) = operation_text o ++ more_texts os
-
--- `{"tx":`
-abbrev pub tx_text : List ℕ
-tx_text = 123 ∷ 34 ∷ (codes "tx" ++ 34 ∷ 58 ∷ [])
-
--- `,"end":"commit","ops":[`
+-- `"commit"`
 abbrev pub end_text : Bool → List ℕ
-end_text commits = 44 ∷ 34 ∷ (codes "end" ++ 34 ∷ 58 ∷ 34 ∷ (end_word commits ++ 34 ∷ 44 ∷ 34 ∷ (codes "ops" ++ 34 ∷ 58 ∷ 91 ∷ [])))
+end_text commits = 34 ∷ (end_word commits ++ 34 ∷ [])
+
+-- ---- their tokens
+
+-- the tokens of a value, if one is given
+abbrev pub given_tokens : Option Json → List Token
+given_tokens None = []
+given_tokens (Some j) = json_tokens j
+
+-- the tokens of operations, without the brackets around all
+abbrev pub operation_tokens : List (Operation Json Json) → List Token
+operation_tokens ps = flat_map (λ p. json_tokens (operation_json p)) ps
+
+-- the same with the closing bracket
+abbrev pub operations_tokens : List (Operation Json Json) → List Token
+operations_tokens ps = items_tokens (items_of (map operation_json ps))
+
+-- from the member "end" to the opening bracket of the operations
+abbrev pub end_tokens : Bool → List Token
+end_tokens commits =
+    token.key (codes "end") ∷ token.string (end_word commits) ∷ token.key (codes "ops") ∷ token.begin_array ∷ []
+
+-- what stands in front of the operations
+abbrev pub head_tokens : Json → Bool → List Token
+head_tokens id commits = token.begin_object ∷ token.key (codes "tx") ∷ (json_tokens id ++ end_tokens commits)
 
 -- ---- what they are
 
@@ -81,27 +82,52 @@ pub record Means (o : TextOperation) (p : Operation Json Json) : Type 0 where
 abbrev pub IsPlain : TextOperation → Type 0
 IsPlain o = (p : Operation Json Json) × Means o p
 
-abbrev pub MeanEach : List TextOperation → List (Operation Json Json) → Type 0
-MeanEach [] [] = Unit {0}
-MeanEach [] (p ∷ ps) = ⊥
-MeanEach (o ∷ os) [] = ⊥
-MeanEach (o ∷ os) (p ∷ ps) = Means o p × MeanEach os ps
+-- ---- where they stand
+
+-- the given value stands there, or none is given
+pub record IsGivenAt (bytes : List ℕ) (from : ℕ) (given : Option (Bor (List ℕ))) (to : ℕ) : Type 0 where
+  pub value : Option Json
+  pub is : IfSome value IsValue
+  pub means : MeansValue given value
+  pub text : AreWritten bytes from true (given_tokens value) to
+
+-- the operation stands there
+pub record IsOperationAt (bytes : List ℕ) (from : ℕ) (o : TextOperation) (to : ℕ) : Type 0 where
+  pub operation : Operation Json Json
+  pub means : Means o operation
+  pub text : AreWritten bytes from false (json_tokens (operation_json operation)) to
+
+-- the front of the line ends there, with this id and end
+pub record IsHeadAt (line id : List ℕ) (commits : Bool) (to : ℕ) : Type 0 where
+  pub name : Json
+  pub is : IsId name
+  pub text_is : id ≡ compact name
+  pub text : AreWritten line 0 false (head_tokens name commits) to
 
 -- ---- what is kept of them
 
--- behind the lines that were read these operations were put, which stand between the places, written one after another
-pub record ArePut (texts : List TextOperation → List ℕ) (ids : List Json) (h : List (Transaction Json Json))
-    (bytes : List ℕ) (from to : ℕ) (b : Builder) : Type 0 where
-  pub os : List TextOperation
+-- behind the lines that were read these operations were put, which stand up to a place in front of the next
+pub record ArePutBefore (ids : List Json) (h : List (Transaction Json Json)) (bytes : List ℕ) (from to : ℕ)
+    (b : Builder) : Type 0 where
   pub ps : List (Operation Json Json)
-  pub each : MeanEach os ps
-  pub text : Spans bytes from (texts os) to
+  pub each : All IsOperation ps
+  pub place : ℕ
+  pub text : AreWritten bytes from false (operation_tokens ps) place
+  pub lead : IsLead bytes place (ended_by false (operation_tokens ps)) to
+  pub built : IsBuilt b ids h ps
+
+-- these were put, which stand with the closing bracket between the places
+pub record ArePut (ids : List Json) (h : List (Transaction Json Json)) (bytes : List ℕ) (from to : ℕ) (b : Builder)
+    : Type 0 where
+  pub ps : List (Operation Json Json)
+  pub each : All IsOperation ps
+  pub text : AreWritten bytes from false (operations_tokens ps) to
   pub built : IsBuilt b ids h ps
 
 -- so they are up to the bracket in front of the place; or some were put, where not all are in the layout
 abbrev pub ArePutUpTo : List Json → List (Transaction Json Json) → List ℕ → (from : ℕ) → Builder → Option ℕ → Type 0
 ArePutUpTo ids h bytes from b None = (begun : List (Operation Json Json)) × IsBuilt b ids h begun
-ArePutUpTo ids h bytes from b (Some to) = ArePut operation_texts ids h bytes from to b
+ArePutUpTo ids h bytes from b (Some to) = ArePut ids h bytes from to b
 
 -- the line's transaction was added, or an earlier one has its id; or nothing was added
 abbrev pub IsPlainAdded : List Json → List (Transaction Json Json) → List ℕ → Builder → Option Bool → Type 0

@@ -9,7 +9,7 @@ ghost use Rattle.sgt_history_text.specs.Plain.{ArePutUpTo, IsPlainAdded};
 ghost use Rattle.sgt_notation.specs.Private.{Spans};
 
 use crate::building::{Builder, close_line, forget_line, push_plain};
-use crate::plain::{byte_at, head_at, is_end, operation_at};
+use crate::plain::{byte_at, comma_at, head_at, is_end, operation_at};
 use std::alloc::{AllocError, Global};
 
 /// Puts the operations of an array whose opening bracket is passed: the place behind the closing one. None: not all of
@@ -33,7 +33,7 @@ fn push_operations_at(
             return Ok(None);
         };
         push_plain(alloc, builder, &operation)?;
-        let Some(next) = byte_at(bytes, behind, b',') else {
+        let Some(next) = comma_at(bytes, behind) else {
             return Ok(byte_at(bytes, behind, b']'));
         };
         at = next;

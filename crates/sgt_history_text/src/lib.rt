@@ -3,6 +3,7 @@
 
 mod adding;
 mod building;
+mod escapes;
 mod fault;
 mod ids;
 mod line;

@@ -1,13 +1,15 @@
-//! The parts of a line in the plain layout: `{"tx":ID,"end":END,"ops":[OPERATION,..]}`, with no space, no escape and no
-//! other member. They are read at once, with no tokens and no copies. That a part isn't found says nothing of the line:
-//! who asks has another way.
+//! The parts of a line in the plain layout: `{"tx":ID,"end":END,"ops":[OPERATION,..]}`, with a space behind a comma or a
+//! colon or none, no other member, no escape in an id or an item, and the shortest ones in values. They are read at
+//! once, with no tokens and no copies. That a part isn't found says nothing of the line: who asks has another way.
 
-ghost use Rattle.std.specs.Prelude.{ℕ, ◌≡◌, ◌≢◌, ◌≤◌, ◌<◌, ◌-◌, ◌++◌, ◌∷◌, [], List, IfSome, MatchOption, decimal, drop, get_or, length, take, IsTrue, ◌^◌};
+ghost use Rattle.std.specs.Prelude.{true, false, ℕ, ◌≡◌, ◌≤◌, ◌<◌, ◌-◌, ◌∷◌, [], List, IfSome, decimal, drop, get_or, length, take, IsTrue, ◌^◌};
 ghost use Rattle.json.specs.Json.{string};
 ghost use Rattle.sgt_history_text.specs.Name.{IsKey, IsValue, compact};
-ghost use Rattle.sgt_history_text.specs.Plain.{IsBare, IsCompactOf, IsPlain, end_text, kind_text, operation_text, tx_text, value_text};
+ghost use Rattle.sgt_history_text.specs.Plain.{IsBare, IsCompactOf, IsGivenAt, IsHeadAt, IsOperationAt, end_text, end_tokens, kind_text};
+ghost use Rattle.sgt_history_text.specs.Written.{AreWritten, IsLead};
 ghost use Rattle.sgt_notation.specs.Private.{Spans};
 
+use crate::escapes::escape_at;
 use crate::fault::{MOST_ID_BYTES, MOST_ITEM_BYTES};
 use crate::values::may_have;
 use crate::whole::is_within;
@@ -26,6 +28,27 @@ pub(crate) fn byte_at(bytes: &[u8], from: usize, byte: u8) -> Option<usize>
     }
 }
 
+/// The place behind the space that may stand here.
+#[inline(always)]
+fn past_space(bytes: &[u8], from: usize) -> usize
+    requires { from ≤ length bytes.now }
+    ensures { IsLead bytes.now from false result }
+{
+    match byte_at(bytes, from, b' ') {
+        Some(to) => to,
+        None => from,
+    }
+}
+
+/// The place behind a comma and the space that may follow it.
+#[inline(always)]
+pub(crate) fn comma_at(bytes: &[u8], from: usize) -> Option<usize>
+    ensures { IfSome result (IsLead bytes.now from true) }
+{
+    let at = byte_at(bytes, from, b',')?;
+    Some(past_space(bytes, at))
+}
+
 /// What stands from this place on.
 #[inline(always)]
 fn from_place(bytes: &[u8], from: usize) -> Option<&[u8]>
@@ -35,23 +58,19 @@ fn from_place(bytes: &[u8], from: usize) -> Option<&[u8]>
     Some(rest)
 }
 
-/// What stands behind the word.
-#[inline(always)]
-fn behind<'a>(bytes: &'a [u8], word: &[u8]) -> Option<&'a [u8]>
-    ensures { MatchOption result ((rest : List ℕ) → bytes.entry.now ≢ word.now ++ rest)
-        (λ r. bytes.entry.now ≡ word.now ++ r.now) }
-{
-    bytes.strip_prefix(word)
-}
-
 /// The place behind this word.
 #[inline(always)]
-fn word_at(bytes: &[u8], from: usize, word: &[u8]) -> Option<usize>
+pub(crate) fn word_at(bytes: &[u8], from: usize, word: &[u8]) -> Option<usize>
     ensures { IfSome result (Spans bytes.now from word.now) }
 {
-    let rest = from_place(bytes, from)?;
-    let _last = behind(rest, word)?;
-    Some(from + word.len())
+    if from > bytes.len() {
+        return None;
+    }
+    let mut at = from;
+    for byte in word {
+        at = byte_at(bytes, at, *byte)?;
+    }
+    Some(at)
 }
 
 /// What stands between these places.
@@ -136,6 +155,22 @@ fn key_at(bytes: &[u8], from: usize, least: usize, most: usize) -> Option<(&[u8]
     Some((between(bytes, from, to)?, to))
 }
 
+/// A string with the shortest escapes: the place behind it.
+#[inline(never)]
+fn escaped_at(bytes: &[u8], from: usize) -> Option<usize>
+    ensures { IfSome result (λ to. (s : List ℕ) × Spans bytes.now from (compact (string s)) to) }
+{
+    let mut at = byte_at(bytes, from, b'"')?;
+    for _ in 0..bytes.len() {
+        let end = bare_end(bytes, at);
+        if let Some(to) = byte_at(bytes, end, b'"') {
+            return Some(to);
+        }
+        at = escape_at(bytes, end)?;
+    }
+    None
+}
+
 /// A value of an item that is a string or a whole number, and the place behind it.
 fn value_at(bytes: &[u8], from: usize) -> Option<(&[u8], usize)>
     ensures { IfSome result (λ r. IsCompactOf IsValue r.0.now × Spans bytes.entry.now from r.0.now r.1) }
@@ -143,7 +178,10 @@ fn value_at(bytes: &[u8], from: usize) -> Option<(&[u8], usize)>
     if let Some((_, to)) = string_at(bytes, from) {
         return Some((between(bytes, from, to)?, to));
     }
-    let (_, to) = number_at(bytes, from)?;
+    if let Some((_, to)) = number_at(bytes, from) {
+        return Some((between(bytes, from, to)?, to));
+    }
+    let to = escaped_at(bytes, from)?;
     Some((between(bytes, from, to)?, to))
 }
 
@@ -151,10 +189,9 @@ fn value_at(bytes: &[u8], from: usize) -> Option<(&[u8], usize)>
 #[inline(always)]
 fn given_at(bytes: &[u8], from: usize) -> Option<(Option<&[u8]>, usize)>
     requires { from ≤ length bytes.now }
-    ensures { IfSome result (λ r. IfSome r.0 (λ v. IsCompactOf IsValue v.now)
-        × Spans bytes.entry.now from (value_text r.0) r.1) }
+    ensures { IfSome result (λ r. IsGivenAt bytes.entry.now from r.0 r.1) }
 {
-    let Some(at) = byte_at(bytes, from, b',') else {
+    let Some(at) = comma_at(bytes, from) else {
         return Some((None, from));
     };
     let (value, to) = value_at(bytes, at)?;
@@ -166,21 +203,21 @@ fn given_at(bytes: &[u8], from: usize) -> Option<(Option<&[u8]>, usize)>
 fn kind_at(bytes: &[u8], from: usize) -> Option<(Kind, usize)>
     ensures { IfSome result (λ r. Spans bytes.now from (kind_text r.0) r.1) }
 {
-    if let Some(to) = word_at(bytes, from, b"[\"r\",") {
+    if let Some(to) = word_at(bytes, from, b"[\"r\"") {
         return Some((Kind::Read, to));
     }
-    let to = word_at(bytes, from, b"[\"w\",")?;
+    let to = word_at(bytes, from, b"[\"w\"")?;
     Some((Kind::Write, to))
 }
 
 /// An operation, and the place behind it.
 #[inline(always)]
 pub(crate) fn operation_at(bytes: &[u8], from: usize) -> Option<(Operation<&[u8], &[u8]>, usize)>
-    ensures { IfSome result (λ r. IsPlain r.0 × Spans bytes.entry.now from (operation_text r.0) r.1) }
+    ensures { IfSome result (λ r. IsOperationAt bytes.entry.now from r.0 r.1) }
 {
     let (kind, at) = kind_at(bytes, from)?;
-    let (item, at) = key_at(bytes, at, 0, MOST_ITEM_BYTES)?;
-    let (version, at) = number_at(bytes, byte_at(bytes, at, b',')?)?;
+    let (item, at) = key_at(bytes, comma_at(bytes, at)?, 0, MOST_ITEM_BYTES)?;
+    let (version, at) = number_at(bytes, comma_at(bytes, at)?)?;
     if !may_have(kind, version) {
         return None;
     }
@@ -197,26 +234,37 @@ pub(crate) fn operation_at(bytes: &[u8], from: usize) -> Option<(Operation<&[u8]
     ))
 }
 
-/// How the transaction ends, with the word in front of its operations, and the place behind it.
+/// How the transaction ends, and the place behind it.
 #[inline(always)]
-fn end_at(bytes: &[u8], from: usize) -> Option<(bool, usize)>
+fn commits_at(bytes: &[u8], from: usize) -> Option<(bool, usize)>
     ensures { IfSome result (λ r. Spans bytes.now from (end_text r.0) r.1) }
 {
-    if let Some(to) = word_at(bytes, from, b",\"end\":\"commit\",\"ops\":[") {
+    if let Some(to) = word_at(bytes, from, b"\"commit\"") {
         return Some((true, to));
     }
-    let to = word_at(bytes, from, b",\"end\":\"abort\",\"ops\":[")?;
+    let to = word_at(bytes, from, b"\"abort\"")?;
     Some((false, to))
+}
+
+/// A comma, how the transaction ends, and the word in front of its operations, and the place behind it.
+#[inline(always)]
+fn end_at(bytes: &[u8], from: usize) -> Option<(bool, usize)>
+    ensures { IfSome result (λ r. AreWritten bytes.now from true (end_tokens r.0) r.1) }
+{
+    let at = word_at(bytes, comma_at(bytes, from)?, b"\"end\":")?;
+    let (commits, at) = commits_at(bytes, past_space(bytes, at))?;
+    let at = word_at(bytes, comma_at(bytes, at)?, b"\"ops\":")?;
+    let to = byte_at(bytes, past_space(bytes, at), b'[')?;
+    Some((commits, to))
 }
 
 /// The id and the end of the transaction, and the place where its operations begin.
 #[inline(always)]
 pub(crate) fn head_at(line: &[u8]) -> Option<((&[u8], bool), usize)>
-    ensures { IfSome result (λ r. IsCompactOf (IsKey 1 256) r.0.0.now × (r.1 ≤ length line.entry.now)
-        × Spans line.entry.now 0 (tx_text ++ (r.0.0.now ++ end_text r.0.1)) r.1) }
+    ensures { IfSome result (λ r. IsHeadAt line.entry.now r.0.0.now r.0.1 r.1) }
 {
     let at = word_at(line, 0, b"{\"tx\":")?;
-    let (id, at) = key_at(line, at, 1, MOST_ID_BYTES)?;
+    let (id, at) = key_at(line, past_space(line, at), 1, MOST_ID_BYTES)?;
     let (commits, to) = end_at(line, at)?;
     Some(((id, commits), to))
 }
