@@ -162,11 +162,3 @@ ended_key c least most (number s) h = refl
 ended_key c least most (string s) h = refl
 ended_key c least most (array js) h = absurd h
 ended_key c least most (object ms) h = absurd h
-
-pub ended_value : (c : Bool) (j : Json) → IsValue j → ended_by c (json_tokens j) ≡ true
-ended_value c null h = refl
-ended_value c (boolean v) h = refl
-ended_value c (number s) h = refl
-ended_value c (string s) h = refl
-ended_value c (array js) h = absurd h
-ended_value c (object ms) h = absurd h
