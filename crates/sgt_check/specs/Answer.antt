@@ -15,7 +15,7 @@ use Rattle.sgt_history.specs.declared.named.Flaw.{Flaw}
 use Rattle.sgt_history.specs.declared.named.Graph.{Graph}
 use Rattle.sgt_history_evidence.specs.Evidence.{IsEvidence}
 use Rattle.sgt_history_evidence.specs.declared.evidence.Evidence.{Evidence}
-use Rattle.sgt_history_graph.specs.First.{IsShownFirst}
+use Rattle.sgt_graph.specs.First.{IsShownFirst}
 use Rattle.sgt_history_text.specs.Name.{compact}
 use Rattle.sgt_history_text.specs.Reading.{nth}
 use Rattle.sgt_history_text.specs.Text.{IsFirstUnreadable, Spells}

@@ -5,7 +5,7 @@ use Rattle.sgt_history.specs.Transaction.{Transaction}
 use Rattle.sgt_history_conflicts.specs.Edges.{AreEdgesOf, HasEdges, part_of}
 use Rattle.sgt_history_conflicts.specs.declared.parts.Parts.{Parts}
 use Rattle.sgt_history_faults.specs.declared.touch.Touch.{Touch}
-use Rattle.sgt_history_graph.specs.declared.edge.Edge.{Edge}
+use Rattle.sgt_graph.specs.declared.edge.Edge.{Edge}
 use Rattle.sgt_history_kept.specs.Decided.{IsKeptFrom}
 use Rattle.sgt_history_kept.specs.declared.asked.Asked.{Asked}
 use Rattle.sgt_history_verdict.specs.Decided.{IsDecidedFrom}

@@ -6,10 +6,10 @@ ghost use Rattle.sgt_check_kept.specs.Told.{AreAsked};
 ghost use Rattle.sgt_history.specs.Transaction.{Transaction};
 ghost use Rattle.sgt_history_verdict.specs.Decided.{IsDecidedFrom};
 
+use sgt_graph::{Ordered, order};
 use sgt_history::Graph;
 use sgt_history_conflicts::{edges_in, edges_of, pairs_of};
 use sgt_history_faults::Touch;
-use sgt_history_graph::{Ordered, order};
 use sgt_history_kept::{Asked, Kept, decide_kept};
 use std::alloc::{AllocError, Global};
 

@@ -1,9 +1,9 @@
 //! The order and the cycle of small graphs.
 
 ghost use Rattle.std.specs.Prelude.{All, IfOk};
-ghost use Rattle.sgt_history_graph.specs.Graph.{JoinsNodes};
+ghost use Rattle.sgt_graph.specs.Graph.{JoinsNodes};
 
-use sgt_history_graph::{Edge, Ordered, falling_ranks, order, shown_cycle};
+use sgt_graph::{Edge, Ordered, falling_ranks, order, shown_cycle};
 use std::alloc::{AllocError, Global};
 use std::test::Fail;
 

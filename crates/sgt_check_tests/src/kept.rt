@@ -1,9 +1,9 @@
 //! What small histories are decided to be.
 
 ghost use Rattle.std.specs.Prelude.{All, IfOk};
-ghost use Rattle.sgt_history_graph.specs.Graph.{JoinsNodes};
+ghost use Rattle.sgt_graph.specs.Graph.{JoinsNodes};
 
-use sgt_history_graph::Edge;
+use sgt_graph::Edge;
 use sgt_history_kept::{Asked, Kept, Reason, decide_kept, first_unkept, goes_forward, is_round};
 use sgt_history_time::Times;
 use std::alloc::{AllocError, Global};

@@ -8,7 +8,7 @@ use Rattle.sgt_names.proofs.Lists.{front_at, middle_at}
 use Rattle.sgt_history.specs.declared.named.Conflict.{Conflict}
 use Rattle.sgt_history.specs.declared.named.Conflict.TheVariants.{WriteWrite, WriteRead, ReadWrite}
 use Rattle.sgt_history_faults.specs.declared.touch.Touch.{Touch}
-use Rattle.sgt_history_graph.specs.declared.edge.Edge.{Edge}
+use Rattle.sgt_graph.specs.declared.edge.Edge.{Edge}
 use Rattle.sgt_history_conflicts.specs.Pairs.{IsWritten, Meets, NoneBetween, IsPair, IsLast, IsFirst, AddsPairs}
 
 -- nothing yet, where no places are so

@@ -15,8 +15,8 @@ use Rattle.sgt_history.specs.Conflicts.{IsAmong, ConflictIn}
 use Rattle.sgt_history_faults.specs.declared.touch.Touch.{Touch}
 use Rattle.sgt_history_faults.specs.Touch.{IsTouch}
 use Rattle.sgt_history_faults.specs.Judged.{IsFaultlessBy}
-use Rattle.sgt_history_graph.specs.declared.edge.Edge.{Edge}
-use Rattle.sgt_history_graph.specs.Graph.{JoinsNodes}
+use Rattle.sgt_graph.specs.declared.edge.Edge.{Edge}
+use Rattle.sgt_graph.specs.Graph.{JoinsNodes}
 use Rattle.sgt_history_conflicts.specs.Pairs.{IsPair, AddsAll}
 use Rattle.sgt_history_conflicts.specs.Edges.{ArePairsOf, AreEdgesOf, AreLined, IsLined, JoinsTouches}
 use Rattle.sgt_history_conflicts.proofs.Conflicting.{pair-conflict, conflict-pair}

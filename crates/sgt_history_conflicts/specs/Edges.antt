@@ -6,8 +6,8 @@ use Rattle.sgt_history.specs.declared.named.Graph.TheVariants.{WriteWrite, WithR
 use Rattle.sgt_history.specs.Transaction.{Transaction}
 use Rattle.sgt_history.specs.Conflicts.{IsAmong, ConflictIn}
 use Rattle.sgt_history_faults.specs.declared.touch.Touch.{Touch}
-use Rattle.sgt_history_graph.specs.declared.edge.Edge.{Edge}
-use Rattle.sgt_history_graph.specs.Graph.{JoinsNodes}
+use Rattle.sgt_graph.specs.declared.edge.Edge.{Edge}
+use Rattle.sgt_graph.specs.Graph.{JoinsNodes}
 use Rattle.sgt_history_conflicts.specs.declared.parts.Parts.{Parts}
 use Rattle.sgt_history_conflicts.specs.Pairs.{IsPair}
 

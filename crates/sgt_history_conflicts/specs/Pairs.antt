@@ -4,7 +4,7 @@ use Rattle.sgt_history.specs.declared.history.Kind.TheVariants.{Read, Write}
 use Rattle.sgt_history.specs.declared.named.Conflict.{Conflict}
 use Rattle.sgt_history.specs.declared.named.Conflict.TheVariants.{WriteWrite, WriteRead, ReadWrite}
 use Rattle.sgt_history_faults.specs.declared.touch.Touch.{Touch}
-use Rattle.sgt_history_graph.specs.declared.edge.Edge.{Edge}
+use Rattle.sgt_graph.specs.declared.edge.Edge.{Edge}
 
 -- the touch is a write by a transaction that commits
 pub record IsWritten (e : Touch) : Type 0 where

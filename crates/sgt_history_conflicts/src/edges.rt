@@ -7,9 +7,9 @@ ghost use Rattle.sgt_history_faults.specs.Judged.{IsFaultlessBy};
 
 use crate::pairs::{push_backward, push_forward};
 use crate::parts::Parts;
+use sgt_graph::Edge;
 use sgt_history::{Conflict, Graph};
 use sgt_history_faults::Touch;
-use sgt_history_graph::Edge;
 use std::alloc::{AllocError, Global};
 
 /// The edges of a graph.

@@ -2,11 +2,11 @@
 
 ghost use Rattle.std.specs.Prelude.{◌≡◌, ◌≢◌, ◌+◌, ◌<◌, ◌≤◌, ◌^◌, ◌++◌, ◌↔◌, IsTrue, ℕ, List, Option, Some, OnOk, IfOk, length, slice_get};
 ghost use Rattle.sgt_history_conflicts.specs.Pairs.{AddsAll, AddsFrom, AddsUpTo, IsFirst, IsLast, IsWritten, Meets};
-ghost use Rattle.sgt_history_graph.specs.declared.edge.Edge.{Edge};
+ghost use Rattle.sgt_graph.specs.declared.edge.Edge.{Edge};
 
+use sgt_graph::Edge;
 use sgt_history::{Conflict, Kind};
 use sgt_history_faults::Touch;
-use sgt_history_graph::Edge;
 use std::alloc::AllocError;
 
 /// Whether the touch is a write by a transaction that commits.

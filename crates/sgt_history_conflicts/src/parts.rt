@@ -2,7 +2,7 @@
 
 ghost use Rattle.std.specs.Prelude.{◌≤◌, length};
 
-use sgt_history_graph::Edge;
+use sgt_graph::Edge;
 
 /// Edges of ww, then of wr, then of rw; and how many there are of the first, and of the first two.
 #[derive(Drop)]

@@ -7,9 +7,9 @@ use Rattle.sgt_names.proofs.Places.{Contains_at, Contains-from_at}
 use Rattle.sgt_history.specs.Transaction.{Transaction}
 use Rattle.sgt_history.specs.Serial.{IsCommitted}
 use Rattle.sgt_history.specs.Conflicts.{IsChain, IsCycle, Precedes}
-use Rattle.sgt_history_graph.specs.declared.edge.Edge.{Edge}
-use Rattle.sgt_history_graph.specs.First.{IsFirstCycle}
-use Rattle.sgt_history_graph.specs.Graph as nodes
+use Rattle.sgt_graph.specs.declared.edge.Edge.{Edge}
+use Rattle.sgt_graph.specs.First.{IsFirstCycle}
+use Rattle.sgt_graph.specs.Graph as nodes
 use Rattle.sgt_history_verdict.specs.Verdict.{committed_in}
 use Rattle.sgt_history_verdict.proofs.Kept.{kept-from, kept_at, kept-both, kept-once}
 use Rattle.sgt_history_kept.specs.declared.asked.Asked.{Asked}

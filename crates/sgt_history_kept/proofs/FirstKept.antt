@@ -2,8 +2,8 @@
 use Rattle.std.proofs.Common.{ℕ, ◌<◌, List, arith, inl, inr, ◌⊎◌}
 use Rattle.std.proofs.lemmas.Option.{slice_get_within}
 use Rattle.sgt_history.specs.Transaction.{Transaction}
-use Rattle.sgt_history_graph.specs.declared.edge.Edge.{Edge}
-use Rattle.sgt_history_graph.specs.Graph.{Goes}
+use Rattle.sgt_graph.specs.declared.edge.Edge.{Edge}
+use Rattle.sgt_graph.specs.Graph.{Goes}
 use Rattle.sgt_history_kept.specs.declared.asked.Asked.{Asked}
 use Rattle.sgt_history_kept.specs.declared.labels.Labels.{Labels}
 use Rattle.sgt_history_kept.specs.Decided.{IsAskedBefore, IsKeptFrom}

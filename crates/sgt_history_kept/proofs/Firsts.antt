@@ -5,7 +5,7 @@ use Rattle.std.proofs.lemmas.Bool.{cases_lt, lt-ltb, le-ltb}
 use Rattle.std.proofs.lemmas.Option.{same_Some, slice_get_within}
 use Rattle.sgt_names.proofs.Lists.{back_at, front_at, within_at}
 use Rattle.sgt_history.specs.Conflicts.{IsChain, IsCycle}
-use Rattle.sgt_history_graph.specs.First.{IsShownFirst, IsWordFirst}
+use Rattle.sgt_graph.specs.First.{IsShownFirst, IsWordFirst}
 use Rattle.sgt_history_kept.specs.FirstCycle.{IsFirstCycleOf}
 use Rattle.sgt_history_kept.specs.Labels.{AreLabelsOf, IsLabeled, LeadHome, LeadsHome}
 use Rattle.sgt_history_kept.specs.declared.labels.Labels.{Labels}

@@ -4,8 +4,8 @@ use Rattle.std.proofs.lemmas.Option.{slice_get_within}
 use Rattle.sgt_names.proofs.Lists.{All_in, All-weaken}
 use Rattle.sgt_names.proofs.Places.{All-from_at, Contains-from_at, All_at}
 use Rattle.sgt_history.specs.Transaction.{Transaction}
-use Rattle.sgt_history_graph.specs.declared.edge.Edge.{Edge}
-use Rattle.sgt_history_graph.specs.Graph as nodes
+use Rattle.sgt_graph.specs.declared.edge.Edge.{Edge}
+use Rattle.sgt_graph.specs.Graph as nodes
 use Rattle.sgt_history_kept.specs.declared.asked.Asked.{Asked}
 use Rattle.sgt_history_kept.specs.Decided.{IsKeptFrom, IsStepAmong}
 use Rattle.sgt_history_kept.specs.Least.{IsLeastForward, IsLeastKeeping}

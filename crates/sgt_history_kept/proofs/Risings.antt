@@ -4,8 +4,8 @@ use Rattle.std.specs.Prelude.{IfSome, slice_get}
 use Rattle.std.proofs.lemmas.Bool.{cases_eq, cases_lt}
 use Rattle.std.proofs.lemmas.List.{get_or-set_other, get_or-set_same}
 use Rattle.std.proofs.lemmas.Option.{same_Some, slice_get_within}
-use Rattle.sgt_history_graph.specs.declared.edge.Edge.{Edge}
-use Rattle.sgt_history_graph.specs.Graph.{Goes}
+use Rattle.sgt_graph.specs.declared.edge.Edge.{Edge}
+use Rattle.sgt_graph.specs.Graph.{Goes}
 use Rattle.sgt_history_kept.specs.Decided.{IsAskedBefore}
 use Rattle.sgt_history_kept.specs.Rising.{AreRising, IsNoted, IsNotedLine, Rises, StandsIn}
 use Rattle.sgt_history_kept.specs.declared.asked.Asked.{Asked}

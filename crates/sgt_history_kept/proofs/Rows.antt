@@ -5,8 +5,8 @@ use Rattle.std.proofs.lemmas.Bool.{cases_lt}
 use Rattle.std.proofs.lemmas.List.Elements.{Contains-push_cases}
 use Rattle.sgt_names.proofs.Lists.{front_at, middle_at, All_in}
 use Rattle.sgt_names.proofs.Places.{All-from_at, Contains_at, Contains-from_at}
-use Rattle.sgt_history_graph.specs.declared.edge.Edge.{Edge}
-use Rattle.sgt_history_graph.specs.Graph.{JoinsNodes}
+use Rattle.sgt_graph.specs.declared.edge.Edge.{Edge}
+use Rattle.sgt_graph.specs.Graph.{JoinsNodes}
 use Rattle.sgt_history_kept.specs.declared.asked.Asked.{Asked}
 use Rattle.sgt_history_kept.specs.Decided.{Adds, IsAskedBefore, IsInRow, IsInRows}
 

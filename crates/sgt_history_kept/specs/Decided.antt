@@ -6,8 +6,8 @@ use Rattle.sgt_history.specs.Serial.{StandOnce}
 use Rattle.sgt_history.specs.Conflicts.{Precedes}
 use Rattle.sgt_history.specs.Flaws.{IsFaultless}
 use Rattle.sgt_history_conflicts.specs.Edges.{AreEdgesOf}
-use Rattle.sgt_history_graph.specs.declared.edge.Edge.{Edge}
-use Rattle.sgt_history_graph.specs.Graph.{Goes, JoinsNodes}
+use Rattle.sgt_graph.specs.declared.edge.Edge.{Edge}
+use Rattle.sgt_graph.specs.Graph.{Goes, JoinsNodes}
 use Rattle.sgt_history_kept.specs.declared.asked.Asked.{Asked}
 use Rattle.sgt_history_kept.specs.declared.deciding.Kept.{Kept}
 use Rattle.sgt_history_kept.specs.declared.deciding.Kept.TheVariants.{Serial, Cyclic}

@@ -1,7 +1,7 @@
 -- The first cycle of a relation.
 use Rattle.std.specs.Prelude.{ℕ, List}
 use Rattle.sgt_history.specs.Conflicts.{IsCycle}
-use Rattle.sgt_history_graph.specs.First.{IsShownFirst}
+use Rattle.sgt_graph.specs.First.{IsShownFirst}
 
 -- it is a cycle, the first of all: of the least line that lies on one the shortest, of several the one whose lines are, from
 -- it on, the least

@@ -1,6 +1,6 @@
 -- The places of lines in an order.
 use Rattle.std.specs.Prelude.{◌≡◌, ℕ, ◌<◌, List, length, Option, Some, slice_get}
-use Rattle.sgt_history_graph.specs.declared.edge.Edge.{Edge}
+use Rattle.sgt_graph.specs.declared.edge.Edge.{Edge}
 
 -- of the first n of the order the places are kept, each line's one
 pub record ArePlacesTo (order : List ℕ) (n : ℕ) (places : List (Option ℕ)) : Type 0 where

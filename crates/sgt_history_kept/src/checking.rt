@@ -3,15 +3,15 @@
 ghost use Rattle.std.specs.Prelude.{◌≡◌, ◌≤◌, ◌<◌, ◌^◌, ◌⊎◌, ◌↔◌, IfOk, IsTrue, List, Some, length, slice_get, ℕ};
 ghost use Rattle.sgt_history.specs.Conflicts.{IsCycle};
 ghost use Rattle.sgt_history.specs.Transaction.{Transaction};
-ghost use Rattle.sgt_history_graph.specs.Graph.{Goes};
-ghost use Rattle.sgt_history_graph.specs.declared.edge.Edge.{Edge};
+ghost use Rattle.sgt_graph.specs.Graph.{Goes};
+ghost use Rattle.sgt_graph.specs.declared.edge.Edge.{Edge};
 ghost use Rattle.sgt_history_kept.specs.Decided.{GoesForward, IsAskedBefore, IsKeptFrom};
 ghost use Rattle.sgt_history_time.specs.Steps.{StandsBefore};
 ghost use Rattle.sgt_history_verdict.specs.Steps.{place_behind};
 
 use crate::asked::Asked;
 use crate::places::{all_lead_on, place_at, places_of};
-use sgt_history_graph::Edge;
+use sgt_graph::Edge;
 use sgt_history_time::{is_before, is_earlier, keeps_real_time, keeps_sessions};
 use std::alloc::{AllocError, Global};
 

@@ -2,7 +2,7 @@
 
 ghost use Rattle.std.specs.Prelude.{◌≡◌, ◌≤◌, ◌^◌, ◌↔◌, All, IfOk, IfSome, List, ℕ};
 ghost use Rattle.sgt_history.specs.Transaction.{Transaction};
-ghost use Rattle.sgt_history_graph.specs.Graph.{JoinsNodes};
+ghost use Rattle.sgt_graph.specs.Graph.{JoinsNodes};
 ghost use Rattle.sgt_history_kept.specs.Decided.{IsAskedAlone, IsKept, IsKeptFrom, IsSerial, IsSerialKeeping};
 ghost use Rattle.sgt_history_kept.specs.FirstCycle.{IsFirstCycleOf};
 ghost use Rattle.sgt_history_kept.specs.Sooner.{IsCycleKeeping};
@@ -17,7 +17,7 @@ use crate::least::least_order;
 use crate::plain::plainly;
 use crate::quick::quick_order;
 use crate::search::{Shown, shown_of};
-use sgt_history_graph::Edge;
+use sgt_graph::Edge;
 use std::alloc::{AllocError, Global};
 
 /// What a history without faults is, where orders are to keep something.

@@ -2,9 +2,9 @@
 //! all pairs.
 
 ghost use Rattle.std.specs.Prelude.{◌≤◌, ◌^◌, All, IfOk};
-ghost use Rattle.sgt_history_graph.specs.Graph.{JoinsNodes};
+ghost use Rattle.sgt_graph.specs.Graph.{JoinsNodes};
 
-use sgt_history_graph::Edge;
+use sgt_graph::Edge;
 use sgt_history_time::Times;
 use std::alloc::{AllocError, Global};
 

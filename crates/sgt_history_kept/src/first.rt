@@ -2,7 +2,7 @@
 
 ghost use Rattle.std.specs.Prelude.{◌≡◌, ◌⊎◌, ◌≤◌, ◌^◌, IfOk, IsTrue, List, length, ℕ};
 ghost use Rattle.sgt_history.specs.Transaction.{Transaction};
-ghost use Rattle.sgt_history_graph.specs.Graph.{Goes};
+ghost use Rattle.sgt_graph.specs.Graph.{Goes};
 ghost use Rattle.sgt_history_kept.specs.Decided.{IsAskedBefore, IsKeptFrom};
 ghost use Rattle.sgt_history_kept.specs.FirstCycle.{IsFirstCycleOf};
 ghost use Rattle.sgt_history_kept.specs.Labels.{AreLabelsOf};
@@ -12,7 +12,7 @@ use crate::asked::Asked;
 use crate::labels::{Labels, all_lead_home, are_labeled};
 use crate::rising::all_rise;
 use crate::round::is_round;
-use sgt_history_graph::Edge;
+use sgt_graph::Edge;
 use std::alloc::{AllocError, Global};
 
 /// Whether no step leads down, or to a lesser key than the least.

@@ -3,15 +3,15 @@
 
 ghost use Rattle.std.specs.Prelude.{◌≡◌, ◌≤◌, ◌^◌, All, IfOk, IfSome, List, OnOk, ℕ};
 ghost use Rattle.sgt_history.specs.Transaction.{Transaction};
-ghost use Rattle.sgt_history_graph.specs.Graph.{JoinsNodes};
-ghost use Rattle.sgt_history_graph.specs.declared.edge.Edge.{Edge};
+ghost use Rattle.sgt_graph.specs.Graph.{JoinsNodes};
+ghost use Rattle.sgt_graph.specs.declared.edge.Edge.{Edge};
 ghost use Rattle.sgt_history_kept.specs.Decided.{IsKeptFrom, IsStepAmong};
 ghost use Rattle.sgt_history_kept.specs.Least.{IsLeastForward};
 
 use crate::asked::Asked;
 use crate::checking::is_asked;
 use crate::drawing::{ends_of, number_of, sessions_of};
-use sgt_history_graph::{Edge, Ordered, order};
+use sgt_graph::{Edge, Ordered, order};
 use sgt_history_time::{Times, times_at};
 use std::alloc::{AllocError, Global};
 

@@ -3,7 +3,7 @@
 ghost use Rattle.std.specs.Prelude.{◌≡◌, ◌+◌, ◌≤◌, ◌<◌, ◌^◌, All, IfOk, IfSome, IsTrue, List, MatchOption, Some, length, slice_get, ℕ};
 ghost use Rattle.sgt_history_kept.specs.Placed.{AllPlaced, ArePlaces, ArePlacesTo, LeadsOn};
 
-use sgt_history_graph::Edge;
+use sgt_graph::Edge;
 use std::alloc::{AllocError, Global};
 
 /// The place that is kept of the line, if one is.

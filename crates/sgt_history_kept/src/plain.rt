@@ -2,14 +2,14 @@
 
 ghost use Rattle.std.specs.Prelude.{◌≡◌, ◌+◌, ◌≤◌, ◌<◌, ◌^◌, All, IfOk, OnOk, List, length, ℕ};
 ghost use Rattle.sgt_history.specs.Transaction.{Transaction};
-ghost use Rattle.sgt_history_graph.specs.Graph.{JoinsNodes};
-ghost use Rattle.sgt_history_graph.specs.declared.edge.Edge.{Edge};
+ghost use Rattle.sgt_graph.specs.Graph.{JoinsNodes};
+ghost use Rattle.sgt_graph.specs.declared.edge.Edge.{Edge};
 ghost use Rattle.sgt_history_kept.specs.Decided.{Adds, IsAskedAlone, IsAskedBefore, IsInRow, IsInRows, IsKept, IsKeptFrom, IsFound};
 
 use crate::asked::Asked;
 use crate::checking::is_asked;
 use crate::deciding::Kept;
-use sgt_history_graph::{Edge, Ordered, order, shown_cycle};
+use sgt_graph::{Edge, Ordered, order, shown_cycle};
 use std::alloc::{AllocError, Global};
 
 /// Puts an edge between the lines, if the first is asked to stand before the second.

@@ -4,7 +4,7 @@ ghost use Rattle.std.specs.Prelude.{◌≤◌, ◌^◌, IfSome};
 
 use crate::asked::Asked;
 use crate::drawing::{Layout, Steps, begins_of, drawn, number_of};
-use sgt_history_graph::{Edge, Ordered, order};
+use sgt_graph::{Edge, Ordered, order};
 use std::alloc::{AllocError, Global};
 
 /// The lines among nodes, of which these many first ones are moments.

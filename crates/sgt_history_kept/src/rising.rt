@@ -2,14 +2,14 @@
 //! second. One pass each over the conflicts, the sessions and the times.
 
 ghost use Rattle.std.specs.Prelude.{◌≡◌, ◌⊎◌, ◌≤◌, ℕ, IfOk, IfSome, IsTrue, slice_index};
-ghost use Rattle.sgt_history_graph.specs.Graph.{Goes};
+ghost use Rattle.sgt_graph.specs.Graph.{Goes};
 ghost use Rattle.sgt_history_kept.specs.Decided.{IsAskedBefore};
 ghost use Rattle.sgt_history_kept.specs.Rising.{AreRising, IsNoted, IsNotedLine, Rises, StandsIn};
 ghost use Rattle.sgt_history_time.specs.Kept.{IsBefore, IsEarlier};
 
 use crate::asked::Asked;
 use crate::drawing::{begins_of, ends_of};
-use sgt_history_graph::Edge;
+use sgt_graph::Edge;
 use sgt_history_time::Times;
 use std::alloc::{AllocError, Global};
 

@@ -3,15 +3,15 @@
 ghost use Rattle.std.specs.Prelude.{◌≡◌, ◌≤◌, ◌<◌, ◌⊎◌, Contains, IfOk, IsTrue, List, Some, length, slice_get, ℕ};
 ghost use Rattle.sgt_history.specs.Conflicts.{IsCycle};
 ghost use Rattle.sgt_history.specs.Transaction.{Transaction};
-ghost use Rattle.sgt_history_graph.specs.Graph.{Goes};
-ghost use Rattle.sgt_history_graph.specs.declared.edge.Edge.{Edge};
+ghost use Rattle.sgt_graph.specs.Graph.{Goes};
+ghost use Rattle.sgt_graph.specs.declared.edge.Edge.{Edge};
 ghost use Rattle.sgt_history_kept.specs.Decided.{AreJoined, IsAskedBefore, IsKeptFrom};
 ghost use Rattle.sgt_history_time.specs.Steps.{StandsBefore};
 ghost use Rattle.sgt_history_verdict.specs.Steps.{place_behind};
 
 use crate::asked::Asked;
 use crate::checking::is_asked;
-use sgt_history_graph::Edge;
+use sgt_graph::Edge;
 use sgt_history_time::session_at;
 use std::alloc::{AllocError, Global};
 

@@ -8,7 +8,7 @@ use crate::labels::{KEYS, Labels};
 use crate::quick::nodes_of;
 use crate::rising::number_of_line;
 use crate::round::line_behind;
-use sgt_history_graph::{Edge, falling_ranks};
+use sgt_graph::{Edge, falling_ranks};
 use sgt_history_time::{is_before, is_earlier, session_at, times_at};
 use std::alloc::{AllocError, Global};
 

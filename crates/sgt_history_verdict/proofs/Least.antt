@@ -16,9 +16,9 @@ use Rattle.sgt_history_conflicts.specs.Edges.{AreEdgesOf, HasEdges, part_of}
 use Rattle.sgt_history_faults.proofs.Bounds.{length-cut}
 use Rattle.sgt_history_faults.specs.declared.touch.Touch.{Touch}
 use Rattle.sgt_history_faults.specs.Judged.{IsFaultlessBy}
-use Rattle.sgt_history_graph.specs.declared.edge.Edge.{Edge}
-use Rattle.sgt_history_graph.specs.First.{IsFirstCycle, TellsFirst}
-use Rattle.sgt_history_graph.specs.Graph as nodes
+use Rattle.sgt_graph.specs.declared.edge.Edge.{Edge}
+use Rattle.sgt_graph.specs.First.{IsFirstCycle, TellsFirst}
+use Rattle.sgt_graph.specs.Graph as nodes
 use Rattle.sgt_history_verdict.specs.Decided.{IsDecidedFrom}
 use Rattle.sgt_history_verdict.specs.Verdict.{IsBelow, IsFirstOf, IsLeastGraph, IsSerialBy}
 use Rattle.sgt_history_verdict.proofs.Served.{cycle-of, order-excludes, order-least, order-serves}

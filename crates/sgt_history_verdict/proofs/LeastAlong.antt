@@ -6,7 +6,7 @@ use Rattle.sgt_history.specs.declared.named.Graph.TheVariants.{Whole}
 use Rattle.sgt_history.specs.Transaction.{Transaction}
 use Rattle.sgt_history_faults.specs.Judged.{IsFaultlessBy}
 use Rattle.sgt_history_faults.specs.declared.touch.Touch.{Touch}
-use Rattle.sgt_history_graph.specs.declared.edge.Edge.{Edge}
+use Rattle.sgt_graph.specs.declared.edge.Edge.{Edge}
 use Rattle.sgt_history_conflicts.specs.Edges.{ArePairsOf}
 use Rattle.sgt_history_verdict.specs.Between.{AreBestAlong, AreLeastAlong, IsLeastBetween}
 use Rattle.sgt_history_verdict.specs.declared.step.Step.{Step}

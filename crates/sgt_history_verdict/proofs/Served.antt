@@ -14,8 +14,8 @@ use Rattle.sgt_history.specs.Flaws.{IsFaultless}
 use Rattle.sgt_history.proofs.Forward.{no-cycle}
 use Rattle.sgt_history.proofs.Complete.{serves}
 use Rattle.sgt_history_conflicts.specs.Edges.{AreEdgesOf}
-use Rattle.sgt_history_graph.specs.declared.edge.Edge.{Edge}
-use Rattle.sgt_history_graph.specs.Graph as nodes
+use Rattle.sgt_graph.specs.declared.edge.Edge.{Edge}
+use Rattle.sgt_graph.specs.Graph as nodes
 use Rattle.sgt_history_verdict.specs.Verdict.{IsLeastFirst, committed_in}
 use Rattle.sgt_history_verdict.proofs.Kept.{kept-among, kept-back, kept-from, kept_at, kept-both, kept-once, kept-place}
 

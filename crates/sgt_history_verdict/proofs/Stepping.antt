@@ -14,7 +14,7 @@ use Rattle.sgt_history.specs.Transaction.{Transaction}
 use Rattle.sgt_history.specs.Conflicts.{ConflictIn, HaveConflict, IsAmong, IsChain, IsCycle}
 use Rattle.sgt_history_faults.specs.declared.touch.Touch.{Touch}
 use Rattle.sgt_history_faults.specs.Judged.{IsFaultlessBy}
-use Rattle.sgt_history_graph.specs.declared.edge.Edge.{Edge}
+use Rattle.sgt_graph.specs.declared.edge.Edge.{Edge}
 use Rattle.sgt_history_conflicts.specs.Pairs.{Meets}
 use Rattle.sgt_history_conflicts.specs.Edges.{ArePairsOf, JoinsTouches, part_of}
 use Rattle.sgt_history_conflicts.proofs.Conflicting.{pair-conflict, conflict-pair}

@@ -4,7 +4,7 @@ use Rattle.sgt_history.specs.declared.named.Graph.TheVariants.{Whole}
 use Rattle.sgt_history.specs.Transaction.{Transaction}
 use Rattle.sgt_history.specs.Conflicts.{ConflictIn}
 use Rattle.sgt_history_faults.specs.declared.touch.Touch.{Touch}
-use Rattle.sgt_history_graph.specs.declared.edge.Edge.{Edge}
+use Rattle.sgt_graph.specs.declared.edge.Edge.{Edge}
 use Rattle.sgt_history_verdict.specs.declared.step.Step.{Step}
 use Rattle.sgt_history_verdict.specs.Steps.{IsBest, IsStep, IsToldBefore, Leads, place_behind}
 

@@ -8,7 +8,7 @@ use Rattle.sgt_history.specs.declared.named.Graph.{Graph}
 use Rattle.sgt_history.specs.Transaction.{Transaction}
 use Rattle.sgt_history.specs.Conflicts.{HaveConflict, IsAmong}
 use Rattle.sgt_history_faults.specs.declared.touch.Touch.{Touch}
-use Rattle.sgt_history_graph.specs.declared.edge.Edge.{Edge}
+use Rattle.sgt_graph.specs.declared.edge.Edge.{Edge}
 use Rattle.sgt_history_verdict.specs.declared.step.Step.{Step}
 
 -- ---- of a history

@@ -8,7 +8,7 @@ use Rattle.sgt_history.specs.Conflicts.{ConflictIn, IsCycle, HasCycle}
 use Rattle.sgt_history.specs.Flaws.{IsFirstFault}
 use Rattle.sgt_history_conflicts.specs.Edges.{HasPairs}
 use Rattle.sgt_history_faults.specs.Judged.{IsFaultlessBy}
-use Rattle.sgt_history_graph.specs.First.{IsShownFirst}
+use Rattle.sgt_graph.specs.First.{IsShownFirst}
 use Rattle.sgt_history_verdict.specs.declared.cyclic.Cyclic.{Cyclic}
 use Rattle.sgt_history_verdict.specs.declared.deciding.Verdict.{Verdict}
 use Rattle.sgt_history_verdict.specs.declared.deciding.Verdict.TheVariants as verdict

@@ -5,8 +5,8 @@ ghost use Rattle.sgt_history_conflicts.specs.Edges.{JoinsTouches};
 ghost use Rattle.sgt_history_verdict.specs.Steps.{AreAlong, IsBest, LeadAlong, Leads, place_behind};
 
 use crate::step::{Step, least, step_of};
+use sgt_graph::Edge;
 use sgt_history_faults::Touch;
-use sgt_history_graph::Edge;
 use std::alloc::{AllocError, Global};
 
 /// The line behind this place; behind the last place is the first.

@@ -5,17 +5,17 @@ ghost use Rattle.sgt_history.specs.Transaction.{Transaction};
 ghost use Rattle.sgt_history_conflicts.specs.Edges.{ArePairsOf, HasPairs, JoinsTouches};
 ghost use Rattle.sgt_history_faults.specs.Judged.{IsFaultlessBy};
 ghost use Rattle.sgt_history_faults.specs.declared.touch.Touch.{Touch};
-ghost use Rattle.sgt_history_graph.specs.declared.edge.Edge.{Edge};
+ghost use Rattle.sgt_graph.specs.declared.edge.Edge.{Edge};
 ghost use Rattle.sgt_history_verdict.specs.Between.{AreBestAlong, AreLeastAlong};
 ghost use Rattle.sgt_history_verdict.specs.Steps.{AreBest};
 
 use crate::along::{least_between, line_behind};
 use crate::quick::{best_steps, lines_behind};
 use crate::step::Step;
+use sgt_graph::Edge;
 use sgt_history::Graph;
 use sgt_history_conflicts::{Parts, edges_in};
 use sgt_history_faults::Touch;
-use sgt_history_graph::Edge;
 use std::alloc::{AllocError, Global};
 
 /// What is kept of the line, if the other is noted behind it.

@@ -9,10 +9,10 @@ ghost use Rattle.sgt_history_verdict.specs.Decided.{IsDecidedFrom, IsFoundIn};
 ghost use Rattle.sgt_history_verdict.specs.Verdict.{IsCyclic, IsLeastGraph, IsSerial, IsVerdict};
 
 use crate::cyclic::Cyclic;
+use sgt_graph::{Ordered, order, shown_cycle};
 use sgt_history::{Graph, History, Line};
 use sgt_history_conflicts::{Parts, edges_in, edges_of, pairs_of};
 use sgt_history_faults::{Fault, Judged, Touch, judge};
-use sgt_history_graph::{Ordered, order, shown_cycle};
 use std::alloc::{AllocError, Global};
 
 /// What a history is.

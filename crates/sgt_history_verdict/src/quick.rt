@@ -3,13 +3,13 @@
 ghost use Rattle.std.specs.Prelude.{◌≡◌, ◌+◌, ◌↔◌, ℕ, List, Option, Some, All, IfOk, IfSome, IsTrue, length, slice_get};
 ghost use Rattle.sgt_history_conflicts.specs.Edges.{JoinsTouches};
 ghost use Rattle.sgt_history_faults.specs.declared.touch.Touch.{Touch};
-ghost use Rattle.sgt_history_graph.specs.declared.edge.Edge.{Edge};
+ghost use Rattle.sgt_graph.specs.declared.edge.Edge.{Edge};
 ghost use Rattle.sgt_history_verdict.specs.Steps.{AreAlong, AreBest, IsOf, Leads};
 
 use crate::along::line_behind;
 use crate::step::{Step, least, step_of};
+use sgt_graph::Edge;
 use sgt_history_faults::Touch;
-use sgt_history_graph::Edge;
 use std::alloc::{AllocError, Global};
 
 /// The line behind each of these lines, by line.

@@ -4,9 +4,9 @@ ghost use Rattle.std.specs.Prelude.{◌≡◌, ◌⊎◌, ◌↔◌, IsTrue, Som
 ghost use Rattle.sgt_history_conflicts.specs.Edges.{JoinsTouches};
 ghost use Rattle.sgt_history_verdict.specs.Steps.{IsOf, IsToldBefore, kind_between, kind_place, rank_at, step_between};
 
+use sgt_graph::Edge;
 use sgt_history::{Conflict, Kind};
 use sgt_history_faults::Touch;
-use sgt_history_graph::Edge;
 
 /// A step of a cycle: the transactions of two lines have this conflict by versions of this item.
 #[derive(Clone, Copy, Debug, PartialEq, Eq)]

@@ -1,6 +1,6 @@
 use Rattle.std.proofs.Common.{sym, subst}
 use Rattle.sgt_history.specs.declared.named.Graph.TheVariants.{Whole}
-use Rattle.sgt_history_graph.specs.Ordered.{IsOrdered}
+use Rattle.sgt_graph.specs.Ordered.{IsOrdered}
 use Rattle.sgt_history_kept.specs.Decided.{IsKept}
 use Rattle.sgt_history_verdict.proofs.Least.{edges-join, found-cycle, none-found}
 use Rattle.sgt_check_kept.proofs.KeptFrom.{kept-from}

@@ -1,5 +1,5 @@
 use Rattle.std.proofs.Common.{All}
-use Rattle.sgt_history_graph.specs.Graph.{JoinsNodes}
+use Rattle.sgt_graph.specs.Graph.{JoinsNodes}
 use Rattle.sgt_check_tests.proofs.graphs.edges_of.Given as goal
 
 abbrev pub invariant-loop-pair : goal.invariant-loop-pair

@@ -1,6 +1,6 @@
 use Rattle.std.proofs.Common.{◌≡◌, ◌≤◌, ◌<◌, ℕ, length, Some}
 use Rattle.std.specs.Prelude.{slice_get}
-use Rattle.sgt_history_graph.specs.declared.edge.Edge.{Edge}
+use Rattle.sgt_graph.specs.declared.edge.Edge.{Edge}
 use Rattle.sgt_history_conflicts.specs.Edges.{IsLined}
 use Rattle.sgt_history_conflicts.proofs.edges.put_lines.Given as goal
 

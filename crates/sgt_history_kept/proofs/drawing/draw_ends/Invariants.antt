@@ -1,5 +1,5 @@
 use Rattle.std.proofs.Common.{All}
-use Rattle.sgt_history_graph.specs.Graph.{JoinsNodes}
+use Rattle.sgt_graph.specs.Graph.{JoinsNodes}
 use Rattle.sgt_history_kept.proofs.drawing.draw_ends.Given as goal
 
 abbrev pub invariant-loop-at : goal.invariant-loop-at

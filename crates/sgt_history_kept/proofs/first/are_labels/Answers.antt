@@ -1,6 +1,6 @@
 use Rattle.std.proofs.Common.{ℕ, List, subst, ◌⊎◌}
 use Rattle.std.proofs.lemmas.Result.{IfOk-weaker}
-use Rattle.sgt_history_graph.specs.Graph.{Goes}
+use Rattle.sgt_graph.specs.Graph.{Goes}
 use Rattle.sgt_history_kept.specs.Decided.{IsAskedBefore}
 use Rattle.sgt_history_kept.specs.Rising.{Rises}
 use Rattle.sgt_history_kept.proofs.first.are_labels.Goals as goal

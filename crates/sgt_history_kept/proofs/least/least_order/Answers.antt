@@ -1,5 +1,5 @@
 use Rattle.std.proofs.Common.{All, subst, sym}
-use Rattle.sgt_history_graph.specs.Ordered.{IsOrdered}
+use Rattle.sgt_graph.specs.Ordered.{IsOrdered}
 use Rattle.sgt_history_kept.specs.Decided.{IsStepAmong}
 use Rattle.sgt_history_kept.proofs.Leasts.{among-sound, order-least, steps-join}
 use Rattle.sgt_history_kept.proofs.least.least_order.Goals as goal

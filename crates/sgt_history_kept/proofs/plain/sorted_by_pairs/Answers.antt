@@ -1,10 +1,10 @@
 use Rattle.std.proofs.Common.{◌≡◌, ℕ, ◌∙◌, List, Option, None, Vec, Global, sym, subst, All}
-use Rattle.sgt_history_graph.specs.declared.edge.Edge.{Edge}
-use Rattle.sgt_history_graph.specs.Graph.{JoinsNodes}
-use Rattle.sgt_history_graph.specs.declared.sorting.Ordered.{Ordered}
-use Rattle.sgt_history_graph.specs.declared.sorting.Ordered.TheVariants.{Cycle}
-use Rattle.sgt_history_graph.specs.First.{TellsFirst}
-use Rattle.sgt_history_graph.specs.Ordered.{IsOrdered}
+use Rattle.sgt_graph.specs.declared.edge.Edge.{Edge}
+use Rattle.sgt_graph.specs.Graph.{JoinsNodes}
+use Rattle.sgt_graph.specs.declared.sorting.Ordered.{Ordered}
+use Rattle.sgt_graph.specs.declared.sorting.Ordered.TheVariants.{Cycle}
+use Rattle.sgt_graph.specs.First.{TellsFirst}
+use Rattle.sgt_graph.specs.Ordered.{IsOrdered}
 use Rattle.sgt_history_kept.specs.Decided.{Adds, IsInRows}
 use Rattle.sgt_history_kept.proofs.Deciders.{forward-serves, plain-first, plain-forward, step-of}
 use Rattle.sgt_history_kept.proofs.Leasts.{committed-least, order-least}

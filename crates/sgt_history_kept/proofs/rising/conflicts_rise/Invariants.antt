@@ -1,6 +1,6 @@
 use Rattle.std.proofs.Common.{◌≡◌, ℕ, ◌<◌, ◌≤◌, Some, slice_index}
 use Rattle.std.specs.Prelude.{slice_get}
-use Rattle.sgt_history_graph.specs.declared.edge.Edge.{Edge}
+use Rattle.sgt_graph.specs.declared.edge.Edge.{Edge}
 use Rattle.sgt_history_kept.proofs.rising.conflicts_rise.Given as goal
 
 abbrev pub invariant-loop-edge : goal.invariant-loop-edge

@@ -1,6 +1,6 @@
 use Rattle.std.proofs.Common.{ℕ, List, Option, length, get_or, sym, subst, ◌⊎◌}
 use Rattle.std.proofs.lemmas.Option.{slice_get-get_or}
-use Rattle.sgt_history_graph.specs.Graph.{Goes}
+use Rattle.sgt_graph.specs.Graph.{Goes}
 use Rattle.sgt_history_kept.specs.Decided.{AreJoined, IsAskedBefore}
 use Rattle.sgt_history_time.specs.Steps.{StandsBefore}
 use Rattle.sgt_history_kept.proofs.Rounds.{leads-next, leads-round, not-empty, round-steps, steps-cycle}

@@ -1,5 +1,5 @@
 use Rattle.std.specs.Prelude.{◌⊎◌}
-use Rattle.sgt_history_graph.specs.Graph.{Goes}
+use Rattle.sgt_graph.specs.Graph.{Goes}
 use Rattle.sgt_history_kept.specs.Decided.{IsAskedBefore}
 use Rattle.sgt_history_kept.proofs.Rounds.{LeadsTo}
 use Rattle.sgt_history_kept.proofs.round.is_round.Given as goal

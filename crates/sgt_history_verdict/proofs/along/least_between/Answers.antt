@@ -1,6 +1,6 @@
 use Rattle.std.proofs.Common.{◌≡◌, ◌+◌, get_or, length, sym, subst, arith}
 use Rattle.std.proofs.lemmas.Option.{slice_get-get_or}
-use Rattle.sgt_history_graph.specs.declared.edge.Edge.{Edge}
+use Rattle.sgt_graph.specs.declared.edge.Edge.{Edge}
 use Rattle.sgt_history_verdict.specs.Steps.{IsBest, Leads}
 use Rattle.sgt_history_verdict.proofs.Telling.{best-hits, best-misses}
 use Rattle.sgt_history_verdict.proofs.along.least_between.Goals as goal

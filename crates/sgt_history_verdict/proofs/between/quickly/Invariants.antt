@@ -1,6 +1,6 @@
 use Rattle.std.proofs.Common.{ℕ, List, Option, length}
 use Rattle.sgt_history_faults.specs.declared.touch.Touch.{Touch}
-use Rattle.sgt_history_graph.specs.declared.edge.Edge.{Edge}
+use Rattle.sgt_graph.specs.declared.edge.Edge.{Edge}
 use Rattle.sgt_history_verdict.specs.Steps.{AreBest}
 use Rattle.sgt_history_verdict.proofs.LeastAlong.{AreBestTo}
 use Rattle.sgt_history_verdict.proofs.between.quickly.Given as goal

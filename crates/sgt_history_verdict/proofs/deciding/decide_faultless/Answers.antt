@@ -1,7 +1,7 @@
 use Rattle.std.proofs.Common.{sym, subst}
 use Rattle.sgt_history.specs.declared.named.Graph.TheVariants.{Whole}
 use Rattle.sgt_history_faults.specs.Judged.{IsFaultlessBy}
-use Rattle.sgt_history_graph.specs.Ordered.{IsOrdered}
+use Rattle.sgt_graph.specs.Ordered.{IsOrdered}
 use Rattle.sgt_history_verdict.specs.Decided.{IsFoundIn}
 use Rattle.sgt_history_verdict.proofs.Least.{edges-join, found-cycle, serial-by}
 use Rattle.sgt_history_verdict.proofs.deciding.decide_faultless.Goals as goal

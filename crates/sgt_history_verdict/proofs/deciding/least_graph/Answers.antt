@@ -1,6 +1,6 @@
 use Rattle.std.proofs.Common.{subst}
 use Rattle.sgt_history.specs.declared.named.Graph.TheVariants.{WriteWrite, WithReads}
-use Rattle.sgt_history_graph.specs.Ordered.{IsOrdered}
+use Rattle.sgt_graph.specs.Ordered.{IsOrdered}
 use Rattle.sgt_history_verdict.proofs.Least.{edges-join, found-cycle, none-found, least-first, least-second, least-third}
 use Rattle.sgt_history_verdict.proofs.deciding.least_graph.Goals as goal
 

@@ -1,0 +1,15 @@
+pub mod Starts
+pub mod Counting
+pub mod Filling
+pub mod Counts
+pub mod Placing
+pub mod Releasing
+pub mod Placed
+pub mod Trails
+pub mod Cycles
+pub mod Targets
+pub mod Ways
+pub mod Spreading
+pub mod Levels
+pub mod Nearby
+pub mod Distinct

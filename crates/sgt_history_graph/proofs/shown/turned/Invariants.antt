@@ -1,6 +1,0 @@
-use Rattle.std.proofs.Common.{All}
-use Rattle.sgt_history_graph.specs.Graph.{JoinsNodes}
-use Rattle.sgt_history_graph.proofs.shown.turned.Given as goal
-
-abbrev pub invariant-loop-edge : goal.invariant-loop-edge
-invariant-loop-edge l = All (JoinsNodes l.fn.nodes) l.turned.items

@@ -1,6 +1,0 @@
-use Rattle.std.proofs.Common.{take}
-use Rattle.sgt_history_graph.proofs.Placing.{AreCounted}
-use Rattle.sgt_history_graph.proofs.sorting.counts_of.Given as goal
-
-abbrev pub invariant-counting : goal.invariant-counting
-invariant-counting l = AreCounted l.nodes (take l.edge-index l.edges) l.counts.items
