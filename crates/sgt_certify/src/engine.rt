@@ -35,7 +35,7 @@ fn fault_line(alloc: Global, line: usize, fault: Fault) -> Result<Vec<u8>, Alloc
 }
 
 /// A no for the first fault of a text.
-fn fault_answer(alloc: Global, first: FirstFault) -> Result<Answer, AllocError>
+pub fn fault_answer(alloc: Global, first: FirstFault) -> Result<Answer, AllocError>
     ensures { IfOk result
         (λ a. (bytes : List ℕ) → IsFirstFault bytes first.line first.fault
         → IsAnswer bytes a.outcome a.text.items) }

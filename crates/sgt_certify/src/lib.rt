@@ -12,6 +12,7 @@ mod taking;
 mod telling;
 
 pub use deciding::{Answer, sound_answer};
-pub use engine::certify;
+pub use early::Early;
+pub use engine::{certify, fault_answer};
 pub use laws::{a_yes_is_told_exactly_where_there_is_a_certificate, the_first_reason_is_told};
 pub use refuting::Refusal;

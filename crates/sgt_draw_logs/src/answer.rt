@@ -7,6 +7,7 @@ ghost use Rattle.sgt_bundle.specs.Valid.{IsValid};
 ghost use Rattle.sgt_certify.specs.Answer.{HasCertificate, IsAnswer, SpellsValid};
 ghost use Rattle.sgt_audit.specs.Verdict.{IsVerdict, text_of};
 ghost use Rattle.sgt_explain.specs.Explained.{IsVerdictOn};
+ghost use Rattle.sgt_explain_logs.specs.Taken.{AreReadOf};
 ghost use Rattle.sgt_draw.specs.Drawn.{IsDrawn};
 ghost use Rattle.sgt_draw_logs.specs.Drawing.{IsLogsDrawing, IsRefusalShown, IsShown};
 
@@ -14,7 +15,7 @@ use sgt_audit::{Verdict, read_bundle};
 use sgt_bundle::Bundle;
 use sgt_draw::{Answer, Wanted, picture};
 use sgt_explain::Front;
-use sgt_explain_logs::certified;
+use sgt_explain_logs::{Logs, answer_of};
 use sgt_history_picture::refusal_picture_of;
 use sgt_names::{EngineFail, Outcome};
 use std::alloc::{AllocError, Global};
@@ -73,14 +74,16 @@ fn shown(
 }
 
 /// The answer to logs without a certificate.
-pub(crate) fn logs_answer(alloc: Global, wanted: Wanted, bytes: &[u8]) -> Result<Answer, EngineFail>
-    ensures answer { IfOk result
-        (λ a. IsLogsDrawing wanted (Some bytes.now) a.outcome a.text.items) }
-    ensures exact { IfOk result (λ a. a.outcome ≡ Outcome.Yes ↔ HasCertificate bytes.now) }
-    ensures long { result ≡ Err EngineFail.ReadFault → most_reads ≤ length bytes.now }
+pub(crate) fn logs_answer(alloc: Global, wanted: Wanted, logs: &Logs) -> Result<Answer, EngineFail>
+    requires { AreReadOf logs.now.text.items logs.now }
+    ensures answer { (told : Option (List ℕ)) → IfSome told (λ bytes. AreReadOf bytes logs.now)
+        → IfOk result (λ a. IsLogsDrawing wanted told a.outcome a.text.items) }
+    ensures exact { (bytes : List ℕ) → AreReadOf bytes logs.now
+        → IfOk result (λ a. a.outcome ≡ Outcome.Yes ↔ HasCertificate bytes) }
+    ensures long { result ≡ Err EngineFail.ReadFault → most_reads ≤ length logs.now.text.items }
     ensures write { result ≢ Err EngineFail.WriteFault }
 {
-    let found = certified(alloc, bytes)?;
+    let found = answer_of(alloc, logs)?;
     let text = shown(alloc, wanted, found.outcome, found.text.as_slice())?;
     Ok(Answer {
         outcome: found.outcome,

@@ -5,16 +5,17 @@ ghost use Rattle.sgt_devices.specs.Devices.{LeavesKeptReader, LeavesWriter};
 ghost use Rattle.sgt_audit.specs.Faults.{BeginsNoneBehind};
 ghost use Rattle.sgt_certify.specs.Answer.{HasCertificate};
 ghost use Rattle.sgt_explain_logs.specs.Explained.{AreLogs};
+ghost use Rattle.sgt_explain_logs.specs.Taken.{BeganInTime};
 ghost use Rattle.sgt_draw_logs.specs.Drawing.{IsDrawing, WroteDrawing, WroteDrawingFront};
 
 use crate::answer::{bundle_answer, logs_answer};
 use sgt_draw::{Answer, Wanted};
-use sgt_explain::{read_judged, read_rest};
-use sgt_explain_logs::peek;
+use sgt_explain::read_judged;
+use sgt_explain_logs::{peek, read_logs};
 use sgt_names::{EngineFail, Outcome, Sink, Source, write_all};
 use std::alloc::Global;
 
-/// The answer to what the reader gives: to all of logs, and of all else to the lines up to the first fault.
+/// The answer to what the reader gives, by the lines up to the first fault.
 fn answer<R: Source>(alloc: Global, wanted: Wanted, reader: &mut R) -> Result<Answer, EngineFail>
     ensures answer { IfOk result
         (λ a. IsDrawing wanted (R.tells reader.old) a.outcome a.text.items) }
@@ -22,13 +23,15 @@ fn answer<R: Source>(alloc: Global, wanted: Wanted, reader: &mut R) -> Result<An
         (λ bytes. AreLogs bytes → (a.outcome ≡ Outcome.Yes ↔ HasCertificate bytes))) }
     ensures none_behind { IfOk result (λ _. IfSome (R.tells reader.old) (λ bytes. (AreLogs bytes → ⊥)
         → IfSome (R.tells reader.new) (λ left. BeginsNoneBehind bytes (length left) (R.last reader.new)))) }
+    ensures little_behind { IfOk result (λ _. IfSome (R.tells reader.old) (λ bytes. AreLogs bytes
+        → IfSome (R.tells reader.new) (λ left. BeganInTime bytes (length left) (R.last reader.new)))) }
     ensures reader { LeavesKeptReader R.tells R.failures result reader.old reader.new }
     ensures write_fault { result ≢ Err EngineFail.WriteFault }
 {
     let peeked = peek(alloc, reader)?;
     if peeked.are_logs {
-        let bytes = read_rest(alloc, reader, peeked.text)?;
-        logs_answer(alloc, wanted, bytes.as_slice())
+        let logs = read_logs(alloc, reader, peeked.text)?;
+        logs_answer(alloc, wanted, &logs)
     } else {
         let front = read_judged(alloc, reader, peeked.text)?;
         bundle_answer(alloc, wanted, &front)
@@ -38,8 +41,8 @@ fn answer<R: Source>(alloc: Global, wanted: Wanted, reader: &mut R) -> Result<An
 /// Draws what the reader gives. Logs without a certificate, whose line 2 begins with `site `, are certified first: after a
 /// yes the picture is that of the certified bundle, as `draw` of sgt_draw has it; after a no it shows the cycle alone
 /// that the answer of `certify` tells, whatever transaction is wanted, and where it tells none (`no line L FN`,
-/// `no walk`) that answer is written. All else is answered as by `draw`, and read no further than the first line with a
-/// fault. What is read is kept in memory: of logs all.
+/// `no walk`) that answer is written. All else is answered as by `draw`. The input is read no further than the first
+/// line with a fault: of logs, than `certify` reads them. What is read is kept in memory.
 ///
 /// ReadFault where the reader failed, or too many reads were needed (`MOST_READS` of sgt_names), and Memory where a
 /// growth was refused: nothing was written. WriteFault where the writer failed: a front of the answer may have been
@@ -56,9 +59,11 @@ pub fn draw_either<R: Source, W: Sink>(
     ensures exact { IfOk result (λ outcome. IfSome (R.tells reader.old)
         (λ bytes. AreLogs bytes → (outcome ≡ Outcome.Yes ↔ HasCertificate bytes))) }
 
-    // Of what isn't logs nothing is read behind the line with the first fault.
+    // Of what isn't logs nothing is read behind the line with the first fault, and of logs little.
     ensures none_behind { IfOk result (λ _. IfSome (R.tells reader.old) (λ bytes. (AreLogs bytes → ⊥)
         → IfSome (R.tells reader.new) (λ left. BeginsNoneBehind bytes (length left) (R.last reader.new)))) }
+    ensures little_behind { IfOk result (λ _. IfSome (R.tells reader.old) (λ bytes. AreLogs bytes
+        → IfSome (R.tells reader.new) (λ left. BeganInTime bytes (length left) (R.last reader.new)))) }
 
     ensures front { OnErr result (WroteDrawingFront wanted (R.tells reader.old)
         (W.holds writer.old) (W.holds writer.new)) }

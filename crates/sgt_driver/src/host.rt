@@ -17,7 +17,7 @@ use sgt_program::program;
 use sgt_status::LineName;
 use std::fs::File;
 use std::io;
-use std::io::Write;
+use std::io::{Read, Write};
 use std::sync::Wait;
 use std::thread::Threads;
 
@@ -129,6 +129,18 @@ pub(crate) fn open<'a, S: Streams, H>(
     Ok(Steady::new(input, progress, tail, host.hush))
 }
 
+/// What is read, as a source.
+pub(crate) fn source_of<'a, 'b, S: Streams, I: Read>(
+    rt: &HostRuntime,
+    steady: &'b mut Steady<'a, S, Input<I>>,
+) -> FromRead<&'b mut Steady<'a, S, Input<I>>> {
+    if steady.is_still(rt) {
+        FromRead::still(steady)
+    } else {
+        FromRead::new(steady)
+    }
+}
+
 /// The status of what ended with this one; why a read failed is told.
 pub(crate) fn ended<S: Streams, H>(
     host: &Host<'_, S, H>,
@@ -160,11 +172,7 @@ pub(crate) fn over<S: Streams, H: Threads + Wait + Sync, W: Sink>(
     let mut errors = ToWrite::new(LastWords::new(host.streams.errors(), host.hush));
     let mut fronted = Fronted::new(writer);
     let status = {
-        let mut reader = if steady.is_still(host.rt) {
-            FromRead::still(&mut steady)
-        } else {
-            FromRead::new(&mut steady)
-        };
+        let mut reader = source_of(host.rt, &mut steady);
         program(
             host.threads,
             host.rt.alloc(),

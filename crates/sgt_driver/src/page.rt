@@ -4,14 +4,15 @@ ghost use Rattle.std.specs.Prelude.{IfOk, IfErr};
 ghost use Rattle.sgt_driver.specs.Status.{IsStatus};
 
 use crate::devices::{Held, LastWords};
-use crate::host::{Host, ended, file_of, open, word_of, writer};
+use crate::host::{Host, ended, file_of, open, source_of, word_of, writer};
 use crate::object::answer_into;
 use crate::streams::Streams;
 use sgt_command_line::{Choice, NoChoice};
-use sgt_explain::read_all;
+use sgt_explain::read_judged;
+use sgt_explain_logs::{peek, read_logs};
 use sgt_history_picture::picture_of;
 use sgt_line::{CommandName, Line};
-use sgt_names::{Asks, Bytes, EngineFail, FromRead, Nowhere, ToWrite, write_all};
+use sgt_names::{Asks, Bytes, EngineFail, Nowhere, Source, ToWrite, write_all};
 use sgt_page::{Answered, page_of_answer, rule_in};
 use sgt_program::program;
 use std::alloc::{AllocError, Global};
@@ -29,8 +30,18 @@ pub(crate) fn asks_page(line: &Line, choice: &Result<Choice, NoChoice>) -> bool 
     }
 }
 
-// All that is read under this name; the status, where it can't be opened or a read failed.
-fn whole<S: Streams, H>(
+// As much of what a reader gives as an explanation is told of: nothing behind a fault has to be there.
+fn read_explained<R: Source>(alloc: Global, reader: &mut R) -> Result<Vec<u8>, EngineFail> {
+    let peeked = peek(alloc, reader)?;
+    if peeked.are_logs {
+        Ok(read_logs(alloc, reader, peeked.text)?.text)
+    } else {
+        Ok(read_judged(alloc, reader, peeked.text)?.text)
+    }
+}
+
+// What is explained of what is read under this name; the status, where it can't be opened or a read failed.
+fn explained<S: Streams, H>(
     host: &Host<'_, S, H>,
     name: &str,
 ) -> Result<Result<Vec<u8>, u8>, EngineFail>
@@ -41,8 +52,8 @@ fn whole<S: Streams, H>(
         Err(status) => return Ok(Err(status)),
     };
     let read = {
-        let mut reader = FromRead::new(&mut steady);
-        read_all(host.rt.alloc(), &mut reader)
+        let mut reader = source_of(host.rt, &mut steady);
+        read_explained(host.rt.alloc(), &mut reader)
     };
     match read {
         Ok(text) => Ok(Ok(text)),
@@ -191,7 +202,7 @@ fn explain_page<S: Streams, H: Threads + Wait + Sync>(
 ) -> Result<u8, EngineFail>
     ensures { IfOk result IsStatus }
 {
-    let text = match whole(host, file_of(line.files.first()))? {
+    let text = match explained(host, file_of(line.files.first()))? {
         Ok(text) => text,
         Err(status) => return Ok(status),
     };

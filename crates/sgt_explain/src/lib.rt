@@ -20,5 +20,5 @@ mod yeses;
 pub use asked::{Asked, Explained};
 pub use engine::{explain, explain_front, explain_topic};
 pub use front::{Front, read_front, read_judged};
-pub use reading::{empty_buffer, read_all, read_rest, take_some};
+pub use reading::{empty_buffer, take_some};
 pub use topics::{Anomaly, Reply, Topic};

@@ -1,10 +1,9 @@
-//! All that a reader gives, kept in memory.
+//! What a reader gives, read by read, kept in memory.
 
-ghost use Rattle.std.specs.Prelude.{◌≡◌, ◌≢◌, ◌+◌, ◌++◌, ◌<◌, ◌≤◌, Err, length, take, IfOk, IfSome, IsErrOf};
-ghost use Rattle.std.specs.Io.KnownBytes.{Consumes, IsAtEnd, prepend_known};
-ghost use Rattle.sgt_devices.specs.Devices.{LeavesKeptReader};
+ghost use Rattle.std.specs.Prelude.{◌≡◌, ◌≢◌, ◌+◌, ◌++◌, ◌<◌, ◌≤◌, Err, length, take, IfOk, IsErrOf};
+ghost use Rattle.std.specs.Io.KnownBytes.{Consumes, IsAtEnd};
 
-use sgt_names::{BUFFER, EngineFail, MOST_READS, Source};
+use sgt_names::{BUFFER, EngineFail, Source};
 use std::alloc::{AllocError, Global};
 
 pub fn empty_buffer(alloc: Global) -> Result<Vec<u8>, AllocError>
@@ -40,37 +39,4 @@ pub fn take_some<R: Source>(
         }
         Err(_) => Err(EngineFail::ReadFault),
     }
-}
-
-/// A text that was read before, and all that the reader gives behind it. ReadFault where a read failed or too many
-/// were needed (`MOST_READS` of sgt_names); Memory where a growth was refused.
-pub fn read_rest<R: Source>(
-    alloc: Global,
-    reader: &mut R,
-    text: Vec<u8>,
-) -> Result<Vec<u8>, EngineFail>
-    ensures all { IfOk result (λ all. IfSome (prepend_known text.items (R.tells reader.old))
-        (λ bytes. all.items ≡ bytes)) }
-    ensures reader { LeavesKeptReader R.tells R.failures result reader.old reader.new }
-    ensures write_fault { result ≢ Err EngineFail.WriteFault }
-{
-    let mut buffer = empty_buffer(alloc)?;
-    let mut text = text;
-    let mut reads = 0u32;
-    'reads: while reads < MOST_READS {
-        if take_some(reader, buffer.as_mut_slice(), &mut text)? == 0 {
-            return Ok(text);
-        }
-        reads += 1;
-    }
-    Err(EngineFail::ReadFault)
-}
-
-/// All that the reader gives.
-pub fn read_all<R: Source>(alloc: Global, reader: &mut R) -> Result<Vec<u8>, EngineFail>
-    ensures all { IfOk result (λ text. IfSome (R.tells reader.old) (λ bytes. text.items ≡ bytes)) }
-    ensures reader { LeavesKeptReader R.tells R.failures result reader.old reader.new }
-    ensures write_fault { result ≢ Err EngineFail.WriteFault }
-{
-    read_rest(alloc, reader, Vec::new(alloc))
 }

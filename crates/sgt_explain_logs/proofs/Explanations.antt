@@ -3,7 +3,6 @@ use Rattle.std.proofs.Common.{◌≡◌, ◌↔◌, ℕ, List, length, Bool, tru
 use Rattle.std.specs.Prelude.{IfSome, OnErr}
 use Rattle.std.proofs.lemmas.Bool.{true≢false}
 use Rattle.sgt_names.specs.declared.outcome.EngineFail.{EngineFail}
-use Rattle.sgt_names.specs.declared.outcome.Outcome.{Outcome}
 use Rattle.sgt_audit.specs.Faults.{BeginsNoneBehind}
 use Rattle.sgt_audit.specs.declared.verdict.Verdict.{Verdict}
 use Rattle.sgt_explain.specs.Asked.{transaction_in}
@@ -11,9 +10,11 @@ use Rattle.sgt_explain.specs.Explained as bundle
 use Rattle.sgt_explain.specs.declared.asked.Asked.{Asked}
 use Rattle.sgt_explain.specs.declared.asked.Explained.{Explained}
 use Rattle.sgt_explain.proofs.Telling.{wrote-front}
-use Rattle.sgt_explain_logs.specs.Either.{IsExplanation, WroteExplanation, WroteExplanationFront}
+use Rattle.sgt_explain_logs.specs.Either.{WroteExplanation, WroteExplanationFront}
 use Rattle.sgt_explain_logs.specs.Explained.{AreLogs, IsFound}
 use Rattle.sgt_explain_logs.specs.Explained as logs
+use Rattle.sgt_explain_logs.specs.Taken.{AreReadOf, BeganInTime}
+use Rattle.sgt_explain_logs.specs.declared.taking.Logs.{Logs}
 
 -- what was tested and isn't so does not hold
 pub refuted : {P : Type 0} (r : Bool) → IsTrue r ↔ P → r ≡ false → P → ⊥
@@ -30,48 +31,53 @@ pub other-told : (told : Option (List ℕ)) (r : Bool) → r ≡ false → IfSom
 other-told None r miss both = tt
 other-told (Some bytes) r miss both = refuted r both miss
 
--- ---- of logs, whose bytes were all read
+-- ---- of logs that were read
 
-module _ (told : Option (List ℕ)) (bytes : List ℕ) (same : IfSome told (λ xs. bytes ≡ xs)) where
-  told-explained : (outcome : Outcome) (text : List ℕ) → logs.IsExplained (Some bytes) outcome text
-      → logs.IsExplained told outcome text
-  told-explained outcome text = go told same
+module _ (told : Option (List ℕ)) (taken : Logs) (read : IfSome told (λ bytes. AreReadOf bytes taken)) where
+  told-found : IfSome told AreLogs → (asked : Option ℕ) (found : Bool)
+      → ((bytes : List ℕ) → AreReadOf bytes taken → IsFound bytes asked found)
+      → IfSome told (λ bytes. AreLogs bytes × IsFound bytes asked found)
+  told-found are asked found is = go told read are
     where
-      go : (told : Option (List ℕ)) → IfSome told (λ xs. bytes ≡ xs) → logs.IsExplained (Some bytes) outcome text
-          → logs.IsExplained told outcome text
-      go None same (answer, is, begins) = (answer, tt, begins)
-      go (Some xs) same is = subst (λ ys. logs.IsExplained (Some ys) outcome text) same is
-
-  told-found : IfSome told AreLogs → (asked : Option ℕ) (found : Bool) → IsFound bytes asked found
-      → IfSome told (λ xs. AreLogs xs × IsFound xs asked found)
-  told-found are asked found = go told same are
-    where
-      go : (told : Option (List ℕ)) → IfSome told (λ xs. bytes ≡ xs) → IfSome told AreLogs → IsFound bytes asked found
-          → IfSome told (λ xs. AreLogs xs × IsFound xs asked found)
-      go None same are is = tt
-      go (Some xs) same are is = (are, subst (λ ys. IsFound ys asked found) same is)
+      go : (told : Option (List ℕ)) → IfSome told (λ bytes. AreReadOf bytes taken) → IfSome told AreLogs
+          → IfSome told (λ bytes. AreLogs bytes × IsFound bytes asked found)
+      go None read are = tt
+      go (Some bytes) read are = (are, is bytes read)
 
   pub logs-wrote : IfSome told AreLogs → (old new : Option (List ℕ)) (asked : Asked) (tx : Option ℕ)
       → tx ≡ transaction_in asked → (r : Result Explained EngineFail)
-      → IfOk r (λ e. logs.WroteExplained (Some bytes) e.outcome old new) → IfOk r (λ e. IsFound bytes tx e.is_found)
+      → IfOk r (λ e. logs.WroteExplained told e.outcome old new)
+      → ((bytes : List ℕ) → AreReadOf bytes taken → IfOk r (λ e. IsFound bytes tx e.is_found))
       → IfOk r (λ e. WroteExplanation asked told e old new)
   logs-wrote are old new asked tx e (Ok ended) (text, is, appends) found = (
     text,
     inl (
       told-found are (transaction_in asked) ended.is_found
-          (subst (λ (o : Option ℕ). IsFound bytes o ended.is_found) e found),
-      told-explained ended.outcome text is,
+          (λ bytes there. subst (λ (o : Option ℕ). IsFound bytes o ended.is_found) e (found bytes there)),
+      is,
     ),
     appends,
   )
   logs-wrote are old new asked tx e (Err fail) wrote found = tt
 
-  pub logs-front : (old new : Option (List ℕ)) (r : Result Explained EngineFail)
-      → OnErr r (logs.WroteExplainedFront (Some bytes) old new) → OnErr r (WroteExplanationFront told old new)
-  logs-front old new (Ok e) front = tt
-  logs-front old new (Err fail) (inl none) = inl (inl none)
-  logs-front old new (Err fail) (inr (outcome, text, is, writes)) =
-      inl (inr (outcome, text, told-explained outcome text is, writes))
+  -- what is so of the bytes that were read is so of those told
+  pub logs-told : {A : Type 0} (r : Result A EngineFail) (P : A → List ℕ → Type 0)
+      → ((bytes : List ℕ) → AreReadOf bytes taken → IfOk r (λ a. P a bytes))
+      → IfOk r (λ a. IfSome told (λ bytes. AreLogs bytes → P a bytes))
+  logs-told (Err fail) P is = tt
+  logs-told {A} (Ok a) P is = go told read
+    where
+      go : (told : Option (List ℕ)) → IfSome told (λ bytes. AreReadOf bytes taken)
+          → IfSome told (λ bytes. AreLogs bytes → P a bytes)
+      go None read = tt
+      go (Some bytes) read = λ are. is bytes read
+
+-- of what isn't logs nothing is said of them
+pub never-logs : {A : Type 0} (r : Result A EngineFail) (told : Option (List ℕ)) (P : A → List ℕ → Type 0)
+    → IfSome told (λ bytes. AreLogs bytes → ⊥) → IfOk r (λ a. IfSome told (λ bytes. AreLogs bytes → P a bytes))
+never-logs (Err fail) told P other = tt
+never-logs (Ok a) None P other = tt
+never-logs (Ok a) (Some bytes) P other = λ are. absurd (other are)
 
 -- ---- of a bundle, by the front that its verdict is told of
 
@@ -110,3 +116,12 @@ pub stops-logs : {A E : Type 0} (r : Result A E) (told now : Option (List ℕ)) 
 stops-logs (Err fail) told now last are = tt
 stops-logs (Ok a) None now last are = tt
 stops-logs (Ok a) (Some bytes) now last are = λ other. absurd (other are)
+
+-- of logs little is read behind the line with the first fault
+pub soon-logs : {A : Type 0} (r : Result A EngineFail) (told now : Option (List ℕ)) (last : ℕ)
+    → IfSome told (λ bytes. IfSome now (λ left. BeganInTime bytes (length left) last))
+    → IfOk r (λ _. IfSome told
+    (λ bytes. AreLogs bytes → IfSome now (λ left. BeganInTime bytes (length left) last)))
+soon-logs (Err fail) told now last soon = tt
+soon-logs (Ok a) None now last soon = tt
+soon-logs (Ok a) (Some bytes) now last soon = λ are. soon

@@ -1,2 +1,3 @@
 pub mod Either
 pub mod Explained
+pub mod Taken

@@ -4,8 +4,10 @@ ghost use Rattle.std.specs.Prelude.{◌≡◌, ◌≢◌, ◌≤◌, ◌↔◌, 
 ghost use Rattle.sgt_names.specs.Limits.{most_reads};
 ghost use Rattle.sgt_certify.specs.Answer.{HasCertificate, IsAnswer};
 ghost use Rattle.sgt_explain_logs.specs.Explained.{IsFirstLine, IsHead};
+ghost use Rattle.sgt_explain_logs.specs.Taken.{AreReadOf};
 
-use sgt_certify::certify;
+use crate::taking::Logs;
+use sgt_certify::{certify, fault_answer};
 use sgt_names::{Asks, Bytes, EngineFail, Outcome, Written};
 use sgt_notation::split_line;
 use std::alloc::{AllocError, Global};
@@ -38,7 +40,7 @@ fn fail_of(fail: EngineFail) -> EngineFail
 }
 
 /// What `certify` answers of the bytes. ReadFault from 4294967295 bytes on alone.
-pub fn certified(alloc: Global, bytes: &[u8]) -> Result<Answer, EngineFail>
+fn certified(alloc: Global, bytes: &[u8]) -> Result<Answer, EngineFail>
     ensures answer { IfOk result (λ a. IsAnswer bytes.now a.outcome a.text.items) }
     ensures exact { IfOk result (λ a. a.outcome ≡ Outcome.Yes ↔ HasCertificate bytes.now) }
     ensures long { result ≡ Err EngineFail.ReadFault → most_reads ≤ length bytes.now }
@@ -56,6 +58,25 @@ pub fn certified(alloc: Global, bytes: &[u8]) -> Result<Answer, EngineFail>
             text: writer.bytes,
         }),
         Err(fail) => Err(fail_of(fail)),
+    }
+}
+
+/// What `certify` answers of logs that were read. ReadFault from 4294967295 bytes on alone.
+pub fn answer_of(alloc: Global, logs: &Logs) -> Result<Answer, EngineFail>
+    ensures answer { IfOk result (λ a. (bytes : List ℕ) → AreReadOf bytes logs.now
+        → IsAnswer bytes a.outcome a.text.items) }
+    ensures long { result ≡ Err EngineFail.ReadFault → most_reads ≤ length logs.now.text.items }
+    ensures write { result ≢ Err EngineFail.WriteFault }
+{
+    match logs.first {
+        Some(first) => {
+            let found = fault_answer(alloc, first)?;
+            Ok(Answer {
+                outcome: found.outcome,
+                text: found.text,
+            })
+        }
+        None => certified(alloc, logs.text.as_slice()),
     }
 }
 

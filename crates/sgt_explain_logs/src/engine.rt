@@ -1,22 +1,25 @@
-//! The explanation of all that a reader gives.
+//! The explanation of logs that were read.
 
-ghost use Rattle.std.specs.Prelude.{◌≡◌, ◌≢◌, ◌<◌, ◌↔◌, ◌++◌, ℕ, List, Err, IfOk, OnErr, IfSome};
-ghost use Rattle.sgt_devices.specs.Devices.{LeavesKeptReader, LeavesWriter};
+ghost use Rattle.std.specs.Prelude.{◌≡◌, ◌≢◌, ◌<◌, ◌≤◌, ◌↔◌, ◌++◌, ℕ, List, Option, Err, length, IfOk, OnErr, IfSome};
+ghost use Rattle.sgt_names.specs.Limits.{most_reads};
+ghost use Rattle.sgt_devices.specs.Devices.{LeavesWriter};
 ghost use Rattle.sgt_certify.specs.Answer.{HasCertificate, IsAnswer, refusal_text};
 ghost use Rattle.sgt_certify.specs.declared.refuting.Refusal.{Refusal};
 ghost use Rattle.sgt_certify_faults.specs.Faults.{IsFaultless};
 ghost use Rattle.sgt_explain_logs.specs.Explained.{Begins, IsExplained, IsFound, IsFoundBefore, WroteExplained, WroteExplainedFront};
+ghost use Rattle.sgt_explain_logs.specs.Taken.{AreReadOf};
 
-use crate::answer::{Answer, behind, certified, head_of};
+use crate::answer::{Answer, answer_of, behind, head_of};
 use crate::cycles::push_ranks;
 use crate::faults::push_fault;
 use crate::order::push_order;
 use crate::steps::{Reason, reason_of};
+use crate::taking::Logs;
 use crate::walk::push_walk;
 use crate::yes::push_yes;
-use sgt_explain::{Explained, read_all};
+use sgt_explain::Explained;
 use sgt_explain_transaction::push_dealings;
-use sgt_names::{EngineFail, Outcome, Sink, Source, Tx, write_all};
+use sgt_names::{EngineFail, Outcome, Sink, Tx, write_all};
 use std::alloc::{AllocError, Global};
 use std::fmt::Write;
 
@@ -161,57 +164,56 @@ fn explanation_of(
     })
 }
 
-/// The explanation of all that the reader gives.
-fn explain_read<R: Source>(
+/// The explanation of logs that were read.
+fn explanation_read(
     alloc: Global,
-    reader: &mut R,
     asked: Option<Tx>,
+    logs: &Logs,
 ) -> Result<Explanation, EngineFail>
-    ensures answer { IfOk result
-        (λ e. IsExplained (R.tells reader.old) e.explained.outcome e.text.items) }
-    ensures exact { IfOk result (λ e. IfSome (R.tells reader.old)
-        (λ bytes. e.explained.outcome ≡ Outcome.Yes ↔ HasCertificate bytes)) }
-    ensures found { IfOk result (λ e. IfSome (R.tells reader.old)
-        (λ bytes. IsFound bytes asked e.explained.is_found)) }
-    ensures reader { LeavesKeptReader R.tells R.failures result reader.old reader.new }
-    ensures write_fault { result ≢ Err EngineFail.WriteFault }
+    requires { AreReadOf logs.now.text.items logs.now }
+    ensures answer { (told : Option (List ℕ)) → IfSome told (λ bytes. AreReadOf bytes logs.now)
+        → IfOk result (λ e. IsExplained told e.explained.outcome e.text.items) }
+    ensures exact { (bytes : List ℕ) → AreReadOf bytes logs.now
+        → IfOk result (λ e. e.explained.outcome ≡ Outcome.Yes ↔ HasCertificate bytes) }
+    ensures found { (bytes : List ℕ) → AreReadOf bytes logs.now
+        → IfOk result (λ e. IsFound bytes asked e.explained.is_found) }
+    ensures long { result ≡ Err EngineFail.ReadFault → most_reads ≤ length logs.now.text.items }
+    ensures write { result ≢ Err EngineFail.WriteFault }
 {
-    let bytes = read_all(alloc, reader)?;
-    let answer = certified(alloc, bytes.as_slice())?;
-    let explanation = explanation_of(alloc, bytes.as_slice(), &answer, asked)?;
+    let answer = answer_of(alloc, logs)?;
+    let explanation = explanation_of(alloc, logs.text.as_slice(), &answer, asked)?;
     Ok(explanation)
 }
 
-/// Explains the logs that the reader gives, a bundle's text without its line 2: what `certify` answers of them, and
+/// Explains logs that were read (`read_logs`), a bundle's text without its line 2: what `certify` answers of them, and
 /// why. Of a yes the counts, and what to type next. Of `no line L FN` the rule, the line, and what would have to stand
 /// there. Of `no ranks` each step of the cycle, and the anomaly's name. Of `no order` the ends that stand against one
 /// another, and what of their transactions is in conflict. Of `no walk` the refused transactions that are next, with
 /// what they did. Where a transaction is asked for, also what it did: its entries at each site with their lines, and whom
-/// it is in conflict with, in which direction; of logs with a fault in the lines before that. The input is read whole
-/// and kept in memory.
+/// it is in conflict with, in which direction; of logs with a fault in the lines before that.
 ///
-/// ReadFault where the reader failed, or too many reads were needed (`MOST_READS` of sgt_names), and Memory where a
-/// growth was refused: nothing was written. WriteFault where the writer failed: a front of the explanation may have
-/// been written.
-pub fn explain_logs<R: Source, W: Sink>(
+/// ReadFault from 4294967295 bytes on alone, and Memory where a growth was refused: nothing was written. WriteFault where
+/// the writer failed: a front of the explanation may have been written.
+pub(crate) fn explain_logs<W: Sink>(
     alloc: Global,
     asked: Option<Tx>,
-    reader: &mut R,
+    logs: &Logs,
     writer: &mut W,
 ) -> Result<Explained, EngineFail>
-    ensures answer { IfOk result
-        (λ explained. WroteExplained (R.tells reader.old) explained.outcome (W.holds writer.old)
+    requires { AreReadOf logs.now.text.items logs.now }
+    ensures answer { (told : Option (List ℕ)) → IfSome told (λ bytes. AreReadOf bytes logs.now)
+        → IfOk result (λ explained. WroteExplained told explained.outcome (W.holds writer.old)
         (W.holds writer.new)) }
-    ensures exact { IfOk result (λ explained. IfSome (R.tells reader.old)
-        (λ bytes. explained.outcome ≡ Outcome.Yes ↔ HasCertificate bytes)) }
-    ensures found { IfOk result (λ explained. IfSome (R.tells reader.old)
-        (λ bytes. IsFound bytes asked explained.is_found)) }
-    ensures front { OnErr result
-        (WroteExplainedFront (R.tells reader.old) (W.holds writer.old) (W.holds writer.new)) }
-    ensures reader { LeavesKeptReader R.tells R.failures result reader.old reader.new }
+    ensures exact { (bytes : List ℕ) → AreReadOf bytes logs.now
+        → IfOk result (λ explained. explained.outcome ≡ Outcome.Yes ↔ HasCertificate bytes) }
+    ensures found { (bytes : List ℕ) → AreReadOf bytes logs.now
+        → IfOk result (λ explained. IsFound bytes asked explained.is_found) }
+    ensures front { (told : Option (List ℕ)) → IfSome told (λ bytes. AreReadOf bytes logs.now)
+        → OnErr result (WroteExplainedFront told (W.holds writer.old) (W.holds writer.new)) }
+    ensures long { result ≡ Err EngineFail.ReadFault → most_reads ≤ length logs.now.text.items }
     ensures writer { LeavesWriter W.failures result writer.old writer.new }
 {
-    let explanation = explain_read(alloc, reader, asked)?;
+    let explanation = explanation_read(alloc, asked, logs)?;
     match write_all(writer, explanation.text.as_slice()) {
         Ok(()) => Ok(explanation.explained),
         Err(_) => Err(EngineFail::WriteFault),

@@ -11,11 +11,12 @@ mod logs;
 mod order;
 mod peeking;
 mod steps;
+mod taking;
 mod telling;
 mod walk;
 mod yes;
 
-pub use answer::{Answer, certified};
+pub use answer::{Answer, answer_of};
 pub use either::explain_either;
-pub use engine::explain_logs;
 pub use peeking::{Peeked, are_logs, peek};
+pub use taking::{Logs, read_logs};

@@ -3,7 +3,7 @@
 ghost use Rattle.std.specs.Prelude.{◌≡◌, ◌≢◌, ◌<◌, ◌≤◌, ◌↔◌, ◌++◌, ℕ, List, Err, false, true, IfOk, IfSome, IsErrOf, IsTrue, length};
 ghost use Rattle.std.specs.Io.KnownBytes.{Consumes};
 ghost use Rattle.sgt_audit.specs.Faults.{BeginsNoneBehind};
-ghost use Rattle.sgt_explain_logs.specs.Explained.{AreLogs, BeginsWith, IsOpenHead};
+ghost use Rattle.sgt_explain_logs.specs.Explained.{AreLogs, BeginsWith, IsOpenHead, IsPeeked};
 
 use crate::answer::behind;
 use sgt_explain::{empty_buffer, take_some};
@@ -57,6 +57,8 @@ pub fn peek<R: Source>(alloc: Global, reader: &mut R) -> Result<Peeked, EngineFa
         (λ peeked. Consumes (R.tells reader.old) (R.tells reader.new) peeked.text.items) }
     ensures are { IfOk result
         (λ peeked. IfSome (R.tells reader.old) (λ bytes. IsTrue peeked.are_logs ↔ AreLogs bytes)) }
+    ensures peeked { IfOk result
+        (λ peeked. IsPeeked reader.old reader.new peeked.text.items (R.last reader.new)) }
     ensures none_behind { IfOk result (λ _. IfSome (R.tells reader.old) (λ bytes. IfSome (R.tells reader.new)
         (λ left. BeginsNoneBehind bytes (length left) (R.last reader.new)))) }
     ensures quiet { result ≢ Err EngineFail.ReadFault

@@ -1,23 +1,88 @@
-use Rattle.std.proofs.Common.{◌≡◌, List, ℕ, sym, subst}
+use Rattle.std.proofs.Common.{◌≡◌, ◌↔◌, ◌∙◌, inl, inr, length}
 use Rattle.std.specs.Prelude.{IfSome}
+use Rattle.std.proofs.lemmas.Result.{on_err_weaker}
+use Rattle.sgt_names.specs.Limits.{most_reads}
+use Rattle.sgt_names.specs.declared.outcome.Outcome.TheVariants.{Yes}
 use Rattle.sgt_audit.specs.Verdict.{IsVerdict}
+use Rattle.sgt_certify.specs.Answer.{HasCertificate}
 use Rattle.sgt_explain.specs.Front.{IsFrontOf}
 use Rattle.sgt_explain.proofs.Fronts.{reads-back}
 use Rattle.sgt_explain.proofs.Taken.{told-back}
-use Rattle.sgt_explain_logs.proofs.Explanations.{are-told, bundle-front, bundle-wrote, logs-wrote, other-told, stops-other}
+use Rattle.sgt_explain_logs.specs.Taken.{AreReadOf, BeganInTime}
+use Rattle.sgt_explain_logs.proofs.Explanations.{are-told, bundle-front, bundle-wrote, logs-told, logs-wrote, never-logs, other-told, soon-logs, stops-logs, stops-other}
+use Rattle.sgt_explain_logs.proofs.Readings.{long-read, soon-back}
 use Rattle.sgt_explain_logs.proofs.either.explain_either.Goals as goal
 
-pub returns-in_ok-bytes-clause-answer : goal.returns-in_ok-bytes-clause-answer
-returns-in_ok-bytes-clause-answer g c =
+pub explain_logs-requires : goal.explain_logs-requires
+explain_logs-requires g c = c.in_ok-logs.ensures.alone
+
+pub returns-in_ok-logs-clause-answer : goal.returns-in_ok-logs-clause-answer
+returns-in_ok-logs-clause-answer g c =
     let told = g.R.Source.tells c.args.reader.now in
     let peeked = c.in_ok-peeked.peeked in
-    let same = subst (λ (t : List ℕ). IfSome told (λ xs. t ≡ xs)) (sym c.as_slice.ensures.value)
-    (told-back told (g.R.Source.tells c.peek.new.reader) peeked.text.items (λ xs. c.in_ok-bytes.bytes.items ≡ xs)
-    c.in_ok-peeked.ensures.came c.in_ok-bytes.ensures.all) in
-    logs-wrote told c.as_slice.result.now same
-    (are-told told peeked.are_logs c.if-peeked.true c.in_ok-peeked.ensures.are)
-    (g.W.Sink.holds c.args.writer.now) (g.W.Sink.holds c.explain_held.new.writer) c.args.asked c.transaction.result
-    c.transaction.ensures c.explain_held.result c.explain_held.ensures.answer c.explain_held.ensures.found
+    let logs = c.in_ok-logs.logs in
+    let read = told-back told (g.R.Source.tells c.peek.new.reader) peeked.text.items (λ bytes. AreReadOf bytes logs)
+    c.in_ok-peeked.ensures.came c.in_ok-logs.ensures.read in
+    logs-wrote told logs read (are-told told peeked.are_logs c.if-peeked.true c.in_ok-peeked.ensures.are)
+    (g.W.Sink.holds c.args.writer.now) (g.W.Sink.holds c.explain_logs.new.writer) c.args.asked c.transaction.result
+    c.transaction.ensures c.explain_logs.result (c.explain_logs.ensures.answer told read) c.explain_logs.ensures.found
+
+pub returns-in_ok-logs-clause-exact : goal.returns-in_ok-logs-clause-exact
+returns-in_ok-logs-clause-exact g c =
+    let told = g.R.Source.tells c.args.reader.now in
+    let logs = c.in_ok-logs.logs in
+    let read = told-back told (g.R.Source.tells c.peek.new.reader) c.in_ok-peeked.peeked.text.items
+    (λ bytes. AreReadOf bytes logs) c.in_ok-peeked.ensures.came c.in_ok-logs.ensures.read in
+    logs-told told logs read c.explain_logs.result (λ e bytes. (e.outcome ≡ Yes) ↔ HasCertificate bytes)
+    c.explain_logs.ensures.exact
+
+pub returns-in_ok-logs-clause-none_behind : goal.returns-in_ok-logs-clause-none_behind
+returns-in_ok-logs-clause-none_behind g c =
+    let told = g.R.Source.tells c.args.reader.now in
+    let read = c.read_logs.new.reader in
+    stops-logs c.explain_logs.result told (g.R.Source.tells read) (g.R.Source.last read)
+    (are-told told c.in_ok-peeked.peeked.are_logs c.if-peeked.true c.in_ok-peeked.ensures.are)
+
+pub returns-in_ok-logs-clause-little_behind : goal.returns-in_ok-logs-clause-little_behind
+returns-in_ok-logs-clause-little_behind g c =
+    let tells = g.R.Source.tells in
+    let read = c.read_logs.new.reader in
+    soon-logs c.explain_logs.result (tells c.args.reader.now) (tells read) (g.R.Source.last read)
+    (soon-back tells g.R.Source.last c.args.reader.now c.peek.new.reader read c.in_ok-peeked.peeked.text.items
+    c.in_ok-peeked.ensures.came c.in_ok-peeked.ensures.peeked c.in_ok-logs.ensures.reads)
+
+pub returns-in_ok-logs-clause-front : goal.returns-in_ok-logs-clause-front
+returns-in_ok-logs-clause-front g c =
+    let told = g.R.Source.tells c.args.reader.now in
+    let logs = c.in_ok-logs.logs in
+    let read = told-back told (g.R.Source.tells c.peek.new.reader) c.in_ok-peeked.peeked.text.items
+    (λ bytes. AreReadOf bytes logs) c.in_ok-peeked.ensures.came c.in_ok-logs.ensures.read in
+    on_err_weaker c.explain_logs.result (λ wrote. inl wrote) (c.explain_logs.ensures.front told read)
+
+pub returns-in_ok-logs-clause-reader : goal.returns-in_ok-logs-clause-reader
+returns-in_ok-logs-clause-reader g c =
+    let told = g.R.Source.tells c.args.reader.now in
+    let logs = c.in_ok-logs.logs in
+    let read = told-back told (g.R.Source.tells c.peek.new.reader) c.in_ok-peeked.peeked.text.items
+    (λ bytes. AreReadOf bytes logs) c.in_ok-peeked.ensures.came c.in_ok-logs.ensures.read in
+    record {
+      due = λ is. inr (long-read told logs most_reads read (c.explain_logs.ensures.long is));
+      quiet = λ other. c.in_ok-logs.ensures.reader.quiet (λ e. cc) ∙ c.in_ok-peeked.ensures.quiet (λ e. cc);
+    }
+
+pub returns-in_ok-front-clause-exact : goal.returns-in_ok-front-clause-exact
+returns-in_ok-front-clause-exact g c =
+    let told = g.R.Source.tells c.args.reader.now in
+    never-logs c.explain_front.result told (λ e bytes. (e.outcome ≡ Yes) ↔ HasCertificate bytes)
+    (other-told told c.in_ok-peeked.peeked.are_logs c.if-peeked.false c.in_ok-peeked.ensures.are)
+
+pub returns-in_ok-front-clause-little_behind : goal.returns-in_ok-front-clause-little_behind
+returns-in_ok-front-clause-little_behind g c =
+    let told = g.R.Source.tells c.args.reader.now in
+    let read = c.read_judged.new.reader in
+    never-logs c.explain_front.result told
+    (λ e bytes. IfSome (g.R.Source.tells read) (λ left. BeganInTime bytes (length left) (g.R.Source.last read)))
+    (other-told told c.in_ok-peeked.peeked.are_logs c.if-peeked.false c.in_ok-peeked.ensures.are)
 
 pub returns-in_ok-front-clause-answer : goal.returns-in_ok-front-clause-answer
 returns-in_ok-front-clause-answer g c =

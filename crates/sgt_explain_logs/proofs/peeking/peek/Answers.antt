@@ -63,3 +63,12 @@ reads-preserved g c =
         c.reads.buffer.ok.0,
       );
     }
+
+pub returns-then-branch-eq0-clause-peeked : goal.returns-then-branch-eq0-clause-peeked
+returns-then-branch-eq0-clause-peeked g c =
+    let n = c.in_ok-take_some.field-0 in
+    let taken = c.in_ok-take_some.ensures.taken in
+    let opened = subst IsOpenHead c.as_slice-in-reads.ensures.value (c.is_open.ensures.opened c.if-not-is_open.false) in
+    peeked-more c.args.reader.now c.take_some.new.reader c.take_some.new.text.items c.reads.text.items
+    c.take_some.new.buffer n (g.R.Source.last c.take_some.new.reader) opened taken.1 taken.2
+    c.in_ok-take_some.ensures.gave
