@@ -36,7 +36,8 @@ fn order_answer(
         → AreRuns setting.now.asked.times.items
         → IsJudged bytes js (numbered setting.now (closed_of history.now)) a) }
 {
-    match first_break(alloc, setting, history, order)? {
+    let told = first_break(alloc, setting, history, order)?;
+    match told {
         None => Ok(yes(history.lines.as_slice(), None)),
         Some(found) => Ok(Answer::Breaks(found)),
     }

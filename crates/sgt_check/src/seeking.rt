@@ -158,10 +158,11 @@ fn faultless_answer(
 {
     let History { operations, lines } = history;
     drop(operations);
+    let all = lines.as_slice();
     if asks_nothing(&setting.asked) {
-        plain_answer(alloc, setting, lines.as_slice(), touches, options)
+        plain_answer(alloc, setting, all, touches, options)
     } else {
-        kept_answer(alloc, setting, lines.as_slice(), touches, options)
+        kept_answer(alloc, setting, all, touches, options)
     }
 }
 

@@ -13,9 +13,9 @@ returns-in-None c = λ js bytes ordered names runs.
     subst (IsJudged bytes js (numbered s (closed_of history)))
     (sym (c.yes.ensures ∙ ap (λ (ls : List Line). yes_of ls None) c.as_slice.ensures.value))
     (served-judged bytes js s history.lines.items history.operations.items c.requires c.args.order.now ordered names
-    (rw c.in-None.is at c.in_ok-found.ensures))
+    (rw c.in-None.is at c.in_ok-told.ensures))
 
 pub returns-in-Some : goal.returns-in-Some
 returns-in-Some c = λ js bytes ordered names runs.
     first-judged bytes js c.args.setting.now (closed_of c.args.history.now) c.requires c.args.order.now ordered names
-    runs c.in-Some.found (rw c.in-Some.is at c.in_ok-found.ensures)
+    runs c.in-Some.found (rw c.in-Some.is at c.in_ok-told.ensures)
