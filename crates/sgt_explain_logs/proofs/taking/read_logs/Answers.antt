@@ -1,9 +1,10 @@
-use Rattle.std.proofs.Common.{◌≡◌, ◌+◌, ◌≤◌, ◌∙◌, ◌++◌, ℕ, List, [], Option, Some, None, Result, length, take, drop, inl, inr, refl, sym, ap, subst, arith, append-nil, length-append, length-drop}
+use Rattle.std.proofs.Common.{◌≡◌, ◌+◌, ◌<◌, ◌≤◌, ◌∙◌, ◌++◌, ℕ, List, [], Option, Some, None, Result, length, take, drop, inl, inr, refl, sym, ap, subst, arith, append-nil, length-append, length-drop}
 use Rattle.std.proofs.lemmas.List.{length-take, length-take-le}
 use Rattle.std.proofs.lemmas.Result.{err_from_is_err_and}
 use Rattle.std.specs.Io.KnownBytes.{Consumes, prepend_known}
 use Rattle.sgt_names.specs.Limits.{max_line, most_reads}
 use Rattle.sgt_names.specs.declared.outcome.EngineFail.{EngineFail}
+use Rattle.sgt_notation.specs.Lines.{IsLongerThan}
 use Rattle.sgt_certify.specs.Reach.{IsJudgedTo, IsWithinRoom}
 use Rattle.sgt_certify.proofs.Judged.{nothing-judged}
 use Rattle.sgt_certify_faults.specs.Faults.{IsFirstFault}
@@ -35,6 +36,12 @@ reads-init g c =
 pub advance-requires : goal.advance-requires
 advance-requires g c = subst (IsCut c.reads.cut) (sym c.as_slice.ensures.value) c.reads.invariant.cut
 
+pub fault_so_far-requires-clause-long : goal.fault_so_far-requires-clause-long
+fault_so_far-requires-clause-long g c =
+    let lines = c.advance.new.self.lines in
+    subst (λ (t : List ℕ). lines + max_line < length t → IsLongerThan max_line (drop lines t))
+    (c.as_slice.ensures.value ∙ sym c.as_slice-in-reads.ensures.value) c.advance.ensures.long
+
 pub returns-in-Some-clause-read : goal.returns-in-Some-clause-read
 returns-in-Some-clause-read g c =
     let told = g.R.Source.tells c.args.reader.now in
@@ -43,14 +50,14 @@ returns-in-Some-clause-read g c =
     let first = c.in-Some.first in
     fault-read (prepend_known c.args.text.items told) now text first
     (came-front c.args.text.items text told now c.reads.invariant.told)
-    (λ more. subst (λ (t : List ℕ). IsFirstFault (t ++ more) first.line first.fault) c.as_slice-found.ensures.value
+    (λ more. subst (λ (t : List ℕ). IsFirstFault (t ++ more) first.line first.fault) c.as_slice-in-reads.ensures.value
     ((rw c.in-Some.is at c.in_ok-found.ensures.found) more))
 
 pub returns-in-Some-clause-alone : goal.returns-in-Some-clause-alone
 returns-in-Some-clause-alone g c =
     let first = c.in-Some.first in
     fault-alone c.reads.text.items first
-    (λ more. subst (λ (t : List ℕ). IsFirstFault (t ++ more) first.line first.fault) c.as_slice-found.ensures.value
+    (λ more. subst (λ (t : List ℕ). IsFirstFault (t ++ more) first.line first.fault) c.as_slice-in-reads.ensures.value
     ((rw c.in-Some.is at c.in_ok-found.ensures.found) more))
 
 pub returns-in-Some-clause-reads : goal.returns-in-Some-clause-reads
@@ -97,7 +104,7 @@ returns-then-branch-eq0-clause-reads g c =
     let text = c.reads.text.items in
     let new = c.take_some.new.text.items in
     let early = c.fault_so_far.new.early in
-    let same = c.as_slice-found.ensures.value in
+    let same = c.as_slice-in-reads.ensures.value in
     let is = subst (IsCut cut) c.as_slice.ensures.value c.advance.ensures.cut in
     let room = subst (λ (t : List ℕ). IsWithinRoom early.judged cut.lines × (length t ≤ cut.lines + max_line)) same
     (rw c.in_default.is at c.in_ok-found.ensures.room) in
@@ -125,7 +132,7 @@ reads-preserved g c =
     let text = c.reads.text.items in
     let new = c.take_some.new.text.items in
     let early = c.fault_so_far.new.early in
-    let same = c.as_slice-found.ensures.value in
+    let same = c.as_slice-in-reads.ensures.value in
     let is = subst (IsCut cut) c.as_slice.ensures.value c.advance.ensures.cut in
     let room = subst (λ (t : List ℕ). IsWithinRoom early.judged cut.lines × (length t ≤ cut.lines + max_line)) same
     (rw c.in_default.is at c.in_ok-found.ensures.room) in
