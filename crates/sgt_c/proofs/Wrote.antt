@@ -8,8 +8,8 @@ use Rattle.sgt_audit.specs.declared.verdict.Verdict.TheVariants as verdict
 use Rattle.sgt_explain.specs.Explained.{IsExplainedOf, outcome_of}
 use Rattle.sgt_explain.specs.declared.asked.Asked.TheVariants.{All as Each}
 use Rattle.sgt_explain.specs.declared.asked.Explained.{Explained}
-use Rattle.sgt_check.proofs.Exact.{answer-exact}
-use Rattle.sgt_check.specs.Answer.{IsAnswer, SpellsSerializable}
+use Rattle.sgt_check.proofs.Exact.{serializable-exact}
+use Rattle.sgt_check.specs.Answer.{IsAnswer, SpellsSerializable, find, neither}
 use Rattle.sgt_c.specs.Answers.{ended_in, IsChecked, IsCheckText, IsRoom, IsYes, number_of, number_of_check, number_of_outcome, plainly}
 use Rattle.sgt_c.specs.declared.answers.NoAnswer.{NoAnswer}
 use Rattle.sgt_c.specs.declared.answers.NoAnswer.TheVariants.{Memory, Long}
@@ -58,24 +58,24 @@ none-missing bytes e text (v, front, on, (meaning, means, found, ended, is)) =
 -- ---- histories
 
 pub checked : (bytes : List ℕ) (n : ℕ) (o : Outcome) (text : List ℕ) → n ≡ number_of_check o
-    → IsAnswer plainly bytes o text → IsCheckText bytes n text
+    → IsAnswer neither (find plainly) bytes o text → IsCheckText bytes n text
 checked bytes n Yes text is p = inl (is, p)
 checked bytes n No text is p = inr (inl (is, p))
 checked bytes n Unreadable text is p = inr (inr (is, p))
 
 pub check-exact : (bytes : List ℕ) (n : ℕ) (text : List ℕ) → IsCheckText bytes n text
     → IsYes n ↔ SpellsSerializable bytes
-check-exact bytes n text (inl (is, a)) = (λ yes. (answer-exact plainly bytes text Yes a).0 refl, λ spelled. is)
+check-exact bytes n text (inl (is, a)) = (λ yes. (serializable-exact plainly bytes text Yes a).0 refl, λ spelled. is)
 check-exact bytes n text (inr (inl (is, a))) = (
   λ yes. absurd (omega (arith, is, yes)),
-  λ spelled. absurd (other ((answer-exact plainly bytes text No a).1 spelled)),
+  λ spelled. absurd (other ((serializable-exact plainly bytes text No a).1 spelled)),
 )
   where
     other : No ≡ Yes → ⊥
     other e = cc
 check-exact bytes n text (inr (inr (is, a))) = (
   λ yes. absurd (omega (arith, is, yes)),
-  λ spelled. absurd (other ((answer-exact plainly bytes text Unreadable a).1 spelled)),
+  λ spelled. absurd (other ((serializable-exact plainly bytes text Unreadable a).1 spelled)),
 )
   where
     other : Unreadable ≡ Yes → ⊥

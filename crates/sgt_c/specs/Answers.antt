@@ -111,6 +111,6 @@ plainly = record { order = false }
 -- can't be read
 abbrev pub IsCheckText : List ℕ → ℕ → List ℕ → Type 0
 IsCheckText bytes n text =
-    ((n ≡ 0) × check.IsAnswer plainly bytes outcome.Yes text)
-    ⊎ (((n ≡ 1) × check.IsAnswer plainly bytes outcome.No text)
-    ⊎ ((n ≡ 2) × check.IsAnswer plainly bytes outcome.Unreadable text))
+    ((n ≡ 0) × check.IsAnswer check.neither (check.find plainly) bytes outcome.Yes text)
+    ⊎ (((n ≡ 1) × check.IsAnswer check.neither (check.find plainly) bytes outcome.No text)
+    ⊎ ((n ≡ 2) × check.IsAnswer check.neither (check.find plainly) bytes outcome.Unreadable text))

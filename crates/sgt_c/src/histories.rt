@@ -8,6 +8,7 @@ ghost use Rattle.sgt_c.specs.Answers.{IsChecked, IsCheckText, IsLong, IsNumber, 
 use crate::answers::{NoAnswer, SGT_NO, SGT_UNREADABLE, SGT_YES};
 use crate::texts::{Answered, measure, no_answer, put};
 use sgt_check::{Options, check};
+use sgt_history_text::Wanted;
 use sgt_names::{Asks, Bytes, Outcome, Written};
 use std::alloc::Global;
 
@@ -33,7 +34,11 @@ fn check_text(alloc: Global, bytes: &[u8]) -> Result<Answered, NoAnswer>
         last: 0,
     };
     let mut writer = Written::new(alloc);
-    match check(alloc, &mut reader, &mut writer, Options { order: false }) {
+    let neither = Wanted {
+        real_time: false,
+        sessions: false,
+    };
+    match check(alloc, &mut reader, &mut writer, Options { order: false }, neither) {
         Ok(outcome) => Ok(Answered {
             number: number_of_check(outcome),
             text: writer.bytes,

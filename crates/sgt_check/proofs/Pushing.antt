@@ -17,3 +17,9 @@ four o a b c d x y z w e f g h = two o a (b ++ (c ++ d)) x w e (three x b c d y 
 pub five : (o a b c d k x y z w v : List ℕ) → x ≡ o ++ a → y ≡ x ++ b → z ≡ y ++ c → w ≡ z ++ d → v ≡ w ++ k
     → v ≡ o ++ (a ++ (b ++ (c ++ (d ++ k))))
 five o a b c d k x y z w v e f g h i = two o a (b ++ (c ++ (d ++ k))) x v e (four x b c d k y z w v f g h i)
+
+pub six : (o a b c d e f s t u v w x : List ℕ) → s ≡ o ++ a → t ≡ s ++ b → u ≡ t ++ c → v ≡ u ++ d → w ≡ v ++ e
+    → x ≡ w ++ f
+    → x ≡ o ++ (a ++ (b ++ (c ++ (d ++ (e ++ f)))))
+six o a b c d e f s t u v w x e1 e2 e3 e4 e5 e6 =
+    two o a (b ++ (c ++ (d ++ (e ++ f)))) s x e1 (five s b c d e f t u v w x e2 e3 e4 e5 e6)

@@ -8,7 +8,7 @@ use Rattle.sgt_history.specs.Transaction.{Transaction}
 use Rattle.sgt_history.specs.declared.history.Line.{Line}
 use Rattle.sgt_history.specs.declared.history.Operation.{Operation}
 use Rattle.sgt_history_faults.proofs.Bounds.{length-cut}
-use Rattle.sgt_check.specs.Text.{value_at, value_of}
+use Rattle.sgt_check.specs.Found.{value_at, value_of}
 
 pub value_there : (h : List (Transaction ℕ ℕ)) (line place : ℕ) (t : Transaction ℕ ℕ) (o : Option (Operation ℕ ℕ))
     → slice_get h line ≡ Some t

@@ -1,143 +1,169 @@
--- What a text of a history is answered by.
-use Rattle.std.specs.Prelude.{◌≡◌, ◌⊎◌, ℕ, ◌<◌, false, List, [], ◌++◌, length, All, Option, Some, IfSome, slice_get}
+-- What a text of a history, and an order from outside, are answered by.
+use Rattle.std.specs.Prelude.{◌≡◌, ◌⊎◌, ◌↔◌, ℕ, false, List, [], map, Option, Some, IfSome}
 use Rattle.std.specs.Io.KnownBytes.{Appends}
 use Rattle.json.specs.Json.{Json}
 use Rattle.sgt_names.specs.Device.{AppendsOrForgets, WritesFront}
 use Rattle.sgt_names.specs.declared.outcome.Outcome.{Outcome}
-use Rattle.sgt_names.specs.declared.outcome.Outcome.TheVariants.{Yes, No, Unreadable}
-use Rattle.sgt_history.specs.Conflicts.{ConflictIn, HasCycle, HaveConflict, IsAmong, IsCycle, IsOperation}
-use Rattle.sgt_history.specs.Flaws.{IsFaultless, IsFirstFault}
-use Rattle.sgt_history.specs.Serial.{IsSerializable, Serves}
-use Rattle.sgt_history.specs.Transaction.{Transaction}
-use Rattle.sgt_history.specs.declared.history.Operation.{Operation}
-use Rattle.sgt_history.specs.declared.named.Conflict.{Conflict}
-use Rattle.sgt_history.specs.declared.named.Flaw.{Flaw}
-use Rattle.sgt_history.specs.declared.named.Graph.{Graph}
-use Rattle.sgt_history_evidence.specs.Evidence.{IsEvidence}
-use Rattle.sgt_history_evidence.specs.declared.evidence.Evidence.{Evidence}
-use Rattle.sgt_graph.specs.First.{IsShownFirst}
+use Rattle.sgt_names.specs.declared.outcome.Outcome.TheVariants as outcome
+use Rattle.sgt_history.specs.Serial.{IsSerializable}
+use Rattle.sgt_history.specs.Transaction.{Transaction, renamed_operation, renamed_value}
 use Rattle.sgt_history_text.specs.Name.{compact}
 use Rattle.sgt_history_text.specs.Reading.{nth}
-use Rattle.sgt_history_text.specs.Text.{IsFirstUnreadable, Spells}
+use Rattle.sgt_history_text.specs.Text.{IsFirstUnreadable, Spells, SpellsWith}
 use Rattle.sgt_history_text.specs.declared.fault.LineFault.{LineFault}
 use Rattle.sgt_history_text.specs.declared.wanted.Wanted.{Wanted}
-use Rattle.sgt_history_verdict.specs.Steps.{lines_of, place_behind}
-use Rattle.sgt_history_verdict.specs.Verdict.{IsBelow, IsLeastFirst}
-use Rattle.sgt_history_verdict.specs.declared.step.Step.{Step}
-use Rattle.sgt_check.specs.Rank.{IsShownBefore}
-use Rattle.sgt_check.specs.Text.{Spelling, aborted_of, committed_of, counts_text, cycle_text, fault_text, order_part, unreadable_text}
+use Rattle.sgt_history_time.specs.Serializable.{IsSerializableKeeping, ServesKeeping}
+use Rattle.sgt_history_time.specs.declared.times.Times.{Times}
+use Rattle.sgt_check.specs.Found.{Given, IsCycleOf, IsFaultOf, IsJudged, IsKeptCycleOf, IsYes}
+use Rattle.sgt_check.specs.Kept.{kept_by}
+use Rattle.sgt_check.specs.Order.{NameEach, lines_of}
+use Rattle.sgt_check.specs.Text.{outcome_of, text_of}
+use Rattle.sgt_check.specs.declared.answer.Answer.{Answer}
+use Rattle.sgt_check.specs.declared.answer.Answer.TheVariants.{Yes, Faulty, Conflicts, Links, Unreadable, Stray, Breaks}
+use Rattle.sgt_check.specs.declared.answer.Told.{Told}
+use Rattle.sgt_check.specs.declared.naming.Naming.{Naming}
 use Rattle.sgt_check.specs.declared.options.Options.{Options}
 
--- names are written as JSON, compact: ids by their lines, items and values as they are
-abbrev pub compactly : List Json → Spelling Json Json
-compactly ids = record { id = λ line. compact (nth ids line); item = compact; value = compact }
-
--- the same, of items by their numbers
-abbrev pub by_number : List Json → List Json → Spelling ℕ Json
-by_number ids items = record { id = λ line. compact (nth ids line); item = λ n. compact (nth items n); value = compact }
-
--- ---- yes
-
--- the history that the bytes spell is serializable: an order serves; it is told where it is asked for, and has the
--- least line first of those that may stand behind those before
-pub record IsYes (options : Options) (bytes text : List ℕ) : Type 0 where
-  pub ids : List Json
-  pub h : List (Transaction Json Json)
-  pub spells : Spells bytes ids h
-  pub order : List ℕ
-  pub serves : Serves h order
-  pub least : IsLeastFirst h order
-  pub text_is : text ≡ counts_text (committed_of h) (aborted_of h) ++ order_part options.order (compactly ids) order
-
--- ---- no
-
--- it has this first fault, behind which this evidence stands
-pub record IsFaultTold (bytes text : List ℕ) : Type 0 where
-  pub ids : List Json
-  pub h : List (Transaction Json Json)
-  pub spells : Spells bytes ids h
-  pub line : ℕ
-  pub flaw : Flaw
-  pub place : ℕ
-  pub first : IsFirstFault h line flaw place
-  pub t : Transaction Json Json
-  pub o : Operation Json Json
-  pub is : IsOperation h line place t o
-  pub evidence : Evidence
-  pub behind : IsEvidence h line place t o flaw evidence
-  pub text_is : text ≡ fault_text (compactly ids) h line flaw o evidence
-
--- the step, whose item has a number, is a conflict of the graph
-pub record IsStepOf {I V : Type 0} (h : List (Transaction I V)) (item_of : ℕ → I) (g : Graph) (s : Step) : Type 0 where
-  pub among : IsAmong g s.kind
-  pub conflict : HaveConflict h s.kind s.from s.to (item_of s.item) s.from_version s.to_version
-
--- each is one, and leads to where the next one begins, the last to where the first does
-pub record AreStepsOf {I V : Type 0} (h : List (Transaction I V)) (item_of : ℕ
-    → I) (g : Graph) (steps : List Step) : Type 0 where
-  pub some : 0 < length steps
-  pub each : All (IsStepOf h item_of g) steps
-  pub onward : (place : ℕ) (s t : Step) → slice_get steps place ≡ Some s
-      → slice_get steps (place_behind place (length steps)) ≡ Some t → s.to ≡ t.from
-
--- each is shown before all other conflicts of the graph from its line to the next
-abbrev pub AreShownFirst : {V : Type 0} → List (Transaction Json V) → (item_of : ℕ → Json) → Graph → List Step → Type 0
-AreShownFirst h item_of g steps = All (λ (s : Step). (kind : Conflict) (x : Json) (v w : ℕ) → IsAmong g kind
-    → HaveConflict h kind s.from s.to x v w
-    → IsShownBefore s.kind (item_of s.item) s.from_version kind x v) steps
-
--- it has no fault; the graph is the least that has a cycle; these conflicts of it form the first of its
--- cycles: that of the least line that lies on one, of that line's the shortest, of those the one whose
--- lines are, from it on, the least; and of several from one line to the next each is the one that is shown first: by
--- kind, by item, by version. So one text alone is told
-pub record IsCycleTold (bytes text : List ℕ) : Type 0 where
-  pub ids : List Json
-  pub h : List (Transaction Json Json)
-  pub spells : Spells bytes ids h
-  pub faultless : IsFaultless h
-  pub graph : Graph
-  pub has : HasCycle h graph
-  pub least : (less : Graph) → IsBelow less graph → HasCycle h less → ⊥
-  pub items : List Json
-  pub steps : List Step
-  pub are : AreStepsOf h (nth items) graph steps
-  pub is : IsCycle (ConflictIn h graph) (lines_of steps)
-  pub first : (other : List ℕ) → IsCycle (ConflictIn h graph) other → IsShownFirst (lines_of steps) other
-  pub shown : AreShownFirst h (nth items) graph steps
-  pub text_is : text ≡ cycle_text (by_number ids items) steps
-
--- ---- a line that can't be read
+-- ---- the history that is answered
 
 -- lines needn't tell more than their transactions
 abbrev pub neither : Wanted
 neither = record { real_time = false; sessions = false }
 
--- the first line that can't be read, or doesn't tell what is wanted besides
-pub record IsUnreadable (w : Wanted) (bytes text : List ℕ) : Type 0 where
-  pub line : ℕ
-  pub fault : LineFault
-  pub first : IsFirstUnreadable w bytes line fault
-  pub text_is : text ≡ unreadable_text line fault
+-- the bytes spell this history, and tell this of what is wanted; these are the texts of its names
+pub record IsHistory (w : Wanted) (bytes : List ℕ) (n : Naming) : Type 0 where
+  pub ids : List Json
+  pub items : List Json
+  pub values : List Json
+  pub names : List Json
+  pub h : List (Transaction Json Json)
+  pub times : List (Option Times)
+  pub sessions : List (Option Json)
+  pub spells : SpellsWith w bytes ids h times sessions
+  pub id_texts : n.ids ≡ map compact ids
+  pub item_texts : n.items ≡ map compact items
+  pub value_texts : n.values ≡ map compact values
+  pub session_texts : n.sessions ≡ map compact names
+
+-- numbers stand for what these name
+abbrev pub named : {w : Wanted} {bytes : List ℕ} {n : Naming} → IsHistory w bytes n → Given Json Json Json
+named s = record {
+  h = s.h;
+  kept = kept_by s.times s.sessions s.names;
+  operation = renamed_operation (nth s.items) (nth s.values);
+  value = renamed_value (nth s.values);
+}
+
+-- ---- what is asked
+
+-- for an order that serves and keeps what is wanted; or whether the text of one from outside does
+pub data Question : Type 0 where
+  find : Options → Question
+  given : List ℕ → Question
 
 -- ---- the answer
 
-abbrev pub IsAnswer : Options → List ℕ → Outcome → List ℕ → Type 0
-IsAnswer options bytes Yes text = IsYes options bytes text
-IsAnswer options bytes No text = IsFaultTold bytes text ⊎ IsCycleTold bytes text
-IsAnswer options bytes Unreadable text = IsUnreadable neither bytes text
+-- where an order is searched for
+abbrev pub IsFound : {w : Wanted} {bytes : List ℕ} {n : Naming} → Options → IsHistory w bytes n → Answer → Type 0
+IsFound options s (Yes committed aborted order) = IsYes (named s) options.order committed aborted order
+IsFound options s (Faulty f) = IsFaultOf (named s) f
+IsFound options s (Conflicts steps) = IsCycleOf s.h (nth s.items) steps.items
+IsFound options s (Links links) = IsKeptCycleOf s.h (kept_by s.times s.sessions s.names) (nth s.items) links.items
+IsFound options s (Unreadable line fault) = ⊥
+IsFound options s (Stray number) = ⊥
+IsFound options s (Breaks found) = ⊥
+
+abbrev pub IsAbout : {w : Wanted} {bytes : List ℕ} {n : Naming} → Question → IsHistory w bytes n → Answer → Type 0
+IsAbout (find options) s answer = IsFound options s answer
+IsAbout (given order) s answer = IsJudged order s.ids (named s) answer
+
+-- it is about the history that the bytes spell; or their first line that can't be read, or doesn't tell what is wanted
+abbrev pub Answers : Wanted → Question → List ℕ → Naming → Answer → Type 0
+Answers w q bytes n (Yes committed aborted order) =
+    (s : IsHistory w bytes n) × IsAbout q s (Yes committed aborted order)
+Answers w q bytes n (Faulty f) = (s : IsHistory w bytes n) × IsAbout q s (Faulty f)
+Answers w q bytes n (Conflicts steps) = (s : IsHistory w bytes n) × IsAbout q s (Conflicts steps)
+Answers w q bytes n (Links links) = (s : IsHistory w bytes n) × IsAbout q s (Links links)
+Answers w q bytes n (Unreadable line fault) = IsFirstUnreadable w bytes line fault
+Answers w q bytes n (Stray number) = (s : IsHistory w bytes n) × IsAbout q s (Stray number)
+Answers w q bytes n (Breaks found) = (s : IsHistory w bytes n) × IsAbout q s (Breaks found)
+
+abbrev pub IsTold : Wanted → Question → List ℕ → Told → Type 0
+IsTold w q bytes told = Answers w q bytes told.naming told.answer
+
+-- the text of an answer, and how the exit status tells it
+pub record IsAnswer (w : Wanted) (q : Question) (bytes : List ℕ) (outcome : Outcome) (text : List ℕ) : Type 0 where
+  pub told : Told
+  pub is : IsTold w q bytes told
+  pub outcome_is : outcome ≡ outcome_of told.answer
+  pub text_is : text ≡ text_of told
+
+-- ---- what is decided
 
 -- the bytes spell a serializable history
 abbrev pub SpellsSerializable : List ℕ → Type 0
 SpellsSerializable bytes = (ids : List Json) × (h : List (Transaction Json Json)) × Spells bytes ids h
     × IsSerializable h
 
+-- the bytes spell a history, and tell what is wanted, so that an order serves and keeps it
+abbrev pub SpellsKeeping : Wanted → List ℕ → Type 0
+SpellsKeeping w bytes = (ids : List Json) × (h : List (Transaction Json Json)) × (times : List (Option Times))
+    × (sessions : List (Option Json))
+    × SpellsWith w bytes ids h times sessions × IsSerializableKeeping h times sessions
+
+-- the order names each committed transaction of the history that the bytes spell once, serves, and keeps what is wanted
+abbrev pub SpellsServed : Wanted → (order bytes : List ℕ) → Type 0
+SpellsServed w order bytes = (ids : List Json) × (h : List (Transaction Json Json)) × (times : List (Option Times))
+    × (sessions : List (Option Json))
+    × SpellsWith w bytes ids h times sessions × (numbers : List ℕ) × NameEach ids (lines_of order) numbers
+    × ServesKeeping h times sessions numbers
+
+-- what a yes says
+abbrev pub Holds : Wanted → Question → List ℕ → Type 0
+Holds w (find options) bytes = SpellsKeeping w bytes
+Holds w (given order) bytes = SpellsServed w order bytes
+
+-- the bytes spell a history, and tell what is wanted, but that doesn't hold of it
+abbrev pub SpellsOther : Wanted → Question → List ℕ → Type 0
+SpellsOther w q bytes = ((ids : List Json) × (h : List (Transaction Json Json)) × (times : List (Option Times))
+    × (sessions : List (Option Json)) × SpellsWith w bytes ids h times sessions) × (Holds w q bytes → ⊥)
+
+-- a line can't be read, or doesn't tell what is wanted
+abbrev pub HasUnreadable : Wanted → List ℕ → Type 0
+HasUnreadable w bytes = (line : ℕ) × (fault : LineFault) × IsFirstUnreadable w bytes line fault
+
+-- each outcome is told exactly where it is right
+pub record IsRight (w : Wanted) (q : Question) (bytes : List ℕ) (told : Outcome) : Type 0 where
+  pub yes : told ≡ outcome.Yes ↔ Holds w q bytes
+  pub no : told ≡ outcome.No ↔ SpellsOther w q bytes
+  pub unreadable : told ≡ outcome.Unreadable ↔ HasUnreadable w bytes
+
+-- ---- of what readers tell
+
+-- where the reader tells its bytes
+abbrev pub AnswersTold : Wanted → Question → (told : Option (List ℕ)) → Outcome → List ℕ → Type 0
+AnswersTold w q told outcome text = IfSome told (λ bytes. IsAnswer w q bytes outcome text)
+
 -- that text was written
-abbrev pub WroteAnswer : Options → (told : Option (List ℕ)) → Outcome → (old new : Option (List ℕ)) → Type 0
-WroteAnswer options told outcome old new = (text : List ℕ)
-    × IfSome told (λ bytes. IsAnswer options bytes outcome text) × Appends old new text
+abbrev pub WroteAnswer : Wanted → Options → (told : Option (List ℕ)) → Outcome → (old new : Option (List ℕ)) → Type 0
+WroteAnswer w options told outcome old new = (text : List ℕ) × AnswersTold w (find options) told outcome text
+    × Appends old new text
 
 -- nothing was written, or a front of that text, and less than the whole
-abbrev pub WroteAnswerFront : Options → (told old new : Option (List ℕ)) → Type 0
-WroteAnswerFront options told old new = AppendsOrForgets old new []
-    ⊎ ((outcome : Outcome) × (text : List ℕ) × IfSome told (λ bytes. IsAnswer options bytes outcome text)
+abbrev pub WroteAnswerFront : Wanted → Options → (told old new : Option (List ℕ)) → Type 0
+WroteAnswerFront w options told old new = AppendsOrForgets old new []
+    ⊎ ((outcome : Outcome) × (text : List ℕ) × AnswersTold w (find options) told outcome text
     × WritesFront old new text)
+
+-- the same of an order that a reader tells
+abbrev pub AnswersOrder : Wanted → (order told : Option (List ℕ)) → Outcome → List ℕ → Type 0
+AnswersOrder w order told outcome text =
+    IfSome told (λ bytes. IfSome order (λ lines. IsAnswer w (given lines) bytes outcome text))
+
+abbrev pub WroteJudgement : Wanted → (order told : Option (List ℕ)) → Outcome → (old new : Option (List ℕ)) → Type 0
+WroteJudgement w order told outcome old new = (text : List ℕ) × AnswersOrder w order told outcome text
+    × Appends old new text
+
+abbrev pub WroteJudgementFront : Wanted → (order told old new : Option (List ℕ)) → Type 0
+WroteJudgementFront w order told old new = AppendsOrForgets old new []
+    ⊎ ((outcome : Outcome) × (text : List ℕ) × AnswersOrder w order told outcome text × WritesFront old new text)

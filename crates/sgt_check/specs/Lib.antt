@@ -1,5 +1,11 @@
 pub mod Text
 pub mod Rank
 pub mod Key
-pub mod Answer
+pub mod Link
+pub mod Order
+pub mod Run
+pub mod Kept
+pub mod Found
 pub mod Told
+pub mod Decision
+pub mod Answer

@@ -1,9 +1,15 @@
 //! Small histories and their answers.
 
 use sgt_check::{Options, check};
+use sgt_history_text::Wanted;
 use sgt_names::{EngineFail, MemSink, MemSource, Outcome};
 use std::alloc::{AllocError, Global};
 use std::test::Fail;
+
+const NEITHER: Wanted = Wanted {
+    real_time: false,
+    sessions: false,
+};
 
 /// Whether the text is answered so.
 fn is_answered(
@@ -15,7 +21,13 @@ fn is_answered(
 ) -> Result<bool, AllocError> {
     let mut reader = MemSource::new(text, 65_536, None);
     let mut writer = MemSink::new(alloc, 1_000)?;
-    let ended = check(alloc, &mut reader, &mut writer, Options { order });
+    let ended = check(
+        alloc,
+        &mut reader,
+        &mut writer,
+        Options { order },
+        NEITHER,
+    );
     Ok(ended == Ok(outcome) && writer.bytes() == answer)
 }
 
@@ -71,6 +83,7 @@ fn reads_no_line_behind_one_that_cant_be_read(rt: HostRuntime) -> Result<(), Fai
         &mut reader,
         &mut writer,
         Options { order: false },
+        NEITHER,
     );
     assert!(rt; ended == Ok(Outcome::Unreadable));
     assert_eq!(rt; writer.bytes(), b"! L1 line 1\n".as_slice());

@@ -1,7 +1,6 @@
 //! Small histories and their answers.
 
-use sgt_check::Options;
-use sgt_check_kept::check_kept;
+use sgt_check::{Options, check};
 use sgt_history_text::Wanted;
 use sgt_names::{EngineFail, MemSink, MemSource, Outcome};
 use std::alloc::{AllocError, Global};
@@ -32,7 +31,7 @@ fn is_answered(
 ) -> Result<bool, AllocError> {
     let mut reader = MemSource::new(text, 65_536, None);
     let mut writer = MemSink::new(alloc, 1_000)?;
-    let ended = check_kept(
+    let ended = check(
         alloc,
         &mut reader,
         &mut writer,

@@ -1,6 +1,6 @@
 //! Small histories, orders and their answers.
 
-use sgt_check_order::check_against;
+use sgt_check::check_against;
 use sgt_history_text::Wanted;
 use sgt_names::{EngineFail, MemSink, MemSource, Outcome};
 use std::alloc::{AllocError, Global};

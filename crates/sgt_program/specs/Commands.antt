@@ -13,8 +13,6 @@ use Rattle.sgt_audit.specs.declared.verdict.Verdict.TheVariants.{Yes, No}
 use Rattle.sgt_certify.specs.Answer as certify
 use Rattle.sgt_check.specs.Answer as check
 use Rattle.sgt_check.specs.declared.options.Options.{Options}
-use Rattle.sgt_check_kept.specs.Answer as keeping
-use Rattle.sgt_check_order.specs.Answer as against
 use Rattle.sgt_draw.specs.declared.task.Wanted.{Wanted as Picture}
 use Rattle.sgt_draw_logs.specs.Drawing as draw
 use Rattle.sgt_explain_logs.specs.Either as explain
@@ -114,26 +112,19 @@ options_of wanted = record { order = wanted.order }
 abbrev pub kept_of : CheckWanted → Wanted
 kept_of wanted = record { real_time = wanted.real_time; sessions = wanted.sessions }
 
--- an order is to keep something
-abbrev pub AsksKept : CheckWanted → Type 0
-AsksKept wanted = IsTrue wanted.real_time ⊎ IsTrue wanted.sessions
-
 -- the verdict on a history: a yes at 0, with an order where it is asked for; at 1 a no with what shows
 -- it; at 2 the line that can't be read
-pub record AnswersCheck (wanted : CheckWanted) (status : ℕ) (told written written' : Option (List ℕ)) : Type 0 where
-  pub plain : (AsksKept wanted → ⊥)
-      → ByStatus (λ outcome. check.WroteAnswer (options_of wanted) told outcome written written')
-      (check.WroteAnswerFront (options_of wanted) told written written') status
-  pub kept : AsksKept wanted
-      → ByStatus (λ outcome. keeping.WroteKeptAnswer (kept_of wanted) (options_of wanted) told outcome written written')
-      (keeping.WroteKeptAnswerFront (kept_of wanted) (options_of wanted) told written written') status
+abbrev pub AnswersCheck : CheckWanted → (status : ℕ) (told written written' : Option (List ℕ)) → Type 0
+AnswersCheck wanted status told written written' =
+    ByStatus (λ outcome. check.WroteAnswer (kept_of wanted) (options_of wanted) told outcome written written')
+    (check.WroteAnswerFront (kept_of wanted) (options_of wanted) told written written') status
 
 -- the verdict on an order that is given, which is to keep what is wanted: a yes at 0; at 1 the history's first
 -- fault, or where the order breaks; at 2 the line of the history that can't be read
 abbrev pub AnswersOrder : (wanted : Wanted) (status : ℕ) (order told written written' : Option (List ℕ)) → Type 0
 AnswersOrder wanted status order told written written' =
-    ByStatus (λ outcome. against.WroteAnswer wanted order told outcome written written')
-    (against.WroteAnswerFront wanted order told written written') status
+    ByStatus (λ outcome. check.WroteJudgement wanted order told outcome written written')
+    (check.WroteJudgementFront wanted order told written written') status
 
 -- the outcome of the verdict; or a no, where the transaction that is asked for is nowhere
 abbrev pub explained : Explained → Outcome

@@ -3,7 +3,7 @@
 ghost use Rattle.std.specs.Prelude.{⊤, ◌≡◌, ◌<◌, ◌↔◌, length, IsTrue, IfOk, IfErr, OnErr, OnOk};
 ghost use Rattle.std.specs.Io.KnownBytes.{Appends};
 ghost use Rattle.sgt_names.specs.Device.{WritesFront};
-ghost use Rattle.sgt_program.specs.Commands.{Answers, AnswersAudit, AnswersCheck, AnswersExplain, AsksKept, LeavesUnread, StopsAtFault, explained, kept_of, options_of, outcome};
+ghost use Rattle.sgt_program.specs.Commands.{Answers, AnswersAudit, AnswersCheck, AnswersExplain, LeavesUnread, StopsAtFault, explained, kept_of, options_of, outcome};
 ghost use Rattle.sgt_program.specs.Ending.{LeavesDevices, ReadFailed, ReaderIsQuiet, ReadsOn, status_of};
 ghost use Rattle.sgt_command_line.specs.Words.{CanRun, KeepsInput, command_of};
 ghost use Rattle.sgt_program.specs.declared.ending.Ending.TheVariants.{Ran};
@@ -12,7 +12,6 @@ use sgt_audit::{Verdict, audit};
 use sgt_audit_workers::audit_with;
 use sgt_certify::certify;
 use sgt_check::{Options, check};
-use sgt_check_kept::check_kept;
 use sgt_command_line::{CheckWanted, Choice};
 use sgt_core::replay;
 use sgt_draw::Wanted;
@@ -60,12 +59,6 @@ pub(crate) fn kept_of(wanted: CheckWanted) -> KeptWanted
     }
 }
 
-fn asks_kept(wanted: CheckWanted) -> bool
-    ensures { IsTrue result ↔ AsksKept wanted }
-{
-    wanted.real_time || wanted.sessions
-}
-
 // Checks a history, by orders that keep real time or sessions where that is wanted.
 fn check_by<R: Source, W: Sink>(
     alloc: Global,
@@ -83,12 +76,7 @@ fn check_by<R: Source, W: Sink>(
         (W.failures writer.old < W.failures writer.new)
         (writer.new ≡ writer.old) }
 {
-    let options = options_of(wanted);
-    if asks_kept(wanted) {
-        check_kept(alloc, reader, writer, options, kept_of(wanted))
-    } else {
-        check(alloc, reader, writer, options)
-    }
+    check(alloc, reader, writer, options_of(wanted), kept_of(wanted))
 }
 
 // Audits with so many sections judged at once.

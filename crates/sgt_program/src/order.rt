@@ -1,14 +1,14 @@
 //! An order of a history's transactions that somebody gives.
 
 ghost use Rattle.std.specs.Prelude.{◌≡◌, ◌<◌, ◌⊎◌, ◌↔◌, IfSome};
-ghost use Rattle.sgt_check_order.specs.Answer.{SpellsServed};
+ghost use Rattle.sgt_check.specs.Answer.{SpellsServed};
 ghost use Rattle.sgt_program.specs.Commands.{AnswersOrder, kept_of};
 ghost use Rattle.sgt_program.specs.Ending.{LeavesDevices, ReadFailed, TellsErrors, WroteOrFailed, status_of};
 ghost use Rattle.sgt_program.specs.declared.ending.Ending.{Ending};
 
 use crate::commands::finish;
 use crate::engines::kept_of;
-use sgt_check_order::check_against;
+use sgt_check::check_against;
 use sgt_command_line::CheckWanted;
 use sgt_names::{Sink, Source};
 use std::alloc::Global;

@@ -1,7 +1,7 @@
 use Rattle.std.proofs.Common.{subst}
 use Rattle.std.specs.Prelude.{◌≡◌, ◌↔◌, IfOk, IfSome, OnErr}
-use Rattle.sgt_check_order.specs.Answer as against
-use Rattle.sgt_check_order.specs.Answer.{SpellsServed}
+use Rattle.sgt_check.specs.Answer as check
+use Rattle.sgt_check.specs.Answer.{SpellsServed}
 use Rattle.sgt_history_text.specs.declared.wanted.Wanted.{Wanted}
 use Rattle.sgt_names.specs.declared.outcome.Outcome.TheVariants.{Yes}
 use Rattle.sgt_program.specs.Commands.{kept_of}
@@ -18,11 +18,11 @@ returns-clause-answers g c =
     let new = g.W.Sink.holds c.check_against-told.new.writer in
     let w = kept_of c.args.wanted in
     let r = c.check_against-told.result in
-    rw c.finish.ensures.status (status-answers (λ outcome. against.WroteAnswer w lines told outcome old new)
-    (against.WroteAnswerFront w lines told old new) r
-    (subst (λ (k : Wanted). IfOk r (λ outcome. against.WroteAnswer k lines told outcome old new)) c.kept_of.ensures
+    rw c.finish.ensures.status (status-answers (λ outcome. check.WroteJudgement w lines told outcome old new)
+    (check.WroteJudgementFront w lines told old new) r
+    (subst (λ (k : Wanted). IfOk r (λ outcome. check.WroteJudgement k lines told outcome old new)) c.kept_of.ensures
     c.check_against-told.ensures.answer)
-    (subst (λ (k : Wanted). OnErr r (against.WroteAnswerFront k lines told old new)) c.kept_of.ensures
+    (subst (λ (k : Wanted). OnErr r (check.WroteJudgementFront k lines told old new)) c.kept_of.ensures
     c.check_against-told.ensures.front))
 
 pub returns-clause-exact : goal.returns-clause-exact

@@ -1,6 +1,0 @@
-use Rattle.std.proofs.Common.{◌≡◌, take}
-use Rattle.sgt_check_kept.specs.Text.{timed}
-use Rattle.sgt_check_kept.proofs.text.count_rt.Given as goal
-
-abbrev pub invariant-loop-link : goal.invariant-loop-link
-invariant-loop-link l = l.count ≡ timed (take l.link-index l.links)

@@ -1,5 +1,0 @@
-use Rattle.sgt_check_order.proofs.Excluding.{break-none}
-use Rattle.sgt_check_order.proofs.laws.a_broken_order_serves_none.Goals as goal
-
-pub returns : goal.returns
-returns g c = λ h order line o found b serves. break-none h order line o found b serves

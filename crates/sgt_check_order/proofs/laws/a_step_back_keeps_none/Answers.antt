@@ -1,5 +1,0 @@
-use Rattle.sgt_check_order.proofs.Excluding.{back-none}
-use Rattle.sgt_check_order.proofs.laws.a_step_back_keeps_none.Goals as goal
-
-pub returns : goal.returns
-returns g c = λ h k order u first keeps. back-none h k order u first keeps

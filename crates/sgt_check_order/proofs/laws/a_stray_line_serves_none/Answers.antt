@@ -1,5 +1,0 @@
-use Rattle.sgt_check_order.proofs.Excluding.{stray-none}
-use Rattle.sgt_check_order.proofs.laws.a_stray_line_serves_none.Goals as goal
-
-pub returns : goal.returns
-returns g c = λ h ids bytes number order once s names serves. stray-none h ids bytes number order once s names serves

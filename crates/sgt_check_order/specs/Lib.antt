@@ -1,6 +1,0 @@
-pub mod Order
-pub mod Run
-pub mod Kept
-pub mod Text
-pub mod Answer
-pub mod Told
