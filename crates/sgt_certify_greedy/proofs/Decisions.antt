@@ -1,24 +1,22 @@
 -- Decisions are taken one by one, until none can be taken.
-use Rattle.std.proofs.Common.{◌≡◌, true, false, eqb, ℕ, zero, suc, List, [], ◌∷◌, ◌++◌, Some, None, map, take, length, refl, sym, ap, ◌∙◌, subst, arith, inl, inr, ◌⊎◌, All, AllPairs, Contains, ◌<◌}
+use Rattle.std.proofs.Common.{◌≡◌, true, false, eqb, ℕ, zero, suc, List, [], ◌∷◌, ◌++◌, Some, length, refl, sym, ap, ◌∙◌, subst, arith, inl, inr, ◌⊎◌, Contains, ◌<◌}
 use Rattle.std.specs.Prelude.{slice_get}
 use Rattle.std.proofs.lemmas.Bool.{cases_eq, false≢true, true≢false}
-use Rattle.std.proofs.lemmas.Option.{same_Some, slice_get_within, slice_get-map}
+use Rattle.std.proofs.lemmas.Option.{same_Some}
 use Rattle.std.proofs.lemmas.List.Elements.{Contains-append_left, Contains-push, Contains-push_cases}
-use Rattle.sgt_names.proofs.Places.{All_at, All-from_at, AllPairs-from_at, Contains_at, Contains-from_at, slice_get-take, slice_get-take_at}
-use Rattle.sgt_names.proofs.Lists.{All-weaken, front_at, map_at, middle_at}
-use Rattle.sgt_names.specs.Entry.{tx_of, IsEnd}
-use Rattle.sgt_names.specs.declared.entry.Entry.{Entry}
+use Rattle.sgt_names.proofs.Places.{Contains-from_at}
+use Rattle.sgt_names.proofs.Lists.{All-weaken, front_at, middle_at}
 use Rattle.sgt_names.specs.declared.entry.Entry.TheVariants as entry
 use Rattle.sgt_bundle.specs.Certificate.{decided_tx, is_commit}
 use Rattle.sgt_bundle.specs.declared.bundle.SiteLog.{SiteLog}
 use Rattle.sgt_bundle.specs.declared.certificate.Decision.{Decision}
 use Rattle.sgt_bundle.specs.declared.certificate.Decision.TheVariants.{Commit, Refuse, Withdraw}
-use Rattle.sgt_certify_logs.specs.Witness.{EndsBefore, HasEnd, IsFree, IsIn, IsStuck, LiesOnCycle}
+use Rattle.sgt_certify_logs.specs.Witness.{HasEnd, IsIn, IsStuck, LiesOnCycle}
 use Rattle.sgt_certify_greedy.specs.Sorted.{without}
 use Rattle.sgt_certify_greedy.specs.Walks.{IsRound}
 use Rattle.sgt_certify_greedy.specs.Decided.{AreCommitsWith, HasCommit, IsDeciding, IsDue, IsFitting, IsHopeless, IsUnpreceded, OnFronts, txs_of}
 use Rattle.sgt_certify_greedy.proofs.Elements.{without-has, without-only}
-use Rattle.sgt_certify_greedy.proofs.Placing.{fronts-none, fronts-push, pushed_at}
+use Rattle.sgt_certify_greedy.proofs.Fronts.{fronts-none, fronts-push, pushed_at}
 use Rattle.sgt_names.proofs.Elements.{contains-none}
 
 pub round-as : (sites : List SiteLog) (P Q : ℕ → Type 0) (turns : (t : ℕ) → P t → Q t) (tx : ℕ) (walk : _)

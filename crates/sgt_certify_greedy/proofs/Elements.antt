@@ -1,9 +1,9 @@
 -- Elements of a list, one after another, and those that pass a test.
-use Rattle.std.proofs.Common.{◌≡◌, ◌≢◌, ℕ, zero, suc, ◌+◌, ◌<◌, ◌≤◌, Bool, true, false, cond, eqb, List, [], ◌∷◌, ◌++◌, Some, length, refl, sym, ap, ◌∙◌, subst, arith, inl, inr, ◌⊎◌, Contains}
-use Rattle.std.specs.Prelude.{filter, not, slice_get}
+use Rattle.std.proofs.Common.{◌≡◌, ◌≢◌, ℕ, suc, ◌<◌, ◌≤◌, Bool, true, false, cond, eqb, List, [], ◌∷◌, length, refl, sym, ap, ◌∙◌, subst, arith, inl, inr, Contains}
+use Rattle.std.specs.Prelude.{filter, not}
 use Rattle.std.proofs.lemmas.Bool.{eq-eqb, eqb-true, false≢true}
 use Rattle.sgt_certify_greedy.specs.Sorted.{without}
-use Rattle.sgt_names.proofs.Elements.{empty-length, contains-cases, contains-later, contains-none, bool_cases}
+use Rattle.sgt_names.proofs.Elements.{contains-cases, contains-later, contains-none, bool_cases}
 
 module _ (p : ℕ → Bool) where
   kept : (xs : List ℕ) (t : ℕ) → Contains xs t → p t ≡ true → Contains (filter p xs) t

@@ -1,6 +1,6 @@
 -- What decisions that fit the ends of sound logs suit.
-use Rattle.std.proofs.Common.{◌≡◌, ℕ, List, sym, refl, ◌∙◌, subst}
-use Rattle.sgt_names.specs.Entry.{tx_of, IsEnd}
+use Rattle.std.proofs.Common.{◌≡◌, ℕ, List, refl}
+use Rattle.sgt_names.specs.Entry.{tx_of}
 use Rattle.sgt_names.specs.declared.entry.Entry.{Entry}
 use Rattle.sgt_names.specs.declared.entry.Entry.TheVariants as entry
 use Rattle.sgt_bundle.specs.Certificate.{decided_tx, Suits}
@@ -8,7 +8,7 @@ use Rattle.sgt_bundle.specs.declared.bundle.SiteLog.{SiteLog}
 use Rattle.sgt_bundle.specs.declared.certificate.Decision.{Decision}
 use Rattle.sgt_bundle.specs.declared.certificate.Decision.TheVariants.{Commit, Refuse, Withdraw}
 use Rattle.sgt_bundle.specs.declared.certificate.Step.{Step}
-use Rattle.sgt_certify_logs.specs.Sound.{AreSound, EndAlike}
+use Rattle.sgt_certify_logs.specs.Sound.{AreSound}
 use Rattle.sgt_certify_logs.specs.Witness.{IsIn}
 use Rattle.sgt_certify_greedy.specs.Decided.{IsFitting}
 

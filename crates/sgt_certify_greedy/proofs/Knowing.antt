@@ -1,5 +1,5 @@
 -- What sorting by pairs shows of the logs.
-use Rattle.std.proofs.Common.{◌≡◌, ℕ, ◌<◌, List, Some, All, Contains, refl, sym, ◌∙◌, take}
+use Rattle.std.proofs.Common.{◌≡◌, ℕ, List, Some, All, Contains, refl, sym, ◌∙◌, take}
 use Rattle.std.specs.Prelude.{slice_get}
 use Rattle.sgt_names.specs.Entry.{tx_of}
 use Rattle.sgt_names.proofs.Places.{Contains_at, Contains-from_at, slice_get-take}
@@ -13,7 +13,7 @@ use Rattle.sgt_certify_greedy.specs.declared.pairs.Rule.TheVariants.{Conflicts, 
 use Rattle.sgt_certify_greedy.specs.Pairs.{ArePairsOf, IsFollowed, IsPair, Leads}
 use Rattle.sgt_certify_greedy.specs.Sorted.{Among, IsOrdered, IsRing}
 use Rattle.sgt_certify_greedy.proofs.Pairing.{ends-followed, pair-ends, pair-precedes}
-use Rattle.sgt_certify_greedy.proofs.Distinct.{one-place}
+use Rattle.sgt_graph.proofs.Distinct.{one-place}
 use Rattle.sgt_certify_greedy.proofs.Rings.{ring-as}
 
 pub ring-ends : (sites : List SiteLog) (pairs : List Pair) (txs cycle : List ℕ) → ArePairsOf Ends sites pairs

@@ -1,9 +1,9 @@
 pub mod Elements
 pub mod Pairing
-pub mod Placing
+pub mod Fronts
 pub mod Rings
+pub mod Graphs
 pub mod Decisions
-pub mod Distinct
 pub mod Fitting
 pub mod Validity
 pub mod Walking

@@ -1,22 +1,18 @@
 -- Pairs are found one by one.
-use Rattle.std.proofs.Common.{◌≡◌, ℕ, ◌+◌, ◌<◌, ◌≤◌, List, [], ◌∷◌, ◌++◌, Some, length, get_or, refl, sym, ap, ◌∙◌, subst, arith, inl, inr, All, Contains}
+use Rattle.std.proofs.Common.{◌≡◌, ℕ, ◌+◌, ◌<◌, List, Some, length, get_or, refl, sym, ap, ◌∙◌, subst, arith, inl, inr, Contains}
 use Rattle.std.specs.Prelude.{slice_get}
 use Rattle.std.proofs.lemmas.Bool.{cases_eq}
 use Rattle.std.proofs.lemmas.Option.{get_or_from_slice_get, slice_get-get_or}
 use Rattle.sgt_names.proofs.Places.{Contains_at, Contains-from_at}
-use Rattle.sgt_names.specs.Name.{Name}
-use Rattle.sgt_names.specs.Entry.{tx_of, item_of, Clash}
+use Rattle.sgt_names.specs.Entry.{tx_of}
 use Rattle.sgt_names.specs.declared.entry.Entry.{Entry}
 use Rattle.sgt_names.specs.declared.entry.Entry.TheVariants.{Commit}
-use Rattle.sgt_names.specs.declared.entry.Kind.{Kind}
-use Rattle.sgt_names.specs.declared.entry.Kind.TheVariants.{Wr, Rw, Ww}
 use Rattle.sgt_bundle.specs.declared.bundle.SiteLog.{SiteLog}
 use Rattle.sgt_certify_greedy.specs.declared.pairs.Pair.{Pair}
 use Rattle.sgt_certify_logs.specs.Witness.{EndsBefore, IsIn, PrecedesCommitted}
 use Rattle.sgt_certify_greedy.specs.declared.pairs.Rule.{Rule}
 use Rattle.sgt_certify_greedy.specs.declared.pairs.Rule.TheVariants.{Conflicts, Ends}
-use Rattle.sgt_certify_greedy.specs.Pairs.{ArePaired, HasPairsTo, IsFollowed, IsPair, Leads}
-use Rattle.sgt_notation.proofs.DecidableEntries.{clash-item, reads-item, writes-item}
+use Rattle.sgt_certify_greedy.specs.Pairs.{HasPairsTo, IsFollowed, IsPair, Leads}
 
 -- the second list has what the first has
 abbrev pub Keeps : List Pair → List Pair → Type 0

@@ -1,33 +1,28 @@
 -- Decisions that were each due make sound logs valid, once all that end are decided.
-use Rattle.std.proofs.Common.{◌≡◌, ◌≢◌, ℕ, zero, suc, ◌<◌, ◌≤◌, List, [], ◌∷◌, ◌++◌, Some, None, map, take, length, refl, sym, ap, ◌∙◌, subst, arith, inl, inr, All, Any, AllPairs, Contains}
+use Rattle.std.proofs.Common.{◌≡◌, ◌≢◌, ℕ, zero, suc, ◌<◌, List, [], ◌∷◌, Some, take, length, refl, sym, ap, ◌∙◌, subst, arith, Any, Contains}
 use Rattle.std.specs.Prelude.{slice_get}
-use Rattle.std.specs.List.{AllByRecursion, filter_map}
+use Rattle.std.specs.List.{AllByRecursion}
 use Rattle.std.proofs.lemmas.Option.{same_Some, slice_get_within}
 use Rattle.std.proofs.lemmas.List.Elements.{All-from_recursion}
-use Rattle.sgt_names.proofs.Places.{All_at, All-from_at, AllPairs-from_at, AllPairs-from_recursion, Contains_at, Contains-from_at, PairsByRecursion, recursion_from_AllPairs, slice_get-take, slice_get-take_at}
+use Rattle.sgt_names.proofs.Places.{All_at, All-from_at, AllPairs-from_at, AllPairs-from_recursion, Contains_at, Contains-from_at, PairsByRecursion, slice_get-take, slice_get-take_at}
 use Rattle.sgt_names.proofs.Lists.{All_in, All-weaken, Any_at, map_at}
-use Rattle.sgt_names.specs.Name.{Name}
-use Rattle.sgt_names.specs.Entry.{tx_of, Clash, IsEnd}
+use Rattle.sgt_names.specs.Entry.{tx_of, IsEnd}
 use Rattle.sgt_names.specs.declared.entry.Entry.{Entry}
 use Rattle.sgt_names.specs.declared.entry.Entry.TheVariants as entry
-use Rattle.sgt_names.specs.declared.entry.Kind.{Kind}
-use Rattle.sgt_bundle.specs.Parts.{Parts}
-use Rattle.sgt_bundle.specs.Certificate.{decided_tx, rank_in, ranks, stops, AreRanks, IsCommitted, IsCycle, IsDecidedOnce, Suits}
-use Rattle.sgt_bundle.specs.Valid.{Agrees, EndInOrder, IsDecided, IsValid, IsValidLog, RefusedLieOnCycles, RiseInRank}
+use Rattle.sgt_bundle.specs.Certificate.{decided_tx, ranks, AreRanks, IsCommitted, IsDecidedOnce}
+use Rattle.sgt_bundle.specs.Valid.{EndInOrder, IsDecided, IsValid, IsValidLog, RefusedLieOnCycles, RiseInRank}
 use Rattle.sgt_bundle.specs.declared.bundle.SiteLog.{SiteLog}
-use Rattle.sgt_bundle.specs.declared.certificate.Certificate.{Certificate}
 use Rattle.sgt_bundle.specs.declared.certificate.Decision.{Decision}
 use Rattle.sgt_bundle.specs.declared.certificate.Decision.TheVariants.{Commit, Refuse, Withdraw}
-use Rattle.sgt_bundle.specs.declared.certificate.Step.{Step}
 use Rattle.sgt_certify_logs.specs.Sound.{AreSound, IsSoundLog}
 use Rattle.sgt_certify_logs.specs.Witness.{EndsBefore, HasEnd, IsIn}
 use Rattle.sgt_certify_logs.proofs.Decisions.{Decides, one-number}
 use Rattle.sgt_certify_greedy.specs.Pairs.{IsFollowed}
 use Rattle.sgt_certify_greedy.specs.declared.pairs.Rule.TheVariants as rule
 use Rattle.sgt_certify_greedy.specs.Sorted.{IsOrdered}
-use Rattle.sgt_certify_greedy.specs.Decided.{HasCommit, IsDue, IsFitting, OnFronts, txs_of}
+use Rattle.sgt_certify_greedy.specs.Decided.{HasCommit, IsDue, OnFronts, txs_of}
 use Rattle.sgt_certify_greedy.proofs.Decisions.{txs-at}
-use Rattle.sgt_certify_greedy.proofs.Distinct.{distinct-within, one-place}
+use Rattle.sgt_graph.proofs.Distinct.{distinct-within, one-place}
 use Rattle.sgt_certify_greedy.proofs.Fitting.{fitting-commit, fitting-suits}
 
 -- the transactions of the commits, in the order of their ranks' list
@@ -124,10 +119,10 @@ module _ (sites : List SiteLog) (sound : AreSound sites) (committed order : List
     are-ranks : AreRanks (ranks ds)
     are-ranks =
         let most =
-        distinct-within order (commits_of ds) ordered.once (All-from_at (Contains (commits_of ds)) order (λ n t at.
-        let here = committed_only t (ordered.only t (Contains-from_at order n t at)) in
+        distinct-within order (commits_of ds) ordered.once (λ t in_order.
+        let here = committed_only t (ordered.only t in_order) in
         let by = committed-decided t (all t (entry.Commit t, here, tt, refl)) here in
-        commits-has ds by.0 t by.1 by.2)) in
+        commits-has ds by.0 t by.1 by.2) in
         let long = commits-long ds in
         record {
           below = All-from_recursion (λ r. r < length (ranks ds)) (ranks ds)

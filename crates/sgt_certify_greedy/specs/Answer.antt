@@ -1,5 +1,5 @@
 -- The answer to sound logs.
-use Rattle.std.specs.Prelude.{◌≡◌, ℕ, List, length}
+use Rattle.std.specs.Prelude.{◌≡◌, List, length}
 use Rattle.sgt_bundle.specs.Valid.{IsValid}
 use Rattle.sgt_bundle.specs.declared.bundle.SiteLog.{SiteLog}
 use Rattle.sgt_certify_logs.specs.Witness.{EndsBefore, HaveConflictsInACycle, HaveEndsInACycle, IsStuck, PrecedesCommitted}

@@ -1,6 +1,6 @@
 -- Transactions in an order in which a relation leads onward, or a cycle of it.
-use Rattle.std.specs.Prelude.{◌≡◌, ◌≢◌, ℕ, List, [], ◌∷◌, ◌++◌, Some, take, slice_get, AllPairs, Contains, filter, not, ◌==◌}
-use Rattle.sgt_certify_logs.specs.Witness.{IsChain}
+use Rattle.std.specs.Prelude.{◌≡◌, ◌≢◌, ℕ, List, Some, take, slice_get, AllPairs, Contains, filter, not, ◌==◌}
+use Rattle.sgt_graph.specs.Graph.{IsCycle}
 use Rattle.sgt_certify_greedy.specs.declared.sorting.Sorting.{Sorting}
 use Rattle.sgt_certify_greedy.specs.declared.sorting.Sorting.TheVariants.{Order, Cycle}
 
@@ -14,8 +14,7 @@ Among txs R a b = Contains txs a × Contains txs b × R a b
 
 -- these stand in a cycle of the relation
 abbrev pub IsRing : (ℕ → ℕ → Type 0) → List ℕ → Type 0
-IsRing R [] = ⊥
-IsRing R (a ∷ between) = IsChain R a (between ++ a ∷ [])
+IsRing R txs = IsCycle R txs
 
 -- these stand in the order, each once, behind all of them that are in the relation to it
 pub record IsOrdered (R : ℕ → ℕ → Type 0) (txs order : List ℕ) : Type 0 where

@@ -4,23 +4,20 @@ use Rattle.sgt_bundle.specs.Certificate.{stops}
 use Rattle.sgt_bundle.specs.Valid.{AreLogged}
 use Rattle.sgt_bundle.specs.declared.certificate.Step.{Step}
 use Rattle.sgt_bundle.specs.declared.bundle.SiteLog.{SiteLog}
-use Rattle.sgt_certify_greedy.specs.declared.walks.Reached.{Reached}
+use Rattle.sgt_graph.specs.Graph.{IsChain}
 
--- where a walk from the transaction leads
-abbrev pub end_of : ℕ → List Step → ℕ
-end_of tx [] = tx
-end_of tx (s ∷ walk) = end_of s.to walk
+-- the relation leads from the transaction over these back to it: through some of the others, each once
+pub record ClosesRound (R : ℕ → ℕ → Type 0) (others : List ℕ) (tx : ℕ) (over : List ℕ) : Type 0 where
+  pub between : List ℕ
+  pub closed : over ≡ between ++ tx ∷ []
+  pub chain : IsChain R tx over
+  pub distinct : AllPairs (λ a b. a ≢ b) between
+  pub through : All (Contains others) between
 
--- conflicts lead from the transaction to the one that is reached, through these, each once
-pub record IsPath (sites : List SiteLog) (through : List ℕ) (tx : ℕ) (r : Reached) : Type 0 where
-  pub logged : AreLogged sites tx r.walk
-  pub leads : end_of tx r.walk ≡ r.tx
-  pub distinct : AllPairs (λ a b. a ≢ b) (stops r.walk)
-  pub within : All (Contains through) (stops r.walk)
-
--- the transaction is reached
-abbrev pub IsReached : List Reached → ℕ → Type 0
-IsReached reached t = (r : Reached) × Contains reached r × (r.tx ≡ t)
+-- through these it doesn't lead from the transaction back to it
+abbrev pub NoneClosesRound : (ℕ → ℕ → Type 0) → List ℕ → ℕ → Type 0
+NoneClosesRound R others tx = (between : List ℕ) → IsChain R tx (between ++ tx ∷ []) → All (Contains others) between
+    → ⊥
 
 -- conflicts lead from the transaction back to it, through others for which this holds, each once
 pub record IsRound (sites : List SiteLog) (Through : ℕ → Type 0) (tx : ℕ) (walk : List Step) : Type 0 where

@@ -1,6 +1,6 @@
 //! The certificate of sound logs, or what shows that they have none.
 
-ghost use Rattle.std.specs.Prelude.{◌≡◌, ◌≤◌, ◌^◌, ◌<◌, ℕ, length, All, Contains, IfOk};
+ghost use Rattle.std.specs.Prelude.{◌≡◌, ◌≤◌, ◌<◌, ℕ, length, All, Contains, IfOk};
 ghost use Rattle.sgt_names.specs.Limits.{max_sites};
 ghost use Rattle.sgt_certify_logs.specs.Sound.{AreSound};
 ghost use Rattle.sgt_certify_logs.specs.Witness.{HasEnd, HaveEndsInACycle};
@@ -9,10 +9,11 @@ ghost use Rattle.sgt_certify_greedy.specs.Decided.{AreKnown, IsUnpreceded};
 ghost use Rattle.sgt_certify_greedy.specs.Pairs.{ArePairsOf};
 ghost use Rattle.sgt_certify_greedy.specs.declared.pairs.Rule.TheVariants.{Ends};
 
+use crate::graph::are_small;
 use crate::greedy::{Known, Settled, decide_each, decided_by};
 use crate::pairs::{Pair, Rule, pairs_of};
 use crate::sets::{committed, ended};
-use crate::sorting::{Sorting, cycle_in, sorted, source};
+use crate::sorting::{Sorting, sorted};
 use sgt_bundle::{Certificate, SiteLog};
 use sgt_names::{Listed, Tx};
 use std::alloc::{AllocError, Global};
@@ -29,15 +30,6 @@ pub enum Answer {
     Ranks(Vec<Tx>),
     /// These are decided; whoever can be decided next is refused, and no walk leads back to it.
     Stuck(Vec<Tx>),
-}
-
-/// The numbers of transactions are below 2^32.
-fn are_small(txs: &[Tx])
-    ensures { All (λ t. t < 2 ^ 32) txs.now }
-{
-    for tx in txs {
-        let _number = tx.number();
-    }
 }
 
 /// The certificate of these decisions, of so many sites.
@@ -63,13 +55,9 @@ fn free_one(alloc: Global, sites: &[SiteLog], known: &Known, left: &[Tx]) -> Res
     requires no_cycle { HaveEndsInACycle sites.now → ⊥ }
     ensures { IfOk result (λ t. Contains left.now t × IsUnpreceded sites.now left.now t) }
 {
-    let pairs = known.ends.as_slice();
-    match source(left, pairs) {
-        Some(tx) => Ok(tx),
-        None => {
-            let _cycle = cycle_in(alloc, left, pairs)?;
-            unreachable!()
-        }
+    match sorted(alloc, left, known.ends.as_slice())? {
+        Sorting::Order(order) => Ok(order[0]),
+        Sorting::Cycle(_cycle) => unreachable!(),
     }
 }
 

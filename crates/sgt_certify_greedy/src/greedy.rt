@@ -7,8 +7,7 @@ ghost use Rattle.sgt_certify_greedy.specs.Pairs.{Leads};
 ghost use Rattle.sgt_certify_greedy.specs.Decided.{AreCommitsWith, AreKnown, IsFitting, IsHopeless, IsSettled, IsUnpreceded};
 
 use crate::pairs::Pair;
-use crate::sets::{note_if, place_of, take_out};
-use crate::sorting::predecessor;
+use crate::sets::{is_among, note_if, place_of, take_out};
 use crate::walks::walk_back;
 use sgt_bundle::{Decision, SiteLog, Walk};
 use sgt_certify_logs::stands_in;
@@ -67,14 +66,23 @@ fn decision_on(
     Ok(Some(Decision::Withdraw { tx }))
 }
 
+/// Whether the pair leads to the transaction from one of these.
+fn comes_from(left: &[Tx], pair: &Pair, tx: Tx) -> bool
+    ensures { IsTrue result ↔ (pair.now.to ≡ tx) × Contains left.now pair.now.from }
+{
+    pair.to == tx && is_among(left, pair.from)
+}
+
 /// Whether no pair leads to the transaction from one of these.
 fn is_unpreceded(left: &[Tx], pairs: &[Pair], tx: Tx) -> bool
     ensures { IsTrue result ↔ ((a : ℕ) → Contains left.now a → Leads pairs.now a tx → ⊥) }
 {
-    match predecessor(left, pairs, tx) {
-        Some(_before) => false,
-        None => true,
+    for pair in pairs {
+        if comes_from(left, pair, tx) {
+            return false;
+        }
     }
+    true
 }
 
 /// A decision on one of these that can be decided next, if there is one.

@@ -2,6 +2,7 @@
 #![tactic(auto)]
 
 mod deciding;
+mod graph;
 mod greedy;
 mod laws;
 mod pairs;

@@ -4,6 +4,7 @@ ghost use Rattle.std.specs.Prelude.{◌≡◌, ◌↔◌, ◌<◌, ◌⊎◌, �
 ghost use Rattle.sgt_names.specs.declared.entry.Entry.TheVariants.{Commit as Committed};
 ghost use Rattle.sgt_certify_logs.specs.Witness.{HasEnd, IsIn};
 ghost use Rattle.sgt_certify_greedy.specs.Decided.{HasEnders};
+ghost use Rattle.sgt_certify_greedy.specs.Graph.{AreOnce};
 ghost use Rattle.sgt_certify_greedy.specs.Sorted.{without};
 
 use sgt_bundle::SiteLog;
@@ -51,6 +52,19 @@ pub fn note_if(txs: &mut Vec<Tx>, tx: Tx, noted: bool) -> Result<(), AllocError>
     }
     txs.push(tx)?;
     Ok(())
+}
+
+/// Each of these once.
+pub fn distinct(alloc: Global, txs: &[Tx]) -> Result<Vec<Tx>, AllocError>
+    ensures { IfOk result (λ found. AreOnce txs.now found.items) }
+{
+    let mut found = Vec::new(alloc);
+    for tx in txs {
+        if !is_among(found.as_slice(), *tx) {
+            found.push(*tx)?;
+        }
+    }
+    Ok(found)
 }
 
 /// Adds whoever ends in the log.

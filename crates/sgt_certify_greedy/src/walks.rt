@@ -1,74 +1,21 @@
 //! Walks of conflicts from a transaction back to it.
 
-ghost use Rattle.std.specs.Prelude.{◌≡◌, ℕ, ◌≤◌, ◌∷◌, ◌++◌, [], length, All, Contains, IfOk, IfSome, IfNone, Some, slice_get};
+ghost use Rattle.std.specs.Prelude.{◌≡◌, ◌≤◌, length, Contains, IfOk, IfSome, IfNone};
 ghost use Rattle.sgt_names.specs.Limits.{max_sites};
-ghost use Rattle.sgt_bundle.specs.Valid.{IsLogged};
+ghost use Rattle.sgt_bundle.specs.Certificate.{stops};
+ghost use Rattle.sgt_bundle.specs.Valid.{AreLogged, IsLogged};
+ghost use Rattle.sgt_graph.specs.Graph.{IsChain};
 ghost use Rattle.sgt_certify_greedy.specs.Pairs.{ArePairsOf, IsPair, Leads};
-ghost use Rattle.sgt_certify_greedy.specs.Walks.{HasNoRound, IsPath, IsReached, IsRound};
+ghost use Rattle.sgt_certify_greedy.specs.Walks.{ClosesRound, NoneClosesRound, HasNoRound, IsRound};
 ghost use Rattle.sgt_certify_greedy.specs.declared.pairs.Rule.TheVariants.{Conflicts};
-ghost use Rattle.sgt_certify_greedy.specs.declared.walks.Reached.{Reached as Met};
 
+use crate::graph::PairGraph;
 use crate::pairs::{Pair, conflict_of};
-use crate::sets::{is_among, take_out};
+use crate::sets::place_of;
 use sgt_bundle::{SiteLog, Step};
+use sgt_graph::cycle_through;
 use sgt_names::{Label, Listed, SiteNo, Tx};
 use std::alloc::{AllocError, Global};
-
-/// A transaction, and the walk of conflicts that leads there.
-#[derive(Drop)]
-pub struct Reached {
-    tx: Tx,
-    walk: Listed<Step>,
-}
-
-/// A pair that leads on from one that is reached.
-#[derive(Clone, Copy)]
-struct Onward {
-    place: usize,
-    pair: Pair,
-}
-
-/// Where the transaction stands among those reached.
-fn reach_of(reached: &[Reached], tx: Tx) -> Option<usize>
-    ensures some { IfSome result
-        (λ n. (r : Met) × (slice_get reached.now n ≡ Some r) × (r.tx ≡ tx)) }
-    ensures none { IfNone result (IsReached reached.now tx → ⊥) }
-{
-    for place in 0..reached.len() {
-        if reached[place].tx == tx {
-            return Some(place);
-        }
-    }
-    None
-}
-
-/// Where one is reached from which the pair leads to one of these.
-fn lead_of(pair: &Pair, reached: &[Reached], wanted: &[Tx]) -> Option<usize>
-    ensures some { IfSome result (λ n. Contains wanted.now pair.now.to
-        × ((r : Met) × (slice_get reached.now n ≡ Some r) × (r.tx ≡ pair.now.from))) }
-    ensures none { IfNone result
-        (Contains wanted.now pair.now.to → IsReached reached.now pair.now.from → ⊥) }
-{
-    if !is_among(wanted, pair.to) {
-        return None;
-    }
-    reach_of(reached, pair.from)
-}
-
-/// A pair that leads from one that is reached to one of these.
-fn next_pair(pairs: &[Pair], reached: &[Reached], wanted: &[Tx]) -> Option<Onward>
-    ensures some { IfSome result (λ o. Contains pairs.now o.pair × Contains wanted.now o.pair.to
-        × ((r : Met) × (slice_get reached.now o.place ≡ Some r) × (r.tx ≡ o.pair.from))) }
-    ensures none { IfNone result
-        ((a b : ℕ) → IsReached reached.now a → Leads pairs.now a b → Contains wanted.now b → ⊥) }
-{
-    for pair in pairs {
-        if let Some(place) = lead_of(pair, reached, wanted) {
-            return Some(Onward { place, pair: *pair });
-        }
-    }
-    None
-}
 
 /// The step that goes along a pair of entries in conflict.
 fn step_of(sites: &[SiteLog], pair: &Pair) -> Step
@@ -94,46 +41,70 @@ fn step_of(sites: &[SiteLog], pair: &Pair) -> Step
     }
 }
 
-/// The walk with a step behind it.
-fn extended(alloc: Global, walk: &[Step], step: Step) -> Result<Listed<Step>, AllocError>
-    ensures { IfOk result (λ w. w ≡ walk.now ++ step ∷ []) }
+/// The step that goes along a pair from the one transaction to the other.
+fn step_between(sites: &[SiteLog], pairs: &[Pair], from: Tx, to: Tx) -> Step
+    requires few { length sites.now ≤ max_sites }
+    requires pairs { ArePairsOf Conflicts sites.now pairs.now }
+    requires leads { Leads pairs.now from to }
+    ensures to { result.to ≡ to }
+    ensures logged { IsLogged sites.now from result }
 {
-    let mut steps = Vec::from_slice(alloc, walk)?;
-    steps.push(step)?;
-    Ok(Listed::new(steps))
+    for pair in pairs {
+        if pair.from == from && pair.to == to {
+            return step_of(sites, pair);
+        }
+    }
+    unreachable!()
 }
 
-/// All that conflicts lead to from the transaction through these, and it.
-fn reach_all(
+/// The walk from the transaction to each of these in turn.
+fn walk_over(
     alloc: Global,
     sites: &[SiteLog],
     pairs: &[Pair],
-    through: &[Tx],
     tx: Tx,
-) -> Result<Vec<Reached>, AllocError>
+    over: &[Tx],
+) -> Result<Listed<Step>, AllocError>
     requires few { length sites.now ≤ max_sites }
     requires pairs { ArePairsOf Conflicts sites.now pairs.now }
-    requires other { Contains through.now tx → ⊥ }
-    ensures paths { IfOk result (λ reached. All (IsPath sites.now through.now tx) reached.items) }
-    ensures start { IfOk result (λ reached. IsReached reached.items tx) }
-    ensures closed { IfOk result
-        (λ reached. (a b : ℕ) → IsReached reached.items a → Leads pairs.now a b
-        → Contains through.now b
-        → IsReached reached.items b) }
+    requires chain { IsChain (Leads pairs.now) tx over.now }
+    ensures stops { IfOk result (λ walk. stops walk ≡ over.now) }
+    ensures logged { IfOk result (AreLogged sites.now tx) }
 {
-    let none = Vec::new(alloc);
-    let walk = Listed::new(none);
-    let mut reached = Vec::new(alloc);
-    reached.push(Reached { tx, walk })?;
-    let mut unreached = Vec::from_slice(alloc, through)?;
-    'reaching: while let Some(onward) = next_pair(pairs, reached.as_slice(), unreached.as_slice()) {
-        let Onward { place, pair } = onward;
-        let step = step_of(sites, &pair);
-        let walk = extended(alloc, reached[place].walk.as_slice(), step)?;
-        take_out(&mut unreached, pair.to);
-        reached.push(Reached { tx: pair.to, walk })?;
+    let mut steps = Vec::with_capacity(alloc, over.len())?;
+    let mut here = tx;
+    for next in over {
+        steps.push(step_between(sites, pairs, here, *next))?;
+        here = *next;
     }
-    Ok(reached)
+    Ok(Listed::new(steps))
+}
+
+/// Those to which pairs lead from the transaction, one after another through these, until they lead back to it, each
+/// once; it is the last one.
+fn round_of(
+    alloc: Global,
+    pairs: &[Pair],
+    through: &[Tx],
+    tx: Tx,
+) -> Result<Option<Vec<Tx>>, AllocError>
+    ensures some { IfOk result (λ found. IfSome found (λ over. ClosesRound (Leads pairs.now) through.now tx over.items)) }
+    ensures none { IfOk result (λ found. IfNone found (NoneClosesRound (Leads pairs.now) through.now tx)) }
+{
+    let mut txs = Vec::from_slice(alloc, through)?;
+    txs.push(tx)?;
+    let graph = PairGraph::new(alloc, txs.as_slice(), pairs)?;
+    let Some(node) = place_of(graph.txs.as_slice(), tx) else {
+        unreachable!()
+    };
+    match cycle_through(alloc, graph.txs.len(), graph.edges.as_slice(), node as u32)? {
+        Some(cycle) => {
+            let mut over = graph.txs_at(alloc, &cycle[1..])?;
+            over.push(tx)?;
+            Ok(Some(over))
+        }
+        None => Ok(None),
+    }
 }
 
 /// A walk of conflicts from the transaction back to it through these, if there is one. Err: memory ran out.
@@ -151,14 +122,8 @@ pub fn walk_back(
         (λ found. IfSome found (λ walk. IsRound sites.now (Contains through.now) tx walk)) }
     ensures none { IfOk result (λ found. IfNone found (HasNoRound sites.now through.now tx)) }
 {
-    let reached = reach_all(alloc, sites, pairs, through, tx)?;
-    match next_pair(pairs, reached.as_slice(), &[tx]) {
-        Some(onward) => {
-            let Onward { place, pair } = onward;
-            let step = step_of(sites, &pair);
-            let walk = extended(alloc, reached[place].walk.as_slice(), step)?;
-            Ok(Some(walk))
-        }
+    match round_of(alloc, pairs, through, tx)? {
+        Some(over) => Ok(Some(walk_over(alloc, sites, pairs, tx, over.as_slice())?)),
         None => Ok(None),
     }
 }

@@ -7,7 +7,7 @@ use Rattle.sgt_certify_greedy.specs.declared.pairs.Rule.TheVariants.{Conflicts}
 use Rattle.sgt_certify_greedy.specs.declared.sorting.Sorting.{Sorting}
 use Rattle.sgt_certify_greedy.specs.Pairs.{ArePairsOf, Leads}
 use Rattle.sgt_certify_greedy.specs.Sorted.{IsOrdered, IsSorting}
-use Rattle.sgt_certify_greedy.proofs.Distinct.{distinct-below}
+use Rattle.sgt_graph.proofs.Distinct.{distinct-below}
 use Rattle.sgt_certify_greedy.proofs.Knowing.{order-known, ring-precedes}
 use Rattle.sgt_certify_greedy.proofs.deciding.answer_after.Goals as goal
 

@@ -1,8 +1,7 @@
-use Rattle.std.proofs.Common.{◌≡◌, ◌<◌, ℕ, List, [], ◌∷◌, ◌++◌, length, sym, ap, ◌∙◌, subst, Contains}
+use Rattle.std.proofs.Common.{◌<◌, ℕ, List, length, sym, ap, ◌∙◌, subst, Contains}
 use Rattle.sgt_names.proofs.Places.{All-from_at, Contains-from_at}
 use Rattle.sgt_names.proofs.Lists.{All_in}
 use Rattle.sgt_bundle.specs.Certificate.{decided_tx}
-use Rattle.sgt_bundle.specs.declared.certificate.Decision.{Decision}
 use Rattle.sgt_certify_logs.specs.Witness.{HasEnd}
 use Rattle.sgt_certify_greedy.specs.Sorted.{without}
 use Rattle.std.proofs.Common.{All}

@@ -1,9 +1,8 @@
-use Rattle.std.proofs.Common.{◌≡◌, ℕ, List, sym, ◌∙◌, subst, Contains}
+use Rattle.std.proofs.Common.{ℕ, List, sym, ◌∙◌, subst, Contains}
 use Rattle.std.proofs.lemmas.Bool.{false≢true}
 use Rattle.sgt_names.proofs.Places.{Contains-from_at}
 use Rattle.sgt_names.proofs.Lists.{All_in, All-next, All-whole, element_at}
-use Rattle.sgt_bundle.specs.Certificate.{decided_tx}
-use Rattle.sgt_certify_logs.specs.Witness.{EndsBefore, HasEnd}
+use Rattle.sgt_certify_logs.specs.Witness.{HasEnd}
 use Rattle.sgt_certify_greedy.specs.declared.pairs.Pair.{Pair}
 use Rattle.sgt_certify_greedy.specs.Pairs.{IsPair, Leads}
 use Rattle.sgt_certify_greedy.specs.declared.pairs.Rule.TheVariants.{Ends}

@@ -1,4 +1,4 @@
-use Rattle.std.proofs.Common.{ℕ, take, All}
+use Rattle.std.proofs.Common.{take, All}
 use Rattle.sgt_certify_greedy.specs.Decided.{IsHopeless, IsUnpreceded}
 use Rattle.sgt_certify_greedy.proofs.greedy.next_decision.Given as goal
 

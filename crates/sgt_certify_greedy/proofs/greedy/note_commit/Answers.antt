@@ -1,4 +1,4 @@
-use Rattle.std.proofs.Common.{◌≡◌, true, ℕ, List, sym, ap, ◌∙◌, subst, inl, inr, Contains}
+use Rattle.std.proofs.Common.{sym, ap, ◌∙◌, subst, inl, inr, Contains}
 use Rattle.sgt_bundle.specs.declared.certificate.Decision.TheVariants.{Commit}
 use Rattle.sgt_certify_greedy.proofs.Decisions.{commit-is, is-commit}
 use Rattle.sgt_certify_greedy.proofs.greedy.note_commit.Goals as goal

@@ -1,5 +1,4 @@
-use Rattle.std.proofs.Common.{ℕ, arith}
-use Rattle.std.proofs.lemmas.Option.{slice_get_within}
+use Rattle.std.proofs.Common.{ℕ}
 use Rattle.sgt_certify_greedy.specs.Pairs.{HasPairsTo}
 use Rattle.sgt_certify_greedy.proofs.Pairing.{one-more, pairs-kept}
 use Rattle.sgt_certify_greedy.proofs.pairs.add_pairs_in.Goals as goal

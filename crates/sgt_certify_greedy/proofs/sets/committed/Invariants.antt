@@ -1,4 +1,4 @@
-use Rattle.std.proofs.Common.{ℕ, take, All, Contains}
+use Rattle.std.proofs.Common.{take, All, Contains}
 use Rattle.sgt_names.specs.declared.entry.Entry.TheVariants.{Commit}
 use Rattle.sgt_certify_logs.specs.Witness.{IsIn}
 use Rattle.sgt_certify_greedy.proofs.sets.committed.Given as goal

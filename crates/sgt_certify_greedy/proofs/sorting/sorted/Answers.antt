@@ -1,48 +1,57 @@
-use Rattle.std.proofs.Common.{◌<◌, ℕ, List, [], length, sym, ap, ◌∙◌, subst, arith, Contains}
-use Rattle.std.proofs.lemmas.Bool.{eqb-true}
+use Rattle.std.proofs.Common.{◌≡◌, ◌<◌, ℕ, List, map, slice_index, length, sym, ap, ◌∙◌, subst, arith, All}
+use Rattle.sgt_graph.specs.declared.edge.Edge.{Edge}
+use Rattle.sgt_graph.specs.declared.sorting.Ordered.{Ordered}
+use Rattle.sgt_graph.specs.Graph.{Goes, IsCycle, IsOrder, JoinsNodes}
+use Rattle.sgt_graph.specs.Ordered as sorted
 use Rattle.sgt_certify_greedy.specs.Pairs.{Leads}
-use Rattle.sgt_certify_greedy.specs.Sorted.{Among}
-use Rattle.sgt_certify_greedy.proofs.Rings.{ring-as}
-use Rattle.sgt_certify_greedy.proofs.Elements.{without-fewer}
-use Rattle.sgt_certify_greedy.proofs.Placing.{IsPlacing, all-placed, next-placed, none-placed}
-use Rattle.sgt_names.proofs.Elements.{empty-length}
+use Rattle.sgt_certify_greedy.specs.Sorted.{Among, IsOrdered, IsRing}
+use Rattle.sgt_certify_greedy.proofs.Graphs.{cycle-ring, cycle-within, edges-join, order-ordered}
 use Rattle.sgt_certify_greedy.proofs.sorting.sorted.Goals as goal
 
-pub placing-init : goal.placing-init
-placing-init c =
-    none-placed (Leads c.args.pairs.now) c.args.txs.now _ _ c.in_ok-left.ensures.items c.new-order.ensures.items
+pub order-requires-clause-ends : goal.order-requires-clause-ends
+order-requires-clause-ends c =
+    let graph = c.in_ok-graph.graph in
+    let long : length graph.txs.items ≡ c.len.result = omega (arith, c.len.ensures, graph.txs.ok.0) in
+    subst (λ (n : ℕ). All (JoinsNodes n) c.as_slice.result.now) long
+    (subst (All (JoinsNodes (length graph.txs.items))) (sym c.as_slice.ensures.value)
+    (edges-join graph.txs.items c.args.pairs.now graph.edges.items c.in_ok-graph.ensures.edges))
 
-pub placing-smaller : goal.placing-smaller
-placing-smaller c =
-    subst (λ (w : List ℕ). length w < length c.placing.left.items) (sym c.take_out.ensures)
-    (without-fewer c.in-Some.tx c.placing.left.items
-    (subst (λ (w : List ℕ). Contains w c.in-Some.tx) c.as_slice.ensures.value c.in-Some.ensures.some.0))
+pub returns-in-Order : goal.returns-in-Order
+returns-in-Order c =
+    let graph = c.in_ok-graph.graph in
+    let txs = graph.txs.items in
+    let edges = graph.edges.items in
+    let g = c.in_ok-graph.ensures in
+    let order = c.in-Order.order.items in
+    let long : c.len.result ≡ length txs = omega (arith, c.len.ensures, graph.txs.ok.0) in
+    let so : IsOrder c.len.result c.as_slice.result.now order =
+    subst (λ (o : Ordered). sorted.IsOrdered c.len.result c.as_slice.result.now o) c.in-Order.is c.in_ok-order.ensures in
+    let is = subst (λ (n : ℕ). IsOrder n edges order) long
+    (subst (λ (es : List Edge). IsOrder c.len.result es order) c.as_slice.ensures.value so) in
+    subst (IsOrdered (Leads c.args.pairs.now) c.args.txs.now)
+    (sym (c.in_ok-txs_at-in-Order.ensures ∙ ap (map (slice_index txs)) c.as_slice-in-Order.ensures.value))
+    (order-ordered txs c.args.pairs.now edges g.edges g.nodes.once c.args.txs.now order g.nodes is)
 
-pub placing-preserved : goal.placing-preserved
-placing-preserved c =
-    let R = Leads c.args.pairs.now in
-    let free = subst (λ (w : List ℕ). Contains w c.in-Some.tx × ((a : ℕ) → Contains w a → R a c.in-Some.tx → ⊥))
-    c.as_slice.ensures.value c.in-Some.ensures.some in
-    subst (λ (w : List ℕ). IsPlacing R c.args.txs.now w c.push.new.self.items) (sym c.take_out.ensures)
-    (subst (IsPlacing R c.args.txs.now _) (sym c.in_ok-push.ensures.items)
-    (next-placed R c.args.txs.now c.placing.left.items c.placing.order.items c.in-Some.tx c.placing.invariant free.0
-    free.1))
-
-pub returns-then-is_empty : goal.returns-then-is_empty
-returns-then-is_empty c =
-    all-placed (Leads c.args.pairs.now) c.args.txs.now c.placing.left.items c.placing.order.items c.placing.invariant
-    (sym c.as_slice-rest.ensures.value
-    ∙ empty-length c.as_slice-rest.result.now (eqb-true _ 0 (sym c.is_empty.ensures ∙ c.if-is_empty.true)))
-
-pub cycle_in-requires-clause-led : goal.cycle_in-requires-clause-led
-cycle_in-requires-clause-led c =
-    subst (λ (w : List ℕ). (t : ℕ) → Contains w t → (a : ℕ) × Contains w a × Leads c.args.pairs.now a t)
-    (c.as_slice.ensures.value ∙ sym c.as_slice-rest.ensures.value) c.in_default.ensures.none
+pub txs_at-requires-in-Cycle : goal.txs_at-requires-in-Cycle
+txs_at-requires-in-Cycle c =
+    let graph = c.in_ok-graph.graph in
+    let cycle = c.in-Cycle.cycle.items in
+    let so : IsCycle (Goes c.as_slice.result.now) cycle =
+    subst (λ (o : Ordered). sorted.IsOrdered c.len.result c.as_slice.result.now o) c.in-Cycle.is c.in_ok-order.ensures in
+    subst (All (λ n. n < length graph.txs.items)) (sym c.as_slice-in-Cycle.ensures.value)
+    (cycle-within graph.txs.items c.args.pairs.now graph.edges.items c.in_ok-graph.ensures.edges cycle
+    (subst (λ (es : List Edge). IsCycle (Goes es) cycle) c.as_slice.ensures.value so))
 
 pub returns : goal.returns
 returns c =
-    let R = Leads c.args.pairs.now in
-    let inside = λ (t : ℕ) (has : Contains c.as_slice-rest.result.now t).
-    c.placing.invariant.left_only t (subst (λ (w : List ℕ). Contains w t) c.as_slice-rest.ensures.value has) in
-    ring-as (Among c.as_slice-rest.result.now R) (Among c.args.txs.now R) (λ a b h. (inside a h.0, inside b h.1, h.2))
-    _ c.in_ok-cycle_in.ensures
+    let graph = c.in_ok-graph.graph in
+    let txs = graph.txs.items in
+    let edges = graph.edges.items in
+    let g = c.in_ok-graph.ensures in
+    let cycle = c.in-Cycle.cycle.items in
+    let so : IsCycle (Goes c.as_slice.result.now) cycle =
+    subst (λ (o : Ordered). sorted.IsOrdered c.len.result c.as_slice.result.now o) c.in-Cycle.is c.in_ok-order.ensures in
+    subst (IsRing (Among c.args.txs.now (Leads c.args.pairs.now)))
+    (sym (c.in_ok-txs_at-in-Cycle.ensures ∙ ap (map (slice_index txs)) c.as_slice-in-Cycle.ensures.value))
+    (cycle-ring txs c.args.pairs.now edges g.edges c.args.txs.now cycle g.nodes
+    (subst (λ (es : List Edge). IsCycle (Goes es) cycle) c.as_slice.ensures.value so))

@@ -1,6 +1,6 @@
 use Rattle.std.proofs.Common.{◌<◌, ◌^◌, ℕ, arith}
 use Rattle.sgt_names.proofs.Lists.{All-next, All-whole, element_at}
-use Rattle.sgt_certify_greedy.proofs.deciding.are_small.Goals as goal
+use Rattle.sgt_certify_greedy.proofs.graph.are_small.Goals as goal
 
 pub loop-tx-preserved : goal.loop-tx-preserved
 loop-tx-preserved c =
