@@ -1,6 +1,6 @@
 //! What is drawn of bytes in memory: of logs, and of the front of a bundle's text.
 
-ghost use Rattle.std.specs.Prelude.{◌≡◌, ◌≢◌, ◌≤◌, ◌↔◌, ℕ, List, Option, Some, Err, IfErr, IfOk, length};
+ghost use Rattle.std.specs.Prelude.{IfSome, ◌≡◌, ◌≢◌, ◌≤◌, ◌↔◌, ℕ, List, Option, Some, Err, IfErr, IfOk, length};
 ghost use Rattle.sgt_names.specs.Limits.{most_reads};
 ghost use Rattle.sgt_bundle.specs.Text.{Spells};
 ghost use Rattle.sgt_bundle.specs.Valid.{IsValid};
